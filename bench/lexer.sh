@@ -164,7 +164,7 @@ logos=${LOGOS:-$copy/out/programs/logos}
 cli=${CLI:-$copy/out/programs/logos_cli}
 if [ -z "${LEXER:-}" ] || [ -z "${LOGOS:-}" ] || [ -z "${CLI:-}" ]; then
     copy_crates
-    add_crate lexer "logos_code logos_codegen logos_fold logos_generator logos_machine logos_pattern logos_scan logos_walk"
+    add_crate lexer "logos_code logos_codegen logos_generator logos_machine logos_pattern logos_scan"
     [ -n "${LEXER:-}" ] || build "$crate" "$bench/lexer/rules/json.rs" "$bench/lexer/rules/json.rs"
     [ -n "${LOGOS:-}" ] && [ -n "${CLI:-}" ] || build_programs
 fi

@@ -14,7 +14,7 @@ module _ {X : Type 0} (f : X → List ℕ) (xs : List X) (k : ℕ) where
   next_gained x {old} {middle} {new} l e one rest =
       subst (λ bytes. Gains bytes old new) (ap (λ y. f y ++ flat_map f (drop (k + 1) xs)) e ∙ sym (at_drop_more (flat_map f) xs k x l)) (gains_then one rest)
 
-  -- the same by the element at the place
+  -- the texts of the element at the index, and of the rest
   pub next_gained_at : (d : X) {old middle new : PageValue} → k < length xs → Gains (f (get_or xs k d)) old middle → Gains (flat_map f (drop (k + 1) xs)) middle new → Gains (flat_map f (drop k xs)) old new
   next_gained_at d {old} {middle} {new} l one rest = subst (λ bytes. Gains bytes old new) (sym (at_drop_more (flat_map f) xs k d l)) (gains_then one rest)
 

@@ -1,4 +1,4 @@
--- Numbers that stand for the variants of leaves.
+-- Numbers for the variants of leaves.
 use Rattle.std.proofs.Common.{◌≡◌, ◌<◌, ◌≤◌, ◌+◌, ◌⊎◌, inl, inr, ℕ, zero, suc, Bool, true, false, if◌then◌else◌, List, [], ◌∷◌, ◌++◌, Option, Some, None, ◌↔◌, length, get_or, slice_get, slice_index, bytes_eq, option_map, sym, ap, ◌∙◌, refl, subst, arith}
 use Rattle.std.proofs.lemmas.Option.{get_or_from_slice_get, slice_get_cases}
 use Rattle.std.proofs.lemmas.Bool.{cases_lt}
@@ -10,7 +10,7 @@ use Rattle.logos_pattern.specs.declared.leaf.Leaf.{Leaf}
 use Rattle.logos_answers.specs.Names.{AreNumbered, variant_at, variant_name}
 use Rattle.logos_answers.specs.inside.Numbers.{AreDistinct, AreNumbers, Grows, IsNumberOf, Table}
 
--- what holds of each element holds of the one at a place
+-- a property of each element holds of the one at an index
 all_at : {X : Type 0} (P : X → Type 0) (xs : List X) (k : ℕ) (x : X) → AllByRecursion P xs → slice_get xs k ≡ Some x → P x
 all_at P [] k x all e = absurd (cc)
 all_at P (y ∷ ys) zero x all e = let same : y ≡ x = cc in subst P same all.0
@@ -22,7 +22,7 @@ not_later name names k other all e same =
     let equal : bytes_eq name.now other.now ≡ true = (bytes_decides name.now other.now).1 same in
     cc
 
--- a name has one place
+-- a name has one index
 pub one_location : (table : Table) → AreDistinct table → (p q : ℕ) (a b : Bor (List ℕ)) → slice_get table p ≡ Some a → slice_get table q ≡ Some b → a.now ≡ b.now → p ≡ q
 unfolding IsDistinct
 one_location [] d p q a b at_p at_q e = absurd (cc)
@@ -95,7 +95,7 @@ module _ (table : Table) (distinct : AreDistinct table) where
       go (inr l) (inr n) (inl o) (inr m) = let x = o.1 in let y = m.0 in absurd (omega (arith, x, y, b.long))
       go (inr l) (inr n) (inr o) (inl m) = let x = o.0 in let y = m.1 in absurd (omega (arith, x, y, b.long))
 
--- what stands for a variant in a table stands for it in a table that has grown from it
+-- the number of a variant in a table is its number in a table that has grown from it
 grown_number : (old new : Table) (v : Option (List ℕ)) (n : ℕ) → Grows old new → IsNumberOf old v n → IsNumberOf new v n
 grown_number old new None n g is = is
 grown_number old new (Some v) n g is = (is.0, is.1, is.2, g is.0 is.1 is.3, is.4)
@@ -132,7 +132,7 @@ pub grows_by : (old new : Table) (name : Bor (List ℕ)) (b : Bool) → new ≡ 
 grows_by old new name true e location key at = ap (λ (t : Table). slice_get t location) e ∙ at
 grows_by old new name false e location key at = ap (λ (t : Table). slice_get t location) e ∙ got_front old (name ∷ []) location key at
 
--- the place at which a name is stored
+-- the index at which a name is stored
 pub stored_number : (table : Table) (name key : Bor (List ℕ)) (location number : ℕ) → number ≡ location + 1 → slice_get table location ≡ Some key → bytes_eq name.now key.now ≡ true → IsNumberOf table (Some name.now) number
 stored_number table name key location number e at like = (location, key, e, at, sym ((bytes_decides name.now key.now).0 like))
 

@@ -1,4 +1,4 @@
--- Cutting a word at its first colon.
+-- Cutting an argument at its first colon.
 use Rattle.std.proofs.Common.{◌≡◌, ◌≢◌, ◌<◌, ℕ, List, length, None, refl, arith, eq-eqb, ne_eqb}
 use Rattle.std.specs.List.{after_first, before_first, position_or_len}
 use Rattle.logos_answers.specs.Locations.{is_colon, number_named, location_named, location_of}

@@ -7,7 +7,7 @@ use Rattle.logos_answers.specs.Expecting.{IsLineStart, is_one_line, is_time, tim
 abbrev pub says_time : List ℕ → Bool
 says_time text = starts_with (λ one other. one == other) text (codes "milliseconds: ")
 
--- LF stands nowhere from an offset on, but perhaps at the end.
+-- LF does not occur from an offset on, except possibly at the end.
 abbrev NoneFrom : List ℕ → ℕ → Type 0
 NoneFrom text start = (k : ℕ) → start ≤ k → k + 1 < length text → slice_index text k ≢ 10
 

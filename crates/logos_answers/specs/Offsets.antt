@@ -4,7 +4,8 @@ use Rattle.logos_lines.specs.declared.location.Location.{Location}
 use Rattle.logos_lines.specs.Locations.{location_at}
 use Rattle.logos_answers.specs.Quoting.{continues}
 
--- A character begins at this offset, or the input ends there, and it has this line and column.
+-- A character begins at this offset, or the input ends there, and the offset has this line and
+-- column.
 pub record IsOffsetOf (input : List ℕ) (location : Location) (at : ℕ) : Type 0 where
   pub within : at ≤ length input
   pub begins : continues (slice_index input at) ≡ false

@@ -1,4 +1,4 @@
-//! Two lexers, compared by the names of their variants.
+//! Compares two lexers by the names of their variants. Called for `--compare`.
 
 ghost use Rattle.std.specs.Prelude.{◌≡◌, [], Some, IfOk, OnOk, length, option_map};
 ghost use Rattle.logos_answers.specs.Views.{AreDistinct, AreNumbers, Grows, IsGraphOf, IsNumberOf, IsCompared, compared_by};
@@ -10,21 +10,20 @@ use logos_graph::graph::Graph;
 use logos_pattern::leaf::Leaf;
 use std::alloc::{AllocError, Global};
 
-/// What a comparison of two lexers gives.
+/// The result of a comparison of two lexers.
 #[derive(Debug, Drop)]
 pub enum Compared {
-    /// From each offset of each input they find the same.
+    /// From each offset of each input the two find the same variants and errors.
     Same,
-    /// At the beginning of this input they do not.
+    /// At the beginning of this input they find different ones.
     Differ(Vec<u8>),
-    /// One reads UTF-8, and the other one any bytes.
+    /// One reads UTF-8, and the other one reads any bytes.
     OtherMode,
 }
 
-/// Compares the lexers of two graphs without faults. They are the same if they read inputs of the
-/// same kind, and from each offset of each input find the same: matches that end at the same offset
-/// and give variants of the same name, or skips, or errors that end at the same offset. What
-/// callbacks do is not compared.
+/// Compares the lexers of two graphs without faults. They are equivalent if they read inputs of the
+/// same kind, and from each offset of each input both find matches of variants of the same name, or
+/// skips, or errors, which end at the same offset. The effects of callbacks are not compared.
 ///
 /// # Errors
 ///
@@ -56,7 +55,7 @@ pub fn compare_lexers(
     Ok(compared_by(made))
 }
 
-/// Returns what a comparison says of two lexers that read inputs of the same kind.
+/// Returns the result for two lexers that read inputs of the same kind.
 fn compared_by(made: Comparison) -> Compared
     ensures { result ≡ compared_by made }
 {
@@ -66,8 +65,8 @@ fn compared_by(made: Comparison) -> Compared
     }
 }
 
-/// Returns a number for each leaf: 0 for a skip, and for each other leaf that of its variant by a
-/// table, which grows.
+/// Returns a number for each leaf: 0 for a skip, and for each other leaf the number of its variant
+/// in a table, to which new variants are added.
 fn numbers_of<'l>(
     alloc: Global,
     table: &mut IndexSet<&'l str>,
@@ -87,7 +86,7 @@ fn numbers_of<'l>(
     Ok(numbers)
 }
 
-/// Returns the number of a variant by a table, which grows, or 0 for none.
+/// Returns the number of a variant in a table, to which a new name is added, or 0 for a skip.
 fn number_of<'l>(table: &mut IndexSet<&'l str>, name: Option<&'l str>) -> Result<usize, AllocError>
     ensures number { IfOk result (λ number. IsNumberOf table.new.keys
         (option_map (λ name. name.now) name.entry) number) }
@@ -101,7 +100,7 @@ fn number_of<'l>(table: &mut IndexSet<&'l str>, name: Option<&'l str>) -> Result
     }
 }
 
-/// Returns the index of a name in a table, which grows, and one more.
+/// Returns the index of a name in a table plus 1. A new name is added.
 fn index_of<'l>(table: &mut IndexSet<&'l str>, name: &'l str) -> Result<usize, AllocError>
     ensures number { IfOk result (λ number. IsNumberOf table.new.keys (Some name.now) number) }
     ensures grows { OnOk result (Grows table.old.keys table.new.keys) }
@@ -109,7 +108,7 @@ fn index_of<'l>(table: &mut IndexSet<&'l str>, name: &'l str) -> Result<usize, A
 {
     match table.insert_full(name) {
         Ok((index, _)) => {
-            // How long the table is says that the sum fits.
+            // The length of the table shows that the sum does not overflow.
             let _ = table.len();
             Ok(index + 1)
         }

@@ -1,4 +1,5 @@
-//! What two lexers find where they differ.
+//! The findings of two lexers at an input on which they differ. Used by `callbacks`,
+//! `logos_records` and `logos_show`.
 
 use crate::matches::{bytes_between, push_first};
 use crate::names::variant_at;
@@ -16,13 +17,13 @@ use std::alloc::{AllocError, Global};
 #[derive(Clone, Copy)]
 pub struct NamedLexer<'m, 's> {
     pub path: &'m str,
-    /// The text of the enum, in which the spans of its leaves count.
+    /// The text of the enum, to which the spans of its leaves are relative.
     pub text: &'m str,
     pub graph: &'m Graph<'s>,
     pub code: &'m Code<'s>,
 }
 
-/// What a lexer finds at the beginning of an input.
+/// The finding of a lexer at the beginning of an input.
 #[derive(Clone, Copy)]
 pub struct Finding<'f> {
     /// The leaf of the match, or `None` for an error.
@@ -33,13 +34,13 @@ pub struct Finding<'f> {
     pub bytes: &'f [u8],
 }
 
-/// Appends which inputs two lexers read.
+/// Appends the kinds of inputs that two lexers read.
 pub fn push_modes(page: &mut Page, one: NamedLexer<'_, '_>, other: NamedLexer<'_, '_>) {
     push_mode(page, one);
     push_mode(page, other);
 }
 
-/// Appends the line that says which inputs a lexer reads.
+/// Appends the line with the kind of inputs that a lexer reads.
 fn push_mode(page: &mut Page, one: NamedLexer<'_, '_>) {
     page.push_shown(one.path);
     if one.graph.utf8_mode() {
@@ -49,11 +50,11 @@ fn push_mode(page: &mut Page, one: NamedLexer<'_, '_>) {
     }
 }
 
-/// Appends an input on which two lexers differ, and what they find there first.
+/// Appends an input on which two lexers differ, and their first findings there.
 ///
 /// # Errors
 ///
-/// Returns `AllocError` if memory runs out. Some lines may be pushed then.
+/// Returns `AllocError` if memory runs out. Then some lines may have been appended.
 pub fn push_difference(
     alloc: Global,
     page: &mut Page,
@@ -68,7 +69,7 @@ pub fn push_difference(
     push_finding(alloc, page, other, input)
 }
 
-/// Appends the line that says what a lexer finds at the beginning of an input.
+/// Appends the line with the finding of a lexer at the beginning of an input.
 fn push_finding(
     alloc: Global,
     page: &mut Page,
@@ -84,7 +85,7 @@ fn push_finding(
     Ok(())
 }
 
-/// Appends an error, or that there is none.
+/// Appends an error, or that there is none if it is empty.
 fn push_error(page: &mut Page, error: &[u8]) {
     if error.is_empty() {
         page.push("nothing");
@@ -94,7 +95,7 @@ fn push_error(page: &mut Page, error: &[u8]) {
     }
 }
 
-/// Returns the bytes of the error at the beginning of an input, or none if there is no error.
+/// Returns the bytes of the error at the beginning of an input, or no bytes if there is no error.
 fn first_error<'i>(code: &Code<'_>, input: &'i [u8]) -> &'i [u8] {
     let emit = |_leaf: LeafId, _slice: &[u8]| Action::Emit;
     let Ok(lexer) = Lexer::new_bytes(code, input, emit) else {
@@ -107,7 +108,7 @@ fn first_error<'i>(code: &Code<'_>, input: &'i [u8]) -> &'i [u8] {
     }
 }
 
-/// Returns what a lexer finds at the beginning of an input.
+/// Returns the finding of a lexer at the beginning of an input.
 ///
 /// # Errors
 ///
@@ -128,7 +129,7 @@ pub fn finding_of<'f>(
     }
 }
 
-/// Returns what a lexer finds by a match at the beginning of an input.
+/// Returns the finding of a lexer whose first match in an input is `found`.
 fn finding_by<'f>(one: NamedLexer<'f, '_>, input: &'f [u8], found: Match) -> Finding<'f> {
     Finding {
         leaf: Some(found.leaf),

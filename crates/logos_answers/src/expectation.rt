@@ -1,4 +1,4 @@
-//! An answer that is compared with a stored one.
+//! Compares an answer with a stored one. Called for `--expect`.
 
 ghost use Rattle.std.specs.Prelude.{◌≡◌, ◌≤◌, ◌↔◌, IsTrue, drop, length, take};
 ghost use Rattle.logos_answers.specs.Imports.{IsLineStart, timeless};
@@ -7,12 +7,12 @@ use crate::quotes::push_quoted;
 use logos_lines::Cursor;
 use logos_page::Page;
 
-/// What begins the line of an answer that differs from one time to the next.
+/// The beginning of the line that may differ between two runs.
 const TIME: &[u8] = b"milliseconds: ";
 
-/// Appends whether an answer is the stored one, and returns that. If not, pushes at which line and
-/// column of the stored one they differ first, and both lines. The line of the time that was taken
-/// is not compared. `path` is that of the stored answer.
+/// Appends whether an answer equals the stored one, and returns whether it does. If not, appends
+/// the line and the column of the stored one at which they first differ, and both lines. The line
+/// with the time is not compared. `path` is the path of the stored answer.
 pub fn push_agreement(page: &mut Page, path: &str, stored: &[u8], made: &[u8]) -> bool
     ensures { IsTrue result ↔ (timeless stored.now ≡ timeless made.now) }
 {
@@ -27,7 +27,7 @@ pub fn push_agreement(page: &mut Page, path: &str, stored: &[u8], made: &[u8]) -
     is_same
 }
 
-/// Returns an answer without its last line, if that has the time.
+/// Returns an answer without its last line, if that is the line with the time.
 fn without_time(answer: &[u8]) -> &[u8]
     ensures { result.now ≡ timeless answer.now }
 {
@@ -70,7 +70,7 @@ fn tail_of(text: &[u8], at: usize) -> &[u8]
     }
 }
 
-/// Appends where two answers differ first, and how.
+/// Appends the first difference of two answers.
 fn push_difference(page: &mut Page, path: &str, stored: &[u8], made: &[u8]) {
     let at = common_length(stored, made);
     let start = line_start(stored, at);
@@ -79,7 +79,7 @@ fn push_difference(page: &mut Page, path: &str, stored: &[u8], made: &[u8]) {
     push_line(page, "found    ", line_from(made, start));
 }
 
-/// Returns how many bytes two texts begin with alike.
+/// Returns the length of the common prefix of two texts, in bytes.
 fn common_length(one: &[u8], other: &[u8]) -> usize
     ensures { result ≤ length one.now }
 {

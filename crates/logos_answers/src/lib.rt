@@ -1,6 +1,6 @@
-//! Answers about a lexer, as lines of text: its leaves, its items, what matches from a point, what
-//! a leaf finds, inputs that pass all of its edges, whether two lexers are the same, and whether an
-//! answer is a stored one.
+//! Answers about a lexer, as lines of text: its leaves, its items, the matches from a point,
+//! examples for a leaf, inputs that take all of its edges, whether two lexers are equivalent, and
+//! whether an answer equals a stored one. Called by `logos_show` and `logos_items`.
 
 #![tactic(auto)]
 

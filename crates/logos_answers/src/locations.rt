@@ -1,12 +1,12 @@
-//! A line and a column in a word of the command line.
+//! A line and a column in an argument. Used by `logos_questions`.
 
 ghost use Rattle.std.specs.Prelude.{◌≡◌, Some};
 ghost use Rattle.logos_answers.specs.Locations.{digits_after, number_named, location_named, location_of, positive, with_digit};
 
 use logos_lines::Location;
 
-/// Returns the line and the column that a word names, as `2:14`, or `None` if it names no position.
-/// Both count from 1, and have at most seventeen digits.
+/// Returns the line and the column in an argument such as `2:14`, or `None` if it has another form.
+/// Both are counted from 1, and have at most seventeen digits.
 pub fn location_by_word(word: &str) -> Option<Location>
     ensures { result ≡ location_named word.now }
 {
@@ -16,7 +16,7 @@ pub fn location_by_word(word: &str) -> Option<Location>
     }
 }
 
-/// Returns a position, if both its parts are there.
+/// Returns a location, if both its parts are valid.
 fn location_of(line: Option<usize>, column: Option<usize>) -> Option<Location>
     ensures { result ≡ location_of line column }
 {
@@ -27,16 +27,16 @@ fn location_of(line: Option<usize>, column: Option<usize>) -> Option<Location>
     }
 }
 
-/// Returns the number that a text is, from 1 on, or `None` if it is none. It has at most seventeen
-/// digits.
+/// Returns the number in a text, which is at least 1, or `None` if the text is not a number. It has
+/// at most seventeen digits.
 pub fn number_by_text(text: &str) -> Option<usize>
     ensures { result ≡ number_named text.now }
 {
     digits_after(0, text.as_bytes())
 }
 
-/// Returns the number that digits give after those of another number. A number has at most
-/// seventeen digits, so this calls itself at most as often.
+/// Returns the number whose digits are those of `number` followed by `digits`. A number has at most
+/// seventeen digits, which bounds the depth of the recursion.
 fn digits_after(number: usize, digits: &[u8]) -> Option<usize>
     ensures { result ≡ digits_after (Some number) digits.now }
 {
@@ -49,7 +49,7 @@ fn digits_after(number: usize, digits: &[u8]) -> Option<usize>
     }
 }
 
-/// Returns a number with one more digit, unless it is 0 or has more than seventeen digits.
+/// Returns a number with one more digit, unless the result is 0 or has more than seventeen digits.
 fn with_digit(number: usize, byte: u8) -> Option<usize>
     ensures { result ≡ with_digit number byte }
 {

@@ -1,4 +1,4 @@
-//! The names of leaves.
+//! The names of leaves. Used by `logos_records`.
 
 ghost use Rattle.std.specs.Prelude.{◌≡◌, option_map};
 ghost use Rattle.logos_answers.specs.Imports.{Gains, leaf_name, leaf_text, name_at, variant_name, variant_text};
@@ -17,7 +17,7 @@ pub fn variant_of<'l>(kind: &'l VariantKind<'_>) -> Option<&'l str>
     }
 }
 
-/// Returns the variant of the leaf with a number, or `None` for a skip and where there is no such
+/// Returns the variant of the leaf with a number, or `None` for a skip and if there is no such
 /// leaf.
 pub fn variant_at<'l>(leaves: &'l [Leaf<'_>], leaf: usize) -> Option<&'l str>
     ensures { option_map (λ name. name.now) result ≡ variant_text leaves.now leaf }

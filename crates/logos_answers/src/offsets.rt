@@ -1,4 +1,4 @@
-//! The offset of a line and a column.
+//! The offset of a line and a column. Used by `logos_show`.
 
 ghost use Rattle.std.specs.Prelude.{◌≡◌, ◌↔◌, ℕ, IsTrue, MatchOption, false};
 ghost use Rattle.logos_answers.specs.Imports.{IsOffsetOf, continues};
@@ -6,7 +6,7 @@ ghost use Rattle.logos_answers.specs.Imports.{IsOffsetOf, continues};
 use crate::quotes::continues;
 use logos_lines::{Cursor, Location};
 
-/// Returns whether a byte begins a character, and its position is this one.
+/// Returns whether a byte begins a character, and its location is `location`.
 fn begins_at(byte: u8, here: Location, location: Location) -> bool
     ensures { IsTrue result ↔ ((continues byte ≡ false) × (here ≡ location)) }
 {
@@ -14,7 +14,7 @@ fn begins_at(byte: u8, here: Location, location: Location) -> bool
 }
 
 /// Returns the offset of a line and a column of an input, or `None` if it does not have them. Lines
-/// and columns count from 1, and a column counts characters.
+/// and columns are counted from 1, and columns count characters.
 pub fn offset_of(input: &[u8], location: Location) -> Option<usize>
     ensures { MatchOption result ((at : ℕ) → ¬ IsOffsetOf input.now location at)
         (IsOffsetOf input.now location) }

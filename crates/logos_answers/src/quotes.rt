@@ -1,5 +1,5 @@
-//! Bytes as they are shown in quotes. No control character, no character that is not visible, and
-//! none that turns the direction of a line is shown as it is.
+//! Bytes in the form in which they are shown in quotes. Control characters, invisible characters,
+//! and those that change the direction of a line are escaped.
 
 ghost use Rattle.std.specs.Prelude.{◌≡◌, ◌<◌, ◌/◌, ◌%◌, length};
 ghost use Rattle.logos_answers.specs.Quoting as shown;
@@ -8,8 +8,8 @@ ghost use Rattle.logos_answers.specs.Imports.{Gains};
 use logos_page::Page;
 use std::str;
 
-/// Appends bytes in quotes: as a text if they are UTF-8, and with the other bytes escaped if not.
-/// Of more than sixty bytes the first ones are shown.
+/// Appends bytes in quotes: as a text if they are UTF-8, otherwise with the other bytes escaped. Of
+/// more than sixty bytes only the first ones are shown.
 pub fn push_quoted(page: &mut Page, bytes: &[u8])
     ensures { Gains (shown.quoted bytes.now) page.old page.new }
 {
@@ -18,8 +18,8 @@ pub fn push_quoted(page: &mut Page, bytes: &[u8])
     page.push(closing(bytes));
 }
 
-/// Appends bytes as a literal of Rust: a string if they are UTF-8, and a byte string if not. It
-/// stands on one line, and no byte is left out.
+/// Appends bytes as a Rust literal: a string if they are UTF-8, otherwise a byte string. It has one
+/// line, and no byte is left out.
 pub(crate) fn push_literal(page: &mut Page, bytes: &[u8])
     ensures { Gains (shown.literal bytes.now) page.old page.new }
 {
@@ -29,7 +29,7 @@ pub(crate) fn push_literal(page: &mut Page, bytes: &[u8])
     }
 }
 
-/// Appends a text as a literal of Rust.
+/// Appends a text as a Rust literal.
 fn push_string(page: &mut Page, text: &str)
     ensures { Gains (shown.string_literal text.now) page.old page.new }
 {
@@ -38,7 +38,7 @@ fn push_string(page: &mut Page, text: &str)
     page.push("\"");
 }
 
-/// Appends bytes that are not UTF-8 as a literal of Rust.
+/// Appends bytes that are not UTF-8 as a Rust literal.
 fn push_byte_string(page: &mut Page, bytes: &[u8])
     ensures { Gains (shown.byte_literal bytes.now) page.old page.new }
 {
@@ -47,7 +47,7 @@ fn push_byte_string(page: &mut Page, bytes: &[u8])
     page.push("\"");
 }
 
-/// Returns the bytes that are shown of these.
+/// Returns the shown part of bytes.
 fn clipped(bytes: &[u8]) -> &[u8]
     ensures { result.now ≡ shown.clipped bytes.now }
 {
@@ -57,7 +57,7 @@ fn clipped(bytes: &[u8]) -> &[u8]
     bytes
 }
 
-/// Returns how many bytes are shown of more than sixty.
+/// Returns the number of shown bytes of more than sixty.
 fn cut_of(bytes: &[u8]) -> usize
     requires { 60 < length bytes.now }
     ensures cut { result ≡ shown.cut_of bytes.now }
@@ -75,21 +75,21 @@ fn cut_of(bytes: &[u8]) -> usize
     57
 }
 
-/// Returns whether a byte continues a character that an earlier byte began.
+/// Returns whether a byte is a continuation byte of a character.
 pub(crate) fn continues(byte: u8) -> bool
     ensures { result ≡ shown.continues byte }
 {
     (128 <= byte) & (byte < 192)
 }
 
-/// Returns what follows the bytes that are shown of these.
+/// Returns the text after the shown part of bytes.
 fn closing(bytes: &[u8]) -> &'static str
     ensures { result.now ≡ shown.closing bytes.now }
 {
     if bytes.len() > 60 { "\".." } else { "\"" }
 }
 
-/// Appends what is shown of bytes between the quotes.
+/// Appends the shown form of bytes between the quotes.
 fn push_shown(page: &mut Page, bytes: &[u8])
     ensures { Gains (shown.shown_bytes bytes.now) page.old page.new }
 {
@@ -99,7 +99,7 @@ fn push_shown(page: &mut Page, bytes: &[u8])
     }
 }
 
-/// Appends what is shown of a text.
+/// Appends the shown form of a text.
 fn push_text(page: &mut Page, text: &str)
     ensures { Gains (shown.shown_text text.now) page.old page.new }
 {
@@ -108,7 +108,7 @@ fn push_text(page: &mut Page, text: &str)
     }
 }
 
-/// Appends what is shown of bytes that are not UTF-8.
+/// Appends the shown form of bytes that are not UTF-8.
 fn push_bytes(page: &mut Page, bytes: &[u8])
     ensures { Gains (shown.shown_others bytes.now) page.old page.new }
 {
@@ -117,7 +117,7 @@ fn push_bytes(page: &mut Page, bytes: &[u8])
     }
 }
 
-/// Appends what is shown of a byte.
+/// Appends the shown form of a byte.
 fn push_byte(page: &mut Page, byte: u8)
     ensures { Gains (shown.shown_byte byte) page.old page.new }
 {
@@ -137,7 +137,7 @@ fn push_byte_escape(page: &mut Page, byte: u8)
     page.push_char(hex_digit(byte as u32));
 }
 
-/// Appends what is shown of a character.
+/// Appends the shown form of a character.
 fn push_character(page: &mut Page, character: char)
     ensures { Gains (shown.shown_character character) page.old page.new }
 {
@@ -151,7 +151,7 @@ fn push_character(page: &mut Page, character: char)
     }
 }
 
-/// Appends what is shown of a character that has no escape of two characters.
+/// Appends the shown form of a character that has no escape of two characters.
 fn push_other(page: &mut Page, character: char)
     ensures { Gains (shown.shown_other character) page.old page.new }
 {
@@ -162,7 +162,7 @@ fn push_other(page: &mut Page, character: char)
     }
 }
 
-/// Appends the escape of a character that is not shown as it is.
+/// Appends the escape of a hidden character.
 fn push_escape(page: &mut Page, number: u32)
     ensures { Gains (shown.hidden_escape number) page.old page.new }
 {
@@ -173,7 +173,7 @@ fn push_escape(page: &mut Page, number: u32)
     }
 }
 
-/// Appends the escape of a character by its number.
+/// Appends the escape of a character, with its number.
 fn push_number_escape(page: &mut Page, number: u32)
     ensures { Gains (shown.number_escape number) page.old page.new }
 {
@@ -194,7 +194,7 @@ fn push_number_digits(page: &mut Page, number: u32)
     }
 }
 
-/// Appends the two digits in front of the last four.
+/// Appends the two hexadecimal digits before the last four.
 fn push_two_digits_before(page: &mut Page, number: u32)
     ensures { Gains (shown.two_digits_before number) page.old page.new }
 {
@@ -202,7 +202,7 @@ fn push_two_digits_before(page: &mut Page, number: u32)
     page.push_char(hex_digit(number / 65_536));
 }
 
-/// Appends the last four digits of a number.
+/// Appends the last four hexadecimal digits of a number.
 fn push_four_digits(page: &mut Page, number: u32)
     ensures { Gains (shown.four_digits number) page.old page.new }
 {
@@ -224,7 +224,7 @@ fn hex_digit(number: u32) -> char
     }
 }
 
-/// Returns whether a character is not shown as it is.
+/// Returns whether a character is escaped because it is hidden.
 pub(crate) fn is_hidden(number: u32) -> bool
     ensures { result ≡ shown.is_hidden number }
 {
@@ -232,7 +232,7 @@ pub(crate) fn is_hidden(number: u32) -> bool
         | (is_hidden_filler(number) | (is_hidden_mark(number) | is_hidden_special(number)))
 }
 
-/// Returns whether it is a control character, or one of the first that are not visible.
+/// Returns whether a character is a control character, or one of the first invisible ones.
 fn is_hidden_low(number: u32) -> bool
     ensures { result ≡ shown.is_hidden_low number }
 {
@@ -241,7 +241,7 @@ fn is_hidden_low(number: u32) -> bool
             | ((number == 0xAD) | ((number == 0x34F) | (number == 0x61C))))
 }
 
-/// Returns whether it is a letter or a vowel that is not visible.
+/// Returns whether a character is an invisible letter or vowel.
 fn is_hidden_filler(number: u32) -> bool
     ensures { result ≡ shown.is_hidden_filler number }
 {
@@ -250,7 +250,8 @@ fn is_hidden_filler(number: u32) -> bool
             | (is_between(0x180B, 0x180F, number) | ((number == 0x3164) | (number == 0xFFA0))))
 }
 
-/// Returns whether it has no width, ends a line, turns its direction, or chooses a form.
+/// Returns whether a character has no width, ends a line, changes its direction, or selects a
+/// variant of a glyph.
 fn is_hidden_mark(number: u32) -> bool
     ensures { result ≡ shown.is_hidden_mark number }
 {
@@ -260,7 +261,7 @@ fn is_hidden_mark(number: u32) -> bool
                 | (is_between(0xFE00, 0xFE0F, number) | (number == 0xFEFF))))
 }
 
-/// Returns whether it is one of the specials or of the tags.
+/// Returns whether a character is one of the specials or of the tags.
 fn is_hidden_special(number: u32) -> bool
     ensures { result ≡ shown.is_hidden_special number }
 {

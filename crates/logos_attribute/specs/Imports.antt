@@ -1,4 +1,5 @@
--- Definitions that clauses cite: of lower crates, and those of this one that name no type of it.
+-- Definitions that contracts cite: those of lower crates, and those of this crate that name none of
+-- its types.
 pub use Rattle.logos_token.specs.Faults.{Fault}
 pub use Rattle.logos_token.specs.Printing.{printed}
 pub use Rattle.logos_token.specs.Tokens.{Token, TokenList, also, append, none, rest_of, run_span}

@@ -1,5 +1,5 @@
-//! Reads values in an attribute's argument, one after another. No crate of this repository calls it
-//! but tests: it is one of the calls that users know.
+//! Reads values in an attribute's argument, one after another. `parsed` is part of the public
+//! interface; in this repository only tests call it.
 
 ghost use Rattle.std.specs.Prelude.{◌≡◌, ◌≢◌, List, Option, None, IfOk, OnOk, OnErr, MatchOption, option_map};
 ghost use Rattle.logos_attribute.specs.Imports.{result_ok, Fault, TokenList, none, run_span, tokens_of, type_tree, ReadsValue, literal_view, literal_report, up_to_comma, after_comma, pieces, IsReport};
@@ -14,17 +14,17 @@ use logos_type::TypeExpr;
 use logos_type_params::read_value;
 use std::alloc::Global;
 
-/// A fault was reported: it was added to the list of faults.
+/// A fault was found and added to the list of faults.
 #[derive(Clone, Copy, Debug)]
 pub struct Reported;
 
-/// A type as which a run of tokens can be read.
+/// A type of values that can be read from a run of tokens.
 pub trait FromRun<'s>: Sized {
-    /// The run is read as this value, and the list of faults becomes the second one.
+    /// The run is read as this value, and the first list of faults becomes the second.
     ghost is_read: { TokenList → Option Self → List Fault → List Fault → Type 0 };
 
-    /// Reads the whole run as a value. Reports a run that is not one, except a run without tokens
-    /// that is read as a literal, and returns `None` for it.
+    /// Reads the whole run as a value. Returns `None` and reports the run if it is not such a
+    /// value. A run without tokens that is read as a literal is not reported.
     ///
     /// # Errors
     ///
@@ -54,8 +54,8 @@ impl<'s> FromRun<'s> for Literal<'s> {
     }
 }
 
-/// Reads a type. Reports another run, at the run: as `TypeSyntax`, or as `LimitTypeNesting` if it
-/// nests deeper than types are allowed to.
+/// Reads a type. Reports any other run, at the run: as `TypeSyntax`, or as `LimitTypeNesting` if
+/// more types are nested in it than the limit allows.
 impl<'s> FromRun<'s> for TypeExpr<'s> {
     ghost is_read = { λ run read old new.
         ReadsValue run (run_span run) old new (option_map type_tree read) };
@@ -70,13 +70,13 @@ impl<'s> FromRun<'s> for TypeExpr<'s> {
 }
 
 impl<'t, 's> AttributeParser<'t, 's> {
-    /// Takes the tokens up to the next comma that cuts, and that comma, and reads these tokens as
-    /// one value. `None` if no token comes before that comma, and `Reported` if the tokens are not
-    /// such a value.
+    /// Removes the tokens up to the next lone comma, and that comma, and reads these tokens as one
+    /// value. Returns `None` if no token comes before that comma, and `Reported` if the tokens are
+    /// not such a value.
     ///
     /// # Errors
     ///
-    /// Returns `Memory` if memory runs out. Nothing is taken then, and the faults are unchanged.
+    /// Returns `Memory` if memory runs out. Nothing is then removed, and the faults are unchanged.
     pub fn parsed<T: FromRun<'s>>(
         &mut self,
         alloc: Global,

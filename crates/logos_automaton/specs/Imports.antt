@@ -1,4 +1,5 @@
--- Definitions that clauses cite: of lower crates, and those of this one that name no type of it.
+-- Definitions that contracts cite: those of lower crates, and those of this crate that name none of
+-- its types.
 pub use Rattle.logos_hir.specs.ByteRanges.{is_in}
 pub use Rattle.logos_hir.specs.Hir.{class_tree, pairs, tree_of}
 pub use Rattle.logos_hir.specs.Tree.{trees}
@@ -8,6 +9,7 @@ pub use Rattle.logos_positions.specs.Marks.{Has, IsFirstFrom, IsRising}
 pub use Rattle.logos_positions.specs.Node.{AreMeasured, core_of, is_measured}
 pub use Rattle.logos_positions.specs.Repeat.{spelled}
 pub use Rattle.logos_positions.specs.Run.{width_of}
+pub use Rattle.logos_positions.specs.Several.{AreStarts}
 pub use Rattle.logos_positions.specs.Size.{size, sizes}
 pub use Rattle.logos_positions.specs.Table.{reader_of}
 pub use Rattle.logos_positions.specs.declared.node.Node.{Node}

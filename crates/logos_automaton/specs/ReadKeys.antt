@@ -1,4 +1,4 @@
--- The keys of byte strings, which bound the states of the automaton.
+-- The keys of byte strings, which bound the number of states of the automaton.
 use Rattle.std.specs.Prelude.{◌≡◌, ℕ, ◌<◌, ◌↔◌, List, [], ◌∷◌, ◌++◌, length, Some, if◌then◌else◌, ◌==◌, slice_get, IfSome, IsSomeAnd, AllPairs}
 use Rattle.std.specs.List.{list_any}
 use Rattle.logos_hir.specs.Text.{IsBytes}
@@ -13,7 +13,7 @@ pub data Kind : Type 0 where
   lf : Kind
   other : Kind
 
--- What looks see of a byte.
+-- The kind of a byte, as look-around assertions distinguish it.
 abbrev pub kind_of : ℕ → Kind
 kind_of b = if is_word (Some b) then word else if b == 13 then cr else if b == 10 then lf else other
 
@@ -28,7 +28,7 @@ module _ (rules : List Rule) where
   abbrev pub seen_kind : ℕ → Kind
   seen_kind b = if list_any (λ rule. has_look rule.tree) rules then kind_of b else unseen
 
-  -- The place of the rule can have read the last byte.
+  -- The position of the rule can have read the last byte.
   abbrev pub HasRead : ℕ → Position → List ℕ → ℕ → Type 0
   HasRead leaf position before last =
       IsSomeAnd (slice_get rules leaf) (λ rule. Reads rule.tree (before ++ last ∷ []) 0 position (length before))

@@ -1,5 +1,6 @@
-//! The bytes that a tree reads otherwise than the byte before them, found in one walk over it from
-//! the places that read the last byte. `alike` and the steps of trees ask for them.
+//! The bytes whose steps on a tree differ from those of the byte before them, found in one pass
+//! over the tree from the positions that read the last byte. `byte_equivalence` and the steps of
+//! trees call it.
 
 ghost use Rattle.std.specs.Prelude.{◌≡◌, ◌<◌, ◌^◌, ◌+◌, ◌*◌, ◌==◌, ℕ, IsTrue, IsFalse, length, slice_index};
 ghost use Rattle.logos_automaton.specs.Views.{byte_in, core_of, is_measured, reader_of, spelled, Has, IsFirstFrom, IsRising, GoesAlike, IsCopyAlike, MayLeave, MayPass, OpensAlike, SetsFlags};
@@ -24,8 +25,8 @@ fn differ(row: Option<usize>, other: Option<usize>) -> bool
     }
 }
 
-/// Sets the flags of the bytes by which a class of characters, entered, leads elsewhere than by the
-/// byte before.
+/// Marks each byte whose transition from the start of a class of characters differs from that of
+/// the byte before it.
 fn mark_first(table: &CharacterTable, marked: &mut [bool; 256])
     ensures { SetsFlags (OpensAlike (core.character (reader_of table.now))) marked.old marked.new }
 {
@@ -35,8 +36,8 @@ fn mark_first(table: &CharacterTable, marked: &mut [bool; 256])
     }
 }
 
-/// Sets the flags of the bytes by which a row of a class of characters leads elsewhere than by the
-/// byte before.
+/// Marks each byte whose transition from a row of a class of characters differs from that of the
+/// byte before it.
 fn mark_row(table: &CharacterTable, row: usize, marked: &mut [bool; 256])
     requires { row < table.now.rows }
     ensures { SetsFlags (λ x y. (reader_of table.now).follow row x ≡ (reader_of table.now).follow row y)
@@ -49,8 +50,8 @@ fn mark_row(table: &CharacterTable, row: usize, marked: &mut [bool; 256])
     }
 }
 
-/// Sets the flags of the bytes by which a class of characters, from its rows that read the last
-/// byte, leads elsewhere than by the byte before.
+/// Marks each byte whose transitions from the rows of a class of characters that read the last byte
+/// differ from those of the byte before it.
 fn mark_rows(table: &CharacterTable, marks: &[usize], base: usize, marked: &mut [bool; 256])
     requires rising { IsRising marks.now }
     requires fits { base + table.now.rows < 2 ^ 64 }
@@ -70,7 +71,7 @@ fn mark_rows(table: &CharacterTable, marks: &[usize], base: usize, marked: &mut 
     }
 }
 
-/// Sets the flags of a byte and of the byte after it.
+/// Marks a byte and the byte after it.
 fn mark_byte(byte: u8, marked: &mut [bool; 256])
     ensures { SetsFlags (OpensAlike (byte_in (λ x. x == byte))) marked.old marked.new }
 {
@@ -78,7 +79,7 @@ fn mark_byte(byte: u8, marked: &mut [bool; 256])
     mark_range(Range::new(value, value), marked);
 }
 
-/// Sets the flags of the byte of a literal at an index, if there is one, and of the byte after it.
+/// Marks the byte of a literal at an index, if there is one, and the byte after it.
 fn mark_at(text: &[u8], at: usize, marked: &mut [bool; 256])
     ensures { SetsFlags (λ x y. at < length text.now →
         (x == slice_index text.now at) ≡ (y == slice_index text.now at)) marked.old marked.new }
@@ -88,8 +89,8 @@ fn mark_at(text: &[u8], at: usize, marked: &mut [bool; 256])
     }
 }
 
-/// Sets the flags of the bytes that a literal, entered, reads otherwise than the byte before, and
-/// returns whether it is empty.
+/// Marks each byte whose transition from the start of a literal differs from that of the byte
+/// before it. Returns whether the literal is empty.
 fn open_literal(text: &[u8], marked: &mut [bool; 256]) -> bool
     ensures marks { SetsFlags (OpensAlike (spelled text.now)) marked.old marked.new }
     ensures passes { MayPass (spelled text.now) → IsTrue result }
@@ -98,8 +99,8 @@ fn open_literal(text: &[u8], marked: &mut [bool; 256]) -> bool
     text.is_empty()
 }
 
-/// Sets the flags of the bytes that a tree, entered, reads otherwise than the byte before, and
-/// returns whether it may be passed without a byte.
+/// Marks each byte whose transitions from the start of `node` differ from those of the byte before
+/// it. Returns whether `node` matches the empty string if look-around assertions allow it.
 #[cycle(open)]
 fn open(node: &Node, marked: &mut [bool; 256]) -> bool
     ensures marks { SetsFlags (OpensAlike (core_of node.now)) marked.old marked.new }
@@ -135,7 +136,7 @@ fn open(node: &Node, marked: &mut [bool; 256]) -> bool
     }
 }
 
-/// Does what `open` does, if the tree is entered.
+/// Does what `open` does if the tree is entered.
 fn open_if(entered: bool, node: &Node, marked: &mut [bool; 256]) -> bool
     ensures marks { SetsFlags (λ x y. IsTrue entered → OpensAlike (core_of node.now) x y)
         marked.old marked.new }
@@ -147,8 +148,8 @@ fn open_if(entered: bool, node: &Node, marked: &mut [bool; 256]) -> bool
     open(node, marked)
 }
 
-/// Sets the flags of the bytes that a literal, from its places, reads otherwise than the byte
-/// before, and returns whether its last place is one of them.
+/// Marks each byte whose transitions from the positions of a literal differ from those of the byte
+/// before it. Returns whether the last position of the literal is in the set.
 fn follow_literal(text: &[u8], marks: &[usize], base: usize, marked: &mut [bool; 256]) -> bool
     requires rising { IsRising marks.now }
     requires fits { base + length text.now < 2 ^ 64 }
@@ -173,8 +174,8 @@ fn follow_literal(text: &[u8], marks: &[usize], base: usize, marked: &mut [bool;
     has_mark(marks, base + (text.len() - 1))
 }
 
-/// Sets the flags of the bytes that a tree, not entered, from its places reads otherwise than the
-/// byte before, and returns whether it may be left.
+/// Marks each byte whose transitions from the positions of a tree that is not entered differ from
+/// those of the byte before it. Returns whether the tree may be left.
 #[cycle(follow)]
 fn follow(node: &Node, marks: &[usize], base: usize, marked: &mut [bool; 256]) -> bool
     requires fits { base + core.width (core_of node.now) < 2 ^ 64 }
@@ -194,8 +195,8 @@ fn follow(node: &Node, marks: &[usize], base: usize, marked: &mut [bool; 256]) -
     follow_node(node, marks, base, marked)
 }
 
-/// Does what `follow` does for a tree that has these places of the set. A branch without one of
-/// them is passed over.
+/// Does what `follow` does for a tree that has these positions of the set. Branches without one of
+/// them are skipped.
 #[cycle(follow)]
 fn follow_marked(node: &Node, marks: &[usize], own: OwnPositions, marked: &mut [bool; 256]) -> bool
     requires fits { own.base + core.width (core_of node.now) < 2 ^ 64 }
@@ -229,7 +230,7 @@ fn follow_marked(node: &Node, marks: &[usize], own: OwnPositions, marked: &mut [
     one | other
 }
 
-/// Does what `follow` does, by the form of the tree.
+/// Does what `follow` does, dispatching on the form of the tree.
 #[cycle(follow)]
 fn follow_node(node: &Node, marks: &[usize], base: usize, marked: &mut [bool; 256]) -> bool
     requires fits { base + core.width (core_of node.now) < 2 ^ 64 }
@@ -275,9 +276,9 @@ fn follow_node(node: &Node, marks: &[usize], base: usize, marked: &mut [bool; 25
     }
 }
 
-/// Sets the flags of the bytes that copies of a body, from their places, read otherwise than the
-/// byte before, and returns whether one of them may be left. If one may be, the body may be entered
-/// again. Copies with the same places are asked once.
+/// Marks each byte whose transitions from the positions of copies of a body differ from those of
+/// the byte before it. Returns whether one of the copies may be left, in which case the body may be
+/// entered again. Copies with the same positions are visited once.
 #[cycle(follow)]
 fn follow_copies(body: &Node, copies: Copies, marks: &[usize], marked: &mut [bool; 256]) -> bool
     requires fits { copies.base + copies.each * copies.count < 2 ^ 64 }
@@ -302,8 +303,8 @@ fn follow_copies(body: &Node, copies: Copies, marks: &[usize], marked: &mut [boo
     any
 }
 
-/// Sets the flags of the bytes that a tree, from its places and entered or not, reads otherwise
-/// than the byte before.
+/// Marks each byte whose transitions from the positions of a tree, entered or not, differ from
+/// those of the byte before it.
 pub fn mark_tree(node: &Node, marks: &[usize], base: usize, entered: bool, marked: &mut [bool; 256])
     requires fits { base + core.width (core_of node.now) < 2 ^ 64 }
     requires measured { IsTrue (is_measured node.now) }

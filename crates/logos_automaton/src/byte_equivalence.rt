@@ -1,5 +1,6 @@
-//! Bytes that no pattern distinguishes. The rows of states and the steps of trees ask it which
-//! bytes to try; each other byte does what the byte before it does.
+//! Bytes that no pattern distinguishes. The rows of states and the steps of trees compute
+//! transitions only for the bytes that are marked here; each other byte has the transition of the
+//! byte before it.
 
 ghost use Rattle.std.specs.Prelude.{◌≡◌, ◌≢◌, ◌∷◌, ◌++◌, ◌+◌, ◌<◌, ℕ, [], IsTrue, IsFalse, OnOk, false, slice_index_or, if◌then◌else◌};
 ghost use Rattle.logos_automaton.specs.Views.{is_in, pairs, byte_in, kind_of_byte, IsRising, Has, SetsFlags, OpensAlike, AreKindBytes, AreFirstBytes, IsPrepared, cores_of};
@@ -30,7 +31,7 @@ pub fn mark_range(range: Range, marked: &mut [bool; 256])
     mark(range.last as usize + 1, marked);
 }
 
-/// Sets the flags of the bytes that a class of bytes distinguishes from the byte before.
+/// Marks each byte that a class of bytes distinguishes from the byte before it.
 pub fn mark_ranges(ranges: &[Range], marked: &mut [bool; 256])
     ensures { SetsFlags (OpensAlike (byte_in (is_in (pairs ranges.now)))) marked.old marked.new }
 {
@@ -54,14 +55,15 @@ pub fn note(bytes: &mut Vec<u8>, byte: u8, is_one: bool) -> Result<(), AllocErro
     Ok(())
 }
 
-/// Returns whether looks can distinguish the bytes.
+/// Returns whether look-around assertions can distinguish the bytes.
 fn kinds_differ(one: u8, other: u8) -> bool
     ensures { IsFalse result → kind_of_byte one ≡ kind_of_byte other }
 {
     kind_of(one) != kind_of(other)
 }
 
-/// Sets the flags of the bytes that looks can distinguish from the byte before.
+/// Returns flags of the bytes that look-around assertions can distinguish from the byte before
+/// them.
 pub fn kind_bytes() -> [bool; 256]
     ensures { AreKindBytes result }
 {
@@ -72,7 +74,7 @@ pub fn kind_bytes() -> [bool; 256]
     first
 }
 
-/// Sets the flags of the bytes.
+/// Marks the bytes.
 pub fn add_bytes(bytes: &[u8], first: &mut [bool; 256])
     ensures { (byte : ℕ) → byte < 256 → slice_index_or first.new byte false ≡ false →
         (slice_index_or first.old byte false ≡ false) × ¬ (Has bytes.now byte) }
@@ -82,8 +84,8 @@ pub fn add_bytes(bytes: &[u8], first: &mut [bool; 256])
     }
 }
 
-/// Sets the flags of the bytes that looks can distinguish from the byte before, if some tree has a
-/// look.
+/// Returns flags of the bytes that look-around assertions can distinguish from the byte before
+/// them, if some tree has an assertion.
 pub fn first_by_kind(looks: bool, kinds: &[bool; 256]) -> [bool; 256]
     requires kinds { AreKindBytes kinds.now }
     ensures { (x : ℕ) → x + 1 < 256 → slice_index_or result (x + 1) false ≡ false →
@@ -92,8 +94,8 @@ pub fn first_by_kind(looks: bool, kinds: &[bool; 256]) -> [bool; 256]
     if looks { *kinds } else { [false; 256] }
 }
 
-/// Sets the flags of the bytes that looks, or the trees that are entered or have a place, can
-/// distinguish from the byte before.
+/// Returns flags of the bytes that look-around assertions, or the trees that are entered or have a
+/// position, can distinguish from the byte before them.
 pub fn first_bytes(trees: &Trees<'_>, marks: &[usize], entered: bool) -> [bool; 256]
     requires prepared { IsPrepared trees.now }
     requires rising { IsRising marks.now }

@@ -1,5 +1,5 @@
-//! The steps of trees, which are made once for each state of a tree. `row` takes the steps from
-//! here while it fills the row of a state.
+//! The steps of trees, which are computed once for each state of a tree. `row` reads the steps from
+//! this cache while it fills the row of a state.
 
 ghost use Rattle.std.specs.Prelude.{◌≡◌, ◌∷◌, ◌++◌, ◌+◌, ◌<◌, ◌≤◌, ◌↔◌, List, ℕ, [], false, IfOk, IsTrue, OnOk, length, slice_index, slice_index_or, if◌then◌else◌};
 ghost use Rattle.logos_automaton.specs.Views.{Node, kind_of_byte, Has, IsRising, state_of, Trees, AreKindBytes, IsPrepared, IsCacheOf, AreAlmostCached, AreCached, AreLive, HasSteps, IsTreeState, Keeps, state_after, step_of, tree_view};
@@ -10,30 +10,52 @@ use crate::tree_steps::construction::steps_of;
 use crate::tree_steps::{TreeState, TreeSteps};
 use crate::trees::Trees;
 use indexmap::IndexSet;
-use logos_positions::positions::tree::marks_between;
+use logos_positions::positions::set::first_from;
 use logos_positions::positions::trees::next_tree;
 use std::alloc::{AllocError, Global};
 
-/// How many states of trees are stored. Before more are added, all are removed, so that they take
-/// little memory.
+/// The greatest number of states of trees that are stored. Before more are added, all are removed,
+/// which bounds the memory of the cache.
 const MAX_TREE_STATES: usize = 32_768;
 
-/// The states of trees met so far, and the steps from each.
+/// The states of trees that have occurred, and the steps from each.
 #[derive(Drop)]
 pub struct StepCache {
     /// The states.
     pub states: IndexSet<TreeState>,
-    /// The steps from each state, by the index of the state.
+    /// The steps from each state, at the index of the state.
     pub steps: Vec<TreeSteps>,
 }
 
-/// A tree that has a place that read the last byte.
+/// A tree that has a position that read the last byte.
 #[derive(Clone, Copy)]
 pub struct LiveTree {
     /// The number of the tree.
     pub tree: usize,
-    /// The index of its steps in the cache.
+    /// The index of the tree's steps in the cache.
     pub steps: usize,
+}
+
+/// Returns the places from `low` on and below `high`.
+///
+/// # Errors
+///
+/// Returns `AllocError` if memory runs out.
+fn marks_between(
+    alloc: Global,
+    marks: &[usize],
+    low: usize,
+    high: usize,
+) -> Result<Vec<usize>, AllocError>
+    requires rising { IsRising marks.now }
+    requires order { low ≤ high }
+    ensures rising { IfOk result (λ own. IsRising own.items) }
+    ensures has { IfOk result (λ own. (q : ℕ) → low ≤ q → q < high →
+        Has own.items q ↔ Has marks.now q) }
+{
+    let from = first_from(marks, low);
+    let to = first_from(marks, high);
+    Vec::from_slice(alloc, &marks[from..to])
 }
 
 /// Returns the state of a tree in a state of all trees.
@@ -109,7 +131,7 @@ impl StepCache {
         }
     }
 
-    /// Returns the index of the steps from a state, which are made if the state is new.
+    /// Returns the index of the steps from a state. The steps are computed if the state is new.
     ///
     /// # Errors
     ///
@@ -154,21 +176,21 @@ impl StepCache {
     }
 }
 
-/// The steps from a state by each byte: those of its live trees.
+/// The steps from a state for each byte: those of its live trees.
 #[derive(Clone, Copy)]
 pub struct StateSteps<'c> {
-    /// The allocator of the states after it.
+    /// The allocator of the states that the steps lead to.
     pub alloc: Global,
     /// The live trees of the state, ascending.
     pub lives: &'c [LiveTree],
-    /// The steps to which these refer.
+    /// The steps that the live trees index.
     pub steps: &'c [TreeSteps],
-    /// Whether some tree has a look.
+    /// Whether some tree has a look-around assertion.
     pub looks: bool,
 }
 
-/// Appends the places of a tree that read a byte, and returns whether the tree can be left before
-/// it.
+/// Appends the positions of a tree that read a byte, and returns whether the tree can be left
+/// before it.
 ///
 /// # Errors
 ///
@@ -209,7 +231,7 @@ fn push_if(numbers: &mut Vec<usize>, number: usize, is_one: bool) -> Result<(), 
     Ok(())
 }
 
-/// Sets the flags of the bytes whose step on a tree differs from that of the byte before.
+/// Marks each byte whose step on a tree differs from that of the byte before it.
 fn add_changes(steps: &[TreeSteps], live: LiveTree, first: &mut [bool; 256])
     ensures { (x : ℕ) → x + 1 < 256 → slice_index_or first.new (x + 1) false ≡ false →
         (slice_index_or first.old (x + 1) false ≡ false)
@@ -243,7 +265,7 @@ impl StateSteps<'_> {
         })
     }
 
-    /// Sets the flags of the bytes that can lead to another state than the byte before.
+    /// Returns flags of the bytes that can lead to another state than the byte before them.
     pub fn changes(self, kinds: &[bool; 256]) -> [bool; 256]
         requires kinds { AreKindBytes kinds.now }
         ensures { (x : ℕ) → x + 1 < 256 → slice_index_or result (x + 1) false ≡ false →

@@ -1,5 +1,5 @@
-//! The keys of states, by which a state is found while the automaton is built. The loop of
-//! `dfa::builder` begins with the key of the start, and `row` makes that of each target.
+//! The keys of states, by which a state is looked up while the automaton is built. The loop of
+//! `dfa::builder` begins with the key of the start, and `row` computes the key of each target.
 
 ghost use Rattle.std.specs.Prelude.{◌≡◌, ◌<◌, ◌≤◌, ◌+◌, Bool, List, IfOk, OnOk, length};
 ghost use Rattle.logos_automaton.specs.Views.{Core, IsRising, IsPrepared, cores_of};
@@ -12,10 +12,10 @@ use logos_positions::positions::step::ReadByte;
 use logos_positions::positions::trees::{Forest, exits_all, step_all};
 use std::alloc::{AllocError, Global};
 
-/// What an automaton remembers of the bytes read so far: the key of a state.
+/// The key of a state: the information that an automaton keeps about the bytes that it has read.
 #[derive(PartialEq, Eq, Hash, Drop)]
 pub struct Key {
-    /// The places that can have read the last byte, ascending.
+    /// The positions that can have read the last byte, ascending.
     pub positions: Vec<usize>,
     /// The kind of that byte, if it is remembered.
     pub kind: ByteKind,
@@ -24,8 +24,8 @@ pub struct Key {
     pub matches: Vec<usize>,
 }
 
-/// Returns what is remembered of a byte that is read at these places: its kind, if there are places
-/// and some tree has a look.
+/// Returns the kind of a byte that is read at these positions, if there are positions and some tree
+/// has a look-around assertion.
 pub fn next_kind(looks: bool, positions: &[usize], byte: u8) -> ByteKind
     ensures { result ≡ keys.next_kind looks positions.now byte }
 {
@@ -36,7 +36,7 @@ pub fn next_kind(looks: bool, positions: &[usize], byte: u8) -> ByteKind
     }
 }
 
-/// Returns whether nothing was read.
+/// Returns whether no byte was read.
 pub fn is_start(kind: ByteKind) -> bool
     ensures { result ≡ keys.is_start kind }
 {
@@ -128,7 +128,7 @@ pub fn ended_key(alloc: Global, matches: &[usize]) -> Result<Key, AllocError>
     })
 }
 
-/// Returns the number of a state, which is added if it is new.
+/// Returns the number of the state with this key, which is added if it is new.
 ///
 /// # Errors
 ///

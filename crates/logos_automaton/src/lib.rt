@@ -1,4 +1,5 @@
-//! The automaton of rules, which reads matches one byte late, and the faults of rules.
+//! The automaton of rules, which lists matches one byte late, and the faults of rules.
+//! `logos_graph` builds graphs from it.
 
 #![tactic(auto)]
 

@@ -1,4 +1,4 @@
-//! The trees of rules, prepared for the automaton. `dfa::builder` makes them before its loop.
+//! Prepares the trees of rules for the automaton. `dfa::builder` calls it before its loop.
 
 ghost use Rattle.std.specs.Prelude.{◌^◌, ◌≤◌, IfOk, map};
 ghost use Rattle.logos_automaton.specs.Views.{core_of, AreMeasured, AreRuleCores, size_of, rules_of};

@@ -1,4 +1,5 @@
-//! The steps of one tree by each byte. `tree_steps::construction` makes them, and `cache` stores them.
+//! The steps of one tree for each byte. `tree_steps::construction` computes them, and `cache`
+//! stores them.
 
 ghost use Rattle.logos_automaton.specs.inside.Alike.{AreChangesOf};
 
@@ -12,20 +13,20 @@ use logos_positions::positions::tree::TreeStep;
 pub struct TreeState {
     /// The number of the tree.
     pub tree: usize,
-    /// The places of the tree that read the last byte, ascending.
+    /// The positions of the tree that read the last byte, ascending.
     pub positions: Vec<usize>,
     /// The kind of that byte, if it is remembered.
     pub kind: ByteKind,
 }
 
-/// The steps of one tree from one of its states, by each byte.
+/// The steps of one tree from one of its states, for each byte.
 #[derive(Drop)]
 pub struct TreeSteps {
-    /// The different steps.
+    /// The distinct steps.
     pub found: Vec<TreeStep>,
-    /// The index of the step by each byte.
+    /// The index of the step for each byte.
     pub by_byte: [u8; 256],
-    /// The bytes whose step differs from that of the byte before, ascending.
+    /// The bytes whose step differs from that of the byte before them, ascending.
     pub changes: Vec<u8>,
     ghost changed: { AreChangesOf by_byte changes.items },
 }

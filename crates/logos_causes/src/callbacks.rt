@@ -1,4 +1,5 @@
-//! What callbacks lose, and what is probably not meant as one.
+//! Warnings for callbacks: tokens that a callback loses, and tokens that were probably not meant as
+//! a callback. Used by `explanation`.
 
 use crate::closures::{closure_start, closure_starts, runs_at};
 use logos_pattern::leaf::{Callback, InlineCallback, Leaf};
@@ -9,7 +10,7 @@ use logos_token::util::begins_with;
 use logos_warnings::fixed_warning;
 use std::alloc::Global;
 
-/// What a callback belongs to.
+/// The owner of a callback.
 #[derive(Clone, Copy)]
 pub(crate) enum CallbackOwner {
     Leaf,
@@ -81,7 +82,7 @@ fn add(
 
 const PATH: &str = "write the path of a function, or a closure with one parameter, as `|lex| ..`";
 
-/// Adds the warning of a callback that is not a closure, if it has one.
+/// Adds the warning for a callback that is not a closure, if it has one.
 fn add_label(
     owner: CallbackOwner,
     label: Tokens<'_, '_>,
@@ -107,7 +108,7 @@ fn add_label(
     Ok(())
 }
 
-/// Returns what to do about an option without a value.
+/// Returns the help for an option without a value.
 fn help_for_option(owner: CallbackOwner, label: Tokens<'_, '_>) -> &'static str {
     match owner {
         CallbackOwner::Leaf => "write its value, as in `priority = 3` or `ignore(case)`",
@@ -115,7 +116,7 @@ fn help_for_option(owner: CallbackOwner, label: Tokens<'_, '_>) -> &'static str 
     }
 }
 
-/// Returns what to do about a callback that is neither a path nor a closure.
+/// Returns the help for a callback that is neither a path nor a closure.
 fn help_for_label(owner: CallbackOwner, label: Tokens<'_, '_>) -> &'static str {
     match owner {
         CallbackOwner::Leaf => help_for_leaf(label),
@@ -123,8 +124,7 @@ fn help_for_label(owner: CallbackOwner, label: Tokens<'_, '_>) -> &'static str {
     }
 }
 
-/// Returns what to do about such a callback of an error type, which has the option `callback`
-/// alone.
+/// Returns the help for such a callback of an error type, whose only option is `callback`.
 fn help_for_error(label: Tokens<'_, '_>) -> &'static str {
     match label.first() {
         Some(TokenTree::Ident(name)) if name.text == "callback" => {
@@ -134,7 +134,7 @@ fn help_for_error(label: Tokens<'_, '_>) -> &'static str {
     }
 }
 
-/// Returns what to do about such a callback of a leaf, by its first token.
+/// Returns the help for such a callback of a leaf, chosen by its first token.
 fn help_for_leaf(label: Tokens<'_, '_>) -> &'static str {
     match label.first() {
         Some(TokenTree::Ident(name)) if is_option(name.text) => {
@@ -150,7 +150,7 @@ fn help_for_leaf(label: Tokens<'_, '_>) -> &'static str {
     }
 }
 
-/// Returns whether a run is the name of an option alone.
+/// Returns whether a run consists of the name of an option.
 fn names_option(label: Tokens<'_, '_>) -> bool {
     match label.first() {
         Some(TokenTree::Ident(name)) => label.rest().is_empty() & is_option(name.text),
@@ -164,7 +164,7 @@ fn is_option(name: &str) -> bool {
     is_argument | (name == "ignore") | (name == "ignore_case") | (name == "ignore_ascii_case")
 }
 
-/// Returns whether all of a run can be the path of a function.
+/// Returns whether a whole run can be the path of a function.
 fn is_path(label: Tokens<'_, '_>) -> bool {
     let mut rest = label;
     while let Some(tree) = rest.first() {
@@ -176,7 +176,7 @@ fn is_path(label: Tokens<'_, '_>) -> bool {
     begins_path(label)
 }
 
-/// Returns whether a run begins as a path does.
+/// Returns whether a run begins like a path.
 fn begins_path(label: Tokens<'_, '_>) -> bool {
     match label.first() {
         Some(TokenTree::Ident(name)) => name.text != "move",
@@ -185,7 +185,7 @@ fn begins_path(label: Tokens<'_, '_>) -> bool {
     }
 }
 
-/// Returns whether a token can be a part of the path of a function, also of types in it.
+/// Returns whether a token can be a part of the path of a function, including the types in it.
 fn is_path_part(tree: TokenTree<'_, '_>) -> bool {
     match tree {
         TokenTree::Ident(_) => true,
@@ -209,7 +209,7 @@ fn add_closure<'r, 't, 's>(
     Ok(rest)
 }
 
-/// Returns what follows the parameter of a closure and the bars around it.
+/// Returns the tokens after the parameter of a closure and the bars around it.
 fn after_bars<'t, 's>(closure: Tokens<'t, 's>) -> Tokens<'t, 's> {
     closure.rest().rest().rest()
 }
@@ -255,7 +255,11 @@ fn add_group(
 /// Returns the span of the tokens of a run up to an offset, if there are some.
 fn dropped(to: usize, run: Tokens<'_, '_>) -> Option<Span> {
     let from = run.first()?.span().from;
-    if from < to { Some(Span { from, to }) } else { None }
+    if from < to {
+        Some(Span { from, to })
+    } else {
+        None
+    }
 }
 
 /// Returns whether a body means something else without the brackets around it.
@@ -267,7 +271,7 @@ fn loses_brackets(delimiter: Delimiter, inside: Tokens<'_, '_>) -> bool {
     }
 }
 
-/// Returns whether a comma stands in a run, outside of its groups.
+/// Returns whether a run contains a comma outside of its groups.
 fn has_comma(run: Tokens<'_, '_>) -> bool {
     let mut rest = run;
     while !rest.is_empty() {
@@ -299,7 +303,7 @@ fn add_type(
     Ok(())
 }
 
-/// Adds a warning for each token of a body that leaves more than the closure.
+/// Adds a warning for each token of a body that exits the function around the closure.
 fn add_escapes(body: Tokens<'_, '_>, warnings: &mut Vec<Warning>) -> Result<(), Memory> {
     let mut rest = body;
     while let Some(tree) = rest.first() {
@@ -309,7 +313,7 @@ fn add_escapes(body: Tokens<'_, '_>, warnings: &mut Vec<Warning>) -> Result<(), 
     Ok(())
 }
 
-/// Adds a warning for a token of a body, if it leaves more than the closure.
+/// Adds a warning for a token of a body, if it exits the function around the closure.
 fn add_escape(tree: TokenTree<'_, '_>, warnings: &mut Vec<Warning>) -> Result<(), Memory> {
     match tree {
         TokenTree::Ident(name) if name.text == "return" => add(

@@ -13,10 +13,7 @@ pub(crate) fn closure_start(callback: Option<&Callback<'_>>) -> Option<usize> {
 }
 
 /// Returns the byte offsets at which the closures of these leaves begin, in order.
-pub(crate) fn closure_starts(
-    alloc: Global,
-    leaves: &[Leaf<'_>],
-) -> Result<Vec<usize>, AllocError> {
+pub(crate) fn closure_starts(alloc: Global, leaves: &[Leaf<'_>]) -> Result<Vec<usize>, AllocError> {
     let mut starts = Vec::new(alloc);
     for leaf in leaves {
         if let Some(start) = closure_start(leaf.callback.as_ref()) {

@@ -1,4 +1,4 @@
-//! What is known of a source that is refused, and what warnings a lexer has.
+//! Explains the faults of a refused source, and warns about a lexer.
 
 ghost use Rattle.std.specs.Prelude.{◌≡◌, ◌≢◌, ◌≤◌, [], IfOk};
 ghost use Rattle.logos_causes.specs.Imports.{YieldsEnum, HasSets, IsRefusal, LeavesHaveSets, Spells, delimiter_limit, depth_of, enum_value, run_span, set_sizes, sizes_of, tokens_of};
@@ -18,17 +18,17 @@ use logos_warnings::{Origin, item_warnings, token_warnings};
 use std::alloc::{AllocError, Global};
 use std::mem;
 
-/// What is known of a source that is refused.
+/// The clues about a refused source, and its warnings.
 #[derive(Debug, Drop)]
 pub struct Explained {
-    /// What is known of the faults of its graph.
+    /// The clues about the faults of its graph.
     pub clues: Clues,
     /// Its warnings.
     pub warnings: Vec<Warning>,
 }
 
 impl Explained {
-    /// Returns what is known of a source that cannot be read: nothing.
+    /// Returns the explanation of a source that cannot be read, which is empty.
     fn nothing(alloc: Global) -> Explained
         ensures { sizes_of result.clues ≡ [] }
     {
@@ -39,34 +39,34 @@ impl Explained {
     }
 }
 
-/// Returns what is known of a source that is refused, beyond its faults, with the warnings of its
-/// callbacks. Nothing is known of one that cannot be read.
+/// Returns the clues about the faults of a refused source, with the warnings for its callbacks. For
+/// a source that cannot be read they are empty.
 ///
 /// # Errors
 ///
 /// Returns `Memory` if memory runs out.
 pub fn explain(alloc: Global, source: &str) -> Result<Explained, Memory>
-    // Each set of ambiguous leaves of the source is known, in order.
+    // Each set of ambiguous leaves of the source has a clue, in order.
     ensures { IfOk result (λ known. HasSets source.now (sizes_of known.clues)) }
 {
     explain_source(alloc, source, None)
 }
 
-/// Returns the same with all warnings of the enum that the source spells, which derives `Logos`:
-/// first those of `enum_warnings`. So the enum is read once for both.
+/// Returns the clues of `explain` with all warnings for the enum that the source spells, which
+/// derives `Logos`: first those of `enum_warnings`. Thus the enum is read only once.
 ///
 /// # Errors
 ///
 /// Returns `Memory` if memory runs out.
 pub fn explain_enum(alloc: Global, source: &str, origin: Origin) -> Result<Explained, Memory>
-    // Each set of ambiguous leaves of the source is known, in order.
+    // Each set of ambiguous leaves of the source has a clue, in order.
     ensures { IfOk result (λ known. HasSets source.now (sizes_of known.clues)) }
 {
     explain_source(alloc, source, Some(origin))
 }
 
-/// Returns what is known of a source. If its origin is given, the warnings of `enum_warnings` are
-/// part of it.
+/// Returns the explanation of a source. If `origin` is given, it includes the warnings of
+/// `enum_warnings`.
 fn explain_source(alloc: Global, source: &str, origin: Option<Origin>) -> Result<Explained, Memory>
     ensures { IfOk result (λ known. HasSets source.now (sizes_of known.clues)) }
 {
@@ -76,7 +76,7 @@ fn explain_source(alloc: Global, source: &str, origin: Option<Origin>) -> Result
     }
 }
 
-/// Returns what is known of a source without tokens, for this reason: nothing.
+/// Returns the explanation of a source without tokens, which is empty.
 fn explain_unreadable(alloc: Global, source: &str, error: TokenError) -> Result<Explained, Memory>
     requires { IsRefusal source.now error }
     ensures { IfOk result (λ known. HasSets source.now (sizes_of known.clues)) }
@@ -89,7 +89,7 @@ fn explain_unreadable(alloc: Global, source: &str, error: TokenError) -> Result<
     }
 }
 
-/// Returns what is known of a source with these tokens.
+/// Returns the explanation of a source with these tokens.
 fn explain_tokens(
     alloc: Global,
     source: &str,
@@ -106,7 +106,7 @@ fn explain_tokens(
     }
 }
 
-/// Returns what is known of tokens that are not an enum, for this reason: nothing.
+/// Returns the explanation of tokens that are not an enum, which is empty.
 fn explain_misread(alloc: Global, error: ReadError) -> Result<Explained, Memory>
     ensures known { IfOk result (λ known. sizes_of known.clues ≡ []) }
     ensures fault { IfOk result (λ known. error ≢ ReadError.Memory) }
@@ -142,7 +142,7 @@ fn explain_item(
     Ok(Explained { clues, warnings })
 }
 
-/// Returns the warnings of an enum that derives `Logos`, if its origin is given.
+/// Returns the warnings for an enum that derives `Logos`, if its origin is given.
 fn known_warnings(
     alloc: Global,
     item: &ItemEnum<'_, '_>,
@@ -176,8 +176,8 @@ fn clues_in(
     }
 }
 
-/// Returns what is known of the faults of an analysis, whose leaves it takes out. Adds the warnings
-/// of its callbacks.
+/// Returns the clues about the faults of an analysis, whose leaves it takes out. Adds the warnings
+/// for its callbacks.
 fn clues_of_analysis(
     alloc: Global,
     tokens: Tokens<'_, '_>,
@@ -209,8 +209,8 @@ fn leaves_of<'s>(alloc: Global, analysis: &mut Analysis<'s>) -> Vec<Leaf<'s>>
     mem::replace(&mut analysis.leaves, Vec::new(alloc))
 }
 
-/// Returns what is known of the faults of the graph of leaves. Nothing is known where a limit keeps
-/// it from being built.
+/// Returns the clues about the faults of the graph of leaves. There are none if a limit prevents
+/// its construction.
 fn clues_of_leaves(alloc: Global, leaves: Vec<Leaf<'_>>, utf8_mode: bool) -> Result<Clues, Memory>
     ensures { IfOk result (λ clues. LeavesHaveSets leaves.entry.items (sizes_of clues)) }
 {
@@ -222,7 +222,7 @@ fn clues_of_leaves(alloc: Global, leaves: Vec<Leaf<'_>>, utf8_mode: bool) -> Res
     }
 }
 
-/// Returns what is known of the faults of a graph.
+/// Returns the clues about the faults of a graph.
 fn clues_of(alloc: Global, graph: &Graph<'_>) -> Result<Clues, AllocError>
     ensures { IfOk result (λ clues. sizes_of clues ≡ set_sizes graph.now.faults) }
 {

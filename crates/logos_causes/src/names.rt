@@ -1,4 +1,4 @@
-//! The names of leaves in messages.
+//! The names of leaves in messages. Used by `leading_looks`, `meetings` and `shadowed_leaves`.
 
 use logos_page::Page;
 use logos_pattern::leaf::{Leaf, VariantKind};

@@ -1,12 +1,12 @@
-//! Inputs in messages.
+//! Formats inputs for messages. Used by `meetings` and `shadowed_leaves`.
 
 use logos_page::Page;
 use std::str;
 
-/// How many bytes of an input are shown.
+/// The maximum number of bytes of an input that are shown.
 const MOST: usize = 60;
 
-/// Appends bytes in quotes: as a text if they are UTF-8, and by their numbers if not.
+/// Appends bytes in quotes: as a text if they are UTF-8, otherwise as numbers.
 pub(crate) fn push_quoted(page: &mut Page, bytes: &[u8]) {
     page.push("\"");
     match str::from_utf8(bytes) {
@@ -16,7 +16,7 @@ pub(crate) fn push_quoted(page: &mut Page, bytes: &[u8]) {
     page.push("\"");
 }
 
-/// Appends the beginning of a text as it is shown on a terminal.
+/// Appends a prefix of a text, in the form in which it is shown on a terminal.
 fn push_text(page: &mut Page, text: &str) {
     if text.len() > MOST {
         page.push_shown(front_of(text));
@@ -26,7 +26,7 @@ fn push_text(page: &mut Page, text: &str) {
     }
 }
 
-/// Returns the beginning of a text, up to the last character that ends within what is shown.
+/// Returns the longest prefix of a text that fits into `MOST` bytes.
 fn front_of(text: &str) -> &str {
     let mut end = MOST;
     while end > 0 {
@@ -38,7 +38,7 @@ fn front_of(text: &str) -> &str {
     ""
 }
 
-/// Appends the beginning of some bytes, each by its number.
+/// Appends a prefix of some bytes, each as a number.
 fn push_bytes(page: &mut Page, bytes: &[u8]) {
     for byte in bytes.iter().take(MOST) {
         page.push("\\x");

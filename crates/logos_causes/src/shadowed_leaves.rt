@@ -1,4 +1,4 @@
-//! Leaves that are never found, with what hides them.
+//! Leaves that are never found, with the leaves that hide them. Used by `explanation`.
 
 use crate::names::{name_of, text_with};
 use crate::quotes::push_quoted;
@@ -12,7 +12,7 @@ use logos_report::Warning;
 use logos_warnings::plain_warning;
 use std::alloc::{AllocError, Global};
 
-/// For how many leaves what hides them is searched.
+/// The maximum number of leaves for which a hiding leaf is searched.
 const SEARCHED: usize = 10;
 
 /// Adds a warning for each leaf of a graph that is never found.
@@ -32,7 +32,7 @@ pub(crate) fn add_hidden(
     Ok(())
 }
 
-/// Adds the warning of a leaf that is never found.
+/// Adds the warning for a leaf that is never found.
 fn add_leaf(
     graph: &Graph<'_>,
     number: usize,
@@ -51,7 +51,7 @@ fn add_leaf(
     Ok(())
 }
 
-/// Returns the warning of a leaf that is never found.
+/// Returns the warning for a leaf that is never found.
 fn warning_of(alloc: Global, leaf: &Leaf<'_>) -> Result<Warning, AllocError> {
     let message = text_with(
         alloc,
@@ -62,7 +62,7 @@ fn warning_of(alloc: Global, leaf: &Leaf<'_>) -> Result<Warning, AllocError> {
     Ok(plain_warning(message, leaf.span, None))
 }
 
-/// Adds to the warning of a leaf which leaf is found in its place, if there is one.
+/// Adds to the warning for a leaf the leaf that is found instead, if there is one.
 fn explain(
     alloc: Global,
     graph: &Graph<'_>,
@@ -85,7 +85,7 @@ fn explain(
     Ok(())
 }
 
-/// Returns how the pattern of a leaf is like that of another one, as the end of a sentence.
+/// Returns the relation between the patterns of two leaves, as the end of a sentence.
 fn likeness_of(graph: &Graph<'_>, one: usize, other: usize) -> &'static str {
     if is_written_alike(graph.leaves(), one, other) {
         ": its pattern is the same"
@@ -96,7 +96,7 @@ fn likeness_of(graph: &Graph<'_>, one: usize, other: usize) -> &'static str {
     }
 }
 
-/// Returns whether two leaves have patterns that are written alike.
+/// Returns whether two leaves have patterns with equal text.
 fn is_written_alike(leaves: &[Leaf<'_>], one: usize, other: usize) -> bool {
     match (leaves.get(one), leaves.get(other)) {
         (Some(one), Some(other)) => one.pattern.source() == other.pattern.source(),
@@ -104,7 +104,8 @@ fn is_written_alike(leaves: &[Leaf<'_>], one: usize, other: usize) -> bool {
     }
 }
 
-/// Returns whether two leaves match the same texts: whether each state lists both or neither.
+/// Returns whether two leaves match exactly the same texts: whether each state lists both or
+/// neither.
 fn are_twins(dfa: &Dfa, one: usize, other: usize) -> bool {
     for state in dfa.get_states() {
         if parts_leaves(dfa, state, one, other) {
@@ -114,7 +115,7 @@ fn are_twins(dfa: &Dfa, one: usize, other: usize) -> bool {
     true
 }
 
-/// Returns whether a state lists one of two leaves without the other.
+/// Returns whether a state lists exactly one of two leaves.
 fn parts_leaves(dfa: &Dfa, state: StateId, one: usize, other: usize) -> bool {
     if !dfa.contains(state) {
         return false;
@@ -123,7 +124,7 @@ fn parts_leaves(dfa: &Dfa, state: StateId, one: usize, other: usize) -> bool {
     lists(matches, one) != lists(matches, other)
 }
 
-/// Returns whether a leaf is one of these.
+/// Returns whether a leaf is among `leaves`.
 fn lists(leaves: Matches<'_>, number: usize) -> bool {
     for leaf in leaves {
         if leaf.0 == number {
@@ -133,8 +134,8 @@ fn lists(leaves: Matches<'_>, number: usize) -> bool {
     false
 }
 
-/// Returns which leaf is found in place of another one, on what text, and how their patterns are
-/// alike.
+/// Returns the note with the leaf that is found instead of another one, the text, and the relation
+/// between their patterns.
 fn note_of(
     alloc: Global,
     bytes: &[u8],

@@ -11,12 +11,12 @@ use Rattle.logos_cli.specs.declared.batch.BatchFile.{BatchFile}
 use Rattle.logos_cli.specs.inside.BatchFiles.{batch_file_order, orders_of, output_text}
 use Rattle.logos_cli.specs.Runs.{AreCarriedOut, AreDenied, AreEnded, IsApart, IsCarriedOut, IsDelivered, IsDeniedOrder, IsNoInput, IsOwnOutput, has_twins, output_of}
 
--- texts stand in a text behind another one
+-- texts occur in a text that follows another one
 occur_behind : (front : List ℕ) (texts : List (List ℕ)) (whole : List ℕ) → OccurInOrder texts whole → OccurInOrder texts (front ++ whole)
 occur_behind front [] whole s = tt
 occur_behind front (text ∷ texts) whole s = (front ++ s.0, s.1, ap (λ w. front ++ w) s.2 ∙ sym (append_assoc front s.0 (text ++ s.1)), s.3)
 
--- texts stand in some text
+-- texts occur in some text
 occur_somewhere : (texts : List (List ℕ)) → (whole : List ℕ) × OccurInOrder texts whole
 occur_somewhere [] = ([], tt)
 occur_somewhere (text ∷ texts) = let rest = occur_somewhere texts in (text ++ rest.0, ([], rest.0, refl, rest.1))
@@ -60,7 +60,7 @@ orders_next order batch_files i item l e =
 pub orders_through : (order : OrderValue) (batch_files : List BatchFile) (i : ℕ) → length batch_files ≤ i → orders_of order (drop i batch_files) ≡ []
 orders_through order batch_files i l = ap (orders_of order) (drop_all i batch_files l)
 
--- One more order stands at the end.
+-- One more order is appended.
 pub orders_pushed : (order : OrderValue) (batch_files : List BatchFile) (all : List BatchFile) (batch_file : BatchFile) (last : OrderValue) → all ≡ batch_files ++ batch_file ∷ [] → batch_file_order order batch_file ≡ last →
     orders_of order all ≡ orders_of order batch_files ++ last ∷ []
 orders_pushed order batch_files all batch_file last e l = ap (orders_of order) e ∙ go batch_files ∙ ap (λ x. orders_of order batch_files ++ x ∷ []) l

@@ -1,4 +1,4 @@
--- What the arguments of `logos_cli` request.
+-- The request of `logos_cli`, read from its arguments.
 use Rattle.std.specs.Prelude.{ℕ, ◌&&◌, ◌==◌, ◌-◌, ◌++◌, List, Bool, true, false, Option, Some, None, if◌then◌else◌, option_map, bytes_eq, codes, is_some, length, map, not, slice_index, string_bytes}
 use Rattle.logos_code.specs.Shapes.{shape_named as code_named}
 use Rattle.logos_host.specs.Paths.{file_name}
@@ -19,7 +19,7 @@ use Rattle.logos_tables.specs.declared.shape.Shape.{Shape}
 use Rattle.logos_tables.specs.declared.shape.Shape.TheVariants.{Code, Tables}
 
 -- A file to expand: its path, the path of the file for the result, whether that is only compared,
--- the shape of the lexers, how messages are written, whether warnings are denied, and when messages
+-- the shape of the lexers, the format of messages, whether warnings are denied, and when messages
 -- have colors.
 pub record OrderValue : Type 0 where
   pub input : List ℕ
@@ -30,18 +30,18 @@ pub record OrderValue : Type 0 where
   pub denies : Bool
   pub color : Color
 
--- What is requested.
+-- A request.
 pub data Requested : Type 0 where
   requests_help : Requested
   requests_version : Requested
   requests_expansion : (order : OrderValue) → Requested
   requests_each : (orders : List OrderValue) → Requested
 
--- The shapes of lexers, by their names.
+-- The shape of lexers with this name.
 abbrev pub shape_named : List ℕ → Option Shape
 shape_named name = if bytes_eq name (codes "tables") then Some Tables else option_map Code (code_named name)
 
--- The shape with the name that is given, or tables.
+-- The shape with the given name, or `Tables` if none is given.
 abbrev pub named_shape : Option (List ℕ) → Option Shape
 named_shape None = Some Tables
 named_shape (Some name) = shape_named name
@@ -50,26 +50,27 @@ named_shape (Some name) = shape_named name
 abbrev pub is_folder : List ℕ → Bool
 is_folder path = slice_index path (length path - 1) == 47
 
--- The same of another file, whose result goes into a folder under the name of that file.
+-- The order for another file, whose result is written into a folder under the name of that file.
 abbrev pub order_into : OrderValue → List ℕ → List ℕ → OrderValue
 order_into order folder path = record order { input = path; output = Some (folder ++ file_name path) }
 
--- The same of several files.
+-- The orders for several files, whose results are written into a folder.
 abbrev pub orders_into : OrderValue → List ℕ → List (List ℕ) → List OrderValue
 orders_into order folder paths = map (order_into order folder) paths
 
--- A file to expand, which is the only one.
+-- The request for a single file.
 abbrev pub one_order : OrderValue → Option (List ℕ) → Option Requested
 one_order order None = Some (requests_expansion order)
 one_order order (Some second) = None
 
--- The same, or all files of the words, whose results go into a folder.
+-- The request for a single file, or for all files in the arguments, whose results are written into
+-- a folder.
 abbrev pub placed : List (List ℕ) → OrderValue → Option (List ℕ) → Option (List ℕ) → Option Requested
 placed arguments order None second = one_order order second
 placed arguments order (Some output) second =
     if is_folder output then Some (requests_each (orders_into order output (paths_of arguments))) else one_order order second
 
--- Files to expand, with messages in this style; what is only compared needs a file for the result.
+-- Files to expand, with messages in this style. A check needs a file for the result.
 abbrev pub shaped_given : List (List ℕ) → ArgumentsValue → List ℕ → MessageStyle → Option Shape → Option Requested
 shaped_given arguments parsed input style None = None
 shaped_given arguments parsed input style (Some shape) =
@@ -78,7 +79,7 @@ shaped_given arguments parsed input style (Some shape) =
     (record { input = input; output = setting options.Output parsed.settings; is_check = is_set options.Check parsed.settings; shape = shape; format = style.format; denies = is_set options.DenyWarnings parsed.settings; color = style.color })
     (setting options.Output parsed.settings) parsed.second
 
--- Files to expand, with messages in this style, in the shape that is given.
+-- Files to expand, with messages in this style and in the given shape.
 abbrev pub file_given : List (List ℕ) → ArgumentsValue → List ℕ → MessageStyle → Option Requested
 file_given arguments parsed input style = shaped_given arguments parsed input style (named_shape (setting options.Shape parsed.settings))
 
@@ -86,7 +87,7 @@ abbrev pub style_requested : List (List ℕ) → ArgumentsValue → List ℕ →
 style_requested arguments parsed input None = None
 style_requested arguments parsed input (Some style) = file_given arguments parsed input style
 
--- What is requested for the input, if there is one.
+-- The request for the input, if there is one.
 abbrev pub order_given : List (List ℕ) → ArgumentsValue → Option (List ℕ) → Option Requested
 order_given arguments parsed None = None
 order_given arguments parsed (Some input) = style_requested arguments parsed input (style_given parsed.settings)
@@ -97,16 +98,16 @@ request_given arguments parsed (Some options.Version) = Some requests_version
 request_given arguments parsed (Some option) = Some requests_help
 request_given arguments parsed None = order_given arguments parsed parsed.first
 
--- What these arguments request.
+-- The request of these arguments.
 abbrev pub requested_given : List (List ℕ) → Option ArgumentsValue → Option Requested
 requested_given arguments None = None
 requested_given arguments (Some parsed) = request_given arguments parsed parsed.text
 
--- What the arguments of a command line request, if they are valid.
+-- The request of a command line, if its arguments are valid.
 abbrev pub requested : List (List ℕ) → Option Requested
 requested arguments = requested_given arguments (arguments_of Cli arguments)
 
--- The values of the program's types.
+-- The views of the program's types.
 abbrev pub order_value : ExpandOrder → OrderValue
 order_value order = record {
   input = order.input.now;
@@ -118,11 +119,11 @@ order_value order = record {
   color = order.color;
 }
 
--- What is requested for each of several files, as values.
+-- The views of the orders for several files.
 abbrev pub batch_value : Batch → List OrderValue
 batch_value batch = orders_into (order_value batch.order) batch.folder.now (paths_of (map string_bytes batch.arguments.now))
 
--- What is requested, as a value.
+-- The view of a request.
 abbrev pub request_value : Request → Requested
 request_value requests.Help = requests_help
 request_value requests.Version = requests_version

@@ -1,4 +1,4 @@
-//! What the arguments of `logos_cli` request.
+//! The request of `logos_cli`, read from its arguments. Used by `batch` and `program`.
 
 ghost use Rattle.std.specs.Prelude.{◌≡◌, IfErr, IfOk, None, Some, is_some, map, option_map, string_bytes};
 ghost use Rattle.logos_cli.specs.Views.{arguments_value, requested, file_given, is_folder, named_shape, order_given, order_value, placed, request_given, request_value, shape_named, status_of};
@@ -10,28 +10,28 @@ use logos_options::{
 };
 use logos_tables::Shape;
 
-/// What is requested.
+/// A request.
 #[derive(Clone, Copy)]
 pub(crate) enum Request<'w> {
     Help,
     Version,
     Expand(ExpandOrder<'w>),
-    /// The results of files go into a folder.
+    /// Expand files into a folder.
     ExpandEach(Batch<'w>),
 }
 
-/// A file to expand.
+/// An order to expand a file.
 #[derive(Clone, Copy)]
 pub(crate) struct ExpandOrder<'w> {
     /// The path of the file.
     pub(crate) input: &'w str,
-    /// The path of the file for the result; without one it goes to standard output.
+    /// The path of the file for the result. Without one it is written to standard output.
     pub(crate) output: Option<&'w str>,
     /// Whether that file is only compared with the result.
     pub(crate) is_check: bool,
     /// The shape of the lexers.
     pub(crate) shape: Shape,
-    /// How messages are written.
+    /// The format of messages.
     pub(crate) format: MessageFormat,
     /// Whether a file with warnings is refused.
     pub(crate) denies: bool,
@@ -39,12 +39,12 @@ pub(crate) struct ExpandOrder<'w> {
     pub(crate) color: Color,
 }
 
-/// Files to expand, whose results go into a folder.
+/// Files to expand into a folder.
 #[derive(Clone, Copy)]
 pub(crate) struct Batch<'w> {
-    /// The words of the command line, which have the paths of the files.
+    /// The arguments of the command line, which contain the paths of the files.
     pub(crate) arguments: &'w [String],
-    /// What is asked for each of them, as for the first one.
+    /// The order for each of them, written for the first one.
     pub(crate) order: ExpandOrder<'w>,
     /// The path of the folder, which ends in `/`.
     pub(crate) folder: &'w str,
@@ -67,7 +67,7 @@ pub(crate) fn request_of(arguments: &[String]) -> Result<Request<'_>, Failure<'_
     }
 }
 
-/// Returns what arguments request.
+/// Returns the request of arguments.
 fn request_given<'w>(
     arguments: &'w [String],
     parsed: Arguments<'w>,
@@ -142,7 +142,7 @@ fn file_given<'w>(
     placed(arguments, order, parsed.second)
 }
 
-/// Returns the file to expand, or the files whose results go into a folder.
+/// Returns the order for one file, or the batch of files to expand into a folder.
 fn placed<'w>(
     arguments: &'w [String],
     order: ExpandOrder<'w>,
@@ -166,7 +166,7 @@ fn placed<'w>(
     }
 }
 
-/// Returns whether a path is that of a folder: whether it ends in `/`.
+/// Returns whether a path ends in `/`, and thus is the path of a folder.
 fn is_folder(path: &str) -> bool
     ensures { result ≡ is_folder path.now }
 {
@@ -183,7 +183,7 @@ fn is_given(path: Option<&str>) -> bool
     }
 }
 
-/// Returns the shape with the name that is given, or tables.
+/// Returns the shape with the given name, or `Tables` if none is given.
 fn shape_given<'w>(name: Option<&'w str>) -> Result<Shape, Failure<'w>>
     ensures shape { IfOk result (λ shape.
         named_shape (option_map (λ name. name.now) name.entry) ≡ Some shape) }

@@ -49,8 +49,8 @@ pub(crate) struct Ending {
     pub(crate) is_written: bool,
 }
 
-/// Runs the program with arguments, if they can be read, and returns the exit status of `run`. If
-/// they cannot be read, the status is that of the failure.
+/// Runs the program with its arguments, and returns the exit status of `run`. If the arguments
+/// cannot be read, the status is that of the failure.
 pub(crate) fn run_with<F: ComparableFiles, O: Write, E: Write + IsTerminal>(
     alloc: Global,
     arguments: Result<Vec<String>, Failure<'static>>,
@@ -87,9 +87,9 @@ pub(crate) fn run_with<F: ComparableFiles, O: Write, E: Write + IsTerminal>(
     }
 }
 
-/// Runs the program. The exit status is 0 if the request is carried out, 1 if it is refused, 2 if
-/// the arguments are invalid or name the input as the output, and 3 if a file or memory fails. The
-/// messages go to standard error.
+/// Runs the program. The exit status is 0 if the request is fulfilled, 1 if it is refused, 2 if the
+/// arguments are invalid or name the input as the output, and 3 if a file or memory fails. Messages
+/// are written to standard error.
 pub(crate) fn run<F: ComparableFiles, O: Write, E: Write + IsTerminal>(
     alloc: Global,
     arguments: &[String],
@@ -106,13 +106,13 @@ pub(crate) fn run<F: ComparableFiles, O: Write, E: Write + IsTerminal>(
     // No file was read or written, and nothing was printed.
     ensures untouched { result.status ≡ 2 →
         (files.new ≡ files.old) × Keeps (O.contents out.old) (O.contents out.new) }
-    // The files gave what was asked for, and the result is there whole.
+    // The request is fulfilled, and the result was written entirely.
     ensures done { result.status ≡ 0 → IfSome (requested (map string_bytes arguments.now))
         (λ order. IsDone F.read_yields F.write_makes F.compare_finds order files.old files.new
         (O.contents out.old) (O.contents out.new)) }
-    // A refusal stands: a lexer of the file has faults, or a file that is only compared is not the
-    // result. The text that says so is what standard error got last, and nothing was printed or
-    // written.
+    // The request is refused: a lexer of the file has faults, or a file that is only compared
+    // differs from the result. The text with the reason is the last that was written to standard
+    // error, and nothing was printed or written.
     ensures denied { result.status ≡ 1 → IfSome (requested (map string_bytes arguments.now))
         (λ order. (shown : List ℕ) × IsDenied F.read_yields F.write_makes F.compare_finds order
         files.old files.new shown × (IsTrue result.is_written → (front : List ℕ)
@@ -129,7 +129,7 @@ pub(crate) fn run<F: ComparableFiles, O: Write, E: Write + IsTerminal>(
     }
 }
 
-/// Ends the program where there are no warnings.
+/// Ends the program if there are no warnings.
 fn ended<E: Write>(done: Result<(), Failure<'_>>, err: &mut E) -> Ending
     requires { IfErr done (λ failure. status_of failure ≡ 3) }
     ensures { (result.status ≡ 3) ⊎ (result.status ≡ 0) }
@@ -143,7 +143,7 @@ fn ended<E: Write>(done: Result<(), Failure<'_>>, err: &mut E) -> Ending
     }
 }
 
-/// Ends the program where it failed: writes why.
+/// Ends the program after a failure: writes its message.
 pub(crate) fn failed<E: Write>(failure: &Failure<'_>, err: &mut E) -> Ending
     ensures status { result.status ≡ status_of failure.now }
     ensures written { IsTrue result.is_written → (usage : List ℕ) × Appends (E.contents err.old)
@@ -210,7 +210,7 @@ pub(crate) fn carry_out<F: ComparableFiles, O: Write, E: Write + IsTerminal>(
     }
 }
 
-/// Returns the path of the file for the result, if it leads to the file that is read.
+/// Returns the path of the file for the result, if it leads to the input.
 fn own_output<'w, F: ComparableFiles>(order: ExpandOrder<'w>, files: &F) -> Option<&'w str>
     ensures { MatchOption result
         (IfSome (order_value order.entry).output
@@ -254,7 +254,7 @@ fn expansion_of<'w, F: ComparableFiles>(
     expand(&source, order.shape, showing)
 }
 
-/// Warns, delivers an expansion, and ends.
+/// Writes the warnings, delivers an expansion, and ends.
 fn deliver_and_end<F: ComparableFiles, O: Write, E: Write>(
     alloc: Global,
     order: ExpandOrder<'_>,
@@ -285,7 +285,7 @@ fn deliver_and_end<F: ComparableFiles, O: Write, E: Write>(
     }
 }
 
-/// Ends the program where it failed after a warning: writes why.
+/// Ends the program after a failure that followed a warning: writes its message.
 fn failed_after<E: Write>(is_warned: bool, failure: &Failure<'_>, err: &mut E) -> Ending
     ensures status { result.status ≡ status_of failure.now }
     ensures written { IsTrue result.is_written → IsTrue is_warned × ((usage : List ℕ)
@@ -298,7 +298,7 @@ fn failed_after<E: Write>(is_warned: bool, failure: &Failure<'_>, err: &mut E) -
     }
 }
 
-/// Writes what there is to say of the warnings of a file. Returns whether standard error took it.
+/// Writes the text of the warnings of a file. Returns whether standard error took it.
 fn warn<E: Write>(warnings: &[u8], err: &mut E) -> bool
     ensures { IsTrue result → (text : List ℕ)
         × Appends (E.contents err.old) (E.contents err.new) text }

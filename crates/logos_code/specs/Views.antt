@@ -1,4 +1,4 @@
--- Definitions that clauses cite: those of `Words`, and those that name types of this crate.
+-- Definitions that contracts cite: those of `Imports`, and those that name types of this crate.
 pub use Rattle.logos_code.specs.Imports.{bit_at, codes, comparison_of, compares, is_among, named, passes_test, some_compares}
 pub use Rattle.logos_code.specs.Code.{CodeValue, by_conditions, by_table}
 pub use Rattle.logos_code.specs.CodeView.{IsValid, calls_back_for, branch_of, code_of, condition_of, entry_of, fork_of, has_mask, jumps_of, mark_of, skips_over, state_at, state_of, use_of}

@@ -44,7 +44,7 @@ one_given : (t u : Token) → yields (t ∷ []) ≡ yields (u ∷ []) → t ≡ 
 one_given t u e = cc
 
 module _ (kinds : List ExprKind) (rules : List Rule) (utf8 : Bool) (text : List ℕ) where
-  -- behind the tokens, what is read from the place on is what is read from the start
+  -- the tokens, and those that are read from the offset on, are those that are read from the start
   pub record GoesOn (tokens : List Token) (at : ℕ) : Type 0 where
     pub on : (rest : List Item) → AreRead rules utf8 text at rest →
         (items : List Item) × AreRead rules utf8 text 0 items × (outcome_of kinds items ≡ in_front tokens (outcome_of kinds rest))

@@ -1,5 +1,5 @@
--- Leaves that differ only in where the names of their variants lie stand for the same rules, have
--- the same faults and give tokens of the same kinds.
+-- Leaves that differ only in the spans of the names of their variants have the same rules, the same
+-- faults and tokens of the same kinds.
 use Rattle.std.proofs.Common.{◌≡◌, ℕ, Bool, true, false, not, List, [], ◌∷◌, ◌++◌, map, flat_map, codes, Option, Some, None, is_some, refl, sym, ◌∙◌, ap, if◌then◌else◌}
 use Rattle.logos_token.specs.declared.error.fault_code.FaultCode.TheVariants.{Utf8Pattern}
 use Rattle.logos_token.specs.Faults.{Fault as SourceFault}
@@ -33,7 +33,7 @@ rules_shown : (leaves : List LeafView) → rules_of_views leaves ≡ map rule_sh
 rules_shown [] = refl
 rules_shown (leaf ∷ leaves) = rw (rule_is_shown leaf, rules_shown leaves) refl
 
--- leaves that are shown alike stand for the same rules
+-- leaves that are shown alike have the same rules
 pub same_rules : (leaves others : List LeafView) → map shown leaves ≡ map shown others → rules_of_views leaves ≡ rules_of_views others
 same_rules leaves others e = rules_shown leaves ∙ ap (map rule_shown) e ∙ sym (rules_shown others)
 

@@ -1,4 +1,4 @@
--- What is printed around the body of a lexer that was made of a source.
+-- The texts around the body of a lexer, determined by the options of its source.
 use Rattle.std.specs.Prelude.{ℕ, Bool, List, option_map}
 use Rattle.logos_token.specs.Views.{stream_tokens}
 use Rattle.logos_type.specs.Printed.{printed_type}
@@ -9,7 +9,7 @@ use Rattle.logos_codegen.specs.Around.{error_run, error_tree, input_text}
 use Rattle.logos_codegen.specs.declared.frame.AroundOptions.{AroundOptions}
 use Rattle.logos_codegen.specs.declared.generation.Generated.{Generated}
 
--- What is printed around a lexer with these options, in this mode.
+-- The texts around a lexer with these options, in this mode.
 abbrev pub around_options : AroundOptions → Bool → AroundValue
 around_options options utf8 = record {
   logos = option_map stream_tokens options.library;
@@ -19,7 +19,7 @@ around_options options utf8 = record {
   source = input_text utf8;
 }
 
--- What is printed around what was made of a source, by its options and its mode.
+-- The texts around the lexer of a source, determined by its options and its mode.
 abbrev pub around_made : Generated → AroundValue
 around_made made = around_options made.options made.graph.utf8
 

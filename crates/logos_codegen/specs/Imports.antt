@@ -1,4 +1,5 @@
--- Definitions that clauses cite: of lower crates, and those of this one that name no type of it.
+-- Definitions that contracts cite: those of lower crates, and those of this crate that name none of
+-- its types.
 pub use Rattle.logos_attribute.specs.CallbackViews.{callback_view}
 pub use Rattle.logos_automaton.specs.Errors.{fault_of, numbers}
 pub use Rattle.logos_automaton.specs.Munch.{IsInput, Rule}

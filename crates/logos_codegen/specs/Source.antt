@@ -50,8 +50,8 @@ pub record IsWithinSizes (source : List ℕ) (rules : List Rule) : Type 0 where
   pub shallow : IsShallow source
   pub small : size_of rules ≤ 2 ^ 20
 
--- A source with these rules that no limit refuses, but for the nesting of patterns and types, which
--- is a fault of the enum: it is within the sizes, and has no more keys than the limit of states.
+-- No limit refuses the source with these rules, except the nesting of patterns and types, which is
+-- a fault of the enum: it is within the sizes, and has no more keys than the limit of states.
 pub record IsWithinLimits (source : List ℕ) (rules : List Rule) : Type 0 where
   pub sizes : IsWithinSizes source rules
   pub few_keys : ¬ HasMoreKeys rules 65536

@@ -20,7 +20,7 @@ pub use logos_machine::laws::{
 pub use logos_relex::laws::lexed_is_run;
 pub use logos_stream::laws::{all_items_are_of_the_whole, streams_are_of_the_whole};
 
-/// A source without faults has one list of rules and one mode.
+/// A source without faults determines one list of rules and one mode.
 pub fn a_source_has_one_list_of_rules()
     ensures { (source : List ℕ) (rules others : List Rule) (utf8 other : Bool) →
         IsAccepted source rules utf8 → IsAccepted source others other → (rules ≡ others)

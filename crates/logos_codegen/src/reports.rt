@@ -1,4 +1,4 @@
-//! Reporting the faults of a graph.
+//! Reports the faults of a graph. Called by `generate`.
 
 ghost use Rattle.std.specs.Prelude.{◌≡◌, ◌++◌, ◌==◌, ◌∷◌, [], map, flat_map, slice_get, option_map, if◌then◌else◌, IfOk, OnOk, string_bytes};
 ghost use Rattle.logos_codegen.specs.Imports.{option_map_or, fault_of, numbers, named_leaf, fault_at, line_of, other_lines, empty_match_faults, disambiguation_text, disambiguation_fault, disambiguation_faults, first_of, reported_as};
@@ -18,7 +18,7 @@ fn leaf_at<'l, 's>(leaves: &'l [Leaf<'s>], number: LeafId) -> Option<&'l Leaf<'s
     leaves.get(number.0)
 }
 
-/// Appends the line of a leaf of an ambiguous set, unless it is `leaf`.
+/// Appends the line of `other`, a leaf of an ambiguous set, unless it is `leaf`.
 fn push_line(
     text: &mut String,
     leaves: &[Leaf<'_>],
@@ -84,7 +84,7 @@ fn first_of(set: &[LeafId], number: LeafId) -> usize
     }
 }
 
-/// Reports a leaf of an ambiguous set.
+/// Reports `leaf` as one of an ambiguous set.
 fn report_ambiguous(
     leaves: &[Leaf<'_>],
     set: &[LeafId],

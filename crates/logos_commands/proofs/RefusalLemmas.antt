@@ -1,4 +1,4 @@
--- Failures that stand for refusals.
+-- Failures for refusals.
 use Rattle.std.proofs.Common.{◌≡◌, ◌≢◌, ℕ, List, ◌∷◌, [], Result, Ok, Err, Option, IfErr, arith, refl}
 use Rattle.logos_token.specs.Faults.{Fault}
 use Rattle.logos_enum.specs.Values.{Slice}
@@ -45,7 +45,7 @@ pub unreadable : (source : List ℕ) (refusal : Refusal) → Refuses (λ faults.
 unreadable source (refusals.Errors faults) (ending, ends, one) = record { ending = ending; ends = ends; one = one }
 unreadable source refusals.Memory r = tt
 
--- the failure of a chart that is not exported shows why
+-- the failure for a diagram that is not exported shows the reason
 reason_shown : (Holds : ExportRefusal → Type 0) (why : ExportRefusal) → Holds why → (failure : Failure) → IsUnexportedBy why failure → status_of failure ≡ 1 → ShowsReasonOf Holds failure
 reason_shown Holds why h (Misuse what word) e s = absurd e
 reason_shown Holds why h (UnknownOption word nearest) e s = absurd e
@@ -63,7 +63,7 @@ pub export_shown : (to : Destination) (failure : Failure) → FailsAt to failure
 export_shown (file_at path) failure e s = absurd (let k : 3 ≡ 1 = rw e at s in one_status 3 refl k)
 export_shown (refused why) failure e s = reason_shown (λ other. refused why ≡ refused other) why refl failure e s
 
--- the path of a chart is refused
+-- the path of a diagram is refused
 export_refused : (source : List ℕ) (config : Config) (graph : GraphValue) (code : CodeValue) (name : Slice) (export : Option (List ℕ)) →
     IsGiven source config graph code name export → (failure : Failure) → RefusesExport (export_destination export name.text) failure → ShowsReasonOf (IsUnexported source) failure
 export_refused source config graph code name export g (Misuse what word) r = absurd r

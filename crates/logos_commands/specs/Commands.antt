@@ -1,4 +1,4 @@
--- What the arguments of `logos` request.
+-- The requests that the arguments of `logos` make.
 use Rattle.std.specs.Prelude.{◌∷◌, [], ℕ, List, Option, Some, None, true, false, if◌then◌else◌, option_map, bytes_eq, codes}
 use Rattle.logos_code.specs.declared.code.Config.{Config}
 use Rattle.logos_code.specs.Shapes.{shape_named}
@@ -7,9 +7,9 @@ use Rattle.logos_options.specs.declared.options.OptionName.TheVariants as option
 use Rattle.logos_commands.specs.declared.command.Command.{Command}
 use Rattle.logos_commands.specs.declared.command.Command.TheVariants.{Text, Items, Diagram, Export, Strip}
 
--- What the arguments request: the Rust text of the lexer in a file, the items of an input, the
--- chart of the lexer's graph, here or in a file, or the enum without what belongs to the derive
--- macro.
+-- The request of the arguments: the generated code of the lexer in a file; the items of an input;
+-- the state diagram of the lexer, printed or in a file; or the enum without the derive and its
+-- attributes.
 pub data Requested : Type 0 where
   requests_text : (file : List ℕ) → (shape : Config) → Requested
   requests_items : (file input : List ℕ) → (shape : Config) → Requested
@@ -17,18 +17,18 @@ pub data Requested : Type 0 where
   requests_export : (file : List ℕ) → Requested
   requests_strip : (file : List ℕ) → Requested
 
--- The shape that the last words name: one loop over a state where there are none.
+-- The shape that the last arguments select: one loop over a state if there are none.
 abbrev pub shape_in : List (List ℕ) → Option Config
 shape_in [] = Some (record { use_state_machine_codegen = true })
 shape_in (option ∷ name ∷ []) = if bytes_eq option (word_of options.Shape) then shape_named name else None
 shape_in arguments = None
 
--- After `gen`: a file, and perhaps a shape.
+-- After `gen`: a file, and optionally a shape.
 abbrev pub text_in : List (List ℕ) → Option Requested
 text_in (file ∷ rest) = option_map (requests_text file) (shape_in rest)
 text_in [] = None
 
--- After `lex`: a file, an input, and perhaps a shape.
+-- After `lex`: a file, an input, and optionally a shape.
 abbrev pub items_in : List (List ℕ) → Option Requested
 items_in (file ∷ input ∷ rest) = option_map (requests_items file input) (shape_in rest)
 items_in arguments = None
@@ -48,7 +48,7 @@ abbrev pub strip_in : List (List ℕ) → Option Requested
 strip_in (file ∷ []) = Some (requests_strip file)
 strip_in arguments = None
 
--- What the arguments request, if they are a command.
+-- The request of the arguments, if they are valid.
 abbrev pub requested : List (List ℕ) → Option Requested
 requested [] = None
 requested (name ∷ rest) =
@@ -59,7 +59,7 @@ requested (name ∷ rest) =
     else (if bytes_eq name (codes "strip") then strip_in rest
     else None))))
 
--- What a command requests.
+-- The request of a command.
 abbrev pub command_requested : Command → Requested
 command_requested (Text file config) = requests_text file.now config
 command_requested (Items request) = requests_items request.source.now request.input.now request.config

@@ -1,4 +1,5 @@
--- Definitions that clauses cite: of lower crates, and those of this one that name no type of it.
+-- Definitions that contracts cite: those of lower crates, and those of this crate that name none of
+-- its types.
 pub use Rattle.logos_code.specs.declared.action.Action.{Action}
 pub use Rattle.logos_enum.specs.Values.{ident_slice}
 pub use Rattle.logos_graph.specs.Mermaid.{mermaid_of}

@@ -32,7 +32,7 @@ fault_line fault = fault_head fault ++ (on_one_line fault.message ++ codes "\n")
 abbrev pub fault_lines : List Fault → List ℕ
 fault_lines faults = flat_map fault_line faults
 
--- The line that says why a chart is not exported.
+-- The line with the reason that a diagram is not exported.
 abbrev pub export_line : ExportRefusal → List ℕ
 export_line NoPath = codes "no export path\n"
 export_line Dot = codes "DOT export is left out\n"
@@ -43,26 +43,26 @@ abbrev pub IsTextOf : List ℕ → Refusal → Type 0
 IsTextOf text (refusals.Errors faults) = text ≡ fault_lines faults
 IsTextOf text refusals.Memory = ⊥
 
--- The failure of a source that is refused: its text has the lines of the faults, unless memory ran
--- out.
+-- The failure for a refused source: its text has the lines of the faults, unless memory ran out.
 abbrev pub IsRefusalOf : Refusal → Failure → Type 0
 IsRefusalOf refusal (Refused text) = IsTextOf (string_bytes text) refusal
 IsRefusalOf refusal Memory = Unit {0}
 IsRefusalOf refusal failure = ⊥
 
--- The failure of a chart that is not exported: its text is the line that says why, unless memory
--- ran out.
+-- The failure for a diagram that is not exported: its text is the line with the reason, unless
+-- memory ran out.
 abbrev pub IsUnexportedBy : ExportRefusal → Failure → Type 0
 IsUnexportedBy why (Refused text) = string_bytes text ≡ export_line why
 IsUnexportedBy why Memory = Unit {0}
 IsUnexportedBy why failure = ⊥
 
--- The text of a failure has the lines of faults for which this holds.
+-- The text of a failure has the lines of faults that satisfy `Holds`.
 abbrev pub ShowsFaultsOf : (List Fault → Type 0) → Failure → Type 0
 ShowsFaultsOf Holds (Refused text) = (faults : List Fault) × Holds faults × (string_bytes text ≡ fault_lines faults)
 ShowsFaultsOf Holds failure = ⊥
 
--- The text of a failure says why a chart is not exported, and this holds of the reason.
+-- The text of a failure has the reason that a diagram is not exported, and the reason satisfies
+-- `Holds`.
 abbrev pub ShowsReasonOf : (ExportRefusal → Type 0) → Failure → Type 0
 ShowsReasonOf Holds (Refused text) = (why : ExportRefusal) × Holds why × (string_bytes text ≡ export_line why)
 ShowsReasonOf Holds failure = ⊥

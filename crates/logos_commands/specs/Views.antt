@@ -1,4 +1,4 @@
--- Definitions that clauses cite: those of `Words`, and those that name types of this crate.
+-- Definitions that contracts cite: those of `Imports`, and those that name types of this crate.
 pub use Rattle.logos_commands.specs.Imports.{Action, Appends, AppendsFront, Failure, IsNoMisuse, IsOutputFailure, Keeps, OccurInOrder, TakesMatches, WritesLines, answers_of, emits, fault_of, faults_of, flat_map, ident_slice, item_of, line_of, mermaid_of, status_of, texts_of, with_separator}
 pub use Rattle.logos_commands.specs.Diagrams.{destination, export_destination, extension, file_at, file_in, refusal_by}
 pub use Rattle.logos_commands.specs.Commands.{requested, command_requested}

@@ -1,4 +1,4 @@
-//! Commands, read from the words of the command line.
+//! The commands of `logos`, read from its arguments. Called by `program`.
 
 ghost use Rattle.std.specs.Prelude.{◌≡◌, bytes_eq, map, option_map, string_bytes};
 ghost use Rattle.logos_commands.specs.Commands.{requested, diagram_in, command_requested, export_in, items_in, shape_in, strip_in, text_in};
@@ -10,19 +10,19 @@ use logos_options::OptionName;
 /// A command with its files.
 #[derive(Clone, Copy)]
 pub(super) enum Command<'w> {
-    /// `gen`: print the Rust text of the lexer whose enum is in the file.
+    /// `gen`: print the generated code for the enum in the file.
     Text { file: &'w str, config: Config },
-    /// `lex`: print the items that the lexer whose enum is in the file finds in the input.
+    /// `lex`: print the items of the input, found with the lexer of the enum in the file.
     Items(LexRequest<'w>),
-    /// `mermaid`: print the chart of the graph of that lexer.
+    /// `mermaid`: print the state diagram of that lexer.
     Diagram { file: &'w str },
-    /// `export`: write the same chart to the file that the source names.
+    /// `export`: write that diagram to the file that the source names.
     Export { file: &'w str },
     /// `strip`: print the enum in the file without the attributes of the derive macro.
     Strip { file: &'w str },
 }
 
-/// Returns the command that the words are, or `None`.
+/// Returns the command for the arguments, or `None` if they are invalid.
 pub(super) fn command_of(arguments: &[String]) -> Option<Command<'_>>
     ensures { option_map command_requested result ≡ requested (map string_bytes arguments.now) }
 {
@@ -47,14 +47,14 @@ pub(super) fn command_of(arguments: &[String]) -> Option<Command<'_>>
     None
 }
 
-/// Returns whether the word is this text.
+/// Returns whether an argument is this text.
 fn is_word(word: &String, text: &str) -> bool
     ensures { result ≡ bytes_eq (string_bytes word.now) text.now }
 {
     word.as_str() == text
 }
 
-/// Returns the command `gen` with these words after its name.
+/// Returns the command `gen` with the arguments after its name.
 fn text_of(arguments: &[String]) -> Option<Command<'_>>
     ensures { option_map command_requested result ≡ text_in (map string_bytes arguments.now) }
 {
@@ -66,7 +66,7 @@ fn text_of(arguments: &[String]) -> Option<Command<'_>>
     Some(Command::Text { file, config })
 }
 
-/// Returns the command `lex` with these words after its name.
+/// Returns the command `lex` with the arguments after its name.
 fn items_of(arguments: &[String]) -> Option<Command<'_>>
     ensures { option_map command_requested result ≡ items_in (map string_bytes arguments.now) }
 {
@@ -81,7 +81,7 @@ fn items_of(arguments: &[String]) -> Option<Command<'_>>
     }))
 }
 
-/// Returns the command `mermaid` with these words after its name.
+/// Returns the command `mermaid` with the arguments after its name.
 fn diagram_of(arguments: &[String]) -> Option<Command<'_>>
     ensures { option_map command_requested result ≡ diagram_in (map string_bytes arguments.now) }
 {
@@ -93,7 +93,7 @@ fn diagram_of(arguments: &[String]) -> Option<Command<'_>>
     }
 }
 
-/// Returns the command `export` with these words after its name.
+/// Returns the command `export` with the arguments after its name.
 fn export_of(arguments: &[String]) -> Option<Command<'_>>
     ensures { option_map command_requested result ≡ export_in (map string_bytes arguments.now) }
 {
@@ -105,7 +105,7 @@ fn export_of(arguments: &[String]) -> Option<Command<'_>>
     }
 }
 
-/// Returns the command `strip` with these words after its name.
+/// Returns the command `strip` with the arguments after its name.
 fn strip_of(arguments: &[String]) -> Option<Command<'_>>
     ensures { option_map command_requested result ≡ strip_in (map string_bytes arguments.now) }
 {
@@ -117,8 +117,8 @@ fn strip_of(arguments: &[String]) -> Option<Command<'_>>
     }
 }
 
-/// Returns the shape that the last words of a command ask for. Without such words it is one loop
-/// with a state.
+/// Returns the code shape that the last arguments of a command select. The default is one loop with
+/// a state.
 fn shape_of(arguments: &[String]) -> Option<Config>
     ensures { result ≡ shape_in (map string_bytes arguments.now) }
 {

@@ -1,4 +1,4 @@
-//! The path of the file that the chart of an enum is written to.
+//! The path of the file to which `export` writes a state diagram. Used by `outcome`.
 
 ghost use Rattle.std.specs.Prelude.{◌≡◌, IfErr, IfOk, option_copied, string_bytes};
 ghost use Rattle.logos_commands.specs.Views.{with_separator, destination, extension, file_at, file_in, refusal_by, FailsAt, IsNoMisuse};
@@ -7,8 +7,8 @@ use crate::refusals::{ExportRefusal, refused_export};
 use logos_host::{Failure, file_name};
 use std::alloc::{AllocError, Global};
 
-/// Returns the path of the file for the chart of an enum. `path` is the export path of its source:
-/// that of a file, or of a folder, in which the file has the enum's name.
+/// Returns the path of the file for the state diagram of an enum. `path` is the export path of its
+/// source: the path of a file, or of a folder, in which the file has the enum's name.
 ///
 /// # Errors
 ///
@@ -33,7 +33,7 @@ pub(super) fn diagram_path(
     Err(refused_export(alloc, refused_by(extension)))
 }
 
-/// Returns why a chart's path must not have this extension, which is not `mmd`.
+/// Returns why a diagram's path must not have this extension, which is not `mmd`.
 fn refused_by(extension: &str) -> ExportRefusal
     ensures { result ≡ refusal_by extension.now }
 {
@@ -44,8 +44,8 @@ fn refused_by(extension: &str) -> ExportRefusal
     }
 }
 
-/// Returns the extension of a name: what follows its last `.`. A `.` that is its first character
-/// begins no extension, and `..` has none.
+/// Returns the extension of a name: the part after its last `.`. A leading `.` begins no extension,
+/// and `..` has none.
 fn extension_of(name: &str) -> Option<&str>
     ensures { option_copied result ≡ extension name.now }
 {
@@ -58,7 +58,7 @@ fn extension_of(name: &str) -> Option<&str>
     }
 }
 
-/// Returns the path of the chart of an enum in a folder.
+/// Returns the path of the diagram of an enum in a folder.
 fn path_in(alloc: Global, folder: &str, name: &str) -> Result<String, AllocError>
     ensures { IfOk result (λ path. string_bytes path ≡ file_in folder.now name.now) }
 {
@@ -68,7 +68,8 @@ fn path_in(alloc: Global, folder: &str, name: &str) -> Result<String, AllocError
     Ok(path)
 }
 
-/// Returns the folder's path, ready for a name to follow: with `/` at its end, unless it is empty.
+/// Returns the folder's path, ready for a name to be appended: with `/` at its end, unless it is
+/// empty.
 fn with_separator(alloc: Global, folder: &str) -> Result<String, AllocError>
     ensures { IfOk result (λ path. string_bytes path ≡ with_separator folder.now) }
 {

@@ -1,4 +1,5 @@
 //! The command `lex`: a line for each item of an input, written in blocks while the input is lexed.
+//! Used by `command` and `program`.
 
 ghost use Rattle.std.specs.Prelude.{◌≡◌, ◌++◌, ◌+◌, ◌<◌, ◌≤◌, ℕ, List, [], IfErr, OnOk, IsTrue, IsUtf8, vec_len, vec_capacity};
 ghost use Rattle.logos_commands.specs.Views.{Appends, Keeps, TakesMatches, Action as Answer, answers_of, item_of, WritesLines, emits, line_of, AppendsFront, status_of, IsNoMisuse, IsOutputFailure, IsTornBy, PrintsItems, PrintsItemsOf, RefusesInput, RefusesItems};
@@ -10,19 +11,19 @@ use logos_codegen::generate;
 use logos_codegen::generator::Config;
 use logos_codegen::leaf::LeafId;
 use logos_codegen::machine::{Action, Item, Lexer};
-use logos_fold::folded::Folded;
 use logos_host::{Failure, Files, print_bytes, read_bytes, read_text, write_full};
 use logos_scan::choice::rows_for;
+use logos_scan::fold::folded::Folded;
 use logos_scan::run::{Reading, Run};
-use logos_walk::masks::ChunkEntries;
+use logos_scan::walk::masks::ChunkEntries;
 use std::alloc::Global;
 use std::io::Write;
 
-/// The length in bytes from which a block is written.
+/// The minimum length in bytes of a block that is written.
 const BLOCK: usize = 65_536;
 
-/// What the command `lex` is given: the paths of the source and of the input, and the shape of the
-/// lexer's code.
+/// A request for the items of an input: the paths of the source and of the input, and the shape of
+/// the lexer's code.
 #[derive(Clone, Copy)]
 pub(super) struct LexRequest<'w> {
     pub(super) source: &'w str,
@@ -32,7 +33,8 @@ pub(super) struct LexRequest<'w> {
 
 /// Writes a line for each item of an input, found by the lexer of the enum in a file.
 ///
-/// All refusals come before the first item. After it only writing can fail.
+/// The source and the input are validated before the first item is written. After it only writing
+/// can fail.
 pub(super) fn lex<'w, F: Files, O: Write>(
     alloc: Global,
     request: LexRequest<'w>,
@@ -113,7 +115,7 @@ fn lex_by_code<O: Write>(
     }
 }
 
-/// Writes a line for each item of an input, found by chunks and collected in a block, and flushes
+/// Writes a line for each item of an input, found in chunks and collected in a block, and flushes
 /// the writer. Only writing can fail.
 fn write_by_chunks<C: Fn(LeafId, &[u8]) -> Action, O: Write>(
     folded: &Folded<'_, '_>,

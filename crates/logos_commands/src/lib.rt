@@ -1,4 +1,5 @@
-//! The commands of the program `logos`, on any files and any writers.
+//! The commands of the program `logos`, generic over files and writers. Called by `logos_program`
+//! and the tests.
 
 #![tactic(auto)]
 

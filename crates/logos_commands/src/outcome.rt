@@ -1,4 +1,4 @@
-//! The outcomes of commands, each made as a whole before any of it is written.
+//! The outcomes of commands. Each is complete before any of it is written. Used by `program`.
 
 ghost use Rattle.std.specs.Prelude.{◌≡◌, ◌≢◌, ◌++◌, ◌∷◌, [], IfErr, IfOk, option_map, string_bytes};
 ghost use Rattle.logos_commands.specs.Views.{ident_slice, mermaid_of, OccurInOrder, texts_of, export_destination, file_at, EndsWithLine, FailsAt, IsNoMisuse, effect_of, status_of, IsLeft, IsPart, IsPartOf, ReadsSource, prints, shape_of, RefusesExport, RefusesLexer, RefusesStripping};
@@ -17,22 +17,22 @@ use std::alloc::Global;
 pub(super) enum CommandOutcome {
     /// A text for standard output.
     Text(String),
-    /// A chart, and the path of the file that it is written to.
+    /// A state diagram, and the path of the file to which it is written.
     Diagram { path: String, text: String },
 }
 
-/// What a command makes of a lexer.
+/// The part of a lexer that a command requests.
 #[derive(Clone, Copy)]
 pub(super) enum Requested {
-    /// Its Rust text, in this shape.
+    /// Its generated code, in this shape.
     Text(Config),
-    /// The chart of its graph.
+    /// Its state diagram.
     Diagram,
-    /// The same chart, for the file that its source names.
+    /// Its state diagram, for the file that its source names.
     Export,
 }
 
-/// The shape of the codes that charts are made with. A chart is the same in both shapes.
+/// The code shape for diagrams. A diagram does not depend on the shape.
 const ANY_SHAPE: Config = Config {
     use_state_machine_codegen: true,
 };
@@ -104,7 +104,7 @@ fn of_lexer(
     }
 }
 
-/// Returns the Rust text of a lexer, and LF.
+/// Returns the generated code of a lexer, and LF.
 fn text_of_lexer(alloc: Global, made: &Generated<'_>) -> Result<String, Failure<'static>>
     ensures text { IfOk result (λ text. EndsWithLine (OccurInOrder (texts_of made.now.code))
         (string_bytes text)) }
@@ -116,7 +116,7 @@ fn text_of_lexer(alloc: Global, made: &Generated<'_>) -> Result<String, Failure<
     Ok(text)
 }
 
-/// Makes the enum in a file without the attributes of the derive macro, and LF.
+/// Returns the enum in a file without the attributes of the derive macro, and LF.
 pub(super) fn stripped<'w, F: Files>(
     alloc: Global,
     file: &'w str,
@@ -152,7 +152,7 @@ fn stripped_source(alloc: Global, source: &str) -> Result<String, Failure<'stati
     Ok(text)
 }
 
-/// Makes the chart of the graph of a lexer, for the file that its source names.
+/// Makes the state diagram of a lexer, for the file that its source names.
 fn export_of_lexer(alloc: Global, made: &Generated<'_>) -> Result<CommandOutcome, Failure<'static>>
     ensures diagram { IfOk result (λ outcome. IsPart Requested.Export made.now.graph made.now.code
         (ident_slice made.now.name) (option_map string_bytes made.now.export_path)
@@ -170,7 +170,7 @@ fn export_of_lexer(alloc: Global, made: &Generated<'_>) -> Result<CommandOutcome
     Ok(CommandOutcome::Diagram { path, text })
 }
 
-/// Returns the path of the file that a source names for its chart.
+/// Returns the path of the file that a source names for its diagram.
 fn path_of_diagram(alloc: Global, made: &Generated<'_>) -> Result<String, Failure<'static>>
     ensures file { IfOk result (λ diagram. file_at (string_bytes diagram) ≡ export_destination
         (option_map string_bytes made.now.export_path) made.now.name.text.now) }
@@ -184,7 +184,7 @@ fn path_of_diagram(alloc: Global, made: &Generated<'_>) -> Result<String, Failur
     }
 }
 
-/// Returns the chart of a graph, after testing that each state differs from the next.
+/// Returns the state diagram of a graph, after testing that each state differs from the next.
 fn tested_diagram(alloc: Global, graph: &Graph<'_>) -> Result<String, Failure<'static>>
     ensures diagram { IfOk result (λ text. string_bytes text ≡ mermaid_of graph.now.states) }
     ensures failed { IfErr result (λ failure. status_of failure ≡ 3) }
@@ -194,7 +194,7 @@ fn tested_diagram(alloc: Global, graph: &Graph<'_>) -> Result<String, Failure<'s
     Ok(graph.get_mermaid(alloc)?)
 }
 
-/// Refuses a graph in which a state is like the next.
+/// Refuses a graph in which two consecutive states are equivalent.
 fn test_neighbours(alloc: Global, graph: &Graph<'_>) -> Result<(), Failure<'static>>
     ensures failed { IfErr result (λ failure. status_of failure ≡ 3) }
 {
@@ -208,7 +208,7 @@ fn test_neighbours(alloc: Global, graph: &Graph<'_>) -> Result<(), Failure<'stat
     Ok(())
 }
 
-/// Refuses two different states if no text shows a difference between them.
+/// Refuses two different states if no text distinguishes them.
 fn test_pair(alloc: Global, graph: &Graph<'_>, s: State, t: State) -> Result<(), Failure<'static>>
     ensures { IfErr result (λ failure. status_of failure ≡ 3) }
 {
@@ -224,7 +224,7 @@ fn test_pair(alloc: Global, graph: &Graph<'_>, s: State, t: State) -> Result<(),
     }
 }
 
-/// Returns the refusal of a graph in which two states find the same matches. A graph never has such
+/// Returns the refusal of a graph in which two states find the same matches. Graphs never have such
 /// states.
 fn alike(alloc: Global, s: usize, t: usize) -> Failure<'static> {
     match format!(in alloc; "states {s} and {t} are alike\n") {

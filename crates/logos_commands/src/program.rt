@@ -1,4 +1,4 @@
-//! The program `logos`, from its arguments to an exit status. `main` calls it.
+//! The program `logos`, from its arguments to its exit status. `main` calls it.
 
 ghost use Rattle.std.specs.Prelude.{◌≡◌, ◌≢◌, ◌≤◌, ◌⊎◌, ◌↔◌, None, map, string_bytes, IfErr, IfOk, IfSome, OnOk};
 ghost use Rattle.logos_commands.specs.Views.{Appends, Carries, Failure as Why, HasEffect, IsDenied, IsDone, IsLeft, IsPartOf, Keeps, ReadsSource, RefusesLexer, RefusesStripping, requested, effect_of, status_of};
@@ -12,8 +12,8 @@ use std::io::Write;
 
 const USAGE: &str = "usage: logos gen|lex|strip|mermaid|export FILE ..\n";
 
-/// Runs the program with arguments, if they can be read, and returns the exit status of `run`. If
-/// they cannot be read, the status is that of the failure.
+/// Runs the program with its arguments, and returns the exit status of `run`. If the arguments
+/// cannot be read, the status is that of the failure.
 pub fn run_with<F: Files, O: Write, E: Write>(
     alloc: Global,
     arguments: Result<Vec<String>, Failure<'static>>,
@@ -47,7 +47,7 @@ pub fn run_with<F: Files, O: Write, E: Write>(
 /// 1 if the source or the input was refused, 2 if the arguments are not a command, 3 if a file, the
 /// output or the memory failed.
 ///
-/// Where the status is not 0, a message goes to `err`. Then nothing was written to `out`, unless
+/// If the status is not 0, a message is written to `err`, and nothing was written to `out`, unless
 /// writing to it failed.
 pub fn run<F: Files, O: Write, E: Write>(
     alloc: Global,
@@ -57,12 +57,13 @@ pub fn run<F: Files, O: Write, E: Write>(
     err: &mut E,
 ) -> u8
     ensures usage { (result ≡ 2) ↔ (requested (map string_bytes arguments.now) ≡ None) }
-    // At status 0 the files gave a source that is accepted, and what the command gives was printed
-    // or written whole.
+    // At status 0 the source in the files is accepted, and the output of the command was printed or
+    // written entirely.
     ensures done { result ≡ 0 → IfSome (requested (map string_bytes arguments.now))
         (λ command. IsDone F.read_yields F.write_makes command files.old files.new
         (O.contents out.old) (O.contents out.new)) }
-    // At status 1 what the files gave is refused, or the path of a chart is. Nothing was written.
+    // At status 1 a source or an input in the files is refused, or the path of a diagram. Nothing
+    // was written.
     ensures denied { result ≡ 1 → IfSome (requested (map string_bytes arguments.now))
         (λ command. (failure : Why) × IsDenied F.read_yields command files.old files.new failure) }
     ensures silent { result ≡ 1 → Keeps (O.contents out.old) (O.contents out.new) }
@@ -170,7 +171,7 @@ fn deliver<'o, F: Files, O: Write>(
     }
 }
 
-/// Writes why the program failed, and returns the exit status.
+/// Writes the message of a failure, and returns the exit status.
 fn failed<E: Write>(failure: &Failure<'_>, err: &mut E) -> u8
     ensures { result ≡ status_of failure.now }
 {

@@ -1,5 +1,5 @@
-//! Refusals as failures whose text `logos` prints: a line for each fault, or why a chart is not
-//! exported.
+//! Refusals as failures whose text `logos` prints: a line for each fault, or the reason that a
+//! diagram is not exported. Used by `diagram_path`, `item_lines` and `outcome`.
 
 ghost use Rattle.std.specs.Prelude.{◌≡◌, ◌++◌, IfOk, OnOk, string_bytes};
 ghost use Rattle.logos_commands.specs.Views.{IsNoMisuse, IsRefusalOf, IsUnexportedBy, export_line, fault_head, fault_line, fault_lines, fault_of, faults_of, flat_map, line_character, on_one_line};
@@ -9,18 +9,18 @@ use logos_codegen::error::{Errors, Memory, SpannedError};
 use logos_host::Failure;
 use std::alloc::Global;
 
-/// Why a chart is not exported.
+/// The reason that a diagram is not exported.
 #[derive(Clone, Copy)]
 pub(super) enum ExportRefusal {
     /// The source has no export path.
     NoPath,
-    /// The path is that of a chart in the language DOT.
+    /// The path is for a diagram in the language DOT.
     Dot,
-    /// The path has an extension that no chart has.
+    /// The path has an extension that no diagram has.
     Extension,
 }
 
-/// Returns the failure of a source that is refused, or `Memory` if memory runs out.
+/// Returns the failure for a refused source, or `Memory` if memory runs out.
 pub(super) fn refused_source(refusal: Refusal) -> Failure<'static>
     ensures refusal { IsRefusalOf refusal result }
     ensures known { IsNoMisuse result }
@@ -34,7 +34,7 @@ pub(super) fn refused_source(refusal: Refusal) -> Failure<'static>
     }
 }
 
-/// Returns the failure of a chart that is not exported, or `Memory` if memory runs out.
+/// Returns the failure for a diagram that is not exported, or `Memory` if memory runs out.
 pub(super) fn refused_export(alloc: Global, why: ExportRefusal) -> Failure<'static>
     ensures refusal { IsUnexportedBy why result }
     ensures known { IsNoMisuse result }
@@ -45,7 +45,7 @@ pub(super) fn refused_export(alloc: Global, why: ExportRefusal) -> Failure<'stat
     }
 }
 
-/// Returns the line that says why a chart is not exported.
+/// Returns the line with the reason that a diagram is not exported.
 fn export_line(why: ExportRefusal) -> &'static str
     ensures { result.now ≡ export_line why }
 {

@@ -15,8 +15,8 @@ use Rattle.logos_attribute.specs.Reports.{Report, with_faults, without_faults, a
 use Rattle.logos_attribute.specs.Callbacks.{CallbackView}
 use Rattle.logos_definition.specs.Definitions.{named_callback, unnamed_callback, unexpected_token}
 
--- The tokens of an error type, which is `()` without tokens; the type as it was read from them, if
--- it was; and the callback that makes an error, if there is one.
+-- The tokens of an error type, which is `()` without tokens; the type that was read from them, if
+-- one was; and the callback that creates an error, if there is one.
 pub record ErrorView : Type 0 where
   pub type_run : Option TokenList
   pub type : Option Tree
@@ -26,7 +26,7 @@ pub record ErrorView : Type 0 where
 abbrev pub error_alone : TokenList → ErrorView
 error_alone run = record { type_run = Some run; type = None; callback = None }
 
--- A type as it was read from its tokens, without a callback.
+-- A type that was read from its tokens, without a callback.
 abbrev pub error_read : TokenList → Tree → ErrorView
 error_read run tree = record { type_run = Some run; type = Some tree; callback = None }
 
@@ -39,7 +39,7 @@ abbrev pub run_text : Option TokenList → List ℕ
 run_text (Some run) = printed run
 run_text None = codes "( )"
 
--- The printed text of the type that was read if it was, or else of the tokens.
+-- The printed text of the type that was read, if one was, and otherwise of the tokens.
 abbrev pub type_or_run : Option Tree → Option TokenList → List ℕ
 type_or_run (Some tree) run = printed_type tree
 type_or_run None run = run_text run
@@ -69,7 +69,7 @@ error_named_report name value e =
     if bytes_eq name.text (codes "callback") then map_report (error_with e) (named_callback name value e.callback)
     else with_faults e (only (unknown_error_argument name))
 
--- The report of an argument after the type of `error(..)`; only the first one can be a callback
+-- The report of an argument after the type of `error(..)`. Only the first one can be a callback
 -- without a name.
 abbrev pub error_argument_report : Bool → Piece → ErrorView → Report ErrorView
 error_argument_report first (unexpected run) e = with_faults e (only (unexpected_token run))

@@ -1,4 +1,4 @@
--- What the derive macro needs to know of an enum.
+-- The derivation of an enum.
 use Rattle.std.specs.Prelude.{◌≡◌, ◌≢◌, ℕ, List, [], All, Some, None}
 use Rattle.logos_causes.specs.Sets.{HasSets}
 use Rattle.logos_codegen.specs.Source.{IsRefused}

@@ -1,4 +1,4 @@
--- Definitions that clauses cite: those of `Words`, and those that name types of this crate.
+-- Definitions that contracts cite: those of `Imports`, and those that name types of this crate.
 pub use Rattle.logos_codegen.specs.Fronts.{around_made}
 pub use Rattle.logos_derive.specs.Imports.{All, fault_of, faults_of, next_value, sizes_of}
 pub use Rattle.logos_derive.specs.Derivations.{IsDerivation}

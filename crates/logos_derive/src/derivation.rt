@@ -1,4 +1,4 @@
-//! Derives an enum: its implementation, or why it is refused. The derive macro calls it.
+//! Derives an enum: its implementation, or its errors. Called by the derive macro.
 
 ghost use Rattle.std.specs.Prelude.{IfOk};
 ghost use Rattle.logos_derive.specs.Views.{All, HasErrors, IsAcceptedBy, IsDerivation, IsRefusedFor, IsWarning, around_made, sizes_of};
@@ -17,7 +17,7 @@ use logos_token::token::{Tokens, tokenize};
 use logos_warnings::Origin;
 use std::alloc::Global;
 
-/// What the derive macro needs to know of one enum.
+/// The result of deriving an enum.
 #[derive(Debug, Drop)]
 pub struct Derivation {
     /// The implementation, if the enum is accepted.
@@ -26,16 +26,16 @@ pub struct Derivation {
     pub diagnostics: Vec<Diagnostic>,
 }
 
-/// Returns what the derive macro needs to know of the enum that a source spells. An enum without
-/// faults is accepted: it has an implementation in this shape, and no error. One with faults is
-/// refused, with at least one error. Both may have warnings.
+/// Returns the derivation of the enum that a source spells. An enum without faults is accepted: it
+/// has an implementation in this shape, and no errors. One with faults is refused, with at least
+/// one error. Both may have warnings.
 ///
 /// # Errors
 ///
 /// Returns `Memory` if memory runs out.
 pub fn derive(alloc: Global, source: &str, shape: Shape) -> Result<Derivation, Memory>
     // The text is that of the lexer of the source, with the pieces in it, or the errors are those
-    // of the faults of the source.
+    // for the faults of the source.
     ensures { IfOk result (IsDerivation shape source.now) }
 {
     match generate(alloc, source, config_of(shape)) {
@@ -62,7 +62,7 @@ fn accepted(
     })
 }
 
-/// Returns the warnings of an accepted source.
+/// Returns the warnings for an accepted source.
 fn warnings_by(alloc: Global, source: &str, made: &Generated<'_>) -> Result<Vec<Diagnostic>, Memory>
     ensures { IfOk result (λ diagnostics. All IsWarning diagnostics.items) }
 {
@@ -101,7 +101,7 @@ fn refused(alloc: Global, source: &str, errors: &Errors) -> Result<Derivation, M
     })
 }
 
-/// Returns the errors and then the warnings of a refused source, of which this is known.
+/// Returns the errors and then the warnings for a refused source, given its explanation.
 fn diagnostics_of(
     alloc: Global,
     source: &str,

@@ -1,5 +1,5 @@
-//! What the derive macro needs to know of an enum: its implementation with the pieces of the source
-//! in it, or its errors, and its warnings. `rust/logos-derive` makes tokens of it.
+//! Derives an enum: returns its implementation with the pieces of the source in it, or its errors,
+//! and its warnings. Called by `rust/logos-derive`, which turns the implementation into tokens.
 
 #![tactic(auto)]
 

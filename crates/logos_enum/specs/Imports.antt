@@ -1,4 +1,5 @@
--- Definitions that clauses cite: of lower crates, and those of this one that name no type of it.
+-- Definitions that contracts cite: those of lower crates, and those of this crate that name none of
+-- its types.
 pub use Rattle.logos_lexeme.specs.declared.lexeme.Spacing.{Spacing}
 pub use Rattle.logos_lexeme.specs.declared.lexeme.Span.{Span}
 pub use Rattle.logos_token.specs.Tokens.{IsRestOf, TokenList, also, append, count_of, identifier, none, punctuation, rest_of}

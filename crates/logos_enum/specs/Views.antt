@@ -1,4 +1,4 @@
--- Definitions that clauses cite: those of `Words`, and those that name types of this crate.
+-- Definitions that contracts cite: those of `Imports`, and those that name types of this crate.
 pub use Rattle.logos_enum.specs.Imports.{IsRestOf, Spacing, Span, TokenList, also, append, begins_with, count_of, first_span, greater, identifier, is_none, is_outer, none, punctuation, rest_of, tokens_of, tree_of}
 pub use Rattle.logos_enum.specs.AttributeValues.{attribute_in, split_value}
 pub use Rattle.logos_enum.specs.Attributes.{Attributes, IsFront, IsPathStep, after_attributes, after_hash, after_keyword, after_parenthesis, after_visibility, announced_in, attribute_mismatch, colon_mismatch, end_mismatch, path_mismatch, segment_mismatch, value_mismatch}

@@ -1,4 +1,4 @@
-//! Reads the fields of variants.
+//! Reads the fields of variants. The reader of variants calls it.
 
 ghost use Rattle.std.specs.Prelude.{◌≡◌, ◌<◌, ◌≤◌, List, map, Ok, Err, None, MatchOption, IfSome, MatchResult, IfOk, IfErr};
 ghost use Rattle.logos_enum.specs.Views.{none, count_of, tokens_of, error_is, FieldType, colon_in, label, field, fields, Holding, typed_value, field_value, fields_value, parenthesis_in, Occurs};
@@ -23,7 +23,7 @@ pub struct Field<'t, 's> {
     pub run: Tokens<'t, 's>,
 }
 
-/// The fields of a variant. The span is that of the parentheses or of the braces.
+/// The fields of a variant. The span is the span of the parentheses or of the braces.
 #[derive(Drop)]
 pub enum Fields<'t, 's> {
     /// No fields.
@@ -84,7 +84,8 @@ fn skip_colon<'t, 's>(tokens: Tokens<'t, 's>) -> Result<Tokens<'t, 's>, ReadErro
     }
 }
 
-/// Returns the tokens after the name of a field and `:` if fields have names, or else all tokens.
+/// Returns the tokens after the name of a field and `:` if fields have names, and all tokens
+/// otherwise.
 fn skip_label<'t, 's>(named: bool, tokens: Tokens<'t, 's>) -> Result<Tokens<'t, 's>, ReadError>
     ensures ok { IfOk result
         (λ rest. label named (tokens_of tokens.entry) (Ok (tt, tokens_of rest))) }
@@ -124,7 +125,7 @@ fn read_field<'t, 's>(
     Ok((field, rest))
 }
 
-/// Returns the fields in a group. All its tokens must belong to them.
+/// Returns the fields in a group. All tokens of the group must belong to them.
 fn read_fields<'t, 's>(
     alloc: Global,
     named: bool,
@@ -146,8 +147,8 @@ fn read_fields<'t, 's>(
     Ok(list)
 }
 
-/// Returns the fields in parentheses and the tokens after these. `None` if no parenthesis comes
-/// first.
+/// Returns the fields in parentheses, and the tokens after the parentheses. Returns `None` if no
+/// parenthesis comes first.
 fn read_tuple<'t, 's>(
     alloc: Global,
     tokens: Tokens<'t, 's>,

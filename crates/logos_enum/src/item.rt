@@ -12,10 +12,10 @@ use crate::variants::{Variant, read_variants};
 use logos_token::token::{Delimiter, Ident, TokenTree, Tokens};
 use std::alloc::Global;
 
-/// An enum. The runs are views of the tokens that it was read from.
+/// An enum. The runs are views of the tokens from which it was read.
 #[derive(Drop)]
 pub struct ItemEnum<'t, 's> {
-    /// The attributes of the enum: each is `#` and brackets, or a documentation comment.
+    /// The attributes of the enum. Each is `#` and brackets, or a documentation comment.
     pub attributes: Tokens<'t, 's>,
     pub name: Ident<'s>,
     /// The generic parameters, in source order.
@@ -47,7 +47,7 @@ fn skip_to_brace<'t, 's>(tokens: Tokens<'t, 's>) -> Tokens<'t, 's>
     rest
 }
 
-/// Returns the tokens after a where clause if one comes first, or else all tokens.
+/// Returns the tokens after a where clause if one comes first, and all tokens otherwise.
 fn skip_where<'t, 's>(tokens: Tokens<'t, 's>) -> Tokens<'t, 's>
     ensures { where_in (tokens_of tokens.entry) ≡ Ok (tt, tokens_of result) }
 {
@@ -99,8 +99,8 @@ fn announced<'t, 's>(
     Some((attributes, rest))
 }
 
-/// Returns the attributes before `enum` and the tokens after it. `None` if well-formed attributes,
-/// an optional visibility and `enum` do not come first.
+/// Returns the attributes before `enum` and the tokens after it. Returns `None` if the run does not
+/// begin with well-formed attributes, an optional visibility and `enum`.
 fn read_front<'t, 's>(tokens: Tokens<'t, 's>) -> Option<(Tokens<'t, 's>, Tokens<'t, 's>)>
     ensures { MatchOption result (NoFront (tokens_of tokens.entry))
         (λ read. IsFront (tokens_of tokens.entry) (tokens_of read.0) (tokens_of read.1)) }
@@ -111,7 +111,7 @@ fn read_front<'t, 's>(tokens: Tokens<'t, 's>) -> Option<(Tokens<'t, 's>, Tokens<
     }
 }
 
-/// Returns the enum with these attributes. The tokens are those after its `enum`.
+/// Returns the enum with these attributes. `tokens` are the tokens after `enum`.
 fn read_item<'t, 's>(
     alloc: Global,
     attributes: Tokens<'t, 's>,
@@ -136,25 +136,24 @@ fn read_item<'t, 's>(
 }
 
 /// Reads an enum: attributes, an optional visibility, `enum`, a name, optional generic parameters
-/// and an optional where clause, and braces with variants between commas, the last of which can
-/// have a comma too. Nothing can follow the braces. Only the shape of the enum and the runs of
+/// and an optional where clause, and variants in braces, separated by commas with an optional comma
+/// after the last. No token can follow the braces. Only the structure of the enum and the runs of
 /// tokens are returned; attributes are not interpreted.
 ///
 /// An attribute is `#` and brackets with a path, which can be followed by a group or by `=` and
-/// tokens; or it is a documentation comment of what follows it. A visibility is `pub` with at most
-/// one group in parentheses. Any identifier can be a name. A generic parameter is a lifetime, a
-/// type, or `const` and a name; attributes can come before it, and its bounds and default stay
-/// tokens. A where clause is everything up to the first brace that is not inside another group. A
-/// variant is attributes, a name, then nothing, fields in parentheses, or fields with names in
-/// braces, and optionally `=` and tokens. At most 128 types can stand inside one another in the
-/// type of a field.
+/// tokens; or it is an outer documentation comment. A visibility is `pub` with at most one group in
+/// parentheses. Any identifier can be a name. A generic parameter is a lifetime, a type, or `const`
+/// and a name. Attributes can come before it, and its bounds and default are returned as tokens. A
+/// where clause reaches up to the first brace that is not inside another group. A variant is
+/// attributes, a name, then nothing, fields in parentheses, or fields with names in braces, and
+/// optionally `=` and tokens. At most 128 types can be nested in the type of a field.
 ///
 /// # Errors
 ///
-/// Returns `NotAnEnum` if well-formed attributes, an optional visibility and `enum` do not come
-/// first. If they do, the first fault from the left: `Grammar` at a token that does not fit,
-/// `TypeUnsupported` at a type that is not supported, or `LimitTypeNesting` at a type that passes
-/// the limit. `Memory` if memory runs out.
+/// Returns `NotAnEnum` if the run does not begin with well-formed attributes, an optional
+/// visibility and `enum`. Otherwise returns the first fault from the left: `Grammar` at a token
+/// that does not fit, `TypeUnsupported` at an unsupported type, or `LimitTypeNesting` at a type
+/// that exceeds the limit. Returns `Memory` if memory runs out.
 pub fn read_enum<'t, 's>(
     alloc: Global,
     tokens: Tokens<'t, 's>,
@@ -173,7 +172,7 @@ pub fn read_enum<'t, 's>(
     Ok(item)
 }
 
-/// A run of tokens is at most one enum and has at most one fault, and never both.
+/// A run of tokens is at most one enum and has at most one fault, but never both.
 pub fn reads_once()
     ensures { (run : TokenList) (one other : Result EnumValue ReadErrorValue) → Reads run one →
         Reads run other → one ≡ other }

@@ -1,4 +1,4 @@
-//! Reads the variants of an enum.
+//! Reads the variants of an enum. The reader of enums calls it.
 
 ghost use Rattle.std.specs.Prelude.{◌≡◌, ◌<◌, ◌≤◌, List, map, Ok, Err, MatchOption, MatchResult, IfOk, IfErr};
 ghost use Rattle.logos_enum.specs.Views.{none, count_of, tokens_of, from_comma, value_in, discriminant_in, variant, variants, variant_value, Occurs};
@@ -57,8 +57,8 @@ fn skip_value<'t, 's>(tokens: Tokens<'t, 's>) -> Result<Tokens<'t, 's>, ReadErro
     }
 }
 
-/// Returns the tokens after `=` and the discriminant of a variant if `=` comes first, or else all
-/// tokens.
+/// Returns the tokens after `=` and the discriminant of a variant if `=` comes first, and all
+/// tokens otherwise.
 fn skip_discriminant<'t, 's>(tokens: Tokens<'t, 's>) -> Result<Tokens<'t, 's>, ReadError>
     ensures { MatchResult result
         (λ rest. (discriminant_in (tokens_of tokens.entry) ≡ Ok (tt, tokens_of rest))
@@ -71,7 +71,7 @@ fn skip_discriminant<'t, 's>(tokens: Tokens<'t, 's>) -> Result<Tokens<'t, 's>, R
     }
 }
 
-/// Returns the variant that comes first, and the tokens after it.
+/// Returns the variant at the front, and the tokens after it.
 fn read_variant<'t, 's>(
     alloc: Global,
     tokens: Tokens<'t, 's>,
@@ -94,7 +94,7 @@ fn read_variant<'t, 's>(
     Ok((variant, rest))
 }
 
-/// Returns the variants inside braces. All tokens there must belong to them.
+/// Returns the variants inside braces. All tokens inside the braces must belong to them.
 pub(crate) fn read_variants<'t, 's>(
     alloc: Global,
     tokens: Tokens<'t, 's>,

@@ -7,7 +7,7 @@ use Rattle.logos_evidence.specs.inside.Lasts.{step_to}
 use Rattle.logos_evidence.specs.inside.Machines.{is_cut, one_leads}
 use Rattle.logos_evidence.proofs.VerdictLemmas.{errors_part}
 
--- so many bytes can be followed
+-- that number of bytes can be followed
 abbrev pub alive : List GraphState → ℕ → List ℕ → ℕ → Bool
 alive graph s bytes n = is_some (walk graph s (take n bytes) false)
 
@@ -84,7 +84,7 @@ module _ (one other : List GraphState) (names others : List ℕ) (utf8 : Bool) w
   abbrev parts : ℕ → ℕ → Bool → List ℕ → Bool
   parts = errors_part one other names others utf8
 
-  -- a place after the first one, or after a byte
+  -- an offset after the first one, or after a byte
   abbrev pub IsAfter : Bool → ℕ → Type 0
   IsAfter begun at = (begun ≡ true) ⊎ (0 < at)
 

@@ -9,10 +9,10 @@ use Rattle.logos_graph.specs.Found.{FindsTheLongest, GraphFinds, IsUnmarked}
 use Rattle.logos_graph.specs.Graph.{GraphState}
 use Rattle.logos_graph.specs.GraphOf.{IsGraphOf}
 use Rattle.logos_graph.specs.View.{GraphValue, rules_of}
-use Rattle.logos_search.specs.Machines.{Leads}
-use Rattle.logos_search.specs.Shortest.{NoneLeads, IsShortest}
+use Rattle.logos_evidence.specs.search.Machines.{Leads}
+use Rattle.logos_evidence.specs.search.Shortest.{NoneLeads, IsShortest}
 use Rattle.logos_evidence.specs.Comparing.{Agree, FindTheSame, IsDifference, IsShortestDifference}
-use Rattle.logos_search.specs.declared.point.Point.{Point}
+use Rattle.logos_evidence.specs.declared.search.point.Point.{Point}
 use Rattle.logos_evidence.specs.inside.Lasts.{last_from}
 use Rattle.logos_evidence.specs.inside.Machines.{is_cut, same_option, point_from, first_point, pair_next, pair_goal}
 use Rattle.logos_evidence.proofs.AliveLemmas.{alive, together, parting}

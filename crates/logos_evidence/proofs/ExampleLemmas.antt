@@ -9,9 +9,9 @@ use Rattle.logos_graph.specs.Found.{FindsTheLongest}
 use Rattle.logos_graph.specs.Graph.{GraphState}
 use Rattle.logos_graph.specs.GraphOf.{IsGraphOf}
 use Rattle.logos_graph.specs.View.{GraphValue, rules_of}
-use Rattle.logos_search.specs.Machines.{after, Leads}
-use Rattle.logos_search.specs.Shortest.{NoneLeads, IsShortest}
-use Rattle.logos_search.specs.declared.point.Point.{Point}
+use Rattle.logos_evidence.specs.search.Machines.{after, Leads}
+use Rattle.logos_evidence.specs.search.Shortest.{NoneLeads, IsShortest}
+use Rattle.logos_evidence.specs.declared.search.point.Point.{Point}
 use Rattle.logos_evidence.specs.Examples.{IsExample, IsShortestExample, HasNoExample}
 use Rattle.logos_evidence.specs.inside.Lasts.{mark_by, mark_at_end, step_to, with_size, last_from}
 use Rattle.logos_evidence.specs.inside.Machines.{is_last, point_from, first_point, example_next, example_goal}

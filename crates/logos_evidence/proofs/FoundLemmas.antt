@@ -13,7 +13,7 @@ use Rattle.logos_evidence.specs.inside.Lasts.{early_of, last_from}
 use Rattle.logos_evidence.specs.inside.Stops.{mark_at, stop_mark}
 use Rattle.logos_evidence.proofs.LastLemmas.{LastOf, last_of}
 
--- ---- A mark at a stop is the mark after so many bytes
+-- ---- A mark at a stop is the mark after that number of bytes
 
 less : (a b : ℕ) → nat_lt (suc a) (suc b) ≡ nat_lt a b
 less a b = grind (arith, nat_tests)

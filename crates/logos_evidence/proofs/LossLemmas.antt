@@ -17,9 +17,9 @@ use Rattle.logos_graph.specs.GraphOf.{IsGraphOf}
 use Rattle.logos_graph.specs.View.{GraphValue, rules_of}
 use Rattle.logos_graph.proofs.Automaton.{no_faults}
 use Rattle.logos_automaton.specs.Faults.{AreFaults}
-use Rattle.logos_search.specs.Machines.{after, Leads}
-use Rattle.logos_search.specs.Shortest.{NoneLeads, IsShortest}
-use Rattle.logos_search.specs.declared.point.Point.{Point}
+use Rattle.logos_evidence.specs.search.Machines.{after, Leads}
+use Rattle.logos_evidence.specs.search.Shortest.{NoneLeads, IsShortest}
+use Rattle.logos_evidence.specs.declared.search.point.Point.{Point}
 use Rattle.logos_evidence.specs.Losses.{IsLoss, IsShortestLoss, NeverLoses}
 use Rattle.logos_evidence.specs.Matching.{AreMatches}
 use Rattle.logos_evidence.specs.inside.Lasts.{mark_by, mark_at_end, step_to, last_from}

@@ -14,9 +14,9 @@ use Rattle.logos_graph.specs.GraphOf.{IsGraphOf}
 use Rattle.logos_graph.specs.View.{GraphValue, rules_of}
 use Rattle.logos_automaton.proofs.ambiguity.SameMembers.{increasing_same}
 use Rattle.logos_automaton.proofs.ambiguity.TopLemmas.{top_highest, top_rises}
-use Rattle.logos_search.specs.Machines.{after, Leads}
-use Rattle.logos_search.specs.Shortest.{NoneLeads, IsShortest}
-use Rattle.logos_search.specs.declared.point.Point.{Point}
+use Rattle.logos_evidence.specs.search.Machines.{after, Leads}
+use Rattle.logos_evidence.specs.search.Shortest.{NoneLeads, IsShortest}
+use Rattle.logos_evidence.specs.declared.search.point.Point.{Point}
 use Rattle.logos_evidence.specs.Meetings.{IsMeeting, IsShortestMeeting, NeverMeet}
 use Rattle.logos_evidence.specs.inside.Machines.{tops_are, meeting_at, meeting_on, meeting_next, meeting_goal}
 use Rattle.logos_evidence.specs.inside.Steps.{step_by, listed_at_end}

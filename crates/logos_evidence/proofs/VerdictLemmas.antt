@@ -4,8 +4,8 @@ use Rattle.std.specs.Option.{option_or}
 use Rattle.std.proofs.lemmas.Bool.{ne_eqb}
 use Rattle.std.proofs.lemmas.Option.{same_Some}
 use Rattle.logos_graph.specs.Graph.{GraphState, next_by}
-use Rattle.logos_search.specs.Machines.{after}
-use Rattle.logos_search.specs.declared.point.Point.{Point}
+use Rattle.logos_evidence.specs.search.Machines.{after}
+use Rattle.logos_evidence.specs.declared.search.point.Point.{Point}
 use Rattle.logos_evidence.specs.inside.Lasts.{mark_by, mark_at_end, step_to, with_size, last_from}
 use Rattle.logos_evidence.specs.inside.Machines.{same_mark, is_cut, one_leads, differs_after, pair_next, pair_goal}
 

@@ -1,3 +1,4 @@
+pub mod search
 pub mod Comparing
 pub mod Covering
 pub mod Examples

@@ -1,4 +1,4 @@
-//! Compares two lexers.
+//! Compares two lexers. Called for `logos_show --compare`.
 
 ghost use Rattle.std.specs.Prelude.{◌≡◌, ℕ, List, [], IfOk, Option, is_some, slice_get};
 ghost use Rattle.logos_evidence.specs.Views.{IsGraphOf, rules_of, IsShortestDifference, FindTheSame, pair_next, pair_goal, shown, IsAnswer};
@@ -6,16 +6,16 @@ ghost use Rattle.logos_evidence.specs.inside.Machines as machines;
 
 use crate::examples::point_from;
 use crate::graph_steps::{next_at_end, next_by, seen_by, states_of};
+use crate::search::{Machine, Point, shortest};
 use logos_graph::graph::{Graph, StateData};
-use logos_search::{Machine, Point, shortest};
 use std::alloc::{AllocError, Global};
 
-/// What a comparison of two lexers gives.
+/// The result of a comparison of two lexers.
 #[derive(Debug, Drop)]
 pub enum Comparison {
-    /// From each offset of each input they find the same.
+    /// From each offset of each input the two find the same match or error.
     Same,
-    /// At the beginning of this input they do not.
+    /// At the beginning of this input they find different ones.
     Differ(Vec<u8>),
 }
 
@@ -23,13 +23,12 @@ pub enum Comparison {
 #[derive(Clone, Copy)]
 pub struct Named<'g, 's> {
     pub graph: &'g Graph<'s>,
-    /// For each leaf the number of its name. Leaves that are to count as the same have the same
-    /// number.
+    /// For each leaf the number of its name. Leaves with the same number count as equal.
     pub names: &'g [usize],
 }
 
-/// A machine that follows two graphs, and looks for inputs at whose beginning they find different
-/// things.
+/// A machine that follows two graphs, and searches for inputs at whose beginning they find
+/// different matches or errors.
 #[derive(Clone, Copy)]
 struct GraphPair<'g> {
     one: &'g [&'g StateData],
@@ -39,7 +38,7 @@ struct GraphPair<'g> {
     utf8: bool,
 }
 
-/// Returns whether two marks are those of leaves of the same name.
+/// Returns whether two marks are leaves of the same name.
 fn same_mark(names: &[usize], mark: usize, others: &[usize], twin: usize) -> bool
     ensures { result ≡ machines.same_option (slice_get names.now mark) (slice_get others.now twin) }
 {
@@ -50,14 +49,14 @@ fn same_mark(names: &[usize], mark: usize, others: &[usize], twin: usize) -> boo
     }
 }
 
-/// Returns whether a byte can begin a character, or inputs are any bytes.
+/// Returns whether `byte` can begin a character, or inputs are any bytes.
 fn is_cut(utf8: bool, byte: u8) -> bool
     ensures { result ≡ machines.is_cut utf8 byte }
 {
     !utf8 | ((byte < 0x80) | (0xC0 <= byte))
 }
 
-/// Returns whether exactly one of two steps leads on.
+/// Returns whether exactly one of two steps leads to a state.
 fn one_leads(next: Option<usize>, twin: Option<usize>) -> bool
     ensures { result ≡ machines.one_leads next twin }
 {
@@ -65,8 +64,8 @@ fn one_leads(next: Option<usize>, twin: Option<usize>) -> bool
 }
 
 impl GraphPair<'_> {
-    /// Returns what is known of the difference after one more step with these marks, where errors
-    /// may part.
+    /// Returns whether the last matches differ after one more step with these marks. `parts` says
+    /// whether errors may end at different offsets.
     fn differs_after(
         &self,
         at: Point,
@@ -115,13 +114,14 @@ impl Machine for GraphPair<'_> {
     }
 }
 
-/// Compares two lexers of the same mode: whether they find the same from each offset of each input,
-/// or a shortest input at whose beginning they do not. Matches are the same if they end at the same
-/// offset and their leaves have the same name; errors, if they end at the same offset. Of inputs of
-/// the same length it is the one with letters, digits and punctuation first.
+/// Compares two lexers of the same mode. Returns `Same` if they find equal matches and errors from
+/// each offset of each input; otherwise a shortest input at whose beginning they do not. Matches
+/// are equal if they end at the same offset and their leaves have the same name; errors, if they
+/// end at the same offset. Of inputs of the same length it is the one with letters, digits and
+/// punctuation first.
 ///
-/// The graphs must have no faults. What callbacks do is not compared. Skips are matches too: a
-/// lexer that skips two blanks one by one differs from one that skips them at once.
+/// The graphs must have no faults. Callbacks are not compared. Skips are matches too: a lexer that
+/// skips two blanks one by one differs from one that skips them at once.
 ///
 /// # Errors
 ///

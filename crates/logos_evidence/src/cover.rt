@@ -1,12 +1,12 @@
-//! Inputs that together pass all edges of a graph.
+//! Inputs that together take all edges of a graph. Called for `--inputs`.
 
 ghost use Rattle.std.specs.Prelude.{◌≡◌, IfOk, map};
 ghost use Rattle.logos_evidence.specs.Imports.{AreCoveringInputs, edge_next, edge_goal, shown};
 
 use crate::examples::point_from;
 use crate::graph_steps::{next_at_end, next_by, states_of};
+use crate::search::{Machine, Point, covering};
 use logos_graph::graph::{Graph, StateData};
-use logos_search::{Machine, Point, covering};
 use std::alloc::{AllocError, Global};
 
 /// A machine that follows the edges of a graph.
@@ -30,14 +30,14 @@ impl Machine for EdgeMachine<'_> {
     }
 }
 
-/// Returns inputs that together pass all edges of a graph that inputs pass: each edge that a byte
-/// takes from one state to another, and each that the end of an input takes. They are seeds for
-/// tests and fuzzers.
+/// Returns inputs that together take all edges of a graph that any input takes: each edge from one
+/// state to another by a byte, and each edge at the end of an input. They are seeds for tests and
+/// fuzzers.
 ///
-/// Each input passes an edge that none before it passes, so there are at most as many as there are
+/// Each input takes an edge that no earlier one takes, so there are at most as many inputs as
 /// edges. In UTF-8 mode they are UTF-8. Deep states come first. Each input has at most one byte for
-/// each state on its way, and up to four more. Where many long keywords stand beside a leaf for
-/// names, all inputs together can have as many bytes as the square of the states.
+/// each state on its way, and up to four more. If the enum has many long keywords and a leaf for
+/// names, the total length of all inputs can be the square of the number of states.
 ///
 /// # Errors
 ///

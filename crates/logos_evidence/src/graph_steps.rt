@@ -71,7 +71,7 @@ pub(crate) fn next_by(states: &[&StateData], state: usize, byte: u8) -> Option<u
     Some(target)
 }
 
-/// Returns the state to which the end leads.
+/// Returns the state to which the end of the input leads.
 pub(crate) fn next_at_end(states: &[&StateData], state: usize) -> Option<usize>
     ensures { result ≡ graphs.next_at_end (shown states.now) state }
 {
@@ -98,7 +98,7 @@ fn late_of(states: &[&StateData], state: usize) -> Option<usize>
     Some(leaf.0)
 }
 
-/// Returns the leaf whose match ends at a state, as it is seen by a step to the next state, if
+/// Returns the leaf whose match ends at a state, as a step to the state `next` determines it, if
 /// there is one.
 pub(crate) fn seen_by(states: &[&StateData], state: usize, next: Option<usize>) -> Option<usize>
     ensures { result ≡ lasts.seen_by (shown states.now) state next }

@@ -1,4 +1,4 @@
-//! What a lexer finds, shown by inputs.
+//! Inputs as evidence about lexers: examples, differences, coverage. Called by `logos_show`.
 
 #![tactic(auto)]
 
@@ -9,6 +9,7 @@ mod graph_steps;
 mod losses;
 mod matches;
 mod meetings;
+pub mod search;
 mod steps;
 
 pub use comparison::{Comparison, Named, compare};

@@ -1,8 +1,7 @@
-//! The matches from an offset of an input.
+//! The matches from an offset of an input. Called for `--at`.
 
 ghost use Rattle.std.specs.Prelude.{◌≡◌, ◌≤◌, ◌⊎◌, ◌++◌, [], IfOk, MatchOption, OnOk, length, map};
-ghost use Rattle.logos_evidence.specs.Views.{AllStart, IsGraphOf, rules_of, IsBytes, AreMatches, IsAtMost, IsWinner, match_to};
-ghost use Rattle.logos_automaton.specs.Munch as munch;
+ghost use Rattle.logos_evidence.specs.Views.{AllStart, IsGraphOf, rules_of, IsBytes, AreMatches, IsAtMost, IsWinner, match_to, priority_of};
 
 use logos_automaton::dfa::parts::leaves_at;
 use logos_graph::graph::Graph;
@@ -22,7 +21,7 @@ pub struct Match {
 
 /// Returns the priority of a leaf by its number, or 0 if there is no such leaf.
 pub(crate) fn priority_of(leaves: &[Leaf<'_>], leaf: usize) -> usize
-    ensures { result ≡ munch.priority_of (rules_of leaves.now) leaf }
+    ensures { result ≡ priority_of (rules_of leaves.now) leaf }
 {
     match leaves.get(leaf) {
         Some(leaf) => leaf.priority,
@@ -42,7 +41,7 @@ fn add_matches(
     end: usize,
 ) -> Result<(), AllocError>
     ensures { OnOk result (found.new.items ≡ found.old.items ++
-        map (match_to (munch.priority_of (rules_of leaves.now)) end) listed.now) }
+        map (match_to (priority_of (rules_of leaves.now)) end) listed.now) }
 {
     for leaf in listed {
         let priority = priority_of(leaves, *leaf);
@@ -58,7 +57,7 @@ fn add_matches(
 /// Returns all matches of all leaves from an offset of an input: lower ends first, and at the same
 /// end lower leaves. The offset is at most the length of the input.
 ///
-/// The leaves must have no fault but ambiguous sets. It reads the input to its end.
+/// The leaves must have no faults except ambiguous sets. The input is read to its end.
 ///
 /// # Errors
 ///
@@ -96,8 +95,8 @@ pub fn matches_from(
     Ok(found)
 }
 
-/// Returns the better of two matches: the longer one, and of two of the same length the one of the
-/// higher priority, or else the first.
+/// Returns the better of two matches: the longer one; of two of the same length the one of higher
+/// priority; otherwise the first.
 fn better(one: Match, other: Match) -> Match
     ensures among { (result ≡ one) ⊎ (result ≡ other) }
     ensures first { IsAtMost one result }
@@ -112,8 +111,8 @@ fn better(one: Match, other: Match) -> Match
     one
 }
 
-/// Returns the match that a lexer takes of those from an offset: the longest, and of several the
-/// one of the highest priority. Where leaves are ambiguous, it is one of these. Returns `None` if
+/// Returns the match that a lexer selects among those from an offset: the longest, and of several
+/// the one of highest priority. If leaves are ambiguous, it is one of theirs. Returns `None` if
 /// there is no match.
 pub fn winner(matches: &[Match]) -> Option<Match>
     ensures { MatchOption result (matches.now ≡ []) (IsWinner matches.now) }

@@ -159,7 +159,7 @@ pub lexers_refused : (shape : Shape) (text : List ℕ) (found : List FoundEnum) 
     AreRefused shape text gathered.refused.items
 lexers_refused shape text found gathered a g l = lexers a g (λ e. absurd (let n : 0 < length {A = Refused} [] = subst (λ r. 0 < length r) e l in omega (arith, n)))
 
--- ---- the parts stand in order
+-- ---- the parts are in order
 
 earlier : (from location : ℕ) (spans : List Span) (to : ℕ) → from ≤ location → AreInOrder location spans to → AreInOrder from spans to
 earlier from location [] to l s = omega (arith, l, s)

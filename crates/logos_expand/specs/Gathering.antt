@@ -1,4 +1,4 @@
--- What the enums of a file give, one after another, and what is shown of their faults.
+-- The results of the enums of a file, one after another, and the text about their faults.
 use Rattle.std.specs.Prelude.{◌≡◌, ◌≢◌, ◌⊎◌, ◌++◌, ℕ, Bool, IsTrue, List, [], ◌∷◌, true, false, string_bytes}
 use Rattle.logos_host.specs.declared.message_format.MessageFormat.{MessageFormat}
 use Rattle.logos_host.specs.declared.message_format.MessageFormat.TheVariants.{Human, Json}
@@ -20,8 +20,8 @@ use Rattle.logos_report.specs.Locations.{SourceValue}
 use Rattle.logos_report.specs.Sets.{sizes_of}
 use Rattle.logos_messages.specs.Messages.{AreRefusedMessages}
 
--- Each enum that derives `Logos` gives a part or has faults, in order, and no other one does. Of
--- one that has faults all sets of ambiguous leaves are known.
+-- Each enum that derives `Logos` has a replacement or faults, in order, and no other enum does. For
+-- one with faults, each set of ambiguous leaves has a clue.
 pub data Gathers (shape : Shape) (text : List ℕ) : List FoundEnum → List Replacement → List Refused → Type 0 where
   ended : Gathers shape text [] [] []
   stays : {one : FoundEnum} {rest : List FoundEnum} {parts : List Replacement} {refused : List Refused} →
@@ -39,16 +39,16 @@ abbrev pub GathersAll : Shape → List ℕ → List FoundEnum → Gathered → T
 GathersAll shape text found gathered = Gathers shape text found gathered.parts.items gathered.refused.items
 
 -- These are the refusals of a file: the one of a file that cannot be read into tokens, or those of
--- all lexers that have faults, of which there are some.
+-- all lexers with faults, of which there is at least one.
 pub data AreRefused (shape : Shape) (text : List ℕ) (refused : List Refused) : Type 0 where
   whole : {bad : Refused} → refused ≡ bad ∷ [] → bad.offset ≡ 0 → IsUnreadable text bad.errors → AreRefused shape text refused
   lexers : {found : List FoundEnum} {parts : List Replacement} → AreEnumsOf text found → Gathers shape text found parts refused → refused ≢ [] → AreRefused shape text refused
 
--- The lines of JSON of all faults are at the end of a text.
+-- A text ends with the lines of JSON of all faults.
 abbrev pub EndsWithLines : SourceValue → List Refused → List ℕ → Type 0
 EndsWithLines source refused text = (front lines : List ℕ) × (text ≡ front ++ lines) × AreRefusedMessages source refused lines
 
--- What is shown of faults, in order: a report, with or without colors, or lines of JSON.
+-- The text about faults, in order: a report, with or without colors, or lines of JSON.
 abbrev pub ShowsRefused : MessageFormat → SourceValue → List Refused → List ℕ → Type 0
 ShowsRefused Human source refused shown = (is_colored : Bool) × OccurInOrder (refused_texts is_colored source refused) shown
 ShowsRefused Json source refused shown = EndsWithLines source refused shown
@@ -59,11 +59,11 @@ pub record ShowsFaults (format : MessageFormat) (shape : Shape) (source : Source
   pub are : AreRefused shape source.text refused
   pub occur : ShowsRefused format source refused shown
 
--- What was asked for was refused, for a reason, or a file or memory failed.
+-- The request was refused for a reason, or a file or memory failed.
 abbrev pub FailsBy : (Failure → Type 0) → Failure → Type 0
 FailsBy Reason failure = (status_of failure ≡ 3) ⊎ ((status_of failure ≡ 1) × Reason failure)
 
--- The text of a refusal, of which this holds.
+-- The text of a refusal satisfies `Shown`.
 abbrev pub IsRefusedFor : (List ℕ → Type 0) → Failure → Type 0
 IsRefusedFor Shown (failures.Refused text) = Shown (string_bytes text)
 IsRefusedFor Shown failure = ⊥
@@ -72,6 +72,6 @@ IsRefusedFor Shown failure = ⊥
 abbrev pub IsCause : MessageFormat → Bool → Shape → SourceValue → List ℕ → Type 0
 IsCause format denies shape source shown = ShowsFaults format shape source shown ⊎ IsTrue denies
 
--- The same, or memory ran out.
+-- A file is refused for its faults or its denied warnings, or memory ran out.
 abbrev pub FailsFor : MessageFormat → Bool → Shape → SourceValue → Failure → Type 0
 FailsFor format denies shape source = FailsBy (IsRefusedFor (IsCause format denies shape source))

@@ -1,4 +1,4 @@
--- Definitions that clauses cite: those of `Words`, and those that name types of this crate.
+-- Definitions that contracts cite: those of `Imports`, and those that name types of this crate.
 pub use Rattle.logos_expand.specs.Imports.{AreEnumsOf, AreInOrder, HasSets, IsFoundCut, IsLaidOut, IsRefused, IsPlainFront, Refuses, Spells, SpellsEnum, OccurInOrder, around_made, found_span, part_span, refused_texts, sizes_of, tokens_of}
 pub use Rattle.logos_expand.specs.Expanding.{IsExpanded, IsExpansion, IsFileOf, IsGuard, IsGuarded, IsUnreadable, are_blanks, guard_text, import_under, lexer_under, under}
 pub use Rattle.logos_expand.specs.Gathering.{AreRefused, EndsWithLines, FailsFor, GathersAll, ShowsRefused}

@@ -1,4 +1,4 @@
-//! A file with the derive of its lexers expanded.
+//! Expands the derive of the lexers in a file. Called by `logos_cli`.
 
 ghost use Rattle.std.specs.Prelude.{◌≡◌, ◌≤◌, ◌++◌, All, IfErr, IfOk, IsTrue, OnOk, length, map, string_bytes};
 ghost use Rattle.logos_expand.specs.Views.{IsRefused, AreInOrder, IsFoundCut, found_span, part_span, AreEnumsOf, OccurInOrder, Refuses, IsExpanded, IsExpansion, IsUnreadable, AreRefused, EndsWithLines, FailsFor, GathersAll, ShowsRefused, refused_texts, AddsRefusal, GathersOne, HasSets, IsExpansionBy, around_made, sizes_of, Spells, SpellsEnum, tokens_of};
@@ -32,7 +32,7 @@ use std::alloc::{AllocError, Global};
 #[derive(Drop)]
 pub struct Expansion {
     pub bytes: Vec<u8>,
-    /// What is written of the warnings.
+    /// The text of the warnings.
     pub warnings: Vec<u8>,
 }
 
@@ -43,13 +43,13 @@ struct Gathered {
     refused: Vec<Refused>,
 }
 
-/// Returns a file with each enum that derives `Logos` replaced by the enum without what belongs to
-/// the derive, and by the implementation. All other text stays as it is.
+/// Returns a file in which each enum that derives `Logos` is replaced by the enum without the
+/// derive and its attributes, followed by the implementation. All other text stays unchanged.
 ///
 /// # Errors
 ///
 /// Returns `Refused` with all faults of all these enums, in the order of the file, or with the one
-/// fault of a file that cannot be read into tokens, after its warnings, or with these alone if they
+/// fault of a file that cannot be read into tokens, after its warnings, or with only these if they
 /// are denied. Returns `Memory` if memory runs out.
 pub fn expand<'w>(
     source: &Source<'_>,
@@ -108,7 +108,7 @@ fn expand_enums<'w>(
     Err(refused_file(source, showing, &gathered.refused, &warned))
 }
 
-/// Returns whether a file may have an import of `Logos`: whether it has such a path in it.
+/// Returns whether a file may have an import of `Logos`, because it contains such a path.
 fn has_import(source: &Source<'_>) -> bool {
     let text = source.text();
     text.contains("::Logos") | text.contains("logos::{") | text.contains("::*")
@@ -190,7 +190,8 @@ fn denied_file<'w>(source: &Source<'_>, showing: Showing, warned: &[Warning]) ->
     }
 }
 
-/// Returns a file with parts replaced, and with a first line that says so if there are any.
+/// Returns a file with parts replaced. If there are any, its first line states that it is
+/// generated.
 fn expanded_file(
     alloc: Global,
     source: &Source<'_>,
@@ -270,8 +271,8 @@ fn gather_enum(
     }
 }
 
-/// Returns what is known of an enum that is refused, and adds all its warnings. Its text begins at
-/// an offset of the file.
+/// Returns the clues about a refused enum, and adds all its warnings. Its text begins at an offset
+/// of the file.
 fn clues_of(text: &str, offset: usize, warned: &mut Vec<Warning>) -> Result<Clues, Memory>
     ensures { IfOk result (λ clues. HasSets text.now (sizes_of clues)) }
 {
@@ -280,7 +281,7 @@ fn clues_of(text: &str, offset: usize, warned: &mut Vec<Warning>) -> Result<Clue
     Ok(clues)
 }
 
-/// Appends the faults of a part of a file, with what is known of them and what to do about them.
+/// Appends the faults of a part of a file, with the clues and the helps for them.
 fn push_refusal(
     refused: &mut Vec<Refused>,
     part: Part<'_, '_>,
@@ -304,8 +305,8 @@ fn push_refusal(
     }
 }
 
-/// Returns an enum without what belongs to the derive, and the implementation. Adds the warnings of
-/// the enum and of its lexer.
+/// Returns an enum without the derive and its attributes, and the implementation. Adds the warnings
+/// for the enum and for its lexer.
 fn expanded(source: &str, site: Site<'_, '_>, warned: &mut Vec<Warning>) -> Result<String, Refusal>
     ensures done { IfOk result
         (λ text. IsExpansion site.entry.shape source.now (string_bytes text)) }
@@ -320,8 +321,8 @@ fn expanded(source: &str, site: Site<'_, '_>, warned: &mut Vec<Warning>) -> Resu
     }
 }
 
-/// Returns an enum without what belongs to the derive, and the text of its lexer. Adds the warnings
-/// of both.
+/// Returns an enum without the derive and its attributes, and the generated code of its lexer. Adds
+/// the warnings for both.
 fn expansion_by(
     source: &str,
     site: Site<'_, '_>,
@@ -378,7 +379,7 @@ fn refused_file<'w>(
     }
 }
 
-/// Returns what is written of all faults of a file, after its warnings.
+/// Returns the text of all faults of a file, after its warnings.
 fn faults_text(
     source: &Source<'_>,
     showing: Showing,
@@ -397,7 +398,7 @@ fn faults_text(
     }
 }
 
-/// Returns a line of JSON for each warning and each fault of a file, but no more than 50 of a code.
+/// Returns a line of JSON for each warning and each fault of a file, but at most 50 of one code.
 fn fault_lines(
     alloc: Global,
     source: &Source<'_>,
@@ -412,8 +413,8 @@ fn fault_lines(
 }
 
 /// Returns the text of all faults of a file, in order, with their number, after its warnings. For
-/// each, a line with the name of its code and the first line of its message, and one with its
-/// position in the file stand in it.
+/// each, the text has a line with the name of its code and the first line of its message, and one
+/// with its position in the file.
 fn refusal_text(
     source: &Source<'_>,
     showing: Showing,

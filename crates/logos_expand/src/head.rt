@@ -1,4 +1,4 @@
-//! The first line of a file with the derive of its lexers expanded.
+//! The first line of an expanded file. Used by `expansion` and `logos_cli`.
 
 ghost use Rattle.std.specs.Prelude.{◌≡◌, ◌++◌, IfOk, OnOk, string_bytes};
 ghost use Rattle.logos_expand.specs.Views.{IsHead, IsHeaded, code_name, head_text, is_plain, is_printable, line_text, shape_name, shown_name};
@@ -24,7 +24,7 @@ pub(crate) fn with_head(
     Ok(made)
 }
 
-/// Returns the first line of a file with these bytes, or nothing if it can have none.
+/// Returns the first line of a file with these bytes, or nothing if it cannot have one.
 fn head_of(alloc: Global, path: &str, shape: Shape, bytes: &[u8]) -> Result<String, Memory>
     ensures { IfOk result (λ head. IsHead shape (string_bytes head)) }
 {
@@ -36,7 +36,7 @@ fn head_of(alloc: Global, path: &str, shape: Shape, bytes: &[u8]) -> Result<Stri
     Ok(text)
 }
 
-/// Returns whether a line can stand before these bytes of a file.
+/// Returns whether a line can be inserted before these bytes of a file.
 fn is_headed(bytes: &[u8]) -> bool {
     match bytes {
         [0xEF, 0xBB, 0xBF, ..] => false,
@@ -63,8 +63,8 @@ fn push_line(text: &mut String, name: &str, shape: &str) -> Result<(), Memory>
     Ok(())
 }
 
-/// Returns the name of a file as the first line has it: other words stand for a name that has a
-/// character which is not printable ASCII.
+/// Returns the name of a file in the form for the first line. A name with a character that is not
+/// printable ASCII is replaced by other words.
 fn shown_name(name: &str) -> &str
     ensures { result.now ≡ shown_name name.now }
 {

@@ -1,4 +1,4 @@
-//! A Rust file with the derive of its lexers expanded.
+//! Expands the derive of the lexers in a Rust file. Called by `logos_cli`.
 
 #![tactic(auto)]
 

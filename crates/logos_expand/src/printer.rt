@@ -1,5 +1,5 @@
-//! What stands in place of an enum: the enum without what belongs to the derive, and the
-//! implementation.
+//! The replacement of an enum: the enum without the derive and its attributes, and the
+//! implementation. Called by `expansion`.
 
 ghost use Rattle.std.specs.Prelude.{◌≡◌, ◌++◌, true, IfOk, OnOk, string_bytes};
 ghost use Rattle.logos_expand.specs.Views.{around_made, tokens_of, IsLaidOut, IsGuard, IsGuarded, are_blanks, guard_text, import_under, lexer_under, under, IsPrintedWith};
@@ -13,24 +13,24 @@ use logos_tables::{Shape, lexer_text};
 use logos_text::{Call, Sink};
 use std::alloc::Global;
 
-/// Where an enum stands, and the shape of its lexer.
+/// The location of an enum, and the shape of its lexer.
 #[derive(Clone, Copy)]
 pub(crate) struct Site<'f, 't> {
     /// The shape of its lexer.
     pub(crate) shape: Shape,
     /// The file.
     pub(crate) file: &'f Source<'t>,
-    /// Where the enum begins in the file, in bytes.
+    /// The byte offset of the enum in the file.
     pub(crate) offset: usize,
     /// Whether the file may have an import of `Logos`, and the enum derives it without a path.
     pub(crate) by_name: bool,
 }
 
-/// The import of `Logos`, which counts as used then.
+/// The import of `Logos`, marked as used.
 const IMPORT: &str = "#[allow(unused_imports)]\nuse self::Logos as _;\n";
 
-/// The attributes of an implementation: these lints of rustc and clippy do not look at it, since
-/// printed texts meet them, and rustfmt leaves it as it is.
+/// The attributes of an implementation: they disable lints of rustc and clippy that generated code
+/// violates, and rustfmt.
 const ATTRIBUTES: &str = "\
 #[allow(dead_code, deprecated, unused_assignments, unused_imports)]
 #[allow(unused_parens, unused_variables)]
@@ -41,10 +41,10 @@ const ATTRIBUTES: &str = "\
 #[rustfmt::skip]
 ";
 
-/// The line before an enum that rustfmt leaves as it is.
+/// The attribute that excludes an enum from rustfmt, on a line.
 const GUARD: &str = "#[rustfmt::skip]\n";
 
-/// Returns the text of those tokens of a source that stay, and after LF the text of a lexer
+/// Returns the text of the remaining tokens of a source, and after LF the generated code of a lexer
 /// with attributes, laid out.
 pub(crate) fn printed_with(
     alloc: Global,
@@ -65,8 +65,7 @@ pub(crate) fn printed_with(
     Ok(text)
 }
 
-/// Returns the text of those tokens of a source that stay. Where rustfmt would lay it out anew, a
-/// line that keeps it from that stands before it.
+/// Returns the text of the remaining tokens, after `#[rustfmt::skip]` if rustfmt would change it.
 fn guarded(
     alloc: Global,
     source: &str,
@@ -81,8 +80,8 @@ fn guarded(
     Ok(text)
 }
 
-/// Returns the line that keeps rustfmt from an enum, with the blanks before the enum; or nothing
-/// where rustfmt has nothing to change.
+/// Returns the line that excludes an enum from rustfmt, with the blanks before the enum; or nothing
+/// if rustfmt would not change it.
 fn guard_of(alloc: Global, written: &str, site: Site<'_, '_>) -> Result<String, Memory>
     ensures { IfOk result (λ guard. IsGuard (string_bytes guard)) }
 {
@@ -93,7 +92,7 @@ fn guard_of(alloc: Global, written: &str, site: Site<'_, '_>) -> Result<String, 
     Ok(guard)
 }
 
-/// Appends the line that keeps rustfmt from an enum, and the blanks before the enum.
+/// Appends the line that excludes an enum from rustfmt, and the blanks before the enum.
 fn push_guard(text: &mut String, margin: &str) -> Result<(), Memory>
     ensures { OnOk result (string_bytes text.new
         ≡ string_bytes text.old ++ (guard_text ++ margin.now)) }
@@ -103,8 +102,8 @@ fn push_guard(text: &mut String, margin: &str) -> Result<(), Memory>
     Ok(())
 }
 
-/// Returns whether a comma stands before a closing parenthesis, as where the last entry of a
-/// `derive` is gone.
+/// Returns whether a comma precedes a closing parenthesis, for example after the last entry of a
+/// `derive` was removed.
 fn has_last_comma(bytes: &[u8]) -> bool {
     let mut last = b' ';
     for byte in bytes {
@@ -125,7 +124,7 @@ fn last_of(last: u8, byte: u8) -> u8 {
     }
 }
 
-/// Returns the blanks before an offset of a text, if nothing else stands before it in its line.
+/// Returns the blanks before an offset of a text, if its line has nothing else before it.
 fn margin_at(text: &str, offset: usize) -> &str
     ensures { are_blanks result.now ≡ true }
 {
@@ -140,7 +139,7 @@ fn margin_at(text: &str, offset: usize) -> &str
     }
 }
 
-/// Returns what follows the last line end of a text.
+/// Returns the text after the last line end of a text.
 fn last_line(text: &str) -> &str {
     match text.rsplit_once('\n') {
         Some((_, line)) => line,
@@ -161,12 +160,7 @@ fn are_blanks(bytes: &[u8]) -> bool
 }
 
 /// Returns a text that ends with a lexer, laid out. The line of the file stands at each callback.
-fn laid_out(
-    alloc: Global,
-    whole: &str,
-    site: Site<'_, '_>,
-    lexer: &Sink,
-) -> Result<String, Memory>
+fn laid_out(alloc: Global, whole: &str, site: Site<'_, '_>, lexer: &Sink) -> Result<String, Memory>
     ensures { IfOk result (λ laid. IsLaidOut whole.now (string_bytes laid)) }
 {
     let start = whole.len().saturating_sub(lexer.text.len());
@@ -210,7 +204,7 @@ fn under(alloc: Global, by_name: bool, left: Tokens<'_, '_>, lexer: &str) -> Res
     Ok(text)
 }
 
-/// Appends the import of `Logos`, if it is wanted, under the conditions of an enum.
+/// Appends the import of `Logos`, if it is requested, under the conditions of an enum.
 fn push_import(
     alloc: Global,
     text: &mut String,
@@ -228,7 +222,7 @@ fn push_import(
     Ok(())
 }
 
-/// Appends the text of a lexer with its attributes, under the conditions of an enum.
+/// Appends the generated code of a lexer with its attributes, under the conditions of an enum.
 fn push_lexer(
     alloc: Global,
     text: &mut String,

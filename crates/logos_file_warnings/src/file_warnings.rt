@@ -1,4 +1,5 @@
-//! The warnings of a file, and how they are shown.
+//! Collects and formats the warnings of a file. Called by `logos_cli`, `logos_expand` and
+//! `logos_show`.
 
 ghost use Rattle.std.specs.Prelude.{◌≡◌, IfOk, [], string_bytes};
 ghost use Rattle.logos_page.specs.Pages.{Shows};
@@ -14,10 +15,10 @@ use logos_token::token::{Span, Tokens};
 use logos_warnings::{Origin, enum_warnings, fixed_warning, passed_over};
 use std::alloc::{AllocError, Global};
 
-/// How what is wrong with a file is shown.
+/// The settings for showing the faults and warnings of a file.
 #[derive(Clone, Copy)]
 pub struct Showing {
-    /// Where memory for messages comes from.
+    /// The allocator for messages.
     pub alloc: Global,
     pub format: MessageFormat,
     /// Whether messages have colors.
@@ -26,8 +27,8 @@ pub struct Showing {
     pub denies: bool,
 }
 
-/// Adds warnings of what begins at an offset of a file. Their spans then count from the beginning
-/// of the file.
+/// Adds warnings for a text that begins at an offset of a file. Their spans are then relative to
+/// the beginning of the file.
 pub fn add_warnings(
     offset: usize,
     warnings: Vec<Warning>,
@@ -39,7 +40,7 @@ pub fn add_warnings(
     Ok(())
 }
 
-/// Returns a warning whose spans count from another offset.
+/// Returns a warning with its spans moved by an offset.
 fn moved(warning: Warning, offset: usize) -> Warning {
     let mut moved = warning;
     moved.span = moved_span(moved.span, offset);
@@ -50,7 +51,7 @@ fn moved(warning: Warning, offset: usize) -> Warning {
     moved
 }
 
-/// Returns a span that counts from an offset as one of the file.
+/// Returns a span relative to an offset as a span of the file.
 fn moved_span(span: Span, offset: usize) -> Span {
     Span {
         from: span.from.saturating_add(offset),
@@ -58,8 +59,8 @@ fn moved_span(span: Span, offset: usize) -> Span {
     }
 }
 
-/// Adds the warnings of the text of an enum that begins at an offset of a file, and that derives
-/// `Logos` or not.
+/// Adds the warnings for the text of an enum that begins at an offset of a file, and that may
+/// derive `Logos`.
 pub fn add_text(
     text: &str,
     offset: usize,
@@ -97,8 +98,8 @@ pub fn add_passed(
 
 const MISSING: &str = "no enum in this file derives `Logos`";
 
-/// Adds the warning of a file with these enums of which none derives `Logos`, where it has to be a
-/// line of JSON or is denied. It is about the beginning of the file.
+/// Adds a warning if none of `found` derives `Logos` and the format is JSON or warnings are denied.
+/// Its span is the beginning of the file.
 pub fn add_missing(
     showing: Showing,
     found: &[FoundEnum],
@@ -124,7 +125,7 @@ pub fn has_lexer(found: &[FoundEnum]) -> bool {
     false
 }
 
-/// Returns the spans of those of these enums that derive `Logos`.
+/// Returns the spans of the enums that derive `Logos`.
 fn spans_of(alloc: Global, found: &[FoundEnum]) -> Result<Vec<Span>, AllocError> {
     let mut spans = Vec::new(alloc);
     for one in found {
@@ -142,8 +143,8 @@ pub fn push_warned(page: &mut Page, source: &Source<'_>, warned: &[Warning])
     push_warnings(page, Part { source, offset: 0 }, warned);
 }
 
-/// Returns what is written of the warnings of a file. `is_missing` says whether none of its enums
-/// derives `Logos`, which is a line of the report.
+/// Returns the text of the warnings of a file. `is_missing` is whether none of its enums derives
+/// `Logos`, which is a line of the report.
 pub fn warning_text(
     source: &Source<'_>,
     showing: Showing,
@@ -161,7 +162,7 @@ pub fn warning_text(
     }
 }
 
-/// Appends that no enum of a file derives `Logos`, if that is so.
+/// Appends that no enum of a file derives `Logos`, if `is_missing` is set.
 fn push_missing(page: &mut Page, source: &Source<'_>, is_missing: bool) {
     if is_missing {
         page.push("warning: no enum in ");
@@ -181,7 +182,7 @@ pub fn warning_lines(
     Ok(lines)
 }
 
-/// Returns what is written of a file whose warnings are denied.
+/// Returns the text about a file whose warnings are denied.
 pub fn denial_text(
     source: &Source<'_>,
     showing: Showing,

@@ -1,4 +1,5 @@
-//! The warnings of a file, and how they are shown.
+//! Collects and formats the warnings of a file. Called by `logos_cli`, `logos_expand` and
+//! `logos_show`.
 
 #![tactic(auto)]
 

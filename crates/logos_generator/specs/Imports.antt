@@ -1,4 +1,5 @@
--- Definitions that clauses cite: of lower crates, and those of this one that name no type of it.
+-- Definitions that contracts cite: those of lower crates, and those of this crate that name none of
+-- its types.
 pub use Rattle.indexmap.specs.IndexSet.{insert_key}
 pub use Rattle.logos_automaton.specs.Munch.{IsInput, Rule}
 pub use Rattle.logos_byte_class.specs.Bytes.{AreSeparated, comparison_of, has_byte, ranges_of}

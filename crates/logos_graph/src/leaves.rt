@@ -9,7 +9,7 @@ use logos_automaton::rule::RuleView;
 use logos_pattern::leaf::{Leaf, VariantKind};
 use std::alloc::{AllocError, Global};
 
-/// Returns whether the size of all trees is at most 1,048,576. It takes no memory.
+/// Returns whether the size of all trees is at most 1,048,576. Does not allocate.
 pub(crate) fn is_size_within(leaves: &[Leaf<'_>]) -> bool
     ensures { IsTrue result ↔ (size_of (rules_of leaves.now) ≤ 2 ^ 20) }
 {
@@ -20,7 +20,7 @@ pub(crate) fn is_size_within(leaves: &[Leaf<'_>]) -> bool
     sum.is_some()
 }
 
-/// Returns the rule that a leaf stands for.
+/// Returns the rule that a leaf represents.
 fn rule_view<'l>(leaf: &'l Leaf<'_>) -> RuleView<'l>
     ensures { views.rule_of result ≡ rule_of leaf.now }
 {
@@ -32,7 +32,7 @@ fn rule_view<'l>(leaf: &'l Leaf<'_>) -> RuleView<'l>
     }
 }
 
-/// Returns the rules that leaves stand for.
+/// Returns the rules that leaves represent.
 pub(crate) fn rule_views<'l>(
     alloc: Global,
     leaves: &'l [Leaf<'_>],

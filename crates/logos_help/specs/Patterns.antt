@@ -1,4 +1,4 @@
--- What to do about a fault in a pattern, by what is known of the fault.
+-- The help for a fault in a pattern, chosen by the detail of the fault.
 use Rattle.std.specs.Prelude.{◌≡◌, ℕ, ◌==◌, ◌&&◌, ◌||◌, nat_lt, not, Bool, List, codes, Option, Some, if◌then◌else◌}
 use Rattle.logos_token.specs.declared.error.detail.Detail.{Detail}
 use Rattle.logos_token.specs.declared.error.detail.Detail.TheVariants.{Plain, Lexical, Pattern, ErrorArgument, Ambiguous}
@@ -89,8 +89,8 @@ kind_help WordBoundaryForm detail = codes "write `(?-u:\\b)`, with the next char
 abbrev pub pattern_help : PatternDetail → List ℕ
 pattern_help detail = kind_help detail.kind detail
 
--- The help of a fault of which this is known. Where no more is known than the code of the fault, or
--- that the source is not made of tokens, it is left open.
+-- The help for a fault with this detail. If the detail is only the code of the fault, or that the
+-- source is not made of tokens, the help is unspecified.
 abbrev pub IsHelp : Detail → Option (List ℕ) → Type 0
 IsHelp (Pattern detail) help = help ≡ Some (pattern_help detail)
 IsHelp ErrorArgument help = help ≡ Some (codes "write `callback = ..`, or the callback alone")

@@ -1,4 +1,4 @@
-//! Adds helps to the faults of a source.
+//! Adds helps to the faults of a source. Called by the programs and the derive macro.
 
 ghost use Rattle.std.specs.Prelude.{◌≡◌, OnOk, OnErr};
 ghost use Rattle.logos_report.specs.Views.{sizes_of};
@@ -9,19 +9,19 @@ use logos_report::{Clues, Part};
 use logos_token::error::{Errors, Memory, SpannedError};
 use logos_token::token::Span;
 
-/// Adds to `clues` what to do about each of the faults of a part of a file, in their order. Reports
-/// show it under the fault.
+/// Adds to `clues` the help for each of the faults of a part of a file, in order. Reports show it
+/// under the fault.
 ///
 /// # Errors
 ///
-/// Returns `Memory` if memory runs out. Some of the helps may then be added.
+/// Returns `Memory` if memory runs out. Then some of the helps may have been added.
 pub fn add_helps(part: Part<'_, '_>, errors: &Errors, clues: &mut Clues) -> Result<(), Memory>
     ensures { sizes_of clues.new ≡ sizes_of clues.old }
 {
     add_all(part, errors.list(), &mut clues.helps)
 }
 
-/// Adds what to do about each of these faults of a part of a file.
+/// Adds the help for each of these faults of a part of a file.
 fn add_all(
     part: Part<'_, '_>,
     faults: &[SpannedError],
@@ -33,8 +33,8 @@ fn add_all(
     Ok(())
 }
 
-/// Returns the text of a part of a file at a span, and after it. Both are empty where the file has
-/// no such span.
+/// Returns the text of a part of a file at a span, and after it. Both are empty if the file has no
+/// such span.
 fn sight_at<'t>(part: Part<'_, 't>, span: Span) -> Sight<'t> {
     Sight {
         text: part.text_at(span),

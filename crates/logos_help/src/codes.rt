@@ -1,5 +1,5 @@
-//! What to do about a fault, by its code. `docs/FAULTS.md` has the same words, and
-//! `tests/lints/faults.py` compares them.
+//! The help for a fault, chosen by its code. `docs/FAULTS.md` has the same words, and
+//! `tests/lints/faults.py` compares them. Used by `adding`.
 
 ghost use Rattle.std.specs.Prelude.{option_map};
 ghost use Rattle.logos_help.specs.Patterns.{IsHelp};
@@ -21,8 +21,8 @@ const NEST: &str = "nest less deep";
 
 const RENAME: &str = "rename it: a name has ASCII letters, digits and `_`";
 
-/// Returns what to do about a fault, by what is known of it, by its code and by the text at its
-/// span, if there is something to say.
+/// Returns the help for a fault, chosen by its detail, by its code and by the text at its span, if
+/// there is one.
 pub fn help_for(fault: &SpannedError, sight: Sight<'_>) -> Option<&'static str>
     ensures { IsHelp fault.now.detail (option_map (λ help. help.now) result) }
 {
@@ -35,7 +35,7 @@ pub fn help_for(fault: &SpannedError, sight: Sight<'_>) -> Option<&'static str>
     }
 }
 
-/// Returns what to do about a fault of which nothing more is known, if there is something to say.
+/// Returns the help for a fault without a detail, if there is one.
 fn help_by_code(code: FaultCode, sight: Sight<'_>) -> Option<&'static str> {
     let help = match code {
         FaultCode::Previous => return None,
@@ -53,8 +53,8 @@ fn help_by_code(code: FaultCode, sight: Sight<'_>) -> Option<&'static str> {
     Some(help)
 }
 
-/// Returns what to do about a source that cannot be cut into tokens, by the reason and by the text
-/// that is not a token.
+/// Returns the help for a source that cannot be cut into tokens, chosen by the reason and by the
+/// text that is not a token.
 fn help_for_lexical(kind: LexicalKind, sight: Sight<'_>) -> &'static str {
     if sight.text.starts_with('\'') {
         return DOUBLE;
@@ -67,7 +67,7 @@ fn help_for_lexical(kind: LexicalKind, sight: Sight<'_>) -> &'static str {
     }
 }
 
-/// Returns what to do about a literal with escapes that Rust does not have.
+/// Returns the help for a literal with escapes that Rust does not have.
 fn help_for_escapes(sight: Sight<'_>) -> &'static str {
     if sight.text.contains("\\x") {
         "a string has `\\x00` to `\\x7F` and `\\u{..}`: write a byte string for other bytes"
@@ -76,7 +76,7 @@ fn help_for_escapes(sight: Sight<'_>) -> &'static str {
     }
 }
 
-/// Returns what to do about a fault with this code, whatever the text at its span is.
+/// Returns the help for a fault with this code, whatever the text at its span is.
 fn help_for_code(code: FaultCode) -> &'static str {
     match code {
         FaultCode::NotAnEnum => "derive `Logos` for an enum alone",
@@ -98,7 +98,7 @@ fn help_for_code(code: FaultCode) -> &'static str {
     }
 }
 
-/// Returns what to do about a fault in parameters and types.
+/// Returns the help for a fault in parameters and types.
 fn help_for_type(code: FaultCode) -> &'static str {
     match code {
         FaultCode::ManyLifetimes => "use one lifetime, that of the input",
@@ -116,7 +116,7 @@ fn help_for_type(code: FaultCode) -> &'static str {
     }
 }
 
-/// Returns what to do about a fault in the options of an enum.
+/// Returns the help for a fault in the options of an enum.
 fn help_for_option(code: FaultCode) -> &'static str {
     match code {
         FaultCode::LogosForm => "write `#[logos(..)]`, or drop it",
@@ -140,7 +140,7 @@ fn help_for_option(code: FaultCode) -> &'static str {
     }
 }
 
-/// Returns what to do about a fault in the arguments of a pattern.
+/// Returns the help for a fault in the arguments of a pattern.
 fn help_for_argument(code: FaultCode) -> &'static str {
     match code {
         FaultCode::TokenForm => "write `#[token(\"..\")]`",
@@ -160,7 +160,8 @@ fn help_for_argument(code: FaultCode) -> &'static str {
     }
 }
 
-/// Returns what to do about a fault in flags, callbacks and subpatterns, and of the whole lexer.
+/// Returns the help for a fault in flags, callbacks and subpatterns, and for one of the whole
+/// lexer.
 fn help_for_callback(code: FaultCode) -> &'static str {
     match code {
         FaultCode::IgnoreForm => "write `ignore(case)`",

@@ -1,4 +1,4 @@
-//! What to do about a fault: a sentence for each code, for each kind of pattern fault, and for the
+//! The help for each fault: a sentence for each code, for each kind of pattern fault, and for the
 //! tokens at the fault. The programs and the derive macro add it to the faults that they report.
 
 #![tactic(auto)]

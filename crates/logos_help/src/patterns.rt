@@ -1,5 +1,5 @@
-//! What to do about a fault in a pattern, by its kind and by the bytes at it. `docs/FAULTS.md` has
-//! the same words, and `tests/lints/faults.py` compares them.
+//! The help for a fault in a pattern, chosen by its kind and by the bytes at it. `docs/FAULTS.md`
+//! has the same words, and `tests/lints/faults.py` compares them. Used by `codes`.
 
 ghost use Rattle.std.specs.Prelude.{◌≡◌};
 ghost use Rattle.logos_help.specs.Patterns.{boundary_help, escape_help, escapes, flag_help, group_help, is_digit, looks_ahead, looks_back, opens_with, pattern_help, refers_back};
@@ -7,7 +7,7 @@ ghost use Rattle.logos_help.specs.Patterns.{boundary_help, escape_help, escapes,
 use crate::sight::{Sight, between_quotes};
 use logos_token::error::{PatternDetail, PatternFront, PatternKind};
 
-/// Returns what to do about a text that is not a pattern, by its fault.
+/// Returns the help for a text that is not a pattern, chosen by its fault.
 pub(crate) fn help_for_pattern(detail: PatternDetail) -> &'static str
     ensures { result.now ≡ pattern_help detail }
 {
@@ -72,7 +72,7 @@ fn escapes(front: PatternFront, second: u8) -> bool
     (front.first == b'\\') & (front.second == second)
 }
 
-/// Returns what to do about a group that does not begin with a flag, by its first bytes.
+/// Returns the help for a group that does not begin with a flag, chosen by its first bytes.
 fn help_for_flag(front: PatternFront) -> &'static str
     ensures { result.now ≡ flag_help front }
 {
@@ -87,7 +87,7 @@ fn help_for_flag(front: PatternFront) -> &'static str
 
 const REFERENCE: &str = "write again what may stand there: nothing refers back";
 
-/// Returns what to do about an escape that does not exist, by its first bytes.
+/// Returns the help for an escape that does not exist, chosen by its first bytes.
 fn help_for_escape(front: PatternFront) -> &'static str
     ensures { result.now ≡ escape_help front }
 {
@@ -106,8 +106,8 @@ fn help_for_escape(front: PatternFront) -> &'static str
     }
 }
 
-/// Returns whether an escape has one or two digits, as one that refers back to a group has. With
-/// three or more they are the number of a character.
+/// Returns whether an escape has one or two digits, like one that refers back to a group. Three or
+/// more are the number of a character.
 fn refers_back(front: PatternFront) -> bool
     ensures { result ≡ refers_back front }
 {
@@ -122,8 +122,7 @@ fn is_digit(byte: u8) -> bool
     (b'/' < byte) & (byte < b':')
 }
 
-/// Returns what to do about a word boundary at this byte. At the front of a pattern it is not
-/// needed.
+/// Returns the help for a word boundary at this byte. At the start of a pattern it is not needed.
 fn help_for_boundary(at: usize) -> &'static str
     ensures { result.now ≡ boundary_help at }
 {
@@ -134,7 +133,7 @@ fn help_for_boundary(at: usize) -> &'static str
     }
 }
 
-/// Returns what to do about a group that is neither plain nor named, by its first bytes.
+/// Returns the help for a group that is neither plain nor named, chosen by its first bytes.
 fn help_for_group(front: PatternFront) -> &'static str
     ensures { result.now ≡ group_help front }
 {
@@ -159,8 +158,8 @@ fn looks_back(front: PatternFront) -> bool
     opens_with(front, b'<') & ((front.fourth == b'=') | (front.fourth == b'!'))
 }
 
-/// Returns what to do about a greedy dot, by the shape of the pattern. None of the patterns that it
-/// recommends has one.
+/// Returns the help for a greedy dot, chosen by the shape of the pattern. None of the patterns that
+/// it recommends has one.
 pub(crate) fn help_for_dot(sight: Sight<'_>) -> &'static str {
     let pattern = between_quotes(sight.text);
     if is_block_comment(pattern) {
@@ -174,14 +173,13 @@ pub(crate) fn help_for_dot(sight: Sight<'_>) -> &'static str {
     }
 }
 
-/// Returns whether a pattern has the ends of a block comment.
+/// Returns whether a pattern has the delimiters of a block comment.
 fn is_block_comment(pattern: &str) -> bool {
     let begins = pattern.starts_with("/\\") | pattern.starts_with("/[*]");
     begins & pattern.contains('*') & pattern.ends_with('/')
 }
 
-/// Returns whether a pattern has a text in front, and then any characters up to the end of the
-/// line.
+/// Returns whether a pattern has a text first, and then any characters up to the end of the line.
 fn is_to_line_end(pattern: &str) -> bool {
     if pattern.contains("(?s") {
         return false;
@@ -192,7 +190,7 @@ fn is_to_line_end(pattern: &str) -> bool {
     }
 }
 
-/// Returns a pattern without the line end that it has at its end, if it has one.
+/// Returns a pattern without its trailing line end, if it has one.
 fn without_line_end(pattern: &str) -> &str {
     let plain = pattern.strip_suffix("?").unwrap_or(pattern);
     match plain.strip_suffix("\\n") {
@@ -201,7 +199,7 @@ fn without_line_end(pattern: &str) -> &str {
     }
 }
 
-/// Returns a pattern without the greedy dot at its end, if it has one.
+/// Returns a pattern without its trailing greedy dot, if it has one.
 fn without_dot(pattern: &str) -> Option<&str> {
     let Some(front) = pattern.strip_suffix("*") else {
         return match pattern.strip_suffix("+") {
@@ -212,7 +210,7 @@ fn without_dot(pattern: &str) -> Option<&str> {
     without_any(front)
 }
 
-/// Returns a pattern without the class of any character at its end, if it has one.
+/// Returns a pattern without its trailing class of any character, if it has one.
 fn without_any(pattern: &str) -> Option<&str> {
     if let Some(front) = pattern.strip_suffix(".") {
         return Some(front);
@@ -223,7 +221,7 @@ fn without_any(pattern: &str) -> Option<&str> {
     pattern.strip_suffix("[^\\\\n]")
 }
 
-/// Returns whether a pattern ends in a character that closes a text.
+/// Returns whether a pattern ends with a character that closes a text.
 fn is_delimited(pattern: &str) -> bool {
     match pattern.chars().last() {
         Some(last) => "\"'`>)]}%/$".contains(last),

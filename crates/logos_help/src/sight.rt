@@ -5,7 +5,7 @@
 pub struct Sight<'t> {
     /// The text that the span covers.
     pub text: &'t str,
-    /// The text that follows it.
+    /// The text after the span.
     pub after: &'t str,
 }
 

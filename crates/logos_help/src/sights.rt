@@ -1,9 +1,9 @@
-//! What to do about a fault, by the text at its span. `docs/FAULTS.md` has the same words, and
-//! `tests/lints/faults.py` compares them.
+//! The help for a fault, chosen by the text at its span. `docs/FAULTS.md` has the same words, and
+//! `tests/lints/faults.py` compares them. Used by `codes`.
 
 use crate::sight::{Sight, between_quotes};
 
-/// Returns what to do about a part of `logos(..)` that is not an option.
+/// Returns the help for a part of `logos(..)` that is not an option.
 pub(crate) fn help_for_nested(sight: Sight<'_>) -> &'static str {
     let text = sight.text;
     if text.is_empty() | text.starts_with(',') {
@@ -28,7 +28,7 @@ fn has_colon(text: &str) -> bool {
     text.contains(':') & !text.contains("::") & !text.starts_with("skip")
 }
 
-/// Returns what to do about tokens that are not a literal.
+/// Returns the help for tokens that are not a literal.
 pub(crate) fn help_for_literal(sight: Sight<'_>) -> &'static str {
     if sight.text.contains("\" | ") {
         "write an attribute for each of them"
@@ -37,7 +37,7 @@ pub(crate) fn help_for_literal(sight: Sight<'_>) -> &'static str {
     }
 }
 
-/// Returns what to do about an unknown argument of a pattern, by the character after its name.
+/// Returns the help for an unknown argument of a pattern, chosen by the character after its name.
 pub(crate) fn help_for_name(sight: Sight<'_>) -> &'static str {
     if sight.after.starts_with('(') {
         "name a function without calling it, as in `callback = parse`"
@@ -46,7 +46,7 @@ pub(crate) fn help_for_name(sight: Sight<'_>) -> &'static str {
     }
 }
 
-/// Returns what to do about an unknown option, by its name.
+/// Returns the help for an unknown option, chosen by its name.
 pub(crate) fn help_for_unknown(sight: Sight<'_>) -> &'static str {
     if is_argument(sight.text) {
         "write it in the parentheses of `skip(\"..\", ..)`"
@@ -61,7 +61,7 @@ fn is_argument(name: &str) -> bool {
     is_value | (name == "ignore")
 }
 
-/// Returns what to do about an argument without a name.
+/// Returns the help for an argument without a name.
 pub(crate) fn help_for_named(sight: Sight<'_>) -> &'static str {
     let text = sight.text;
     if text.contains('>') {
@@ -73,7 +73,7 @@ pub(crate) fn help_for_named(sight: Sight<'_>) -> &'static str {
     }
 }
 
-/// Returns what to do about a callback that is not a closure with one parameter.
+/// Returns the help for a callback that is not a closure with one parameter.
 pub(crate) fn help_for_closure(sight: Sight<'_>) -> &'static str {
     let Some(rest) = sight.text.strip_prefix("|") else {
         return "write the name of a function, or a closure with one parameter, as `|lex| ..`";
@@ -85,7 +85,7 @@ pub(crate) fn help_for_closure(sight: Sight<'_>) -> &'static str {
     }
 }
 
-/// Returns what to do about a closure without a body.
+/// Returns the help for a closure without a body.
 pub(crate) fn help_for_body(sight: Sight<'_>) -> &'static str {
     if sight.text.ends_with('|') {
         "write the body, as in `|lex| lex.slice().len()`"
@@ -94,7 +94,7 @@ pub(crate) fn help_for_body(sight: Sight<'_>) -> &'static str {
     }
 }
 
-/// Returns what to do about a pattern that matches the empty text.
+/// Returns the help for a pattern that matches the empty text.
 pub(crate) fn help_for_empty(sight: Sight<'_>) -> &'static str {
     let pattern = between_quotes(sight.text);
     if pattern.is_empty() {

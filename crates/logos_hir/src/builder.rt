@@ -1,5 +1,5 @@
-//! Builders of trees, which simplify as they build. The simplifier calls them node by node, and so
-//! does `logos_syntax`.
+//! Builders of trees that simplify as they build. The simplifier and `logos_syntax` call them for
+//! each node.
 
 ghost use Rattle.std.specs.Prelude.{◌≡◌, false, map, ◌++◌, Option, Some, IfOk, OnOk};
 ghost use Rattle.logos_hir.specs.Views.{look, capture, tree_of, set_of, literal_of, one_char_of, one_byte_of, is_byteless, is_most, cut, times, repetition_of, parts_of, in_a_row, part_text, add_text, add_part, add_parts, is_literal_tree, are_apart};
@@ -21,7 +21,7 @@ pub fn literal(bytes: Vec<u8>) -> Hir
     Hir::Literal(bytes)
 }
 
-/// Makes the tree of a look.
+/// Makes the tree of a look-around assertion.
 pub fn look(kind: Look) -> Hir
     ensures { tree_of result ≡ look kind }
 {
@@ -57,8 +57,8 @@ pub fn char_class(alloc: Global, set: RangeSet) -> Result<Hir, AllocError>
     }
 }
 
-/// Makes the class of the bytes of the set, which leaves out members above U+00FF. A set of one
-/// byte makes a literal.
+/// Makes the class of the bytes of the set, without members above U+00FF. A set of one byte makes a
+/// literal.
 ///
 /// # Errors
 ///
@@ -73,7 +73,7 @@ pub fn byte_class(alloc: Global, set: RangeSet) -> Result<Hir, AllocError>
     }
 }
 
-/// Returns whether the tree matches no byte, whatever it stands in.
+/// Returns whether the tree matches no byte in any context.
 pub fn is_byteless(hir: &Hir) -> bool
     ensures { result ≡ is_byteless (tree_of hir.now) }
 {
@@ -92,7 +92,7 @@ pub fn is_byteless(hir: &Hir) -> bool
     }
 }
 
-/// Returns whether the greatest count is this one.
+/// Returns whether the greatest count is `n`.
 fn is_most(n: u32, max: Option<u32>) -> bool
     ensures { result ≡ is_most n max }
 {
@@ -109,7 +109,7 @@ fn cut(max: Option<u32>) -> u32
     }
 }
 
-/// Makes a repetition. Exactly once is the body itself.
+/// Makes a repetition. A repetition of exactly one time is the body itself.
 fn times(
     alloc: Global,
     min: u32,
@@ -130,8 +130,9 @@ fn times(
     })
 }
 
-/// Makes a repetition in its simplest form. Never is `Empty`. Both counts of a tree that matches no
-/// byte are cut to at most 1, and exactly once is the body itself.
+/// Makes a repetition in its simplest form. A repetition of zero times is `Empty`. If the body
+/// matches no byte, both counts are cut to at most 1. A repetition of exactly one time is the body
+/// itself.
 ///
 /// # Errors
 ///
@@ -154,7 +155,7 @@ pub fn repetition(
     times(alloc, min, max, greedy, body)
 }
 
-/// Appends a part, and bytes after it. A literal takes the bytes in.
+/// Appends a part, and bytes after it. If the part is a literal, the bytes are added to it.
 fn push_after(parts: &mut Vec<Hir>, last: Hir, bytes: Vec<u8>) -> Result<(), AllocError>
     ensures { OnOk result (map tree_of parts.new.items ≡
         map tree_of parts.old.items ++ part_text (tree_of last) bytes.items) }
@@ -182,7 +183,7 @@ fn push_literal(parts: &mut Vec<Hir>, bytes: Vec<u8>) -> Result<(), AllocError>
     }
 }
 
-/// Appends a part after the others. Neighbouring literals become one.
+/// Appends a part after the others. Neighboring literals become one.
 fn push_part(parts: &mut Vec<Hir>, part: Hir) -> Result<(), AllocError>
     ensures { OnOk result (map tree_of parts.new.items ≡
         add_part (map tree_of parts.old.items) (tree_of part)) }
@@ -211,7 +212,7 @@ fn is_literal(hir: &Hir) -> bool
     matches!(hir, Hir::Literal(_))
 }
 
-/// Returns whether no two literals stand side by side.
+/// Returns whether no two literals are adjacent.
 fn are_apart(parts: &[Hir]) -> bool
     ensures { result ≡ are_apart false (map tree_of parts.now) }
 {
@@ -226,8 +227,8 @@ fn are_apart(parts: &[Hir]) -> bool
     true
 }
 
-/// Appends parts after the others. Where there are no others yet and no two literals stand side by
-/// side, the vector of the parts is taken over as it is.
+/// Appends the parts of `inner`. If `parts` is empty and no two literals of `inner` are adjacent,
+/// `inner` is reused without a copy.
 fn push_all(parts: &mut Vec<Hir>, inner: Vec<Hir>) -> Result<(), AllocError>
     ensures { OnOk result (map tree_of parts.new.items ≡
         add_parts (map tree_of parts.old.items) (map tree_of inner.items)) }
@@ -239,7 +240,7 @@ fn push_all(parts: &mut Vec<Hir>, inner: Vec<Hir>) -> Result<(), AllocError>
     push_parts(parts, inner)
 }
 
-/// Appends the parts that a tree brings into a concatenation.
+/// Appends the parts that a tree adds to a concatenation.
 pub(crate) fn push_flat(parts: &mut Vec<Hir>, part: Hir) -> Result<(), AllocError>
     ensures { OnOk result (map tree_of parts.new.items ≡
         add_parts (map tree_of parts.old.items) (parts_of (tree_of part))) }
@@ -251,7 +252,7 @@ pub(crate) fn push_flat(parts: &mut Vec<Hir>, part: Hir) -> Result<(), AllocErro
     }
 }
 
-/// Puts parts in a row, as they stand. One part is itself, and no part is `Empty`.
+/// Makes a concatenation of the parts, unchanged. One part is itself, and no part is `Empty`.
 pub(crate) fn in_a_row(mut parts: Vec<Hir>) -> Hir
     ensures { tree_of result ≡ in_a_row (map tree_of parts.items) }
 {

@@ -1,4 +1,4 @@
-//! Sets closed under a change of case. `logos_syntax` calls it where letters match in either case.
+//! Closes sets under a change of case. `logos_syntax` calls it if letters match in either case.
 
 ghost use Rattle.std.specs.Prelude.{◌≡◌, ℕ, ◌+◌, ◌<◌, ◌≤◌, ◌^◌, ◌||◌, length, IfOk, OnOk};
 ghost use Rattle.logos_hir.specs.Views.{IsNonDecreasingBy, fold_pairs, in_range, in_ranges, fold_case, fold_ascii, Adds, in_values, in_image, shift, pairs, set_of};
@@ -8,7 +8,7 @@ use crate::sets::RangeSet;
 use std::alloc::{AllocError, Global};
 use unicode::case;
 
-/// The first and the last capital letter of ASCII, and those of the small ones.
+/// The first and the last capital letter of ASCII, and the first and the last small letter.
 const CAPITAL_A: u32 = 65;
 
 const CAPITAL_Z: u32 = 90;
@@ -27,7 +27,7 @@ fn within(table: &[(u32, u32)], range: Range) -> &[(u32, u32)]
     &rest[..rest.partition_point(|pair| pair.0 <= range.last)]
 }
 
-/// Appends what the pairs end with.
+/// Appends the second number of each pair.
 fn push_values(out: &mut Vec<Range>, table: &[(u32, u32)]) -> Result<(), AllocError>
     ensures { OnOk result (Adds (pairs out.old.items) (pairs out.new.items) (in_values table.now)) }
 {
@@ -40,7 +40,7 @@ fn push_values(out: &mut Vec<Range>, table: &[(u32, u32)]) -> Result<(), AllocEr
     Ok(())
 }
 
-/// Appends the other characters that share a simple folding with one in the ranges.
+/// Appends the other characters that have the same simple folding as a character in the ranges.
 fn push_folds(out: &mut Vec<Range>, ranges: &[Range]) -> Result<(), AllocError>
     ensures { OnOk result (Adds (pairs out.old.items) (pairs out.new.items)
         (in_image fold_pairs (in_ranges (pairs ranges.now)))) }

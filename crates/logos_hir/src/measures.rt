@@ -1,5 +1,5 @@
-//! Measures of trees. None of them takes memory. `logos_pattern` asks for them once a pattern is
-//! read; leaves get their default priority from them.
+//! Measures of trees. None of them allocates. `logos_pattern` calls them once a pattern is read.
+//! The default priority of a leaf is one of them.
 
 ghost use Rattle.std.specs.Prelude.{◌≡◌, ℕ, ◌+◌, ◌*◌, min, nat_lt, length, map};
 ghost use Rattle.logos_hir.specs.Views.{list_all, chars, is_utf8, pointwise, trees, pairs, tree_of, class_tree, value, sum_of_values, least_value, text_size, fitted, is_same, is_text, all_text, is_all, is_dot, has_greedy_dot, some_greedy_dot};
@@ -17,7 +17,7 @@ fn char_count(text: &str) -> usize
     text.chars().count()
 }
 
-/// Returns the number of characters if the bytes are UTF-8, else the number of bytes.
+/// Returns the number of characters if the bytes are UTF-8, otherwise the number of bytes.
 fn text_size(bytes: &[u8]) -> usize
     ensures { result ≡ text_size bytes.now }
 {
@@ -27,7 +27,7 @@ fn text_size(bytes: &[u8]) -> usize
     }
 }
 
-// From here on `None` stands for a number that does not fit `usize`.
+// In the following functions `None` is a number that does not fit `usize`.
 
 /// Returns the value times the count.
 fn times(count: u32, value: Option<usize>) -> Option<usize>
@@ -57,7 +57,7 @@ fn least(a: Option<usize>, b: Option<usize>) -> Option<usize>
     }
 }
 
-/// Returns the priority that a tree has by default, or `None` if it does not fit `usize`.
+/// Returns the default priority of a tree, or `None` if it does not fit `usize`.
 #[cycle(priority)]
 pub fn priority(hir: &Hir) -> Option<usize>
     ensures { result ≡ fitted (value (tree_of hir.now)) }
@@ -73,7 +73,7 @@ pub fn priority(hir: &Hir) -> Option<usize>
     }
 }
 
-/// Returns the priority of a concatenation: the sum of those of its parts.
+/// Returns the priority of a concatenation: the sum of the priorities of its parts.
 #[cycle(priority)]
 fn sum_of_priorities(parts: &[Hir]) -> Option<usize>
     ensures { result ≡ fitted (sum_of_values (trees (map tree_of parts.now))) }
@@ -85,7 +85,7 @@ fn sum_of_priorities(parts: &[Hir]) -> Option<usize>
     sum
 }
 
-/// Returns the priority of an alternation: the least of those of its branches.
+/// Returns the priority of an alternation: the least priority of its branches.
 #[cycle(priority)]
 fn least_priority(branches: &[Hir]) -> Option<usize>
     ensures { result ≡ fitted (least_value (trees (map tree_of branches.now))) }
@@ -100,7 +100,7 @@ fn least_priority(branches: &[Hir]) -> Option<usize>
     best
 }
 
-/// Returns whether each literal is UTF-8 and each class of bytes holds ASCII only.
+/// Returns whether each literal is UTF-8 and each class of bytes contains only ASCII.
 pub fn is_utf8(hir: &Hir) -> bool
     ensures { result ≡ is_text (tree_of hir.now) }
 {
@@ -142,14 +142,14 @@ fn are_ascii(ranges: &[Range]) -> bool
     true
 }
 
-/// Returns whether the ranges are the same.
+/// Returns whether the ranges are equal.
 fn same(a: &[Range], b: &[Range]) -> bool
     ensures { result ≡ pointwise is_same (pairs a.now) (pairs b.now) }
 {
     a == b
 }
 
-/// Returns whether the ranges hold all numbers up to `last`, all but LF, or all but CR and LF.
+/// Returns whether the ranges contain all numbers up to `last`, all but LF, or all but CR and LF.
 fn is_all(last: u32, ranges: &[Range]) -> bool
     ensures { result ≡ is_all last (pairs ranges.now) }
 {
@@ -159,7 +159,7 @@ fn is_all(last: u32, ranges: &[Range]) -> bool
     same(ranges, &all) | same(ranges, &but_lf) | same(ranges, &but_line_ends)
 }
 
-/// Returns whether the tree is a class that a dot can stand for.
+/// Returns whether the tree is a class that a dot can denote.
 fn is_dot(hir: &Hir) -> bool
     ensures { result ≡ is_dot (tree_of hir.now) }
 {
@@ -171,8 +171,8 @@ fn is_dot(hir: &Hir) -> bool
 }
 
 /// Returns whether a greedy repetition without an upper bound repeats a dot: a class of all
-/// characters or of all bytes, of all but LF, or of all but CR and LF. Looks through captures,
-/// concatenations and alternations, and not into the body of a repetition.
+/// characters or of all bytes, of all but LF, or of all but CR and LF. Searches captures,
+/// concatenations and alternations, but not the body of a repetition.
 pub fn check_for_greedy_all(hir: &Hir) -> bool
     ensures { result ≡ has_greedy_dot (tree_of hir.now) }
 {

@@ -1,5 +1,5 @@
-//! Trees that are first put together as they stand and simplified at the end, so that each node is
-//! moved and looked at once, however many groups are around it. `logos_syntax` calls it once, at
+//! Builds trees unsimplified and simplifies them at the end, so that each node is moved and
+//! examined once, regardless of the number of groups around it. `logos_syntax` calls it once, at
 //! the end of a pattern.
 
 ghost use Rattle.std.specs.Prelude.{◌≡◌, ◌++◌, map, flat_map, IfOk, OnOk};
@@ -10,14 +10,14 @@ use crate::builder::{capture, in_a_row, push_flat, repetition};
 use crate::hir::Hir;
 use std::alloc::{AllocError, Global};
 
-/// Puts all parts in a row, as they stand.
+/// Makes a concatenation of all parts, unsimplified.
 pub fn row(parts: Vec<Hir>) -> Hir
     ensures { simplest_tree result ≡ concat_of (map simplest_tree parts.items) }
 {
     in_a_row(parts)
 }
 
-/// Makes an alternation of the branches, as they stand. One branch is itself.
+/// Makes an alternation of the branches, unsimplified. One branch is itself.
 pub fn either(mut branches: Vec<Hir>) -> Hir
     ensures { simplest_tree result ≡ alternation_of (map simplest_tree branches.items) }
 {
@@ -30,7 +30,7 @@ pub fn either(mut branches: Vec<Hir>) -> Hir
     }
 }
 
-/// Makes a repetition, as it stands.
+/// Makes a repetition, unsimplified.
 ///
 /// # Errors
 ///
@@ -53,7 +53,7 @@ pub fn repeated(
     })
 }
 
-/// Makes a capture group, as it stands.
+/// Makes a capture group, unsimplified.
 ///
 /// # Errors
 ///
@@ -64,7 +64,7 @@ pub fn captured(alloc: Global, body: Hir) -> Result<Hir, AllocError>
     Ok(Hir::Capture(Box::new(alloc, body)?))
 }
 
-/// Appends the parts that a tree, once simplified, brings into a concatenation.
+/// Appends the parts that a tree, once simplified, adds to a concatenation.
 #[cycle(simplify)]
 fn push_simplified(alloc: Global, tree: Hir, parts: &mut Vec<Hir>) -> Result<(), AllocError>
     ensures { OnOk result (map tree_of parts.new.items ≡
@@ -76,7 +76,7 @@ fn push_simplified(alloc: Global, tree: Hir, parts: &mut Vec<Hir>) -> Result<(),
     }
 }
 
-/// Appends the parts that trees, once simplified, bring into a concatenation.
+/// Appends the parts that trees, once simplified, add to a concatenation.
 #[cycle(simplify)]
 fn push_all_simplified(
     alloc: Global,
@@ -93,8 +93,8 @@ fn push_all_simplified(
     Ok(())
 }
 
-/// Appends the branches that a tree, once simplified, brings into an alternation. Returns which
-/// classes these fit.
+/// Appends the branches that a tree, once simplified, adds to an alternation. Returns the classes
+/// that these branches fit.
 #[cycle(simplify)]
 fn push_simplified_branch(
     alloc: Global,
@@ -116,8 +116,8 @@ fn push_simplified_branch(
     }
 }
 
-/// Appends the branches that trees, once simplified, bring into an alternation. Returns which
-/// classes these fit.
+/// Appends the branches that trees, once simplified, add to an alternation. Returns the classes
+/// that these branches fit.
 #[cycle(simplify)]
 fn push_all_branches(
     alloc: Global,
@@ -137,7 +137,7 @@ fn push_all_branches(
     Ok(fits)
 }
 
-/// Simplifies a tree: makes it again with the builders, from the innermost part on.
+/// Simplifies a tree: rebuilds it with the builders, from the innermost part outwards.
 ///
 /// # Errors
 ///

@@ -3,7 +3,7 @@ use Rattle.std.specs.Prelude.{ℕ, List, ◌++◌, codes, decimal, string_bytes}
 use Rattle.logos_host.specs.declared.failure.Failure.{Failure}
 use Rattle.logos_host.specs.declared.failure.Failure.TheVariants.{Misuse, UnknownOption, OwnOutput, Refused, NotUtf8, NotText, Read, Write, Output, Closed, Memory}
 
--- The message of a failure: one line, without a reason. Of invalid arguments it is the usage.
+-- The message of a failure: one line, without a reason. For invalid arguments it is the usage.
 abbrev pub plain_message_of : List ℕ → Failure → List ℕ
 plain_message_of usage (Misuse what word) = usage
 plain_message_of usage (UnknownOption word nearest) = usage

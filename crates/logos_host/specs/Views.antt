@@ -1,4 +1,4 @@
--- Definitions that clauses cite: those of `Words`, and those that name types of this crate.
+-- Definitions that contracts cite: those of `Imports`, and those that name types of this crate.
 pub use Rattle.logos_host.specs.Imports.{Appends, AppendsFront}
 pub use Rattle.logos_host.specs.Failures.{IsNoMisuse, IsOutputFailure, IsReadingFailure, IsUnread, IsUnwritten, IsWritingFailure, status_of}
 pub use Rattle.logos_host.specs.Messages.{hint_line, message_of, misuse_line}

@@ -1,5 +1,5 @@
-//! Writing a file of the system whole or not at all: to a new file beside it, which then takes its
-//! name.
+//! Writes a file of the system entirely or not at all: writes a new file beside it, and then
+//! renames that to its name. Called by `Disk` and `SourceDisk`.
 
 use crate::paths::file_name;
 use std::fs::Metadata;
@@ -8,16 +8,16 @@ use std::os::unix::fs::{MetadataExt, PermissionsExt};
 use std::rt::Files;
 use std::{fs, io};
 
-/// How many links, one after another, lead to a file.
+/// The maximum number of links, one after another, that are followed to a file.
 const LINKS: usize = 40;
 
-/// The bits of a file's mode that say who may read, write and run it.
+/// The bits of a file's mode for the rights to read, write and run it.
 const RIGHTS: u32 = 0o777;
 
-/// Writes a file whole or not at all, and first makes the folders on the way to it.
+/// Writes a file entirely or not at all. First creates the missing folders of its path.
 ///
-/// Where links lead to a file, that file is replaced; where they lead to none, it is made. A device
-/// or a pipe is written in place.
+/// If the path is a link, its target is replaced, or created if it does not exist. A device or a
+/// pipe is written directly.
 pub(crate) fn write_whole<R: Files + AllocGlobal + Clone + Drop>(
     rt: &R,
     path: &str,
@@ -34,7 +34,7 @@ pub(crate) fn write_whole<R: Files + AllocGlobal + Clone + Drop>(
     }
 }
 
-/// Returns where the links at a path lead, at which there is no file.
+/// Returns the target of the links at a path where no file exists.
 fn target_of<R: Files + AllocGlobal>(rt: &R, path: &str) -> io::Result<String> {
     let mut target = String::from_str(rt.alloc(), path)?;
     for _ in 0..LINKS {
@@ -46,7 +46,7 @@ fn target_of<R: Files + AllocGlobal>(rt: &R, path: &str) -> io::Result<String> {
     Err(io::Error::from(ErrorKind::FilesystemLoop))
 }
 
-/// Returns where a link at a path leads.
+/// Returns the target of a link at a path.
 fn joined<R: AllocGlobal>(rt: &R, path: &str, link: &str) -> io::Result<String> {
     let mut target = String::new(rt.alloc());
     if !link.starts_with('/') && path.contains('/') {
@@ -57,7 +57,7 @@ fn joined<R: AllocGlobal>(rt: &R, path: &str, link: &str) -> io::Result<String> 
     Ok(target)
 }
 
-/// Replaces the content of a file, and keeps who owns it and its mode.
+/// Replaces the content of a file, and keeps its owner and its mode.
 fn replace_file<R: Files + AllocGlobal + Clone + Drop>(
     rt: &R,
     path: &str,
@@ -73,8 +73,8 @@ fn replace_file<R: Files + AllocGlobal + Clone + Drop>(
     remove_after_error(rt, beside.as_str(), done)
 }
 
-/// Gives a file the owner, the group and the mode of another one. Where the system does not allow
-/// the owner, the file runs as nobody else.
+/// Sets the owner, the group and the mode of a file to those of `old`. If the system refuses the
+/// owner, the bits that run the file as another user are cleared.
 fn keep_owner<R: Files>(rt: &R, path: &str, old: &Metadata) -> io::Result<()> {
     let mut permissions = old.permissions();
     let new = fs::metadata(rt, path)?;
@@ -85,7 +85,7 @@ fn keep_owner<R: Files>(rt: &R, path: &str, old: &Metadata) -> io::Result<()> {
     fs::set_permissions(rt, path, permissions)
 }
 
-/// Makes a file that is not there.
+/// Creates a file that does not exist.
 fn create_file<R: Files + AllocGlobal + Clone + Drop>(
     rt: &R,
     path: &str,
@@ -97,8 +97,8 @@ fn create_file<R: Files + AllocGlobal + Clone + Drop>(
     remove_after_error(rt, beside.as_str(), done)
 }
 
-/// Writes a new file beside another one, and returns its path. Its name has the number of the
-/// process. What processes that have ended left beside the file is removed first.
+/// Writes a new file beside another one, and returns its path. Its name contains the process id.
+/// Files that ended processes left there are removed first.
 fn write_beside<R: Files + AllocGlobal + Clone + Drop>(
     rt: &R,
     path: &str,
@@ -113,7 +113,7 @@ fn write_beside<R: Files + AllocGlobal + Clone + Drop>(
     Ok(beside)
 }
 
-/// Returns the number of the process, or 0 where the system does not say it.
+/// Returns the process id, or 0 if the system does not report it.
 fn own_number<R: Files + AllocGlobal>(rt: &R) -> io::Result<String> {
     match fs::read_link(rt, "/proc/self") {
         Ok(number) => Ok(number.into_string()),
@@ -135,7 +135,7 @@ fn remove_leftovers<R: Files + AllocGlobal + Clone + Drop>(rt: &R, path: &str) -
     Ok(())
 }
 
-/// Removes a file of a folder if it was left beside the file `name`.
+/// Removes the file `other` of a folder if an ended process left it beside the file `name`.
 fn remove_leftover<R: Files + AllocGlobal>(
     rt: &R,
     name: &str,
@@ -155,8 +155,8 @@ fn remove_leftover<R: Files + AllocGlobal>(
     Ok(())
 }
 
-/// Returns the number of the process that made a new file beside the file `name`, by the new one's
-/// name.
+/// Returns the process id in the name `other` of a new file beside the file `name`, if `other` is
+/// such a name.
 fn process_of<'n>(name: &str, other: &'n str) -> Option<&'n str> {
     let process = other
         .strip_prefix(name)?
@@ -172,7 +172,7 @@ fn write_all<F: Write + Drop>(mut file: F, bytes: &[u8]) -> io::Result<()> {
     file.flush()
 }
 
-/// Removes a file if a step failed, and returns what the step answered.
+/// Removes a file if a step failed, and returns the result of the step.
 fn remove_after_error<R: Files>(rt: &R, path: &str, done: io::Result<()>) -> io::Result<()> {
     if done.is_err() {
         let _ = fs::remove_file(rt, path);
@@ -180,7 +180,7 @@ fn remove_after_error<R: Files>(rt: &R, path: &str, done: io::Result<()>) -> io:
     done
 }
 
-/// Returns the folder of a file: its path up to the last `/`, or nothing if there is none.
+/// Returns the folder of a file: its path up to the last `/`, or nothing if it has no `/`.
 fn folder_of(path: &str) -> &str {
     match path.rsplit_once('/') {
         Some((folder, _)) => folder,

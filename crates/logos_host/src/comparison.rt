@@ -1,4 +1,4 @@
-//! Comparing files with bytes, and with each other.
+//! Comparison of files with bytes, and with each other. Called for `--check` and `--version`.
 
 ghost use Rattle.std.specs.Prelude.{◌≡◌, ℕ, List, Bool, ⊤, IfOk};
 ghost use Rattle.logos_host.specs.declared.comparison.Occurrence.{Occurrence as OccurrenceValue};
@@ -37,15 +37,15 @@ pub trait ComparableFiles: Files {
         ensures same { IfOk result (λ occurrence. occurrence ≡ Occurrence.Same →
             Self.read_yields self.old path.now bytes.now self.new) };
 
-    /// Returns the bytes of the file at a path, for a message: none if it is not a regular file,
-    /// cannot be read, or has more than 67,108,864 bytes.
+    /// Returns the bytes of the file at a path, for a message. There are none if it is not a
+    /// regular file, cannot be read, or has more than 67,108,864 bytes.
     ///
     /// # Errors
     ///
     /// Returns `AllocError` if memory runs out.
     fn found_bytes(&self, path: &str) -> Result<Vec<u8>, AllocError>;
 
-    /// Returns whether two paths lead to one regular file, also by links.
+    /// Returns whether two paths lead to one regular file, directly or through links.
     fn is_same_file(&self, one: &str, other: &str) -> bool
         ensures { Self.same_finds self.now one.now other.now result };
 }

@@ -13,26 +13,26 @@ use std::io::ErrorKind;
 /// The ways in which a program fails.
 #[derive(Drop)]
 pub enum Failure<'w> {
-    /// The arguments are invalid: what is wrong, and the argument that is, which may be empty.
+    /// The arguments are invalid: the reason, and the invalid argument, which may be empty.
     Misuse {
         what: &'static str,
         word: &'w str,
     },
-    /// An argument is not an option of the program. `nearest` is the word of the nearest option, or
+    /// An argument is not an option of the program. `nearest` is the name of the nearest option, or
     /// empty if none is near.
     UnknownOption {
         word: &'w str,
         nearest: &'static str,
     },
-    /// The file for the result is the file that is read.
+    /// The output file is the input file.
     OwnOutput(&'w str),
-    /// The source is refused. This text shows why.
+    /// The source is refused, for the reasons in this text.
     Refused(String),
-    /// The input is valid UTF-8 up to this byte.
+    /// The input is valid UTF-8 only up to this byte.
     NotUtf8 {
         valid_up_to: usize,
     },
-    /// The file at this path is not UTF-8. It is valid up to this byte.
+    /// The file at this path is not UTF-8. It is valid only up to this byte.
     NotText {
         path: &'w str,
         valid_up_to: usize,
@@ -74,7 +74,7 @@ impl From<Memory> for Failure<'_> {
 }
 
 impl Failure<'_> {
-    /// Returns the exit status: 1 if something is refused, 2 if the words are no command or name
+    /// Returns the exit status: 1 if something is refused, 2 if the arguments are invalid or name
     /// the input as the output, 3 if a file or memory fails.
     pub fn status(&self) -> u8
         ensures { result ≡ status_of self.now }
@@ -86,7 +86,7 @@ impl Failure<'_> {
         }
     }
 
-    /// Returns the failure of a file at a path that is not read.
+    /// Returns the failure for a file that cannot be read.
     pub fn of_reading<'w>(path: &'w str, error: FileError) -> Failure<'w>
         ensures failure { IsReadingFailure path.now error result }
         ensures unread { IsUnread path.now result }
@@ -99,7 +99,7 @@ impl Failure<'_> {
         }
     }
 
-    /// Returns the failure of a file at a path that is not written.
+    /// Returns the failure for a file that cannot be written.
     pub fn of_writing<'w>(path: &'w str, error: FileError) -> Failure<'w>
         ensures failure { IsWritingFailure path.now error result }
         ensures unwritten { IsUnwritten path.now result }
@@ -111,7 +111,7 @@ impl Failure<'_> {
         }
     }
 
-    /// Returns the failure of standard output.
+    /// Returns the failure for an error of standard output.
     pub fn of_output(error: &io::Error) -> Failure<'static>
         ensures failure { IsOutputFailure result }
         ensures status { status_of result ≡ 3 }
@@ -120,7 +120,7 @@ impl Failure<'_> {
     }
 }
 
-/// Returns the failure of standard output with an error of this kind.
+/// Returns the failure for an error of this kind of standard output.
 fn output_failure(kind: ErrorKind) -> Failure<'static>
     ensures closed { kind ≡ ErrorKind.BrokenPipe → result ≡ Closed }
     ensures other { kind ≢ ErrorKind.BrokenPipe → result ≡ Output }

@@ -1,4 +1,4 @@
-//! What the three programs share: their arguments, files, failures and messages, reading and
+//! The shell of the three programs: their arguments, files, failures and messages, reading and
 //! writing.
 
 #![tactic(auto)]

@@ -1,4 +1,4 @@
-//! The messages of failures in `logos_cli` and `logos_show`: they begin with `error:` and give the
+//! The messages of failures in `logos_cli` and `logos_show`. They begin with `error:` and state the
 //! reason.
 
 ghost use Rattle.std.specs.Prelude.{◌++◌, OnOk, codes, decimal};
@@ -8,8 +8,8 @@ use crate::failure::Failure;
 use std::io;
 use std::io::Write;
 
-/// Writes the message of a failure, and flushes the writer. That of invalid arguments ends with
-/// `usage`.
+/// Writes the message of a failure, and flushes the writer. The message for invalid arguments ends
+/// with `usage`.
 ///
 /// # Errors
 ///
@@ -60,7 +60,7 @@ fn write_not_text<E: Write>(path: &str, valid_up_to: usize, err: &mut E) -> io::
     writeln!(err, ": it is not UTF-8 at byte {valid_up_to}")
 }
 
-/// Writes what is wrong with the words, and the usage.
+/// Writes the reason that the arguments are invalid, and the usage.
 fn write_misuse<E: Write>(what: &str, word: &str, usage: &str, err: &mut E) -> io::Result<()>
     ensures { OnOk result (Appends (E.contents err.old) (E.contents err.new)
         (misuse_line what.now word.now ++ usage.now)) }
@@ -69,7 +69,7 @@ fn write_misuse<E: Write>(what: &str, word: &str, usage: &str, err: &mut E) -> i
     err.write_all(usage.as_bytes())
 }
 
-/// Writes what is wrong with the words.
+/// Writes the reason that the arguments are invalid.
 fn write_misuse_line<E: Write>(what: &str, word: &str, err: &mut E) -> io::Result<()>
     ensures { OnOk result (Appends (E.contents err.old) (E.contents err.new)
         (misuse_line what.now word.now)) }
@@ -80,7 +80,7 @@ fn write_misuse_line<E: Write>(what: &str, word: &str, err: &mut E) -> io::Resul
     writeln!(err, "error: {what} `{word}`")
 }
 
-/// Writes that a word is no option, which one may be meant, and the usage.
+/// Writes that an argument is an unknown option, the option that may be meant, and the usage.
 fn write_unknown<E: Write>(word: &str, nearest: &str, usage: &str, err: &mut E) -> io::Result<()>
     ensures { OnOk result (Appends (E.contents err.old) (E.contents err.new)
         (misuse_line (codes "unknown option") word.now ++ (hint_line nearest.now ++ usage.now))) }
@@ -90,7 +90,7 @@ fn write_unknown<E: Write>(word: &str, nearest: &str, usage: &str, err: &mut E) 
     err.write_all(usage.as_bytes())
 }
 
-/// Writes which option may be meant, if there is one.
+/// Writes the option that may be meant, if there is one.
 fn write_hint<E: Write>(nearest: &str, err: &mut E) -> io::Result<()>
     ensures { OnOk result (Appends (E.contents err.old) (E.contents err.new)
         (hint_line nearest.now)) }

@@ -1,4 +1,4 @@
-//! The messages of failures in `logos`: one line, without a reason.
+//! The messages of failures in `logos`: one line, without a reason. Used by `logos_commands`.
 
 ghost use Rattle.std.specs.Prelude.{◌++◌, OnOk, codes};
 ghost use Rattle.logos_host.specs.Views.{Appends, plain_message_of};
@@ -7,8 +7,8 @@ use crate::failure::Failure;
 use std::io;
 use std::io::Write;
 
-/// Writes the plain message of a failure, and flushes the writer. Of invalid arguments it is
-/// `usage`.
+/// Writes the plain message of a failure, and flushes the writer. For invalid arguments the message
+/// is `usage`.
 ///
 /// # Errors
 ///
@@ -41,7 +41,7 @@ fn write_plainly<E: Write>(failure: &Failure<'_>, usage: &str, err: &mut E) -> i
     }
 }
 
-/// Writes that the file at a path is not read.
+/// Writes that the file at a path cannot be read.
 fn write_unread<E: Write>(path: &str, err: &mut E) -> io::Result<()>
     ensures { OnOk result (Appends (E.contents err.old) (E.contents err.new)
         (codes "cannot read " ++ (path.now ++ codes "\n"))) }

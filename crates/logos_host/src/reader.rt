@@ -1,4 +1,4 @@
-//! Reading whole files. The programs read sources and inputs here.
+//! Reads whole files. The programs read sources and inputs with these functions.
 
 ghost use Rattle.std.specs.Prelude.{◌≡◌, IfErr, IfOk, string_bytes};
 ghost use Rattle.logos_host.specs.Views.{IsNoMisuse, IsUnread, status_of};

@@ -1,4 +1,4 @@
-//! The files of the system.
+//! The files of the system. Used by `source_disk`, `logos_program` and `logos_show`.
 
 use crate::atomic_file::write_whole;
 use crate::comparison::{ComparableFiles, Occurrence};
@@ -66,10 +66,10 @@ impl<R: Runtime + AllocGlobal + Clone + Drop> ComparableFiles for Disk<'_, R> {
     }
 }
 
-/// The most bytes of a file that is read for a message.
+/// The maximum length of a file that is read for a message, in bytes.
 const MAX_SHOWN: u64 = 67_108_864;
 
-/// Returns the bytes of a file, or none if it cannot be read.
+/// Returns the bytes of a file, or no bytes if it cannot be read.
 fn bytes_at<R: Runtime + AllocGlobal>(rt: &R, path: &str) -> Result<Vec<u8>, AllocError> {
     match fs::read(rt, path) {
         Ok(bytes) => Ok(bytes),

@@ -1,4 +1,4 @@
-//! Writing to standard output, at once or by blocks, and to files.
+//! Writes to standard output, directly or in blocks, and to files.
 
 ghost use Rattle.std.specs.Prelude.{◌≡◌, ◌<◌, [], IfErr, OnOk, vec_capacity, vec_len};
 ghost use Rattle.logos_host.specs.Views.{Appends, AppendsFront, IsNoMisuse, IsOutputFailure, IsUnwritten, status_of};
@@ -38,7 +38,7 @@ pub fn print_bytes<'w, O: Write>(bytes: &[u8], out: &mut O) -> Result<(), Failur
     }
 }
 
-/// Writes bytes to the file at a path, in place of its former content.
+/// Replaces the content of the file at a path with `bytes`.
 ///
 /// # Errors
 ///
@@ -58,7 +58,7 @@ pub fn write_file<'w, F: Files>(
     }
 }
 
-/// Writes a block if it has this length or more, and empties it.
+/// Writes a block if it has at least this length, and empties it.
 ///
 /// # Errors
 ///

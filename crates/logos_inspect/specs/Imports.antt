@@ -1,4 +1,5 @@
--- Definitions that clauses cite: of lower crates, and those of this one that name no type of it.
+-- Definitions that contracts cite: those of lower crates, and those of this crate that name none of
+-- its types.
 pub use Rattle.logos_graph.specs.GraphView.{leaf_number, state_type_of}
 pub use Rattle.logos_lines.specs.Locations.{location_at}
 pub use Rattle.logos_token.specs.Held.{held}

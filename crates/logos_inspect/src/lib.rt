@@ -1,4 +1,5 @@
-//! What a lexer is, as a program shows it: its leaves and its costs.
+//! The properties of a lexer that a program shows: its leaves and its cost. Called by
+//! `logos_answers`, `logos_records` and `logos_show`.
 
 #![tactic(auto)]
 

@@ -6,7 +6,7 @@ ghost use Rattle.logos_items.specs.Imports.{IsNoMisuse};
 use logos_host::{Failure, write_full};
 use std::io::Write;
 
-/// How many bytes a block has at least when it is written.
+/// The minimum length of a block that is written, in bytes.
 pub(crate) const BLOCK: usize = 65_536;
 
 /// Writes a block that is full, and empties it.

@@ -1,5 +1,5 @@
-//! The lines of items: the ones that are not written yet, what names a leaf in them, and what was
-//! counted.
+//! The lines of items: those that are not yet written, the names of leaves in them, and the counts.
+//! Used by `items`, `streams` and `logos_show`.
 
 ghost use Rattle.std.specs.Prelude.{◌≡◌, ◌++◌, OnOk};
 ghost use Rattle.logos_items.specs.Imports.{totals_text};
@@ -13,31 +13,31 @@ use logos_page::Page;
 use std::alloc::{AllocError, Global};
 use std::time::{Clock, Duration};
 
-/// What names an error in its line.
+/// The name of an error in its line.
 pub(crate) const ERROR: &[u8] = b"  <error>  \"";
 
-/// How the items of an input are written.
+/// The settings for writing the items of an input.
 #[derive(Clone, Copy)]
 pub struct ItemOrder<'w> {
     pub alloc: Global,
-    /// The settings that are given.
+    /// The given settings.
     pub settings: Settings<'w>,
 }
 
-/// Where the lines of items go.
+/// The destination of the lines of items.
 #[derive(Drop)]
 pub(crate) struct Lines {
-    /// The lines that are not written yet.
+    /// The lines that are not yet written.
     pub(crate) block: Vec<u8>,
-    /// Where a short line is put together.
+    /// The buffer in which a short line is assembled.
     pub(crate) line: [u8; LINE],
     pub(crate) counts: Counts,
-    /// For each leaf the part of a line between the position and the text: its variant, with what
-    /// stands around it.
+    /// For each leaf the part of a line between the location and the text: its variant, with the
+    /// separators around it.
     pub(crate) heads: Vec<Vec<u8>>,
 }
 
-/// Makes lines of no item.
+/// Returns empty lines, with zero counts.
 pub(crate) fn no_lines(alloc: Global, code: &Code<'_>) -> Result<Lines, AllocError> {
     Ok(Lines {
         block: Vec::with_capacity(alloc, BLOCK + BLOCK / 16)?,
@@ -47,7 +47,7 @@ pub(crate) fn no_lines(alloc: Global, code: &Code<'_>) -> Result<Lines, AllocErr
     })
 }
 
-/// Appends what was counted of a whole input. If memory runs out, nothing is added.
+/// Appends the counts for a whole input. If memory runs out, nothing was appended.
 pub(crate) fn push_totals(
     order: ItemOrder<'_>,
     made: &Generated<'_>,

@@ -1,4 +1,4 @@
-//! The items of an input, an object of JSON each.
+//! The items of an input, one JSON object for each. Used by `logos_show`.
 
 ghost use Rattle.std.specs.Prelude.{IfErr};
 ghost use Rattle.logos_items.specs.Imports.{IsNoMisuse, TakesMatches};
@@ -15,13 +15,13 @@ use std::alloc::{AllocError, Global};
 use std::io::Write;
 use std::mem;
 
-/// Writes an object of JSON for each item of an input. Returns a note about callbacks, which is
-/// empty if no leaf with a callback has an item.
+/// Writes a JSON object for each item of an input. Returns a note about callbacks, which is empty
+/// if no leaf with a callback has an item.
 ///
 /// # Errors
 ///
-/// Returns `NotUtf8` if the lexer reads text and the input is not UTF-8, `Output` if writing fails,
-/// and `Memory` if memory runs out.
+/// Returns `NotUtf8` if the lexer reads UTF-8 and the input is not UTF-8, `Output` if writing
+/// fails, and `Memory` if memory runs out.
 pub fn write_item_records<O: Write>(
     alloc: Global,
     code: &Code<'_>,
@@ -42,16 +42,16 @@ pub fn write_item_records<O: Write>(
     Ok(note)
 }
 
-/// Where the objects of items go.
+/// The destination of the objects of items.
 #[derive(Drop)]
 struct Records {
     alloc: Global,
-    /// The objects that are not written yet.
+    /// The objects that are not yet written.
     block: Vec<u8>,
     counts: Counts,
 }
 
-/// Writes an object for each item of an input, by blocks. The last block is left to the caller.
+/// Writes an object for each item of an input in blocks. The caller writes the last block.
 fn write_all_records<O: Write>(
     code: &Code<'_>,
     input: &[u8],
@@ -72,7 +72,7 @@ fn write_all_records<O: Write>(
     }
 }
 
-/// Writes an object for each item that a lexer still gives, by blocks.
+/// Writes an object for each remaining item of a lexer in blocks.
 fn write_records<C: Fn(LeafId, &[u8]) -> Action, O: Write>(
     lexer: &mut Lexer<'_, '_, '_, C>,
     leaves: &[CodeLeaf<'_>],
@@ -90,7 +90,7 @@ fn write_records<C: Fn(LeafId, &[u8]) -> Action, O: Write>(
     Ok(())
 }
 
-/// Adds the object of an item, and counts it.
+/// Appends the object of an item, and counts it.
 fn add_record(
     records: &mut Records,
     leaves: &[CodeLeaf<'_>],
@@ -125,7 +125,7 @@ fn add_record(
     }
 }
 
-/// Appends an object to a block. If memory runs out the block is empty.
+/// Appends an object to a block. If memory runs out, the block is empty.
 fn push_record(
     alloc: Global,
     block: &mut Vec<u8>,

@@ -1,4 +1,4 @@
-//! The items of standard input, a line each, written as they are found.
+//! The items of standard input, one line for each, written as they are found. Used by `logos_show`.
 
 ghost use Rattle.std.specs.Prelude.{◌<◌, IfErr};
 ghost use Rattle.logos_items.specs.Imports.{IsNoMisuse, KeepsCode, TakesMatches, unread_length};
@@ -17,16 +17,16 @@ use std::alloc::{AllocError, Global};
 use std::io::{ErrorKind, Input, Read, Write};
 use std::time::Clock;
 
-/// How many bytes of standard input are in memory at a time. A longer token is an error.
+/// The maximum number of bytes of standard input in memory. A longer token is an error.
 const MOST: usize = 16_777_216;
 
-/// Writes a line for each item of standard input, and then what was counted. What was found is
-/// written before each read. Returns a note about callbacks, which is empty if no leaf with a
+/// Writes a line for each item of standard input, and then the counts. The items that were found
+/// are written before each read. Returns a note about callbacks, which is empty if no leaf with a
 /// callback has an item.
 ///
 /// # Errors
 ///
-/// Returns `NotUtf8` if the lexer reads text and the input is not UTF-8, `Refused` if a token is
+/// Returns `NotUtf8` if the lexer reads UTF-8 and the input is not UTF-8, `Refused` if a token is
 /// too long, both after the lines of the items before it; `Read` if reading fails, `Output` if
 /// writing fails, and `Memory` if memory runs out.
 pub fn write_streamed<S: Clock + Input, O: Write>(
@@ -65,7 +65,7 @@ enum StreamStop {
     TooLong,
 }
 
-/// Returns the failure of a stream that is not lexed from an offset on.
+/// Returns the failure for a stream that is not lexed from an offset on.
 fn failure_at(alloc: Global, stop: StreamStop, offset: usize) -> Failure<'static>
     ensures { IsNoMisuse result }
 {
@@ -77,7 +77,7 @@ fn failure_at(alloc: Global, stop: StreamStop, offset: usize) -> Failure<'static
     }
 }
 
-/// Returns the failure of a token that begins at an offset.
+/// Returns the failure for a too long token that begins at an offset.
 fn too_long(alloc: Global, offset: usize) -> Failure<'static>
     ensures { IsNoMisuse result }
 {
@@ -90,8 +90,8 @@ fn too_long(alloc: Global, offset: usize) -> Failure<'static>
     }
 }
 
-/// Writes a line for each item of a stream, by blocks. The last block is left to the caller.
-/// Returns why the stream was not lexed to its end, if it was not.
+/// Writes a line for each item of a stream in blocks. The caller writes the last block. Returns why
+/// the stream was not lexed to its end, if it was not.
 fn write_stream<R: Read + Drop, C: Fn(LeafId, &[u8]) -> Action + Copy, O: Write>(
     stream: &mut Stream<'_, '_, R, C>,
     lines: &mut Lines,
@@ -119,7 +119,7 @@ fn write_stream<R: Read + Drop, C: Fn(LeafId, &[u8]) -> Action + Copy, O: Write>
     Ok(None)
 }
 
-/// Adds the line of an item, and counts it.
+/// Appends the line of an item, and counts it.
 fn add_item(
     lines: &mut Lines,
     location: Location,
@@ -139,7 +139,7 @@ fn add_item(
     }
 }
 
-/// Writes what was found, and reads once.
+/// Writes the items that were found, and reads once.
 fn read_more<R: Read + Drop, C: Fn(LeafId, &[u8]) -> Action + Copy, O: Write>(
     stream: &mut Stream<'_, '_, R, C>,
     lines: &mut Lines,
@@ -152,13 +152,13 @@ fn read_more<R: Read + Drop, C: Fn(LeafId, &[u8]) -> Action + Copy, O: Write>(
     write_found(lines, out)?;
     match stream.read() {
         Ok(()) => Ok(()),
-        // The next turn reads again.
+        // The next iteration reads again.
         Err(error) if error.kind() == ErrorKind::Interrupted => Ok(()),
         Err(error) => Err(Failure::Read(STANDARD_INPUT, Reason::of_kind(error.kind()))),
     }
 }
 
-/// Writes the lines that are not written yet.
+/// Writes the lines that are not yet written.
 fn write_found<O: Write>(lines: &mut Lines, out: &mut O) -> Result<(), Failure<'static>>
     ensures { IfErr result IsNoMisuse }
 {
@@ -173,7 +173,7 @@ fn write_found<O: Write>(lines: &mut Lines, out: &mut O) -> Result<(), Failure<'
     }
 }
 
-/// Returns the position after some bytes.
+/// Returns the location after some bytes.
 fn after(location: Location, bytes: &[u8]) -> Location {
     let mut location = location;
     for byte in bytes {
@@ -182,7 +182,7 @@ fn after(location: Location, bytes: &[u8]) -> Location {
     location
 }
 
-/// Returns the position after one more byte. Bytes that continue a character have its column.
+/// Returns the location after one more byte. Continuation bytes of a character have its column.
 #[inline(always)]
 fn after_byte(location: Location, byte: u8) -> Location {
     if byte == b'\n' {

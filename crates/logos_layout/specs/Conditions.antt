@@ -10,7 +10,7 @@ use Rattle.logos_token.specs.Tokens.{Token, identifier, punctuation, literal, do
 abbrev pub attribute_text : TokenList → List ℕ
 attribute_text inside = codes "#[" ++ printed inside ++ codes "]\n"
 
--- The same, where something follows the word `cfg` in the run.
+-- The attribute with this run between its brackets, if tokens follow the word `cfg` in the run.
 abbrev pub text_if : Option TokenList → TokenList → List ℕ
 text_if None inside = []
 text_if (Some rest) inside = attribute_text inside

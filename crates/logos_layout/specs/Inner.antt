@@ -4,23 +4,23 @@ use Rattle.logos_lexeme.specs.declared.lexeme.Delimiter.TheVariants.{Bracket}
 use Rattle.logos_token.specs.Spelling.{Spells}
 use Rattle.logos_token.specs.Tokens.{TokenList, punctuation, doc, group, none, also}
 
--- A documentation comment is of what surrounds it: its third byte is `!`.
+-- A documentation comment documents the item around it: its third byte is `!`.
 abbrev pub is_inner : List ℕ → Bool
 is_inner (first ∷ second ∷ third ∷ rest) = third == 33
 is_inner text = false
 
--- What follows brackets, if they come first.
+-- The tokens after brackets, if the run begins with them.
 abbrev pub after_brackets : TokenList → Option TokenList
 after_brackets (also (group Bracket span inside) rest) = Some rest
 after_brackets run = None
 
--- What follows `!` and brackets, if they come first.
+-- The tokens after `!` and brackets, if the run begins with them.
 abbrev pub after_mark : TokenList → Option TokenList
 after_mark (also (punctuation character spacing span) rest) = if character == 33 then after_brackets rest else None
 after_mark run = None
 
--- What follows the documentation comment or the attribute that comes first, if it is an inner one:
--- `//! ..`, `/*! .. */` or `#![..]`.
+-- The tokens after the first documentation comment or attribute, if it is an inner one: `//! ..`,
+-- `/*! .. */` or `#![..]`.
 abbrev pub after_inner : TokenList → Option TokenList
 after_inner (also (doc text span) rest) = if is_inner text then Some rest else None
 after_inner (also (punctuation character spacing span) rest) = if character == 35 then after_mark rest else None
@@ -31,7 +31,7 @@ pub data AreInner : TokenList → Type 0 where
   ended : AreInner none
   next : {run rest : TokenList} → after_inner run ≡ Some rest → AreInner rest → AreInner run
 
--- A text spells inner documentation comments and attributes alone.
+-- A text spells only inner documentation comments and attributes.
 pub record IsInnerText (text : List ℕ) : Type 0 where
   pub tokens : TokenList
   pub spelled : Spells text tokens
@@ -47,8 +47,8 @@ pub record IsPlainFront (text : List ℕ) (to : ℕ) (plain : List ℕ) : Type 0
   pub inner : IsInnerText front
   pub bare : Spells plain none
 
--- The second text is the first one, where a front that spells inner documentation comments and
--- attributes alone gave way to one that spells nothing.
+-- The second text is the first one, except that a prefix that spells only inner documentation
+-- comments and attributes is replaced by one that spells nothing.
 pub record IsPlainly (text made : List ℕ) : Type 0 where
   pub front : List ℕ
   pub plain : List ℕ
@@ -58,6 +58,7 @@ pub record IsPlainly (text made : List ℕ) : Type 0 where
   pub inner : IsInnerText front
   pub bare : Spells plain none
 
--- The same, or both are the same text.
+-- The second text is the first one with its inner documentation and attributes as plain comments,
+-- or the first one unchanged.
 abbrev pub IsWithoutInner : List ℕ → List ℕ → Type 0
 IsWithoutInner text made = IsPlainly text made ⊎ (made ≡ text)

@@ -1,4 +1,4 @@
-//! Compares the tokens of two texts.
+//! Compares the tokens of two texts. Used by `layout` and `writer`.
 
 ghost use Rattle.std.specs.Prelude.{IfOk, IfSome, IsTrue, string_bytes};
 ghost use Rattle.logos_layout.specs.Imports.{ArePrinted, SpellsSame};
@@ -7,7 +7,7 @@ use logos_token::error::Memory;
 use logos_token::token::{TokenError, print, tokenize};
 use std::alloc::Global;
 
-/// Returns whether two texts spell the same tokens, apart from their spans. What cannot be read
+/// Returns whether two texts spell equal tokens, apart from their spans. A text that cannot be read
 /// into tokens spells none.
 pub(crate) fn spell_same(alloc: Global, text: &str, other: &str) -> Result<bool, Memory>
     ensures { IfOk result (λ same. IsTrue same → SpellsSame text.now other.now) }
@@ -21,7 +21,7 @@ pub(crate) fn spell_same(alloc: Global, text: &str, other: &str) -> Result<bool,
     Ok(one.as_str() == two.as_str())
 }
 
-/// Returns whether this is the printed text of all tokens of a text.
+/// Returns whether `printed` is the printed text of all tokens of `text`.
 pub(crate) fn prints_as(alloc: Global, text: &str, printed: &str) -> Result<bool, Memory>
     ensures { IfOk result (λ same. IsTrue same → ArePrinted text.now printed.now) }
 {

@@ -1,4 +1,4 @@
-//! The conditions under which an item is compiled.
+//! The conditions under which an item is compiled. Used by `logos_expand`.
 
 ghost use Rattle.std.specs.Prelude.{◌≡◌, ◌++◌, OnOk, codes, string_bytes};
 ghost use Rattle.logos_layout.specs.Imports.{after_word, attribute_condition, attribute_text, attribute_value, conditions_text, text_if, tokens_of};
@@ -14,7 +14,7 @@ use std::alloc::Global;
 ///
 /// # Errors
 ///
-/// Returns `Memory` if memory runs out. Then a part of them can have been pushed.
+/// Returns `Memory` if memory runs out. Then some of them may have been appended.
 pub fn push_conditions(alloc: Global, text: &mut String, item: Tokens<'_, '_>) -> Result<(), Memory>
     ensures { OnOk result (string_bytes text.new
         ≡ string_bytes text.old ++ conditions_text (tokens_of item.entry)) }

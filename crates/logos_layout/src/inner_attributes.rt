@@ -1,4 +1,5 @@
-//! The documentation and the attributes of a file itself, which stand first in it.
+//! The documentation and the attributes of a file itself, at its beginning. Called by
+//! `logos_expand`.
 
 ghost use Rattle.std.specs.Prelude.{◌≡◌, ◌<◌, IfOk, IfSome, IsTrue, MatchOption, None, Some, string_bytes};
 ghost use Rattle.logos_layout.specs.Imports.{AreInner, IsInnerText, IsPlainFront, Spells, after_brackets, after_inner, after_mark, count_of, is_inner, none, tokens_of};
@@ -60,7 +61,7 @@ fn plain_comments(alloc: Global, front: &str) -> Result<Option<String>, Memory>
     Ok(None)
 }
 
-/// Returns whether a text spells inner documentation comments and attributes alone.
+/// Returns whether a text spells only inner documentation comments and attributes.
 fn is_inner_text(alloc: Global, text: &str) -> Result<bool, Memory>
     ensures { IfOk result (λ is. IsTrue is → IsInnerText text.now) }
 {
@@ -82,8 +83,8 @@ fn is_bare(alloc: Global, text: &str) -> Result<bool, Memory>
     }
 }
 
-/// Returns where the inner documentation comments and attributes end that come first in a run, in
-/// bytes, and whether they are all of it.
+/// Returns the byte offset at which the leading inner documentation comments and attributes of a
+/// run end, and whether they are all of it.
 fn read_inner(run: Tokens<'_, '_>) -> (usize, bool)
     ensures { IsTrue result.1 → AreInner (tokens_of run.entry) }
 {
@@ -96,8 +97,8 @@ fn read_inner(run: Tokens<'_, '_>) -> (usize, bool)
     (end, rest.is_empty())
 }
 
-/// Returns where the inner documentation comment or attribute ends that comes first, and what
-/// follows it; `None` if none comes first.
+/// Returns the byte offset at which the first inner documentation comment or attribute ends, and
+/// the tokens after it; `None` if the run does not begin with one.
 fn inner_at<'t, 's>(tokens: Tokens<'t, 's>) -> Option<(usize, Tokens<'t, 's>)>
     ensures { MatchOption result (after_inner (tokens_of tokens.entry) ≡ None)
         (λ read. (after_inner (tokens_of tokens.entry) ≡ Some (tokens_of read.1))
@@ -110,7 +111,7 @@ fn inner_at<'t, 's>(tokens: Tokens<'t, 's>) -> Option<(usize, Tokens<'t, 's>)>
     }
 }
 
-/// Returns where the brackets end that come after `!`, and what follows them.
+/// Returns the byte offset at which the brackets after `!` end, and the tokens after them.
 fn marked<'t, 's>(tokens: Tokens<'t, 's>) -> Option<(usize, Tokens<'t, 's>)>
     ensures { MatchOption result (after_mark (tokens_of tokens.entry) ≡ None)
         (λ read. (after_mark (tokens_of tokens.entry) ≡ Some (tokens_of read.1))
@@ -122,7 +123,7 @@ fn marked<'t, 's>(tokens: Tokens<'t, 's>) -> Option<(usize, Tokens<'t, 's>)>
     }
 }
 
-/// Returns where the brackets end that come first, and what follows them.
+/// Returns the byte offset at which leading brackets end, and the tokens after them.
 fn bracketed<'t, 's>(tokens: Tokens<'t, 's>) -> Option<(usize, Tokens<'t, 's>)>
     ensures { MatchOption result (after_brackets (tokens_of tokens.entry) ≡ None)
         (λ read. (after_brackets (tokens_of tokens.entry) ≡ Some (tokens_of read.1))
@@ -136,7 +137,7 @@ fn bracketed<'t, 's>(tokens: Tokens<'t, 's>) -> Option<(usize, Tokens<'t, 's>)>
     }
 }
 
-/// Returns whether a documentation comment is of what surrounds it.
+/// Returns whether a documentation comment documents the item around it.
 fn is_inner(comment: &str) -> bool
     ensures { result ≡ is_inner comment.now }
 {

@@ -1,29 +1,29 @@
-//! Which lexemes of a source stay.
+//! The lexemes of a source that stay. Called by `without_derive`.
 
 use logos_token::error::Memory;
 use logos_token::token::{Span, TokenTree, Tokens};
 use std::alloc::Global;
 
-/// What follows a group, and where the group around it ends.
+/// The tokens after a group, and the end of the group around it.
 #[derive(Clone, Copy)]
 struct Enclosing<'t, 's> {
     rest: Tokens<'t, 's>,
     to: usize,
 }
 
-/// The tokens of a source that stay, from the next one on.
+/// The remaining tokens of a source that stay.
 #[derive(Drop)]
 pub(crate) struct Staying<'t, 's> {
     /// The rest of the innermost open group.
     rest: Tokens<'t, 's>,
     /// The byte offset at which that group ends.
     to: usize,
-    /// What follows it, and the groups around it, from the outermost on.
+    /// The tokens after it, and the groups around it, from the outermost on.
     outer: Vec<Enclosing<'t, 's>>,
 }
 
 impl<'t, 's> Staying<'t, 's> {
-    /// Returns all these tokens.
+    /// Returns a cursor before all these tokens.
     pub(crate) fn new(alloc: Global, tokens: Tokens<'t, 's>) -> Staying<'t, 's> {
         Staying {
             rest: tokens,
@@ -32,7 +32,7 @@ impl<'t, 's> Staying<'t, 's> {
         }
     }
 
-    /// Returns whether the lexeme with this span is the next one that stays. If so, goes past it.
+    /// Returns whether the lexeme with this span is the next one that stays. If so, moves past it.
     pub(crate) fn pass(&mut self, span: Span) -> Result<bool, Memory> {
         let Some(tree) = self.rest.first() else {
             return Ok(self.leave(span.to));
@@ -44,7 +44,7 @@ impl<'t, 's> Staying<'t, 's> {
         Ok(true)
     }
 
-    /// Goes past the first token, or into its group.
+    /// Moves past the first token, or into its group.
     fn enter(&mut self, tree: TokenTree<'t, 's>) -> Result<(), Memory> {
         let rest = self.rest.rest();
         let TokenTree::Group(group) = tree else {

@@ -1,4 +1,4 @@
-//! Lays out a text.
+//! The layout of a text. Called by `logos_expand`.
 
 ghost use Rattle.std.specs.Prelude.{IfOk, string_bytes};
 ghost use Rattle.logos_layout.specs.Imports.{IsLaidOut};
@@ -11,29 +11,29 @@ use std::alloc::Global;
 /// A comment that names a line of another text.
 #[derive(Clone, Copy)]
 pub struct Note {
-    /// Before which byte of the text it stands, as an offset.
+    /// The byte offset in the text before which the comment is inserted.
     pub offset: usize,
     /// The number of the line, from 1 on.
     pub line: usize,
 }
 
-/// How a text is laid out, apart from its tokens.
+/// The settings of a layout.
 #[derive(Clone, Copy)]
 pub struct Setting<'n> {
-    /// The blanks that stand before each line: spaces and tabs.
+    /// The blanks before each line: spaces and tabs.
     pub margin: &'n str,
-    /// The comments that are put in, in the order of their offsets.
+    /// The comments that are inserted, in the order of their offsets.
     pub notes: &'n [Note],
 }
 
-/// Returns a Rust text laid out in lines, with the same tokens and the same comments, and with
-/// those that the setting puts in. The margin and four blanks for each level of braces stand before
-/// a line, and a line has at most 100 bytes where a blank allows it. Lines end after `;`, after the
-/// braces of blocks, after commas between braces, after attributes and comments, and where the text
-/// has a line end. Short braces stay on one line.
+/// Returns a Rust text laid out in lines. Its tokens and comments do not change, except that the
+/// comments of the setting are inserted. Each line begins with the margin and four blanks for each
+/// level of braces, and has at most 100 bytes if it can be broken at a blank. Lines end after `;`,
+/// after the braces of blocks, after commas between braces, after attributes and comments, and
+/// where the text has a line end. Short braces stay on one line.
 ///
-/// A text that cannot be read into tokens, or is longer than 16,777,216 bytes in lines, stays as it
-/// is.
+/// A text that cannot be read into tokens, or is longer than 16,777,216 bytes in lines, is returned
+/// unchanged.
 ///
 /// # Errors
 ///
@@ -48,7 +48,7 @@ pub fn lay_out(alloc: Global, text: &str, setting: Setting<'_>) -> Result<String
     unchanged(alloc, text)
 }
 
-/// Returns a text as it is.
+/// Returns a text unchanged.
 fn unchanged(alloc: Global, text: &str) -> Result<String, Memory>
     ensures { IfOk result (λ laid. IsLaidOut text.now (string_bytes laid)) }
 {

@@ -1,4 +1,5 @@
-//! Rust text as people read it: laid out in lines, or written as it was, with the same tokens.
+//! Writes Rust text for people: laid out in lines, or with the layout of its source, and with
+//! unchanged tokens. Called by `logos_expand`.
 
 #![tactic(auto)]
 

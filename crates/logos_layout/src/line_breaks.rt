@@ -1,4 +1,4 @@
-//! Goes through the lexemes of a text and puts them into lines.
+//! Puts the lexemes of a text into lines. Used by `layout`.
 
 use crate::classes::{LexemeClass, Punctuation, Role, class_of_name, role_of};
 use crate::layout::{Note, Setting};
@@ -10,16 +10,16 @@ use logos_token::error::Memory;
 use logos_token::token::{Delimiter, Spacing};
 use std::alloc::Global;
 
-/// Lexemes that are put into lines.
+/// A layout in progress: the lines so far, and the state.
 #[derive(Drop)]
 struct Layout {
     lines: WordLines,
     state: LayoutState,
-    /// What the open delimiters enclose, without the innermost one, from the outermost on.
+    /// The content of the open delimiters except the innermost one, from the outermost on.
     outer: Vec<Open>,
 }
 
-/// Returns a text in lines, or as much of it as can be read into lexemes.
+/// Returns a text in lines, up to the first byte that cannot be read into a lexeme.
 pub(crate) fn lines_of(alloc: Global, text: &str, setting: Setting<'_>) -> Result<String, Memory> {
     let mut layout = Layout {
         lines: WordLines::new(alloc, setting.margin)?,
@@ -38,7 +38,7 @@ pub(crate) fn lines_of(alloc: Global, text: &str, setting: Setting<'_>) -> Resul
 }
 
 impl Layout {
-    /// Adds a lexeme or a gap that these bytes follow.
+    /// Adds a lexeme or a gap that is followed by the bytes `ahead`.
     fn add_piece(&mut self, kind: LexemeKind, piece: &str, ahead: &[u8]) -> Result<(), Memory> {
         let last = self.state.last;
         match kind {
@@ -55,7 +55,7 @@ impl Layout {
         }
     }
 
-    /// Adds the first of these comments, if it stands before this byte offset. Returns the others.
+    /// Adds the first of these comments, if it belongs before this byte offset. Returns the others.
     fn add_note<'n>(
         &mut self,
         alloc: Global,
@@ -73,7 +73,7 @@ impl Layout {
         }
     }
 
-    /// Returns what a character of punctuation does.
+    /// Returns the role of a character of punctuation.
     fn role(&self, character: u8, spacing: Spacing) -> Role {
         role_of(Punctuation {
             character,
@@ -138,7 +138,7 @@ fn first_byte(text: &str) -> u8 {
     }
 }
 
-/// Returns what white space has.
+/// Returns the class of white space.
 fn gap_of(space: &[u8]) -> Gap {
     let mut gap = Gap::Blank;
     for byte in space {
@@ -147,7 +147,7 @@ fn gap_of(space: &[u8]) -> Gap {
     gap
 }
 
-/// Returns what white space has together with one more byte.
+/// Returns the class of white space with one more byte.
 fn gap_with(gap: Gap, byte: u8) -> Gap {
     match (gap, byte) {
         (Gap::Line, b'\n') => Gap::EmptyLine,

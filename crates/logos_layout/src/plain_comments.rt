@@ -1,14 +1,14 @@
-//! Puts inner documentation and attributes into plain comments.
+//! Puts inner documentation and attributes into plain comments. Used by `inner_attributes`.
 //!
-//! Nothing has to be believed of this: what comes of it has to spell no tokens.
+//! The output is untrusted: its caller checks that it spells no tokens.
 
 use crate::pieces::first_piece;
 use logos_lexeme::lexeme::LexemeKind;
 use logos_token::error::Memory;
 use std::alloc::Global;
 
-/// Returns a text of inner documentation comments and attributes as plain comments, or as much of
-/// it as can be read into lexemes.
+/// Returns a text of inner documentation comments and attributes as plain comments, up to the first
+/// byte that cannot be read into a lexeme.
 pub(crate) fn plain_text(alloc: Global, text: &str) -> Result<String, Memory> {
     let mut plain = String::new(alloc);
     let mut depth = 0;
@@ -21,7 +21,7 @@ pub(crate) fn plain_text(alloc: Global, text: &str) -> Result<String, Memory> {
     Ok(plain)
 }
 
-/// Returns how many delimiters are open after a lexeme.
+/// Returns the number of open delimiters after a lexeme.
 fn depth_after(kind: LexemeKind, depth: usize) -> usize {
     match kind {
         LexemeKind::Opening(_) => depth.saturating_add(1),
@@ -30,7 +30,7 @@ fn depth_after(kind: LexemeKind, depth: usize) -> usize {
     }
 }
 
-/// Appends a lexeme or a gap, inside so many delimiters. An attribute is put into a comment.
+/// Appends a lexeme or a gap inside `depth` delimiters. An attribute is put into a comment.
 fn push_piece(
     plain: &mut String,
     kind: LexemeKind,
@@ -63,8 +63,8 @@ fn push_comment(plain: &mut String, comment: &str) -> Result<(), Memory> {
     push(plain, comment, "")
 }
 
-/// Returns what a plain comment with this text begins with: a blank parts it from a character that
-/// would make it documentation.
+/// Returns the beginning of a plain comment with this text. A blank separates it from a character
+/// that would make it documentation.
 fn opening(mark: &'static str, rest: &str) -> &'static str {
     match (mark, rest.as_bytes()) {
         ("//", [b'/' | b'!', ..]) => "// ",

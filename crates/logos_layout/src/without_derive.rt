@@ -1,4 +1,4 @@
-//! A source without some of its lexemes.
+//! A source without some of its lexemes. Called by `writer`.
 
 use crate::kept_lexemes::Staying;
 use crate::pieces::first_piece;
@@ -7,7 +7,7 @@ use logos_token::error::Memory;
 use logos_token::token::Tokens;
 use std::alloc::Global;
 
-/// A text from which lexemes are left out, with the gaps around them.
+/// A text from which lexemes were removed, with the gaps around them.
 #[derive(Drop)]
 struct Thinned {
     text: String,
@@ -15,15 +15,15 @@ struct Thinned {
     gap: String,
     /// Whether that gap has a line end.
     has_line: bool,
-    /// Whether a lexeme after it was left out.
+    /// Whether a lexeme after it was removed.
     is_cut: bool,
-    /// How many delimiters are open that were left out.
+    /// The number of open delimiters that were removed.
     depth: usize,
 }
 
-/// Returns the text of a source without the lexemes that are not among these tokens, or as much of
-/// it as can be read into lexemes. What stands alone on its lines goes with them; comments stay
-/// that are not inside of it.
+/// Returns the text of a source without the lexemes that are not among these tokens, up to the
+/// first byte that cannot be read into a lexeme. A line on which only such lexemes are is removed
+/// with them. Comments stay unless they are inside of a removed lexeme.
 pub(crate) fn text_without(
     alloc: Global,
     source: &str,
@@ -42,7 +42,7 @@ pub(crate) fn text_without(
     Ok(thinned.text)
 }
 
-/// Returns whether a lexeme stays. A gap is none.
+/// Returns whether a lexeme stays. Gaps do not count.
 fn stays(staying: &mut Staying<'_, '_>, kind: LexemeKind, span: Span) -> Result<bool, Memory> {
     match kind {
         LexemeKind::Gap => Ok(false),
@@ -62,7 +62,7 @@ impl Thinned {
         }
     }
 
-    /// Adds a gap, a lexeme that stays, or one that is left out.
+    /// Adds a gap, a lexeme that stays, or one that is removed.
     fn add_piece(&mut self, kind: LexemeKind, piece: &str, stays: bool) -> Result<(), Memory> {
         match kind {
             LexemeKind::Gap => self.add_gap(piece),
@@ -87,7 +87,7 @@ impl Thinned {
         Ok(())
     }
 
-    /// Leaves a lexeme out.
+    /// Removes a lexeme.
     fn leave_out(&mut self, kind: LexemeKind) {
         self.is_cut = true;
         match kind {
@@ -108,8 +108,8 @@ impl Thinned {
         self.push_gap(piece)
     }
 
-    /// Adds the white space after a lexeme that was left out: it takes the place of a gap without
-    /// a line end if it has one.
+    /// Adds the white space after a removed lexeme. If it has a line end, it replaces a gap without
+    /// one.
     fn join_gap(&mut self, space: &str) -> Result<(), Memory> {
         self.is_cut = false;
         if self.has_line | self.text.is_empty() | !has_line(space.as_bytes()) {

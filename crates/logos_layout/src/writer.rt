@@ -1,4 +1,4 @@
-//! Writes what stays of a source.
+//! Writes the remaining tokens of a source. Called for stripping and expanding.
 
 ghost use Rattle.std.specs.Prelude.{IfOk, string_bytes};
 ghost use Rattle.logos_layout.specs.Imports.{IsWrittenAs, tokens_of};
@@ -9,11 +9,11 @@ use logos_token::error::Memory;
 use logos_token::token::{Tokens, print};
 use std::alloc::Global;
 
-/// Returns the text of those tokens of a source that stay, as it stands in the source: its comments
-/// and its layout stay too. A line on which nothing stays goes.
+/// Returns the text of the remaining tokens of a source, with its comments and its layout. A line
+/// on which nothing stays is removed.
 ///
-/// `left` are tokens of the source with their spans in it, in their order, perhaps with fewer
-/// tokens inside their groups. If they are not, the text is that of `print`.
+/// `left` are tokens of the source with their spans in it, in order, possibly with fewer tokens
+/// inside their groups. Otherwise the text is that of `print`.
 ///
 /// # Errors
 ///

@@ -1,4 +1,5 @@
--- Definitions that clauses cite: of lower crates, and those of this one that name no type of it.
+-- Definitions that contracts cite: those of lower crates, and those of this crate that name none of
+-- its types.
 pub use Rattle.logos_attribute.specs.LiteralViews.{literal_view}
 pub use Rattle.logos_attribute.specs.Reports.{AddsFault, IsReport}
 pub use Rattle.logos_definition.specs.DefinitionViews.{definition_view}
@@ -10,10 +11,10 @@ pub use Rattle.logos_enum.specs.Values.{Slice, ident_slice, parameter_value}
 pub use Rattle.logos_hir.specs.Hir.{literal_tree}
 pub use Rattle.logos_pattern.specs.Leaf.{KindValue, holding, is_token, kind_value, pattern_tree, plain, skipped, source_of}
 pub use Rattle.logos_pattern.specs.Literals.{token_of}
-pub use Rattle.logos_subpattern.specs.PatternFaults.{IsRead}
-pub use Rattle.logos_subpattern.specs.SubpatternViews.{names_of}
-pub use Rattle.logos_subpattern.specs.Subpatterns.{pattern_text}
-pub use Rattle.logos_subpattern.specs.Substitution.{subst_report}
+pub use Rattle.logos_leaf.specs.subpattern.PatternFaults.{IsRead}
+pub use Rattle.logos_leaf.specs.subpattern.SubpatternViews.{names_of}
+pub use Rattle.logos_leaf.specs.subpattern.Subpatterns.{pattern_text}
+pub use Rattle.logos_leaf.specs.subpattern.Substitution.{subst_report}
 pub use Rattle.logos_token.specs.Faults.{Fault}
 pub use Rattle.logos_token.specs.Views.{tokens_of}
 pub use Rattle.logos_type.specs.Parts.{Tree}

@@ -1,4 +1,4 @@
--- What contracts see of leaves.
+-- The views of leaves in contracts.
 use Rattle.std.specs.Prelude.{option_map}
 use Rattle.logos_pattern.specs.Leaf.{pattern_tree, source_of, is_token, kind_value}
 use Rattle.logos_pattern.specs.declared.leaf.Leaf.{Leaf}

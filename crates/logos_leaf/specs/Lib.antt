@@ -1,3 +1,4 @@
+pub mod subpattern
 pub mod LeafViews
 pub mod Leaves
 pub mod Sources

@@ -17,7 +17,7 @@ use Rattle.logos_attribute.specs.Reports.{IsReport, AddsFault}
 use Rattle.logos_definition.specs.Definitions.{DefinitionView}
 use Rattle.logos_definition.specs.Metas.{Meta, meta_of}
 use Rattle.logos_definition.specs.Attributes.{meta_report}
-use Rattle.logos_subpattern.specs.Substitution.{Stored}
+use Rattle.logos_leaf.specs.subpattern.Substitution.{Stored}
 use Rattle.logos_leaf.specs.Leaves.{LeafView, IsTokenLeaf, IsRegexLeaf}
 use Rattle.logos_leaf.specs.VariantFaults.{variant_fields, count_faults, named_fields, error_variant, token_form, regex_form}
 
@@ -25,9 +25,9 @@ use Rattle.logos_leaf.specs.VariantFaults.{variant_fields, count_faults, named_f
 pub data HoldsType (params : Params) (name : Ident) (field : FieldValue) (old new : List Fault) : KindValue → Type 0 where
   holds : {type : TypeTree} → GetsType params field.type (run_span field.run) old new type → HoldsType params name field old new (holding name type)
 
--- The kind of a variant. One without a field in its parentheses, and one with named fields, is
--- reported and then read as a skip. Of two or more fields, which are reported, the first one's type
--- is taken.
+-- The kind of a variant. A variant with empty parentheses, or with named fields, is reported and
+-- then read as a skip. A variant with two or more fields is reported, and its kind has the type of
+-- the first field.
 pub data KindIs (params : Params) (name : Ident) (old new : List Fault) : FieldsValue → KindValue → Type 0 where
   no_field : new ≡ old → KindIs params name old new no_fields (plain name)
   empty : {span : Span} → AddsFault (variant_fields 0 span) old new → KindIs params name old new (in_parenthesis span []) skipped
@@ -40,8 +40,8 @@ abbrev pub is_named : Option Meta → List ℕ → Bool
 is_named None text = false
 is_named (Some meta) text = bytes_eq meta.name.text text
 
--- The leaf of a `token` attribute, if it has one. One without a definition is reported at the
--- attribute, after the faults of the definition.
+-- The leaf of a `token` attribute, if it has one. An attribute without a definition is reported,
+-- after the faults of the definition.
 pub data TokenYields (kind : KindValue) (attribute : AttributeValue) (old new : List Fault) : Option LeafView → Type 0 where
   no_token : {mid : List Fault} → IsReport (meta_report (meta_of attribute)) None old mid → AddsFault (token_form attribute.span) mid new → TokenYields kind attribute old new None
   a_token : {mid : List Fault} {definition : DefinitionView} {leaf : Option LeafView} → IsReport (meta_report (meta_of attribute)) (Some definition) old mid →
@@ -53,7 +53,8 @@ pub data RegexYields (names : List Stored) (kind : KindValue) (attribute : Attri
   a_regex : {mid : List Fault} {definition : DefinitionView} {leaf : Option LeafView} → IsReport (meta_report (meta_of attribute)) (Some definition) old mid →
       IsRegexLeaf definition kind names leaf mid new → RegexYields names kind attribute old new leaf
 
--- The leaf of an attribute of a variant, if it has one, by its name. Any other attribute has none.
+-- The leaf of an attribute of a variant, if it has one, according to the attribute's name.
+-- Attributes with other names have none.
 pub data AttributeYields (names : List Stored) (kind : KindValue) (attribute : AttributeValue) (old new : List Fault) : Option LeafView → Type 0 where
   on_error : is_named (meta_of attribute) (codes "error") ≡ true → AddsFault (error_variant attribute.span) old new → AttributeYields names kind attribute old new None
   on_token : {leaf : Option LeafView} → is_named (meta_of attribute) (codes "token") ≡ true → TokenYields kind attribute old new leaf → AttributeYields names kind attribute old new leaf

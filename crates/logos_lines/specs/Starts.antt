@@ -8,7 +8,8 @@ pub record IsStart (text : List ℕ) (line offset : ℕ) : Type 0 where
   pub boundary : IsCharBoundary text offset
   pub location : location_at text offset ≡ record { line = line; column = 1 }
 
--- These are the offsets up to one at which the lines of a text begin, one for each line, in order.
+-- These are the offsets, up to `to`, at which the lines of a text begin, one for each line, in
+-- order.
 pub record AreStartsTo (text : List ℕ) (starts : List ℕ) (to : ℕ) : Type 0 where
   pub some : 0 < length starts
   pub first : get_or starts 0 0 ≡ 0
@@ -35,7 +36,7 @@ pub record IsLongLine (text : List ℕ) (line most : ℕ) : Type 0 where
   pub start : IsStart text line from
   pub longer : most < line_length (drop from text)
 
--- These are the positions of the offsets 0, 256, 512 .. of the text, up to its end.
+-- These are the locations of the offsets 0, 256, 512 and so on of the text, up to its end.
 pub record AreStops (text : List ℕ) (stops : List Location) : Type 0 where
   pub whole : length text < length stops * 256
   pub each : (k : ℕ) (other : Location) → k < length stops → get_or stops k other ≡ location_at text (k * 256)

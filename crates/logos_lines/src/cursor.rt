@@ -1,5 +1,5 @@
-//! A position in a text that moves forward. A table whose rows ascend moves one cursor in place of
-//! a search for each row.
+//! An offset in a text that moves forward with its line and column. Tables with ascending rows move
+//! one cursor instead of searching for each row.
 
 ghost use Rattle.std.specs.Prelude.{◌≡◌, ◌≤◌, max, min, length};
 ghost use Rattle.logos_lines.specs.Views.{location_at};
@@ -7,9 +7,9 @@ ghost use Rattle.logos_lines.specs.Views.{location_at};
 use crate::location::Location;
 use std::marker::Model;
 
-/// An offset in a text, in bytes, with its line and column. It only moves forward.
+/// An offset in a text, in bytes, with its line and column. It moves only forward.
 ///
-/// Walking a whole text by one cursor takes time linear in its length.
+/// Moving one cursor over a whole text takes time linear in the length of the text.
 #[derive(Drop)]
 pub struct Cursor<'t> {
     bytes: &'t [u8],
@@ -41,7 +41,7 @@ impl<'t> Cursor<'t> {
         }
     }
 
-    /// Returns a cursor at an offset of a text that has this position.
+    /// Returns a cursor at `offset`, whose line and column are `location`.
     pub(crate) fn at(bytes: &'t [u8], offset: usize, location: Location) -> Cursor<'t>
         requires inside { offset ≤ length bytes.now }
         requires location { location ≡ location_at bytes.now offset }

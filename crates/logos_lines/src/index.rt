@@ -1,4 +1,4 @@
-//! The lines of a text. Reports and tables make one for each file that they show.
+//! The lines of a text. Reports and tables create an index for each file that they show.
 
 ghost use Rattle.std.specs.Prelude.{◌≡◌, ◌<◌, ◌≤◌, ◌+◌, ◌^◌, ◌∷◌, [], ℕ, List, Some, None, ◌⊎◌, IfOk, IfSome, MatchOption, OnOk, IsCharBoundary, ◌++◌, ◌==◌, if◌then◌else◌, length, drop};
 ghost use Rattle.logos_lines.specs.Views.{location_at, ends_line, line_length, ends_search, next_column, AreStarts, AreStops, IsLineOf, IsLongLine, IsNoLine, IsStart};
@@ -8,18 +8,18 @@ use crate::location::{Location, continues};
 use std::alloc::{AllocError, Global};
 use std::marker::Model;
 
-/// How many bytes lie from one stop to the next.
+/// The distance between two stops, in bytes.
 const STEP: usize = 256;
 
 /// A text with the offsets at which its lines begin. A line ends in LF or CR LF.
 ///
-/// Offsets count bytes from 0, lines count from 1, and columns count characters from 1. The
-/// position of an offset is found in the same time wherever it is, also in a text of one long line.
+/// Offsets count bytes from 0, lines count from 1, and columns count characters from 1. Finding the
+/// line and column of an offset takes the same time anywhere in the text, even in one long line.
 #[derive(Drop)]
 pub struct LineIndex<'t> {
     text: &'t str,
     starts: Vec<usize>,
-    /// The positions of the offsets 0, 256, 512 .. of the text.
+    /// The locations of the offsets 0, 256, 512 and so on.
     stops: Vec<Location>,
 }
 
@@ -53,8 +53,8 @@ impl<'t> LineIndex<'t> {
         })
     }
 
-    /// Returns the line and the column of an offset. An offset past the end of the text has those
-    /// of the end, and one inside a character those after its first byte.
+    /// Returns the line and the column of an offset. An offset past the end of the text is treated
+    /// as the end, and an offset inside a character as the offset after its first byte.
     pub fn line_column(&self, offset: usize) -> Location
         ensures { result ≡ location_at self.now offset }
     {
@@ -65,8 +65,8 @@ impl<'t> LineIndex<'t> {
         cursor.location()
     }
 
-    /// Returns the offset of a line and a column, or `None` if the text does not have them. On
-    /// boundaries between characters this is the inverse of `line_column`.
+    /// Returns the offset of a line and a column, or `None` if the text does not have them. At
+    /// character boundaries this is the inverse of `line_column`.
     pub fn offset(&self, line: usize, column: usize) -> Option<usize>
         ensures found { IfSome result (λ offset. IsCharBoundary self.now offset
             × (location_at self.now offset ≡ record { line = line; column = column })) }
@@ -89,7 +89,7 @@ impl<'t> LineIndex<'t> {
     }
 
     /// Returns the text of a line without LF or CR LF, or `None` if the text has no such line, or
-    /// if the line has more than `most` bytes. It looks at no more than `most` bytes and the end of
+    /// if the line has more than `most` bytes. Examines no more than `most` bytes and the end of
     /// the line.
     pub fn short_line(&self, line: usize, most: usize) -> Option<&'t str>
         ensures { MatchOption result (IsNoLine self.now line ⊎ IsLongLine self.now line most)
@@ -138,7 +138,7 @@ fn push_start(starts: &mut Vec<usize>, at: usize, byte: u8) -> Result<(), AllocE
     Ok(())
 }
 
-/// Returns the positions of the offsets 0, 256, 512 .. of a text.
+/// Returns the locations of the offsets 0, 256, 512 and so on of a text.
 fn stops_of(alloc: Global, bytes: &[u8]) -> Result<Vec<Location>, AllocError>
     ensures { IfOk result (λ stops. AreStops bytes.now stops.items) }
 {
@@ -186,7 +186,7 @@ fn offset_in_line(text: &str, start: usize, line: usize, column: usize) -> Optio
     if reached == column { Some(at) } else { None }
 }
 
-/// Returns whether LF or CR LF stands at an offset.
+/// Returns whether LF or CR LF is at an offset.
 fn ends_line(bytes: &[u8], at: usize) -> bool
     requires { at < length bytes.now }
     ensures { result ≡ ends_line (drop at bytes.now) }
@@ -196,7 +196,7 @@ fn ends_line(bytes: &[u8], at: usize) -> bool
     (bytes[at] == b'\n') | is_return
 }
 
-/// Returns the offset at which the text of a line ends, by the offset at which it begins.
+/// Returns the offset at which the text of the line that begins at `start` ends.
 fn line_end(text: &str, start: usize) -> usize
     requires { start ≤ length text.now }
     ensures value { result ≡ start + line_length (drop start text.now) }
@@ -211,8 +211,8 @@ fn line_end(text: &str, start: usize) -> usize
     end
 }
 
-/// Returns the offset at which the text of a line ends, by the offset at which it begins, or `None`
-/// if the line has more than `most` bytes.
+/// Returns the offset at which the text of the line that begins at `start` ends, or `None` if the
+/// line has more than `most` bytes.
 fn near_end(text: &str, start: usize, most: usize) -> Option<usize>
     requires { start ≤ length text.now }
     ensures value { MatchOption result (most < line_length (drop start text.now))

@@ -1,4 +1,4 @@
-//! Lines and columns of a text.
+//! Lines and columns of a text, for reports of faults and for tables.
 
 #![tactic(auto)]
 

@@ -1,4 +1,4 @@
-//! Lines and columns.
+//! A location: a line and a column. `index` and `cursor` compute locations with it.
 
 ghost use Rattle.std.specs.Prelude.{◌≡◌, ◌<◌, ◌+◌, ◌^◌, ℕ, List, IsCharBoundary};
 ghost use Rattle.logos_lines.specs.Views.{after_byte, continues, location_at};
@@ -11,14 +11,14 @@ pub struct Location {
 }
 
 impl Location {
-    /// Returns the position of the start of a text.
+    /// Returns the location of the start of a text.
     pub(crate) fn first() -> Location
         ensures { result ≡ record { line = 1; column = 1 } }
     {
         Location { line: 1, column: 1 }
     }
 
-    /// Returns the position after one more byte.
+    /// Returns the location after one more byte.
     pub(crate) fn after(self, byte: u8) -> Location
         requires line { self.line + 1 < 2 ^ 64 }
         requires column { self.column + 1 < 2 ^ 64 }

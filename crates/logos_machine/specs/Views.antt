@@ -1,4 +1,4 @@
--- Definitions that clauses cite: those of `Words`, and those that name types of this crate.
+-- Definitions that contracts cite: those of `Imports`, and those that name types of this crate.
 pub use Rattle.logos_machine.specs.Imports.{Does, EndsError, IsEntry, IsRowStart, IsSound, IsStatus, IsValidUpTo, NamesTest, Runs, StaysWithin, Attempts, calls_back_for, codes, error, fork_of, looped, mark_by, marked, mask_l, named, passes_test, state_at, target, token}
 pub use Rattle.logos_machine.specs.LexerValue.{Ends, Yields, Keeps, LexerValue, MatchYields, Takes, TakesMatches, answers_of, begun, item_of}
 pub use Rattle.logos_machine.specs.Loops.{EndIsRun, NextAddsItem, RunsGoOver}

@@ -1,4 +1,4 @@
--- What stands in a line that grows step by step.
+-- The content of a line that is appended to step by step.
 use Rattle.std.proofs.Common.{ℕ, List, [], ◌∷◌, ◌++◌, sym, subst}
 use Rattle.std.proofs.lemmas.List.{append-nil}
 use Rattle.std.proofs.lemmas.Grind.{flat_map-append}

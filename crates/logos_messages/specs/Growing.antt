@@ -1,4 +1,4 @@
--- What is pushed into a line where more than one text may stand.
+-- The tokens that are appended to a line, where several texts are allowed.
 use Rattle.std.specs.Prelude.{◌≡◌, ℕ, List, Option, codes}
 use Rattle.std.specs.List.{flat_map}
 use Rattle.json.specs.Token.{Token}
@@ -9,41 +9,41 @@ use Rattle.logos_report.specs.Locations.{SourceValue}
 use Rattle.logos_messages.specs.Shown.{AreLinesOf, Marked, Note, Shown}
 use Rattle.logos_messages.specs.Tokens.{diagnostic_tokens, marked_tokens, note_tokens, other_tokens, span_tokens, spans_tokens}
 
--- Lines of a file were pushed.
+-- Lines of a file were appended.
 pub record YieldsLines (text : List ℕ) (old new : LinesValue) : Type 0 where
   pub lines : List Marked
   pub are : AreLinesOf text lines
   pub gained : Gains (flat_map marked_tokens lines) old new
 
--- The same as a member.
+-- Lines of a file were appended, as a member.
 pub record YieldsLineList (text : List ℕ) (old new : LinesValue) : Type 0 where
   pub lines : List Marked
   pub are : AreLinesOf text lines
   pub gained : Gains (list_member (codes "text") (flat_map marked_tokens lines)) old new
 
--- Notes were pushed.
+-- Notes were appended.
 pub record YieldsNotes (old new : LinesValue) : Type 0 where
   pub notes : List Note
   pub gained : Gains (flat_map note_tokens notes) old new
 
--- The same as a member.
+-- Notes were appended, as a member.
 pub record YieldsNoteList (old new : LinesValue) : Type 0 where
   pub notes : List Note
   pub gained : Gains (list_member (codes "children") (flat_map note_tokens notes)) old new
 
--- A span was pushed, with lines of the file.
+-- A span was appended, with lines of the file.
 pub record YieldsSpan (source : SourceValue) (begin : ℕ) (span : Span) (label : Option (List ℕ)) (old new : LinesValue) : Type 0 where
   pub lines : List Marked
   pub are : AreLinesOf source.text lines
   pub gained : Gains (span_tokens source begin span label lines) old new
 
--- The second span of a fault was pushed, if it has one.
+-- The second span of a fault was appended, if it has one.
 pub record YieldsOther (source : SourceValue) (begin : ℕ) (also : Option Span) (old new : LinesValue) : Type 0 where
   pub lines : List Marked
   pub are : AreLinesOf source.text lines
   pub gained : Gains (other_tokens source begin also lines) old new
 
--- The spans of a fault or a warning were pushed, as a member.
+-- The spans of a fault or a warning were appended, as a member.
 pub record YieldsSpanList (source : SourceValue) (begin : ℕ) (span : Span) (also : Option Span) (old new : LinesValue) : Type 0 where
   pub lines : List Marked
   pub are : AreLinesOf source.text lines
@@ -51,7 +51,7 @@ pub record YieldsSpanList (source : SourceValue) (begin : ℕ) (span : Span) (al
   pub are_other : AreLinesOf source.text other_lines
   pub gained : Gains (spans_tokens source begin span also lines other_lines) old new
 
--- What begins with this head was pushed, with this report.
+-- A diagnostic with this head was appended, with this report.
 pub record YieldsMessage (source : SourceValue) (begin : ℕ) (head : List Token) (span : Span) (also : Option Span) (rendered : Option (List ℕ)) (old new : LinesValue) : Type 0 where
   pub shown : Shown
   pub lines : AreLinesOf source.text shown.lines

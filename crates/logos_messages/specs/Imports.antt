@@ -1,4 +1,5 @@
--- Definitions that clauses cite: of lower crates, and those of this one that name no type of it.
+-- Definitions that contracts cite: those of lower crates, and those of this crate that name none of
+-- its types.
 pub use Rattle.json.specs.Token.{begin_array, begin_object, boolean, end_array, end_object, key, null, number, string}
 pub use Rattle.logos_json.specs.Lines.{Gains}
 pub use Rattle.logos_json.specs.Members.{list_member}

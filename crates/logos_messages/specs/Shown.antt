@@ -1,21 +1,21 @@
--- What is shown of a fault or a warning beside itself.
+-- The details that are shown with a fault or a warning.
 use Rattle.std.specs.Prelude.{ℕ, List, [], ◌∷◌, Option, IfSome}
 use Rattle.logos_lines.specs.Starts.{IsLineOf}
 use Rattle.logos_report.specs.Locations.{SourceValue}
 use Rattle.logos_page.specs.Pages.{OccurInOrder}
 
--- A line of a file, and the columns of a span in it, without the last one.
+-- A line of a file, and the columns of a span in it, with an exclusive end.
 pub record Marked : Type 0 where
   pub text : List ℕ
   pub from : ℕ
   pub to : ℕ
 
--- A note or a help: which of the two, and its text.
+-- A note or a help: its kind, and its text.
 pub record Note : Type 0 where
   pub level : List ℕ
   pub text : List ℕ
 
--- What is shown of a fault or a warning beside itself: lines of the file at its span and at its
+-- The details that are shown with a fault or a warning: lines of the file at its span and at its
 -- second one, notes and helps, and its report.
 pub record Shown : Type 0 where
   pub lines : List Marked
@@ -28,7 +28,7 @@ abbrev pub AreLinesOf : List ℕ → List Marked → Type 0
 AreLinesOf text [] = Unit {0}
 AreLinesOf text (line ∷ lines) = ((number : ℕ) × IsLineOf text number line.text) × AreLinesOf text lines
 
--- This may be shown: the lines are lines of the file, and these texts stand in the report, in
+-- These details are valid: the lines are lines of the file, and these texts occur in the report, in
 -- order.
 pub record IsShown (source : SourceValue) (texts : List (List ℕ)) (shown : Shown) : Type 0 where
   pub lines : AreLinesOf source.text shown.lines

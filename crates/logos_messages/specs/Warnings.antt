@@ -25,10 +25,10 @@ WarningLines source begin (warning ∷ warnings) lines =
 abbrev pub AreWarnings : SourceValue → ℕ → List Warning → List ℕ → Type 0
 AreWarnings source begin warnings text = (lines : List (List Token)) × WarningLines source begin warnings lines × AreLines lines text
 
--- The line of a warning was pushed.
+-- The line of a warning was appended.
 abbrev pub PutsWarning : SourceValue → ℕ → Warning → LinesValue → LinesValue → Type 0
 PutsWarning source begin warning old new = (line : List Token) × IsWarningLine source begin warning line × Puts (line ∷ []) old new
 
--- The lines of warnings were pushed.
+-- The lines of warnings were appended.
 abbrev pub PutsWarnings : SourceValue → ℕ → List Warning → LinesValue → LinesValue → Type 0
 PutsWarnings source begin warnings old new = (lines : List (List Token)) × WarningLines source begin warnings lines × Puts lines old new

@@ -1,4 +1,4 @@
-//! The line of a fault.
+//! The line of a fault. Used by `messages` and `notes`.
 
 ghost use Rattle.std.specs.Prelude.{◌≡◌, false, IfOk, IfSome, OnOk, option_map, string_bytes};
 ghost use Rattle.logos_messages.specs.Imports.{YieldsMessage, PutsFault, OccurInOrder, fault_head, fault_of, fault_texts};
@@ -11,12 +11,12 @@ use logos_page::Page;
 use logos_report::{KnownFault, Member, Part, Start, push_fault, push_put_in, put_in};
 use std::alloc::{AllocError, Global};
 
-/// A fault, with what belongs to it.
+/// A fault, with its clues.
 #[derive(Clone, Copy)]
 pub(crate) struct FaultMessage<'f, 'c, 'p, 't> {
     pub(crate) part: Part<'p, 't>,
     pub(crate) known: KnownFault<'f>,
-    /// What it is in a set of ambiguous leaves of which something is known.
+    /// Its position in a set of ambiguous leaves with a clue.
     pub(crate) member: Option<Member<'c>>,
     /// The patterns that explain it.
     pub(crate) starts: &'c [Start],
@@ -42,7 +42,7 @@ pub(crate) fn push_fault_line(
     Ok(())
 }
 
-/// Appends a fault, this report of it, and the text of a subpattern that is put in.
+/// Appends a fault, this report of it, and the text about a substituted subpattern.
 fn push_message(
     lines: &mut JsonLines,
     message: FaultMessage<'_, '_, '_, '_>,
@@ -84,7 +84,8 @@ fn rendered(
     Ok(Some(report.finish()?))
 }
 
-/// Returns with which subpattern the byte of a fault counts, or `None` if it counts with none.
+/// Returns the text about the subpattern after whose substitution the byte of a fault is counted,
+/// or `None` if there is none.
 fn put_in_text(
     alloc: Global,
     message: FaultMessage<'_, '_, '_, '_>,

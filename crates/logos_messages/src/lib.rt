@@ -1,4 +1,5 @@
-//! Faults and warnings as lines of JSON in rustc's schema of diagnostics, for editors and for CI.
+//! Writes faults and warnings as lines of JSON in rustc's schema of diagnostics, for editors and
+//! for CI. Called for `--message-format json`.
 
 #![tactic(auto)]
 

@@ -1,4 +1,4 @@
-//! Lines of a file, and the columns of a span in them.
+//! Lines of a file, and the columns of a span in them. Used by `spans`.
 
 ghost use Rattle.std.specs.Prelude.{◌≡◌, [], ◌∷◌};
 ghost use Rattle.logos_messages.specs.Imports.{Gains, YieldsLineList, YieldsLines, marked_tokens};
@@ -7,21 +7,21 @@ use logos_json::JsonLines;
 use logos_lines::Location;
 use logos_report::Source;
 
-/// How many lines a span may go on after its first one to be shown with its lines.
+/// The maximum number of lines after its first one for which a span is shown with its lines.
 const LINES: usize = 8;
 
-/// How many bytes a line that is shown may have.
+/// The maximum length of a line that is shown, in bytes.
 pub(crate) const LONG: usize = 400;
 
-/// Where a span begins and ends.
+/// The start and the end of a span.
 #[derive(Clone, Copy)]
 pub(crate) struct Reach {
     pub(crate) first: Location,
     pub(crate) last: Location,
 }
 
-/// Appends the lines of a span, as a member. Lines that are long are left out, and so are all lines
-/// of a span that has many.
+/// Appends the lines of a span, as a member. Long lines are left out, and if a span has many lines,
+/// all of them are.
 pub(crate) fn push_lines(lines: &mut JsonLines, source: &Source<'_>, reach: Reach)
     ensures { YieldsLineList source.now.text lines.old lines.new }
 {
@@ -65,7 +65,7 @@ fn first_column(reach: Reach, number: usize) -> usize {
     }
 }
 
-/// Returns the column before which a span ends in a line with this text.
+/// Returns the exclusive column at which a span ends in a line with this text.
 fn last_column(reach: Reach, number: usize, text: &str) -> usize {
     if number == reach.last.line {
         reach.last.column

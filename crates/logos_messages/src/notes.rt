@@ -1,4 +1,4 @@
-//! The notes and the help of a fault.
+//! The notes and the help of a fault. Used by `fault`, `rest_line` and `warnings`.
 
 ghost use Rattle.std.specs.Prelude.{◌≡◌, [], ◌∷◌, option_map, string_bytes};
 ghost use Rattle.logos_messages.specs.Imports.{Gains, YieldsNoteList, YieldsNotes, list_member, note_tokens, nothing_tokens};
@@ -23,7 +23,8 @@ pub(crate) fn push_notes(
     lines.end_list();
 }
 
-/// Appends with which subpattern the byte of a fault counts, if it does.
+/// Appends the text about the subpattern after whose substitution the byte of a fault is counted,
+/// if there is one.
 fn push_put_in(lines: &mut JsonLines, put_in: &Option<String>)
     ensures { YieldsNotes lines.old lines.new }
 {
@@ -32,8 +33,7 @@ fn push_put_in(lines: &mut JsonLines, put_in: &Option<String>)
     }
 }
 
-/// Appends a note for each pattern that can look at what stands before its first byte, but no more
-/// than 50.
+/// Appends a note for each pattern that can examine the bytes before its start, but at most 50.
 fn push_starts(lines: &mut JsonLines, starts: &[Start])
     ensures { YieldsNotes lines.old lines.new }
 {
@@ -42,7 +42,7 @@ fn push_starts(lines: &mut JsonLines, starts: &[Start])
     }
 }
 
-/// Appends what is known of a set of ambiguous leaves, and what to do about a fault.
+/// Appends the clue about a set of ambiguous leaves, and the help for a fault.
 fn push_advice(lines: &mut JsonLines, message: FaultMessage<'_, '_, '_, '_>)
     ensures { YieldsNotes lines.old lines.new }
 {
@@ -50,7 +50,7 @@ fn push_advice(lines: &mut JsonLines, message: FaultMessage<'_, '_, '_, '_>)
     push_help(lines, message.known.help);
 }
 
-/// Appends what is known of a set of ambiguous leaves, if this is one of its faults.
+/// Appends the clue about a set of ambiguous leaves, if this is one of its faults.
 fn push_known(lines: &mut JsonLines, member: Option<Member<'_>>)
     ensures { YieldsNotes lines.old lines.new }
 {
@@ -59,7 +59,7 @@ fn push_known(lines: &mut JsonLines, member: Option<Member<'_>>)
     }
 }
 
-/// Returns a text that may be there.
+/// Returns an optional text as a `&str`.
 pub(crate) fn text_of(text: &Option<String>) -> Option<&str>
     ensures { option_map (λ t. t.now) result ≡ option_map string_bytes text.now }
 {
@@ -85,7 +85,7 @@ fn push_other_lines(lines: &mut JsonLines, message: &str)
     }
 }
 
-/// Appends a note for a line of a message, without the blanks in front of it, unless it is empty.
+/// Appends a note for a line of a message, without its leading blanks, unless it is empty.
 fn push_other_line(lines: &mut JsonLines, text: &str)
     ensures { YieldsNotes lines.old lines.new }
 {
@@ -94,7 +94,7 @@ fn push_other_line(lines: &mut JsonLines, text: &str)
     }
 }
 
-/// Appends what to do about a fault, if there is something to say.
+/// Appends the help for a fault, if there is one.
 fn push_help(lines: &mut JsonLines, help: Option<&str>)
     ensures { YieldsNotes lines.old lines.new }
 {
@@ -115,7 +115,7 @@ fn push_note(lines: &mut JsonLines, level: &str, text: &str)
     lines.end_object();
 }
 
-/// Appends that a note has no spans, no notes and no report of its own.
+/// Appends the empty members of a note: its spans, notes and report.
 fn push_nothing_else(lines: &mut JsonLines)
     ensures { Gains nothing_tokens lines.old lines.new }
 {

@@ -1,4 +1,4 @@
-//! The line that says how many faults of a code are left out.
+//! The line with the number of faults of a code that are left out. Used by `messages`.
 
 ghost use Rattle.std.specs.Prelude.{◌≡◌, ◌++◌, ◌∷◌, [], false, IfOk, OnOk, codes, decimal, string_bytes};
 ghost use Rattle.logos_messages.specs.Imports.{Gains, PutsRest, OccurInOrder, left_out_tokens, rest_line};
@@ -11,7 +11,7 @@ use logos_report::push_rest;
 use logos_token::error::FaultCode;
 use std::alloc::{AllocError, Global};
 
-/// Appends the line that says how many faults of a code are left out.
+/// Appends the line with the number of faults of a code that are left out.
 ///
 /// # Errors
 ///
@@ -31,7 +31,7 @@ pub(crate) fn push_rest_line(
     Ok(())
 }
 
-/// Returns the message that says how many faults are left out.
+/// Returns the message with the number of faults that are left out.
 fn rest_message(alloc: Global, count: usize) -> Result<String, AllocError>
     ensures { IfOk result (λ text. string_bytes text ≡ decimal count ++ codes " more are not shown") }
 {
@@ -42,7 +42,7 @@ fn rest_message(alloc: Global, count: usize) -> Result<String, AllocError>
     }
 }
 
-/// Returns the report of that.
+/// Returns the report with the number of faults that are left out.
 fn rest_report(alloc: Global, code: FaultCode, count: usize) -> Result<String, AllocError>
     ensures { IfOk result (λ text.
         OccurInOrder (rest_line false code count ∷ []) (string_bytes text)) }
@@ -53,7 +53,7 @@ fn rest_report(alloc: Global, code: FaultCode, count: usize) -> Result<String, A
     Ok(text)
 }
 
-/// Appends that faults of a code are left out, with this message and this report.
+/// Appends the line for left-out faults of a code, with this message and this report.
 fn push_object(lines: &mut JsonLines, code: FaultCode, message: &str, rendered: &str)
     ensures { Gains (left_out_tokens message.now code rendered.now) lines.old lines.new }
 {

@@ -1,4 +1,4 @@
-//! The spans of a fault or a warning.
+//! The spans of a fault or a warning. Used by `fault` and `warnings`.
 
 ghost use Rattle.std.specs.Prelude.{◌≡◌, [], ◌∷◌, List, Some, None, codes, option_map};
 ghost use Rattle.logos_messages.specs.Imports.{Gains, YieldsOther, YieldsSpan, YieldsSpanList, bytes_tokens, label_tokens, locations_tokens};
@@ -8,7 +8,7 @@ use logos_json::JsonLines;
 use logos_report::Part;
 use logos_token::token::Span;
 
-/// Appends a span of a part of a file. Without a label it is the one that its fault is about.
+/// Appends a span of a part of a file. Without a label it is the primary span of its fault.
 fn push_span(lines: &mut JsonLines, part: Part<'_, '_>, span: Span, label: Option<&str>)
     ensures { YieldsSpan part.entry.source.now part.entry.offset span (option_map (λ t. t.now) label.entry)
         lines.old lines.new }
@@ -34,8 +34,8 @@ fn push_other(lines: &mut JsonLines, part: Part<'_, '_>, also: Option<Span>)
     }
 }
 
-/// Appends the spans of a fault or a warning, as a member: the one that it is about, and the second
-/// one, if it has one.
+/// Appends the spans of a fault or a warning, as a member: the primary one, and the second one, if
+/// it has one.
 pub(crate) fn push_spans(lines: &mut JsonLines, part: Part<'_, '_>, span: Span, also: Option<Span>)
     ensures { YieldsSpanList part.entry.source.now part.entry.offset span also lines.old lines.new }
 {
@@ -64,7 +64,7 @@ fn push_locations(lines: &mut JsonLines, reach: Reach)
     lines.push_number("column_end", reach.last.column);
 }
 
-/// Appends whether a span is the one that its fault is about, and its label.
+/// Appends whether a span is the primary one of its fault, and its label.
 fn push_label(lines: &mut JsonLines, label: Option<&str>)
     ensures { Gains (label_tokens (option_map (λ t. t.now) label.entry)) lines.old lines.new }
 {
@@ -82,7 +82,7 @@ fn push_other_label(lines: &mut JsonLines, label: &str)
     lines.push_text("label", label);
 }
 
-/// Appends that a span is the one that its fault is about.
+/// Appends the mark of a primary span.
 fn push_primary(lines: &mut JsonLines)
     ensures { Gains (label_tokens None) lines.old lines.new }
 {

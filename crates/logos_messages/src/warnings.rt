@@ -1,4 +1,4 @@
-//! The warnings of a part of a file, one line for each.
+//! The warnings of a part of a file, one line for each. Used by `logos_file_warnings`.
 
 ghost use Rattle.std.specs.Prelude.{◌≡◌, ◌++◌, ℕ, List, false, IfOk, IfSome, OnErr, OnOk, option_map, string_bytes};
 ghost use Rattle.logos_messages.specs.Imports.{AreWarnings, Gains, YieldsMessage, YieldsNoteList, YieldsNotes, PutsWarning, PutsWarnings, OccurInOrder, shown_of, warning_head, warning_texts};
@@ -12,9 +12,9 @@ use logos_report::{Part, Warning, first_of, push_warning};
 use logos_token::error::Memory;
 use std::alloc::{AllocError, Global};
 
-/// Appends a line of JSON for each warning of a part of a file, in order, but no more than 50. A
-/// line has the members of rustc's diagnostics, of which `rendered` is the report of the warning,
-/// without colors, or null where its lines are long.
+/// Appends a line of JSON for each warning of a part of a file, in order, but at most 50. A line
+/// has the members of rustc's diagnostics, of which `rendered` is the report of the warning,
+/// without colors, or null if its lines are long.
 ///
 /// # Errors
 ///
@@ -95,7 +95,7 @@ fn push_object(lines: &mut JsonLines, part: Part<'_, '_>, warning: &Warning, ren
     lines.end_object();
 }
 
-/// Appends that a line is a diagnostic, and the message and the level of its warning.
+/// Appends the marker of a diagnostic, and the message and the level of its warning.
 fn push_head(lines: &mut JsonLines, message: &str)
     ensures { Gains (warning_head message.now) lines.old lines.new }
 {

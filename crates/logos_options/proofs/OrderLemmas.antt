@@ -82,7 +82,7 @@ reads program (word ∷ value ∷ arguments) (one ∷ rest) (in_two e m) s (Some
     ap (λ o. with_arguments program (with_step program (held f g v q) o) (value ∷ arguments)) e
     ∙ reads program arguments rest m s.1 (with_given program (held f g v q) one) (still_held program f g v q one s.0)
 
--- Two options may change their places.
+-- Two options may be exchanged.
 abbrev chain : Bool → Bool → ArgumentsValue → Option ArgumentsValue
 chain s t end = if s then None else (if t then None else Some end)
 

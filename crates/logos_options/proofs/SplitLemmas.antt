@@ -1,4 +1,4 @@
--- Cutting a word at its first `=`.
+-- Cutting an argument at its first `=`.
 use Rattle.std.proofs.Common.{◌≡◌, ◌≢◌, ◌<◌, ℕ, List, length, Some, None, refl, arith, eq-eqb, ne_eqb}
 use Rattle.std.specs.List.{after_first, before_first, position_or_len}
 use Rattle.logos_options.specs.ArgumentSteps.{is_equals, split_at_equals}

@@ -1,11 +1,11 @@
--- The words of a command line, one after another.
+-- The arguments of a command line, one after another.
 use Rattle.std.proofs.Common.{◌≡◌, ◌<◌, ◌+◌, ℕ, suc, List, [], ◌∷◌, Some, None, length, get_or, drop, map, sym, ap, ◌∙◌, refl, arith}
 use Rattle.std.proofs.Math.Seq.{drop-cons}
 use Rattle.logos_options.specs.Arguments.{ArgumentsValue, with_word, with_arguments}
 use Rattle.logos_options.specs.declared.program.Program.{Program}
 
 module _ {A : Type 0} (f : A → List ℕ) (arguments : List A) (i : ℕ) (program : Program) (given : ArgumentsValue) where
-  -- The next word gives this.
+  -- The meaning of the next argument.
   next_word : (item : A) → i < length arguments → item ≡ get_or arguments i item →
       with_arguments program (Some given) (map f (drop i arguments)) ≡ with_arguments program (with_word program given (f item)) (map f (drop (i + 1) arguments))
   next_word item l e =

@@ -9,17 +9,17 @@ use Rattle.logos_options.specs.declared.argument_steps.Use.{Use}
 use Rattle.logos_options.specs.declared.argument_steps.Use.TheVariants as uses
 use Rattle.logos_options.specs.Options.{option_named, takes_value}
 
--- An option with its value, which is empty for an option without one.
+-- An option with its value, which is empty for an option that takes none.
 pub record OptionValue : Type 0 where
   pub option : OptionName
   pub value : List ℕ
 
--- What an argument, or two, are read as: a path, or an option.
+-- The meaning of an argument, or of two: a path, or an option.
 pub data UseValue : Type 0 where
   path : (word : List ℕ) → UseValue
   given : (one : OptionValue) → UseValue
 
--- What one more argument is read as, and how far the arguments are read then.
+-- The meaning of one more argument, and the state of reading after it.
 pub record StepValue : Type 0 where
   pub progress : ArgumentProgress
   pub found : Option UseValue
@@ -50,18 +50,18 @@ abbrev pub with_split : ArgumentProgress → Option (List ℕ × List ℕ) → O
 with_split progress None = None
 with_split progress (Some parts) = with_value progress (option_named parts.0) parts.1
 
--- An argument that begins with `-` and is not an option.
+-- An argument that begins with `-` and is not an option: an option and its value, separated by `=`.
 abbrev pub with_assigned : ArgumentProgress → List ℕ → Option StepValue
 with_assigned progress word = with_split progress (split_at_equals word)
 
--- An argument that may be an option; one with a value waits for the next argument.
+-- An argument that may be an option. If it takes a value, the next argument is the value.
 abbrev pub with_option : ArgumentProgress → Option OptionName → List ℕ → Option StepValue
 with_option progress (Some option) word =
     if takes_value option then Some (record { progress = record { pending = Some option; is_over = false }; found = None })
     else finds progress (given (record { option = option; value = [] }))
 with_option progress None word = if begins_option word then with_assigned progress word else finds progress (path word)
 
--- An argument that is not the value of an option; after `--` all are paths.
+-- An argument that is not the value of an option. After `--` all arguments are paths.
 abbrev pub with_written : ArgumentProgress → List ℕ → Option StepValue
 with_written progress word =
     if bytes_eq word (codes "--") then Some (record { progress = record { pending = None; is_over = true }; found = None })
@@ -71,7 +71,7 @@ abbrev pub with_pending : ArgumentProgress → Option OptionName → List ℕ �
 with_pending progress (Some option) word = finds (record { pending = None; is_over = progress.is_over }) (given (record { option = option; value = word }))
 with_pending progress None word = if progress.is_over then finds progress (path word) else with_written progress word
 
--- What one more argument is read as, if it fits.
+-- The meaning of one more argument, if it is valid.
 abbrev pub step : ArgumentProgress → List ℕ → Option StepValue
 step progress word = with_pending progress progress.pending word
 
@@ -83,6 +83,6 @@ abbrev pub use_value : Use → UseValue
 use_value (uses.Path word) = path word.now
 use_value (uses.Given one) = given (option_value one)
 
--- What an argument is read as, as a value.
+-- The view of a step.
 abbrev pub step_value : ArgumentStep → StepValue
 step_value next = record { progress = next.progress; found = option_map use_value next.found }

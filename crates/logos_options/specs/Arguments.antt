@@ -13,8 +13,8 @@ use Rattle.logos_options.specs.declared.options.OptionRole.TheVariants as roles
 use Rattle.logos_options.specs.declared.program.Program.{Program}
 use Rattle.logos_options.specs.declared.program.Program.TheVariants.{Cli, Show}
 
--- Two paths; for the number of each setting its value, if it is given; a question; the option whose
--- text is requested; and how far the arguments are read.
+-- The two paths; for the number of each setting its value, if it is given; a question; the option
+-- whose text is requested; and the state of reading.
 pub record ArgumentsValue : Type 0 where
   pub first : Option (List ℕ)
   pub second : Option (List ℕ)
@@ -45,17 +45,17 @@ with_path program arguments word =
     if is_some arguments.first then (if is_some arguments.second then with_third program arguments else Some (record arguments { second = Some word }))
     else Some (record arguments { first = Some word })
 
--- A setting, which is given once.
+-- A setting, which may be given once.
 abbrev pub with_setting : ArgumentsValue → OptionValue → Option ArgumentsValue
 with_setting arguments one =
     if is_set one.option arguments.settings then None
     else Some (record arguments { settings = set arguments.settings (number one.option) (Some one.value) })
 
--- A question, the only one.
+-- A question, of which there may be one.
 abbrev pub with_question : ArgumentsValue → OptionValue → Option ArgumentsValue
 with_question arguments one = if is_some arguments.question then None else Some (record arguments { question = Some one })
 
--- An option, by what it does.
+-- An option, depending on its role.
 abbrev pub with_role : ArgumentsValue → OptionValue → OptionRole → Option ArgumentsValue
 with_role arguments one roles.Setting = with_setting arguments one
 with_role arguments one roles.Question = with_question arguments one
@@ -88,7 +88,7 @@ with_arguments program arguments [] = arguments
 with_arguments program None (word ∷ rest) = None
 with_arguments program (Some arguments) (word ∷ rest) = with_arguments program (with_word program arguments word) rest
 
--- No option waits for a value, or a text is requested.
+-- No option lacks its value, or a text is requested.
 abbrev pub settled_by : ArgumentsValue → Option OptionName → Option OptionName → Option ArgumentsValue
 settled_by arguments (Some text) pending = Some arguments
 settled_by arguments None None = Some arguments
@@ -102,11 +102,11 @@ settled (Some arguments) = settled_by arguments arguments.text arguments.progres
 abbrev pub arguments_of : Program → List (List ℕ) → Option ArgumentsValue
 arguments_of program arguments = settled (with_arguments program (Some nothing_given) arguments)
 
--- The values of the program's types.
+-- The views of the program's types.
 abbrev pub settings_value : Settings → List (Option (List ℕ))
 settings_value settings = map (option_map (λ text. text.now)) settings.values
 
--- The arguments of a command line, as a value.
+-- The view of the arguments of a command line.
 abbrev pub arguments_value : Arguments → ArgumentsValue
 arguments_value arguments = record {
   first = option_map (λ path. path.now) arguments.first;

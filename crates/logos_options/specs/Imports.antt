@@ -1,4 +1,5 @@
--- Definitions that clauses cite: of lower crates, and those of this one.
+-- Definitions that contracts cite: those of lower crates, and those of this crate that name none of
+-- its types.
 pub use Rattle.logos_host.specs.Failures.{IsNoMisuse, IsOutputFailure, status_of}
 pub use Rattle.std.specs.List.{list_all}
 pub use Rattle.logos_options.specs.ArgumentSteps.{OptionValue, begins_option, option_value, split_at_equals, step, step_value, use_value, with_assigned, with_option, with_written}

@@ -6,7 +6,7 @@ use Rattle.logos_options.specs.declared.options.OptionRole.{OptionRole}
 use Rattle.logos_options.specs.declared.options.OptionRole.TheVariants.{Setting, Question, Text}
 use Rattle.logos_options.specs.declared.options.OptionRow.{OptionRow}
 
--- A row of the table: an option, its word, perhaps its word of one letter, whether it has a value,
+-- A row of the table: an option, its name, its short name if it has one, whether it has a value,
 -- what it does, and whether `logos_cli` and `logos_show` take it.
 pub record OptionRowValue : Type 0 where
   pub option : OptionName
@@ -62,7 +62,7 @@ number options.Version = 14
 abbrev pub row_of : OptionName → OptionRowValue
 row_of option = get_or rows (number option) (row option [] None false Setting false false)
 
--- Whether a word is that of a row.
+-- Whether `word` is the short name of a row.
 abbrev pub is_letter : Option (List ℕ) → List ℕ → Bool
 is_letter None word = false
 is_letter (Some letter) word = bytes_eq word letter
@@ -70,16 +70,16 @@ is_letter (Some letter) word = bytes_eq word letter
 abbrev pub is_named : OptionRowValue → List ℕ → Bool
 is_named row word = is_letter row.letter word || bytes_eq word row.word
 
--- The option of the first of these rows that a word names.
+-- The option of the first of these rows that has the name `word`.
 abbrev pub named_in : List OptionRowValue → List ℕ → Option OptionName
 named_in [] word = None
 named_in (row ∷ rest) word = if is_named row word then Some row.option else named_in rest word
 
--- The option with a word, such as `--output` or `-o`.
+-- The option with a name, such as `--output` or `-o`.
 abbrev pub option_named : List ℕ → Option OptionName
 option_named word = named_in rows word
 
--- The word of an option.
+-- The name of an option.
 abbrev pub word_of : OptionName → List ℕ
 word_of option = (row_of option).word
 
@@ -87,11 +87,11 @@ word_of option = (row_of option).word
 abbrev pub takes_value : OptionName → Bool
 takes_value option = (row_of option).has_value
 
--- What an option does.
+-- The effect of an option.
 abbrev pub role_of : OptionName → OptionRole
 role_of option = (row_of option).role
 
--- A row of the code's table. The lines of the help are left out.
+-- The view of a row of the code's table, without the lines of the help.
 abbrev pub row_value : OptionRow → OptionRowValue
 row_value row = record {
   option = row.option;

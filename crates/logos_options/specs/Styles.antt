@@ -1,4 +1,4 @@
--- How messages are written.
+-- The style of messages.
 use Rattle.std.specs.Prelude.{ℕ, List, Option, Some, None}
 use Rattle.logos_host.specs.Colors.{color_named}
 use Rattle.logos_host.specs.Formats.{format_named}
@@ -25,6 +25,6 @@ style_of None format = None
 style_of (Some color) None = None
 style_of (Some color) (Some format) = Some (record { format = format; color = color })
 
--- The style that settings give, if their values have the names of one.
+-- The style that settings select, if their values are valid.
 abbrev pub style_given : List (Option (List ℕ)) → Option MessageStyle
 style_given settings = style_of (color_given (setting options.Color settings)) (format_given (setting options.MessageFormat settings))

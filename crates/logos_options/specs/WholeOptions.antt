@@ -1,4 +1,4 @@
--- Arguments that spell whole options.
+-- Arguments that are whole options.
 use Rattle.std.specs.Prelude.{◌≡◌, ◌≢◌, ℕ, List, [], ◌∷◌, false, Some, None}
 use Rattle.logos_options.specs.ArgumentSteps.{OptionValue, given, step}
 use Rattle.logos_options.specs.Options.{number, role_of}
@@ -6,7 +6,7 @@ use Rattle.logos_options.specs.Paths.{not_begun}
 use Rattle.logos_options.specs.declared.options.OptionName.{OptionName}
 use Rattle.logos_options.specs.declared.options.OptionRole.TheVariants as roles
 
--- The arguments spell these options with their values, in order: each in one argument, or with its
+-- The arguments are these options with their values, in order: each in one argument, or with its
 -- value in the next one.
 pub data AreWhole : List (List ℕ) → List OptionValue → Type 0 where
   nothing : AreWhole [] []
@@ -21,12 +21,12 @@ abbrev pub AreSettled : List OptionValue → Type 0
 AreSettled [] = Unit {0}
 AreSettled (one ∷ rest) = (role_of one.option ≢ roles.Text) × AreSettled rest
 
--- An option is none of these.
+-- The option is none of those in the list.
 abbrev pub IsOther : OptionValue → List OptionValue → Type 0
 IsOther one [] = Unit {0}
 IsOther one (other ∷ rest) = (number one.option ≢ number other.option) × IsOther one rest
 
--- None of these options is one of those.
+-- No option is in both lists.
 abbrev pub AreApart : List OptionValue → List OptionValue → Type 0
 AreApart [] second = Unit {0}
 AreApart (one ∷ rest) second = IsOther one second × AreApart rest second

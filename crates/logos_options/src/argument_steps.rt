@@ -1,4 +1,4 @@
-//! The arguments of a command line, one after another. `arguments` and `paths` read them.
+//! Reads the arguments of a command line one after another. Called by `arguments` and `paths`.
 
 ghost use Rattle.std.specs.Prelude.{◌≡◌, IfErr, IfOk, None, Some, option_map};
 ghost use Rattle.logos_options.specs.Imports.{status_of, option_named, begins_option, split_at_equals, step, step_value, with_assigned, with_option, with_written};
@@ -6,15 +6,15 @@ ghost use Rattle.logos_options.specs.Imports.{status_of, option_named, begins_op
 use crate::options::OptionName;
 use logos_host::Failure;
 
-/// An option that is given.
+/// A given option with its value.
 #[derive(Clone, Copy)]
 pub struct GivenOption<'w> {
     pub option: OptionName,
-    /// The value, which is empty if the option has none.
+    /// The value, which is empty if the option takes none.
     pub value: &'w str,
 }
 
-/// What an argument, or two, are read as.
+/// The meaning of an argument, or of two.
 #[derive(Clone, Copy)]
 pub enum Use<'w> {
     /// A path.
@@ -23,7 +23,7 @@ pub enum Use<'w> {
     Given(GivenOption<'w>),
 }
 
-/// How far the arguments are read.
+/// The state of reading after some arguments.
 #[derive(Clone, Copy)]
 pub struct ArgumentProgress {
     /// The option whose value the next argument is.
@@ -32,7 +32,7 @@ pub struct ArgumentProgress {
     pub is_over: bool,
 }
 
-/// What one more argument is read as.
+/// The result of reading one more argument.
 #[derive(Clone, Copy)]
 pub struct ArgumentStep<'w> {
     pub progress: ArgumentProgress,
@@ -44,7 +44,7 @@ pub struct ArgumentStep<'w> {
 /// # Errors
 ///
 /// Returns `UnknownOption` for an argument that begins with `-` and is not an option, and `Misuse`
-/// if an option without a value gets one.
+/// if an option that takes no value has one.
 pub fn next_step<'w>(
     progress: ArgumentProgress,
     word: &'w str,
@@ -72,7 +72,7 @@ pub fn next_step<'w>(
     step_written(progress, word)
 }
 
-/// Returns a step that finds something.
+/// Returns a step with a path or an option.
 fn found<'w>(progress: ArgumentProgress, one: Use<'w>) -> ArgumentStep<'w>
     ensures { result ≡ record { progress = progress; found = Some one.entry } }
 {
@@ -82,7 +82,7 @@ fn found<'w>(progress: ArgumentProgress, one: Use<'w>) -> ArgumentStep<'w>
     }
 }
 
-/// Reads an argument that is not the value of an option, before or at `--`.
+/// Reads an argument that is not the value of an option, up to and including `--`.
 fn step_written<'w>(
     progress: ArgumentProgress,
     word: &'w str,

@@ -1,4 +1,5 @@
-//! The arguments of a command line: paths and options. `logos_cli` and `logos_show` read them here.
+//! Reads the arguments of a command line: paths and options. Called by `logos_cli` and
+//! `logos_show`.
 
 ghost use Rattle.std.specs.Prelude.{◌≡◌, IfErr, IfOk, None, Some, is_some, map, option_map, set, string_bytes};
 ghost use Rattle.logos_options.specs.Imports.{arguments_of, arguments_value, nothing_given, number, option_value, role_of, settings_value, settled, status_of, use_value, with_found, with_path, with_question, with_role, with_setting, with_word, with_arguments};
@@ -18,18 +19,18 @@ pub struct Arguments<'w> {
     pub second: Option<&'w str>,
     /// The settings that are given.
     pub settings: Settings<'w>,
-    /// The question that is asked.
+    /// The question, such as `--explain`, if there is one.
     pub question: Option<GivenOption<'w>>,
     /// The option whose text is requested.
     pub text: Option<OptionName>,
-    /// How far the arguments are read.
+    /// The state of reading after the arguments so far.
     pub progress: ArgumentProgress,
 }
 
 /// The settings that are given, with their values.
 #[derive(Clone, Copy)]
 pub struct Settings<'w> {
-    /// For the number of each option its value, if it is given.
+    /// The value of each option by its number, if it is given.
     values: [Option<&'w str>; OPTIONS],
 }
 
@@ -37,8 +38,8 @@ impl<'w> Settings<'w> {
     ghost use Rattle.std.specs.Prelude.{◌≡◌, option_map};
     ghost use Rattle.logos_options.specs.Arguments.{is_set, setting, settings_value};
 
-    /// Returns the value of an option, if the option is given. It is empty for an option without
-    /// one.
+    /// Returns the value of an option, if the option is given. It is empty for an option that takes
+    /// none.
     pub fn value(&self, option: OptionName) -> Option<&'w str>
         ensures { option_map (λ text. text.now) result ≡ setting option (settings_value self.now) }
     {
@@ -60,7 +61,7 @@ impl<'w> Settings<'w> {
 ///
 /// # Errors
 ///
-/// Returns `Misuse` or `UnknownOption` if the program does not take such arguments.
+/// Returns `Misuse` or `UnknownOption` if the program does not take the arguments.
 pub fn arguments_of(program: Program, arguments: &[String]) -> Result<Arguments<'_>, Failure<'_>>
     ensures read { IfOk result (λ parsed.
         arguments_of program (map string_bytes arguments.now) ≡ Some (arguments_value parsed)) }
@@ -73,7 +74,7 @@ pub fn arguments_of(program: Program, arguments: &[String]) -> Result<Arguments<
     }
 }
 
-/// Returns the failure of invalid arguments: what is wrong, and the argument that is.
+/// Returns the failure for invalid arguments: the reason, and the invalid argument.
 pub fn misuse<'w>(what: &'static str, word: &'w str) -> Failure<'w>
     ensures { status_of result ≡ 2 }
 {
@@ -109,7 +110,7 @@ fn read_arguments(program: Program, arguments: &[String]) -> Result<Arguments<'_
     Ok(parsed)
 }
 
-/// Returns all arguments, unless an option waits for a value.
+/// Returns all arguments, unless an option lacks its value.
 fn settled(arguments: Arguments<'_>) -> Result<Arguments<'_>, Failure<'_>>
     ensures read { IfOk result (λ all.
         settled (Some (arguments_value arguments.entry)) ≡ Some (arguments_value all)) }
@@ -179,7 +180,7 @@ fn read_found<'w>(
     }
 }
 
-/// Returns the failure of an option that the program does not take.
+/// Returns the failure for an option that the program does not take.
 fn unknown<'w>(option: OptionName) -> Failure<'w>
     ensures { status_of result ≡ 2 }
 {
@@ -235,7 +236,7 @@ fn read_option<'w>(
     }
 }
 
-/// Reads a setting, which is given once.
+/// Reads a setting, which may be given once.
 fn read_setting<'w>(
     arguments: Arguments<'w>,
     one: GivenOption<'w>,
@@ -254,7 +255,7 @@ fn read_setting<'w>(
     })
 }
 
-/// Returns settings with the value of one more option.
+/// Returns the settings with the value of one more option.
 fn settings_with<'w>(settings: Settings<'w>, one: GivenOption<'w>) -> Settings<'w>
     ensures { settings_value result
         ≡ set (settings_value settings.entry) (number one.entry.option) (Some one.entry.value.now) }
@@ -264,7 +265,7 @@ fn settings_with<'w>(settings: Settings<'w>, one: GivenOption<'w>) -> Settings<'
     Settings { values }
 }
 
-/// Reads a question, the only one.
+/// Reads a question, of which there may be one.
 fn read_question<'w>(
     arguments: Arguments<'w>,
     one: GivenOption<'w>,

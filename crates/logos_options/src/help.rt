@@ -1,4 +1,4 @@
-//! The help of a program, which shows each option that the program takes.
+//! The help of a program, with each option that the program takes. Called for `--help`.
 
 ghost use Rattle.std.specs.Prelude.{◌≡◌, IfErr};
 ghost use Rattle.logos_options.specs.Imports.{IsNoMisuse, IsOutputFailure, status_of};
@@ -9,7 +9,7 @@ use logos_host::Failure;
 use std::io;
 use std::io::Write;
 
-/// The help of a program: the lines of its options stand between these texts.
+/// The help of a program: the texts before and after the lines of its options.
 #[derive(Clone, Copy)]
 pub struct HelpText {
     pub front: &'static str,
@@ -45,7 +45,7 @@ fn write_help<O: Write>(program: Program, help: HelpText, out: &mut O) -> io::Re
     out.flush()
 }
 
-/// Writes the lines of these rows.
+/// Writes the lines of `rows`.
 fn write_rows<O: Write>(program: Program, rows: &[OptionRow], out: &mut O) -> io::Result<()> {
     for row in rows {
         out.write_all(program.help_of(row).as_bytes())?;

@@ -1,4 +1,5 @@
-//! Laws of arguments. No code calls these functions: the contract of each is a proved law.
+//! Laws of command-line arguments. No code calls these functions: the contract of each is a proved
+//! law.
 
 ghost use Rattle.std.specs.Prelude.{◌≡◌, ◌++◌, ℕ, List};
 ghost use Rattle.logos_options.specs.Imports.{AreApart, AreSettled, AreWhole, OptionValue, arguments_of};

@@ -1,4 +1,5 @@
-//! How messages are written: the settings `--color` and `--message-format`.
+//! The style of messages: the settings `--color` and `--message-format`. Used by `logos_cli` and
+//! `logos_questions`.
 
 ghost use Rattle.std.specs.Prelude.{◌≡◌, IfErr, IfOk, None, Some, option_map};
 ghost use Rattle.logos_options.specs.Imports.{color_given, format_given, settings_value, status_of, style_given};
@@ -7,7 +8,7 @@ use crate::arguments::{Settings, misuse};
 use crate::options::OptionName;
 use logos_host::{Color, Failure, MessageFormat, color_by_name, format_by_name};
 
-/// How messages are written.
+/// The style of messages.
 #[derive(Clone, Copy, Debug, PartialEq, Eq)]
 pub struct MessageStyle {
     pub format: MessageFormat,
@@ -15,7 +16,7 @@ pub struct MessageStyle {
     pub color: Color,
 }
 
-/// Returns the style that settings give: without them a report, with colors on a terminal.
+/// Returns the style that settings select: without them a report, with colors on a terminal.
 ///
 /// # Errors
 ///
@@ -36,7 +37,7 @@ pub fn style_given<'w>(settings: &Settings<'w>) -> Result<MessageStyle, Failure<
     }
 }
 
-/// Returns when messages have colors, by the value of `--color`.
+/// Returns the color setting for the value of `--color`.
 fn color_given<'w>(name: Option<&'w str>) -> Result<Color, Failure<'w>>
     ensures given { IfOk result (λ color.
         color_given (option_map (λ name. name.now) name.entry) ≡ Some color) }
@@ -53,7 +54,7 @@ fn color_given<'w>(name: Option<&'w str>) -> Result<Color, Failure<'w>>
     }
 }
 
-/// Returns the format of messages, by the value of `--message-format`.
+/// Returns the format of messages for the value of `--message-format`.
 fn format_given<'w>(name: Option<&'w str>) -> Result<MessageFormat, Failure<'w>>
     ensures given { IfOk result (λ format.
         format_given (option_map (λ name. name.now) name.entry) ≡ Some format) }

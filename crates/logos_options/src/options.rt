@@ -1,10 +1,10 @@
-//! The table of options: the word of each, whether it has a value, what it does, and the programs
-//! that take it with its lines in their help. Whoever reads arguments looks options up here.
+//! The table of options: the name of each, whether it has a value, what it does, and the programs
+//! that take it with its lines in their help. Every reader of arguments looks options up here.
 
 ghost use Rattle.std.specs.Prelude.{◌≡◌, ◌<◌, Some, is_some, map};
 ghost use Rattle.logos_options.specs.Imports.{is_named, named_in, number, option_named, role_of, row_value, takes_value, word_of};
 
-/// An option, by its name. The table has the rows of the options in this order.
+/// An option. The rows of the table are in this order.
 #[derive(Clone, Copy, Debug, PartialEq, Eq)]
 pub enum OptionName {
     Output,
@@ -27,12 +27,12 @@ pub enum OptionName {
 /// The number of options.
 pub(crate) const OPTIONS: usize = 15;
 
-/// What an option does.
+/// The effect of an option.
 #[derive(Clone, Copy, Debug, PartialEq, Eq)]
 pub enum OptionRole {
     /// Sets something. It is given at most once.
     Setting,
-    /// Asks a question. At most one question is given.
+    /// Requests an answer about the input, such as `--explain`. At most one is given.
     Question,
     /// Requests a text. No argument after it is read.
     Text,
@@ -42,9 +42,9 @@ pub enum OptionRole {
 #[derive(Clone, Copy)]
 pub(crate) struct OptionRow {
     pub(crate) option: OptionName,
-    /// The word, such as `--output`.
+    /// The name, such as `--output`.
     pub(crate) word: &'static str,
-    /// The word of one letter, such as `-o`, if the option has one.
+    /// The short name, such as `-o`, if the option has one.
     pub(crate) letter: Option<&'static str>,
     pub(crate) has_value: bool,
     pub(crate) role: OptionRole,
@@ -269,14 +269,14 @@ pub(crate) const ROWS: [OptionRow; OPTIONS] = [
 ];
 
 impl OptionName {
-    /// Returns the option with this word, such as `--output` or `-o`.
+    /// Returns the option with this name, such as `--output` or `-o`.
     pub fn by_word(word: &str) -> Option<OptionName>
         ensures { result ≡ option_named word.now }
     {
         named_in(&ROWS, word)
     }
 
-    /// Returns the word of the option, such as `--output`.
+    /// Returns the name of the option, such as `--output`.
     pub fn word(self) -> &'static str
         ensures word { result.now ≡ word_of self }
         ensures named { option_named result.now ≡ Some self }
@@ -291,7 +291,7 @@ impl OptionName {
         ROWS[self as usize].has_value
     }
 
-    /// Returns what the option does.
+    /// Returns the effect of the option.
     pub(crate) fn role(self) -> OptionRole
         ensures { result ≡ role_of self }
     {
@@ -307,7 +307,7 @@ impl OptionName {
     }
 }
 
-/// Returns the option of the first of these rows that a word names.
+/// Returns the option of the first of these rows that has the name `word`.
 fn named_in(rows: &[OptionRow], word: &str) -> Option<OptionName>
     ensures { result ≡ named_in (map row_value rows.now) word.now }
 {
@@ -319,7 +319,7 @@ fn named_in(rows: &[OptionRow], word: &str) -> Option<OptionName>
     None
 }
 
-/// Returns whether a word is that of a row.
+/// Returns whether `word` is the name or the short name of a row.
 fn is_named(row: &OptionRow, word: &str) -> bool
     ensures { result ≡ is_named (row_value row.now) word.now }
 {

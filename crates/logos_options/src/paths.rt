@@ -1,4 +1,4 @@
-//! The paths of a command line.
+//! The paths of a command line. Used by `logos_cli`, `logos_items` and `logos_show`.
 
 ghost use Rattle.std.specs.Prelude.{◌≡◌, ◌++◌, IfOk, OnOk, map, option_map, string_bytes};
 ghost use Rattle.logos_options.specs.Imports.{found_path, next_paths, next_progress, path_named, paths_of, step, texts_of, use_value};
@@ -10,7 +10,7 @@ use std::alloc::Global;
 /// The path of standard input.
 pub const STANDARD_INPUT: &str = "/dev/stdin";
 
-/// Returns all paths of words that are a command, in order.
+/// Returns all paths of a valid command line, in order.
 ///
 /// # Errors
 ///
@@ -30,7 +30,8 @@ pub fn paths_of<'w>(alloc: Global, arguments: &'w [String]) -> Result<Vec<&'w st
     Ok(paths)
 }
 
-/// Appends the path that one more word is, if it is one. Returns how far the words are read.
+/// Appends the path that one more argument names, if it is a path. Returns the state of reading
+/// after it.
 fn push_path<'w>(
     paths: &mut Vec<&'w str>,
     progress: ArgumentProgress,
@@ -60,7 +61,7 @@ fn push_found<'w>(paths: &mut Vec<&'w str>, found: Option<Use<'w>>) -> Result<()
     Ok(())
 }
 
-/// Returns the path that a word is: `-` is standard input.
+/// Returns the path that an argument names: `-` is standard input.
 pub fn path_by_word(word: &str) -> &str
     ensures { result.now ≡ path_named word.now }
 {

@@ -1,4 +1,4 @@
-//! The programs that have options.
+//! The programs that have options. Used by `logos_cli`, `logos_questions` and `logos_show`.
 
 ghost use Rattle.std.specs.Prelude.{◌≡◌};
 ghost use Rattle.logos_options.specs.Imports.{cli_takes, show_takes};
@@ -28,7 +28,7 @@ impl Program {
         }
     }
 
-    /// Returns the lines of a row in the help of the program, which are empty if the program does
+    /// Returns the lines for a row in the help of the program, which are empty if the program does
     /// not take the option.
     pub(crate) fn help_of(self, row: &OptionRow) -> &'static str {
         let lines = match self {

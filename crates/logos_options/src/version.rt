@@ -1,4 +1,5 @@
-//! The version of a program, and the line that names its commit.
+//! The version of a program, and the line that names its commit. Used by `logos_cli` and
+//! `logos_show`.
 
 ghost use Rattle.std.specs.Prelude.{◌≡◌, ◌-◌, IfErr, drop, length};
 ghost use Rattle.logos_options.specs.Imports.{IsNoMisuse, commit_line, is_commit_line, is_hex_digit, list_all, status_of};
@@ -10,7 +11,7 @@ use std::io::Write;
 /// The path of the program that runs.
 const PROGRAM: &str = "/proc/self/exe";
 
-/// The length of the line: `commit: `, forty digits and a line end.
+/// The length of the line in bytes: `commit: `, forty digits and a line end.
 const LENGTH: usize = 49;
 
 /// Writes the version of a program, and the line that names its commit, if the program has one.
@@ -18,7 +19,7 @@ const LENGTH: usize = 49;
 /// # Errors
 ///
 /// Returns `Output` if writing fails, or `Closed` if the reader has closed the output, and `Memory`
-/// if memory runs out. Then a part may be written.
+/// if memory runs out. Then a part of the text may be written.
 pub fn print_version<'w, F: ComparableFiles, O: Write>(
     version: &str,
     files: &F,
@@ -37,9 +38,9 @@ pub fn print_version<'w, F: ComparableFiles, O: Write>(
     }
 }
 
-/// Returns the last line of a program, with its end, if it is `commit: ` and forty hexadecimal
-/// digits in lower case; no bytes if it is not. `tools/release.sh` and `tools/install.sh` append it
-/// to the programs.
+/// Returns the last line of a program, with its end, if it is `commit: ` and forty lower-case
+/// hexadecimal digits; otherwise no bytes. `tools/release.sh` and `tools/install.sh` append it to
+/// the programs.
 fn commit_line(program: &[u8]) -> &[u8]
     ensures { result.now ≡ commit_line program.now }
 {
@@ -50,7 +51,7 @@ fn commit_line(program: &[u8]) -> &[u8]
     &[]
 }
 
-/// Returns as many of the last bytes of a program as the line has, or all if there are fewer.
+/// Returns the last 49 bytes of a program, or all if there are fewer.
 fn last_bytes(program: &[u8]) -> &[u8]
     ensures { result.now ≡ drop (length program.now - 49) program.now }
 {
@@ -60,7 +61,7 @@ fn last_bytes(program: &[u8]) -> &[u8]
     }
 }
 
-/// Returns whether bytes are the line of a commit.
+/// Returns whether `line` names a commit.
 fn is_commit_line(line: &[u8]) -> bool
     ensures { result ≡ is_commit_line line.now }
 {
@@ -70,7 +71,7 @@ fn is_commit_line(line: &[u8]) -> bool
     line.starts_with(b"commit: ") & (line[48] == b'\n') & are_digits(&line[8..48])
 }
 
-/// Returns whether all bytes are digits.
+/// Returns whether all bytes are lower-case hexadecimal digits.
 fn are_digits(bytes: &[u8]) -> bool
     ensures { result ≡ list_all is_hex_digit bytes.now }
 {
@@ -82,7 +83,7 @@ fn are_digits(bytes: &[u8]) -> bool
     true
 }
 
-/// Returns whether a byte is a hexadecimal digit in lower case.
+/// Returns whether a byte is a lower-case hexadecimal digit.
 fn is_hex_digit(byte: u8) -> bool
     ensures { result ≡ is_hex_digit byte }
 {

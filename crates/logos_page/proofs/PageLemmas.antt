@@ -1,10 +1,10 @@
--- What stands in a page that grows step by step.
+-- The content of a page that is appended to step by step.
 use Rattle.std.proofs.Common.{◌≡◌, ◌≤◌, ℕ, suc, ◌+◌, List, [], ◌∷◌, ◌++◌, append_assoc, sym, ap, ◌∙◌, refl, arith, subst, Bool}
 use Rattle.std.proofs.lemmas.List.{append-nil}
 use Rattle.logos_page.specs.Pages.{PageValue, OccurInOrder, Gains, Adds, Shows, begun, ended, painted, times}
 use Rattle.logos_page.specs.declared.page.Style.{Style}
 
--- texts that stand in a front and in what follows it stand in both
+-- texts that occur in a prefix and in the rest occur in the whole
 occur_both : (one other : List (List ℕ)) (front back : List ℕ) → OccurInOrder one front → OccurInOrder other back → OccurInOrder (one ++ other) (front ++ back)
 occur_both [] [] front back s t = tt
 occur_both [] (text ∷ other) front back s t =

@@ -1,4 +1,4 @@
-//! A text that grows, with or without colors, and the characters that a terminal shows. Reports and
+//! A text with optional colors, and the characters that are safe to show on a terminal. Reports and
 //! answers are written with it.
 
 #![tactic(auto)]

@@ -1,4 +1,4 @@
-//! A text that grows.
+//! A text that is appended to, with optional colors.
 
 ghost use Rattle.std.specs.Prelude.{◌≡◌, ◌↔◌, [], true, IfOk, IsOk, IsTrue, decimal, encode_utf8, length, string_bytes};
 ghost use Rattle.logos_page.specs.Views.{shown_char, shown_text, Gains, begun, ended, painted, style_text, times};
@@ -7,20 +7,20 @@ use crate::shown::occur_in;
 use std::alloc::{AllocError, Global};
 use std::marker::Model;
 
-/// How a part of a text looks if there are colors.
+/// The style of a part of a text, if there are colors.
 #[derive(Clone, Copy, Debug, PartialEq, Eq)]
 pub enum Style {
     /// An error: bold and red.
     Error,
     /// A warning: bold and yellow.
     Warning,
-    /// What surrounds a line of a file: bold and blue.
+    /// The frame around a line of a file: bold and blue.
     Frame,
     /// Bold.
     Strong,
 }
 
-/// A text that grows. It notes if memory runs out, so only `finish` can fail.
+/// A text that is appended to. It records whether memory ran out, so only `finish` can fail.
 #[derive(Drop)]
 pub struct Page {
     text: String,
@@ -71,7 +71,7 @@ impl Page {
         }
     }
 
-    /// Appends a character as it is shown on a terminal, which no character of a text controls.
+    /// Appends a character in a form that cannot control a terminal.
     pub fn push_shown_char(&mut self, character: char)
         ensures { Gains (shown_char character) self.old self.new }
     {
@@ -82,9 +82,9 @@ impl Page {
         }
     }
 
-    /// Appends a text as it is shown on a terminal: ASCII control characters as pictures of
-    /// themselves, tabs as four blanks, and U+FFFD for other characters that control a terminal,
-    /// change the order of a text or are not seen.
+    /// Appends a text in a form that cannot control a terminal: ASCII control characters as their
+    /// pictures, tabs as four blanks, and U+FFFD for other characters that control a terminal,
+    /// change the order of a text or are invisible.
     pub fn push_shown(&mut self, text: &str)
         ensures { Gains (shown_text text.now) self.old self.new }
     {
@@ -144,7 +144,7 @@ impl Page {
     ///
     /// # Errors
     ///
-    /// Returns `AllocError` if memory ran out for any part of it.
+    /// Returns `AllocError` if memory ran out at any call.
     pub fn finish(self) -> Result<String, AllocError>
         ensures whole { IsOk result ↔ IsTrue self.is_whole }
         ensures text { IfOk result (λ text. string_bytes text ≡ self.text) }
@@ -157,7 +157,7 @@ impl Page {
     }
 }
 
-/// Returns what begins a part of this style on a terminal.
+/// Returns the escape sequence that begins a part of this style on a terminal.
 fn style_text(style: Style) -> &'static str
     ensures { result.now ≡ style_text style }
 {
@@ -169,7 +169,7 @@ fn style_text(style: Style) -> &'static str
     }
 }
 
-/// Returns how many decimal digits a number has.
+/// Returns the number of decimal digits of a number.
 pub fn digits(number: usize) -> usize
     ensures { result ≡ length (decimal number) }
 {

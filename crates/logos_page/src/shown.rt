@@ -1,16 +1,17 @@
-//! Characters as they are shown. No text of a file, of a message or of a name reaches a terminal as
-//! it is, since some characters move its cursor, change its colors or the order of what it shows.
+//! The form in which characters are shown. No text of a file, of a message or of a name reaches a
+//! terminal unchanged, since some characters move the cursor, change colors or change the order of
+//! the text. Used by `page` and `logos_report`.
 
 ghost use Rattle.std.specs.Prelude.{◌≡◌, ◌<◌, ◌+◌};
 ghost use Rattle.logos_page.specs.Imports.{is_in_range, is_unsafe, occur_in};
 
 use unicode_width::UnicodeWidthChar;
 
-/// How many columns a tab is shown in.
+/// The width of a tab, in columns.
 const TAB: usize = 4;
 
 /// Returns the character that is shown for one other than a tab: itself, the picture of an ASCII
-/// control character, or U+FFFD for another that is not shown as it is.
+/// control character, or U+FFFD for any other unsafe one.
 pub(crate) fn occur_in(character: char) -> char
     ensures { result ≡ occur_in character }
 {
@@ -37,8 +38,8 @@ fn picture(code: u32) -> char
     }
 }
 
-/// Returns whether a character other than an ASCII control character is not shown as it is: it
-/// controls a terminal or the order of a text, or takes no column without changing its neighbors.
+/// Returns whether a character other than an ASCII control character is unsafe to show: it controls
+/// a terminal or the order of a text, or takes no column without changing its neighbors.
 fn is_unsafe(code: u32) -> bool
     ensures { result ≡ is_unsafe code }
 {
@@ -61,7 +62,7 @@ fn is_in_range(code: u32, first: u32, last: u32) -> bool
     (first <= code) & (code <= last)
 }
 
-/// Returns how many columns of a terminal a character is shown in.
+/// Returns the width of a shown character, in columns of a terminal.
 pub fn columns_of(character: char) -> usize {
     if character == '\t' {
         return TAB;

@@ -27,18 +27,18 @@ pub record ReadsEnum (enum : EnumValue) (leaves : List LeafView) (options : Opti
   pub read : IsSourceRead enum leaves options of_parts
   pub all : faults ≡ (of_parts ++ utf8_faults (utf8_mode options) leaves) ++ type_faults options
 
--- An analysis as contracts see it.
+-- An analysis in contracts.
 pub record AnalysisView : Type 0 where
   pub name : Slice
   pub span : Span
   pub leaves : List LeafView
   pub options : OptionsView
-  -- The type that the enum is.
+  -- The type of the enum.
   pub this : Tree
   pub faults : List Fault
 
 -- This is the type of the enum with this name and these options: its name, followed by the generic
--- arguments that the options give.
+-- arguments from the options.
 abbrev pub HasItsType : Slice → OptionsView → Tree → Type 0
 HasItsType name options this = this ≡ enum_type name.text (generics options.types)
 

@@ -28,12 +28,12 @@ lexical_text BadLiteral = codes "unreadable source: BadLiteral"
 lexical_text Unterminated = codes "unreadable source: Unterminated"
 lexical_text Unbalanced = codes "unreadable source: Unbalanced"
 
--- The fault of a source that is not made of tokens.
+-- The fault of a source that cannot be cut into tokens.
 abbrev pub lexical_fault : LexicalKind → Span → Fault
 lexical_fault kind span = fault_with codes_of.Lexical (lexical_text kind) span (details.Lexical kind)
 
--- These are the faults of tokens that are not an enum: one fault, by the error of reading them.
--- Running out of memory is not a fault.
+-- These are the faults of tokens that are not an enum: one fault, determined by the error of
+-- reading them. Running out of memory is not a fault.
 abbrev pub IsMisread : ReadError → List Fault → Type 0
 IsMisread (NotAnEnum span) faults = faults ≡ only (fault codes_of.NotAnEnum (codes "Logos can be only be derived for enums") span)
 IsMisread (Grammar span) faults = faults ≡ only (fault codes_of.Grammar (codes "the enum is not well formed") span)
@@ -51,9 +51,9 @@ pub record EndsTokens (tokens : TokenList) (faults : List Fault) : Type 0 where
   pub reads : Reads tokens (Err error)
   pub are : IsMisread error faults
 
--- The fault ends the reading of the source: it is too long, it has no tokens, its tokens nest too
--- deep, or they do not and are not an enum. So a source that nests too deep has that fault,
--- whatever its tokens are.
+-- The fault ends the reading of the source: it is too long, it has no tokens, its tokens are nested
+-- too deeply, or they are within that limit and are not an enum. A source whose tokens are nested
+-- too deeply therefore has that fault regardless of its tokens.
 pub data EndsReading (source : List ℕ) (ending : Fault) : Type 0 where
   source_limit : 16777216 < length source → ending ≡ too_long source → EndsReading source ending
   nesting_limit : {span : Span} → IsTooDeep source span →
@@ -62,6 +62,6 @@ pub data EndsReading (source : List ℕ) (ending : Fault) : Type 0 where
       ending ≡ lexical_fault kind span → EndsReading source ending
   misread : {tokens : TokenList} → Spells source tokens → depth_of tokens ≤ 128 → EndsTokens tokens (only ending) → EndsReading source ending
 
--- The tokens of the source nest no deeper than the limit.
+-- The tokens of the source are nested no deeper than the limit.
 abbrev pub IsShallow : List ℕ → Type 0
 IsShallow source = (tokens : TokenList) → Spells source tokens → depth_of tokens ≤ 128

@@ -1,4 +1,5 @@
--- Definitions that clauses cite: of lower crates, and those of this one that name no type of it.
+-- Definitions that contracts cite: those of lower crates, and those of this crate that name none of
+-- its types.
 pub use Rattle.logos_attribute.specs.Reports.{AddsFault, fault, only}
 pub use Rattle.logos_definition.specs.Options.{no_options, utf8_mode}
 pub use Rattle.logos_definition.specs.ParserViews.{parser_view}

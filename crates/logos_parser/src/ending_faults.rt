@@ -1,5 +1,5 @@
 //! The faults that end the reading of a source. `analyze`, `strip_attributes` and `enums_in` report
-//! the fault that ends a reading with it.
+//! them.
 
 ghost use Rattle.std.specs.Prelude.{◌≡◌, ◌∷◌, []};
 ghost use Rattle.logos_parser.specs.Views.{Fault, IsRefusal, fault, only, EndsReading, lexical_fault, lexical_text, IsMisread, too_long, Refuses};
@@ -34,7 +34,7 @@ fn lexical_text(kind: LexicalKind) -> &'static str
     }
 }
 
-/// Returns the refusal of a source that is not made of tokens.
+/// Returns the refusal of a source that cannot be cut into tokens.
 fn unlexed(alloc: Global, kind: LexicalKind, span: Span) -> Refusal
     ensures { Refuses (λ faults. faults ≡ only (lexical_fault kind span)) result }
 {
@@ -50,7 +50,7 @@ fn unlexed(alloc: Global, kind: LexicalKind, span: Span) -> Refusal
     }
 }
 
-/// Returns the refusal of tokens that are not an enum, with the fault that `error` names.
+/// Returns the refusal of tokens that are not an enum, with the fault for `error`.
 pub fn misread(alloc: Global, error: ReadError) -> Refusal
     ensures { Refuses (IsMisread error) result }
 {
@@ -83,7 +83,7 @@ pub fn misread(alloc: Global, error: ReadError) -> Refusal
     }
 }
 
-/// Returns the refusal of a source that has no tokens, with the fault that `error` names.
+/// Returns the refusal of a source that has no tokens, with the fault for `error`.
 pub fn unreadable(alloc: Global, src: &str, error: TokenError) -> Refusal
     requires { IsRefusal src.now error }
     ensures ends { Refuses (λ faults. (ending : Fault) × EndsReading src.now ending

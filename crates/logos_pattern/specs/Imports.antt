@@ -1,4 +1,5 @@
--- Definitions that clauses cite: of lower crates, and those of this one that name no type of it.
+-- Definitions that contracts cite: those of lower crates, and those of this crate that name none of
+-- its types.
 pub use Rattle.logos_hir.specs.Hir.{literal_tree, tree_of}
 pub use Rattle.logos_hir.specs.Measure.{fitted, has_greedy_dot, is_text}
 pub use Rattle.logos_hir.specs.Priority.{value}

@@ -1,5 +1,5 @@
 //! The leaves of a lexer: each is a pattern with its priority, its kind and its callback.
-//! `logos_leaf` makes leaves; graphs and codes keep them.
+//! `logos_leaf` makes leaves, and graphs and codes store them.
 
 ghost use Rattle.std.specs.Prelude.{◌≡◌, Some, false};
 ghost use Rattle.logos_pattern.specs.Views.{kind_text, leaf_text, kind_value, callback_span, callback_value, inline_value, variant_name};
@@ -12,7 +12,7 @@ pub use logos_type::TypeExpr;
 use std::alloc::AllocError;
 use std::fmt;
 
-/// What the lexer returns for a match of a leaf.
+/// The result of the lexer for a match of a leaf.
 #[derive(Drop)]
 pub enum VariantKind<'s> {
     /// A variant without a field.
@@ -28,11 +28,11 @@ pub enum VariantKind<'s> {
 pub enum Callback<'s> {
     /// The tokens of a function's name.
     Label(TokenStream<'s>),
-    /// A closure that is written out.
+    /// A closure.
     Inline(InlineCallback<'s>),
 }
 
-/// A callback that is written out as `|lex| body`.
+/// A callback that is written as a closure, `|lex| body`.
 #[derive(Drop)]
 pub struct InlineCallback<'s> {
     /// The parameter.
@@ -43,7 +43,7 @@ pub struct InlineCallback<'s> {
 }
 
 impl<'s> VariantKind<'s> {
-    /// Returns the name of the variant; `None` for a skip.
+    /// Returns the name of the variant, or `None` for a skip.
     pub fn name(&self) -> Option<Ident<'s>>
         ensures { result ≡ variant_name (kind_value self.now) }
     {
@@ -56,8 +56,8 @@ impl<'s> VariantKind<'s> {
 }
 
 impl<'s> Callback<'s> {
-    /// Returns the callback's span in the source, in bytes: that of a label reaches from its first
-    /// token to its last, and is 0..0 if it has no token.
+    /// Returns the span of the callback in the source, in bytes. The span of a label reaches from
+    /// its first token to its last, and is `0..0` if the label has no token.
     pub fn span(&self) -> Span
         ensures { result ≡ callback_span self.now }
     {
@@ -114,7 +114,7 @@ impl Clone for InlineCallback<'_> {
     }
 }
 
-/// The arguments of a leaf's definition beside its priority and its callback.
+/// The options of a leaf's definition, besides its priority and its callback.
 #[derive(Clone, Copy, Debug, PartialEq, Eq)]
 pub struct LeafOptions {
     /// Whether letters match in either case: `ignore(case)`.
@@ -123,7 +123,7 @@ pub struct LeafOptions {
     pub allows_greedy: bool,
 }
 
-/// A pattern with its priority, and what the lexer does with its matches.
+/// A pattern with its priority, and the use of its matches.
 #[derive(Drop)]
 pub struct Leaf<'s> {
     pub pattern: Pattern<'s>,
@@ -133,7 +133,7 @@ pub struct Leaf<'s> {
     pub kind: VariantKind<'s>,
     /// The function that the lexer calls on a match, if there is one.
     pub callback: Option<Callback<'s>>,
-    /// The other arguments of its definition.
+    /// The options of the leaf's definition.
     pub options: LeafOptions,
 }
 
@@ -179,7 +179,7 @@ impl<'s> Leaf<'s> {
         self
     }
 
-    /// Returns the leaf with this callback, or with none.
+    /// Returns the leaf with this callback, or without one if it is `None`.
     pub fn callback(mut self, callback: Option<Callback<'s>>) -> Leaf<'s>
         ensures { result ≡ record self.entry { callback = callback.entry } }
     {

@@ -1,4 +1,4 @@
--- Definitions that clauses cite, and that name types of this crate.
+-- Definitions that contracts cite, and that name types of this crate.
 pub use Rattle.logos_pattern_tokens.specs.Escapes.{begins, boundary_at, braces_at, byte_at, escape_at, fixed_at, hex_at, is_escapable, is_form, plain_property, property_at, property_of, single_at, single_of}
 pub use Rattle.logos_pattern_tokens.specs.Flags.{no_change, set_once, with_letter}
 pub use Rattle.logos_pattern_tokens.specs.Openings.{are_name_parts, dash, group_at, is_name, is_name_part, is_name_start, letters_from, name_at, next_letter, no_letters, option_at, python_at, setting_end}

@@ -7,19 +7,20 @@ ghost use Rattle.logos_pattern_tokens.specs.Views.{Yields, token_view, is_digit,
 use crate::error::{Fault, Kind};
 use crate::token::{Operator, Token};
 
-/// Returns the value of a hexadecimal digit, or `None` for any other character.
+/// Returns the value of a hexadecimal digit, or `None` if `c` is not one.
 pub fn hex_digit(c: char) -> Option<u32>
     ensures { result ≡ hex_digit c }
 {
     c.to_digit(16)
 }
 
-/// Returns the Unicode scalar value whose number the hexadecimal digits write.
+/// Returns the Unicode scalar value with the number that the hexadecimal digits spell.
 ///
 /// # Errors
 ///
-/// From the left, `HexSyntax` at a character that is not a hexadecimal digit, and `HexNotScalar`
-/// where the number passes 10FFFF. `HexNotScalar` also if the number is that of a surrogate.
+/// Returns `HexSyntax` or `HexNotScalar` for the first fault from the left: `HexSyntax` at a
+/// character that is not a hexadecimal digit, and `HexNotScalar` where the number exceeds 10FFFF.
+/// Also returns `HexNotScalar` if the number is that of a surrogate.
 pub fn scalar_of(digits: &[char]) -> Result<char, Fault>
     ensures { Yields (λ n. n) result (scalar_of digits.now) }
 {
@@ -39,8 +40,8 @@ pub fn scalar_of(digits: &[char]) -> Result<char, Fault>
     }
 }
 
-/// Splits the text at the first `end`: returns what is before it and what is after it, or `None` if
-/// the text has no `end`.
+/// Splits the text at the first `end`: returns the text before it and the text after it, or `None`
+/// if the text has no `end`.
 pub fn cut_at(end: char, text: &[char]) -> Option<(&[char], &[char])>
     ensures { option_map (λ x. (x.0.now, x.1.now)) result ≡ cut_at end text.now }
 {
@@ -108,7 +109,7 @@ fn number_at(text: &[char]) -> Result<(u32, &[char]), Fault>
     }
 }
 
-/// Returns the operator with these counts, which is lazy if a `?` comes next, and the rest of the
+/// Returns the operator with these counts, which is lazy if a `?` follows, and the rest of the
 /// text.
 #[tactic(auto, unfolding(crate::specs::Token::lazy_at))]
 pub fn lazy_at<'t>(least: u32, most: Option<u32>, text: &'t [char]) -> (Token<'t>, &'t [char])
@@ -155,12 +156,12 @@ fn count_end<'t>(
     }
 }
 
-/// Reads what comes after `{n,`.
+/// Reads the text after `{n,`.
 ///
 /// # Errors
 ///
-/// Those of `number_at` and `count_end`, and `CountOrder` if the second count is less than the
-/// first.
+/// Returns the errors of `number_at` and `count_end`, and `CountOrder` if the second count is less
+/// than the first.
 #[tactic(auto, unfolding(crate::specs::Token::most_at, crate::specs::Token::order_at))]
 fn most_at(least: u32, text: &[char]) -> Result<(Token<'_>, &[char]), Fault>
     ensures { Yields (λ x. (token_view x.0, x.1.now)) result (most_at least text.now) }
@@ -178,11 +179,11 @@ fn most_at(least: u32, text: &[char]) -> Result<(Token<'_>, &[char]), Fault>
     }
 }
 
-/// Reads what comes after `{n`.
+/// Reads the text after `{n`.
 ///
 /// # Errors
 ///
-/// Returns `Unclosed` if the text is empty, and else those of `most_at` or `count_end`.
+/// Returns `Unclosed` if the text is empty, and otherwise the errors of `most_at` or `count_end`.
 #[tactic(auto, unfolding(crate::specs::Token::bounds_at))]
 fn bounds_at(least: u32, text: &[char]) -> Result<(Token<'_>, &[char]), Fault>
     ensures { Yields (λ x. (token_view x.0, x.1.now)) result (bounds_at least text.now) }
@@ -194,13 +195,14 @@ fn bounds_at(least: u32, text: &[char]) -> Result<(Token<'_>, &[char]), Fault>
     }
 }
 
-/// Reads an operator with counts, from after its `{`: returns its token and the rest of the text.
+/// Reads an operator with counts from the text after its `{`. Returns its token and the rest of the
+/// text.
 ///
 /// # Errors
 ///
-/// Returns `Unclosed` if the text ends before `}`, `CountSyntax` if no counts come next,
-/// `CountTooLarge` if a count is 2^32 or more, and `CountOrder` if the second one is less than the
-/// first.
+/// Returns `Unclosed` if the text ends before `}`, `CountSyntax` if no counts follow,
+/// `CountTooLarge` if a count is 2^32 or more, and `CountOrder` if the second count is less than
+/// the first.
 #[tactic(auto, unfolding(crate::specs::Token::count_at))]
 pub fn count_at(text: &[char]) -> Result<(Token<'_>, &[char]), Fault>
     ensures { Yields (λ x. (token_view x.0, x.1.now)) result (count_at text.now) }

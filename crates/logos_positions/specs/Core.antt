@@ -1,19 +1,19 @@
--- Patterns with their repetitions written out, what they match, and their places.
+-- Core patterns, in which repetitions are expanded, with their matches and their positions.
 use Rattle.std.specs.Prelude.{◌≡◌, ℕ, zero, suc, ◌+◌, ◌-◌, ◌<◌, ◌≤◌, Bool, true, ◌⊎◌, List, Option, Some, slice_get}
 use Rattle.logos_hir.specs.Looks.{holds_between}
 use Rattle.logos_hir.specs.Text.{byte_before, byte_after}
 use Rattle.logos_hir.specs.declared.hir.Look.{Look}
 
--- What reads a character of a class: how many places it has besides place 0, which place reads a
--- first byte, and which one reads a byte after another place. At place 0 the character is read
--- whole.
+-- The reader of a character of a class: the number of its positions besides position 0, the
+-- position that reads a first byte, and the position that reads a byte after another position. At
+-- position 0 a whole character has been read.
 pub record Reader : Type 0 where
   pub others : ℕ
   pub first : ℕ → Option ℕ
   pub follow : ℕ → ℕ → Option ℕ
 
 pub data Core : Type 0 where
-  -- What matches nothing at all.
+  -- Matches nothing.
   void : Core
   empty : Core
   byte_in : (ℕ → Bool) → Core
@@ -21,10 +21,10 @@ pub data Core : Type 0 where
   look : Look → Core
   cat : Core → Core → Core
   alt : Core → Core → Core
-  -- One or more.
+  -- One or more repetitions.
   plus : Core → Core
 
--- How many places, each a byte that the pattern can read.
+-- The number of positions, each of which reads one byte.
 abbrev pub width : Core → ℕ
 width void = 0
 width empty = 0
@@ -35,7 +35,7 @@ width (cat a b) = width a + width b
 width (alt a b) = width a + width b
 width (plus a) = width a
 
--- Any number of rounds of R lead from i to the last number.
+-- Any number of rounds of `R` lead from `i` to the last number.
 pub data Many (R : ℕ → ℕ → Type 0) (i : ℕ) : ℕ → Type 0 where
   none : Many R i i
   more : (l j : ℕ) → Many R i l → R l j → Many R i j
@@ -46,19 +46,19 @@ pub record IsIn (c : ℕ → Bool) (bytes : List ℕ) (i : ℕ) : Type 0 where
   pub is : slice_get bytes i ≡ Some byte
   pub within : c byte ≡ true
 
--- The reader, entered at i, read the byte before m at the place p.
+-- The reader, entered at `i`, reads the byte before `m` at position `p`.
 abbrev pub Occurs : Reader → List ℕ → ℕ → ℕ → ℕ → Type 0
 Occurs r bytes i zero p = ⊥
 Occurs r bytes i (suc m) p =
     (x : ℕ) × (slice_get bytes m ≡ Some x) × (p ≤ r.others)
     × (((i ≡ m) × (r.first x ≡ Some p)) ⊎ ((q : ℕ) × (q ≤ r.others) × Occurs r bytes i m q × (r.follow q x ≡ Some p)))
 
--- Which looks hold at a place of the bytes.
+-- Whether a look-around assertion holds at a point of the bytes.
 abbrev pub holds_at : List ℕ → ℕ → Look → Bool
 holds_at bytes at l = holds_between l (byte_before bytes at) (byte_after bytes at)
 
 module _ (bytes : List ℕ) where
-  -- The textbook relation: the pattern matches the bytes from i to j.
+  -- The textbook relation: the pattern matches the bytes from `i` to `j`.
   abbrev pub Matches : Core → ℕ → ℕ → Type 0
   Matches void i j = ⊥
   Matches empty i j = j ≡ i
@@ -69,15 +69,15 @@ module _ (bytes : List ℕ) where
   Matches (alt a b) i j = Matches a i j ⊎ Matches b i j
   Matches (plus a) i j = (l : ℕ) × Many (Matches a) i l × Matches a l j
 
-  -- A match that began at one of the positions S ends at m.
+  -- A match that began at one of the points `S` ends at `m`.
   abbrev pub Leaves : Core → (ℕ → Type 0) → ℕ → Type 0
   Leaves a S m = (i : ℕ) × S i × Matches a i m
 
-  -- A round of the loop begins at m, which was entered at one of the positions S.
+  -- A round of the loop, which was entered at one of the points `S`, begins at `m`.
   abbrev pub Begins : Core → (ℕ → Type 0) → ℕ → Type 0
   Begins a S m = (i : ℕ) × S i × Many (Matches a) i m
 
-  -- Begun at one of the positions S, the byte before m was read at the place p.
+  -- In a match that began at one of the points `S`, the byte before `m` is read at position `p`.
   abbrev pub Reads : Core → (ℕ → Type 0) → ℕ → ℕ → Type 0
   Reads void S p m = ⊥
   Reads empty S p m = ⊥
@@ -88,12 +88,12 @@ module _ (bytes : List ℕ) where
   Reads (alt a b) S p m = ((p < width a) × Reads a S p m) ⊎ ((width a ≤ p) × Reads b S (p - width a) m)
   Reads (plus a) S p m = Reads a (Begins a S) p m
 
--- The pattern was begun at i alone.
+-- The pattern begins only at `i`.
 abbrev pub At : ℕ → ℕ → Type 0
 At i k = k ≡ i
 
--- With M the places that read the last byte, and `entered` whether the pattern begins here, `test`
--- says which looks hold here: the pattern can be left here.
+-- The pattern can be left here. `M` are the positions that read the last byte, `entered` is whether
+-- the pattern begins here, and `test` is which look-around assertions hold here.
 abbrev pub Exits : Core → (Look → Bool) → (ℕ → Type 0) → Type 0 → Type 0
 Exits void test M entered = ⊥
 Exits empty test M entered = entered
@@ -104,7 +104,7 @@ Exits (cat a b) test M entered = Exits b test (λ q. M (width a + q)) (Exits a t
 Exits (alt a b) test M entered = Exits a test M entered ⊎ Exits b test (λ q. M (width a + q)) entered
 Exits (plus a) test M entered = Exits a test M entered
 
--- The place p can read the byte x here.
+-- Position `p` can read the byte `x` here.
 abbrev pub Steps : Core → (Look → Bool) → ℕ → (ℕ → Type 0) → Type 0 → ℕ → Type 0
 Steps void test x M entered p = ⊥
 Steps empty test x M entered p = ⊥
@@ -120,7 +120,7 @@ Steps (alt a b) test x M entered p =
     ⊎ ((width a ≤ p) × Steps b test x (λ q. M (width a + q)) entered (p - width a))
 Steps (plus a) test x M entered p = Steps a test x M (entered ⊎ Exits a test M ⊥) p
 
--- The pattern asks no look.
+-- The pattern has no look-around assertion.
 abbrev pub IsFree : Core → Type 0
 IsFree void = Unit {0}
 IsFree empty = Unit {0}

@@ -1,4 +1,4 @@
--- What a tree that was made ready stands for.
+-- The core pattern of a prepared tree.
 use Rattle.std.specs.Prelude.{ℕ, ◌+◌, Bool, true, ◌&&◌, ◌==◌, nat_lt, nat_le, IsTrue, List, [], ◌∷◌, Option, Some, None}
 use Rattle.logos_hir.specs.Hir.{pairs}
 use Rattle.logos_hir.specs.ByteRanges.{is_in}
@@ -10,17 +10,17 @@ use Rattle.logos_positions.specs.declared.node.Node.{Node}
 use Rattle.logos_positions.specs.declared.node.Node.TheOpen.{Node-F}
 use Rattle.logos_positions.specs.declared.node.Node.TheFolds.{fold-Node}
 
--- The pattern written out, and whether the numbers beside it are right.
+-- The core pattern, and whether the numbers stored in the node are correct.
 pub record Sized : Type 0 where
   pub written : Core
   pub measured : Bool
 
--- Some number of copies is meant, but not none alone.
+-- The counts are in order, and the greatest count is not zero.
 abbrev pub is_ordered : ℕ → Option ℕ → Bool
 is_ordered least None = true
 is_ordered least (Some most) = nat_le least most && nat_lt 0 most
 
--- One node, with what each child stands for in its place.
+-- One node, with the values of its children in their places.
 abbrev pub node_sized : Node-F Sized → Sized
 node_sized Node-F.Void = record { written = core.void; measured = true }
 node_sized Node-F.Empty = record { written = core.empty; measured = true }
@@ -44,15 +44,15 @@ node_sized (Node-F.Repeat least most each body) = record {
 abbrev pub sized_of : Node → Sized
 sized_of = fold-Node Sized node_sized
 
--- The written-out tree that a node stands for.
+-- The core pattern that a node represents.
 abbrev pub core_of : Node → Core
 core_of node = (sized_of node).written
 
--- The numbers of places stored in a node are right.
+-- The numbers of positions stored in a node are correct.
 abbrev pub is_measured : Node → Bool
 is_measured node = (sized_of node).measured
 
--- The numbers of places stored in several nodes are right.
+-- The numbers of positions stored in several nodes are correct.
 abbrev pub AreMeasured : List Node → Type 0
 AreMeasured [] = Unit {0}
 AreMeasured (node ∷ nodes) = IsTrue (is_measured node) × AreMeasured nodes

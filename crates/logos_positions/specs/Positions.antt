@@ -1,31 +1,32 @@
--- The places of a tree, where it reads a byte.
+-- The positions of a tree, at which it reads a byte, as in Glushkov's construction.
 use Rattle.std.specs.Prelude.{◌≡◌, ℕ, ◌+◌, ◌<◌, min, max, ◌⊎◌, Bool, ◌||◌, false, true, List, [], length, take, Option, Some, None, if◌then◌else◌, ◌==◌, IfSome, encode_utf8}
 use Rattle.std.specs.Char.{IsScalar}
 use Rattle.logos_hir.specs.Text.{InRanges, OccursAt}
 use Rattle.logos_hir.specs.Tree.{Tree, empty, literal, byte_class, char_class, look, repetition, capture, concat, alternation, Trees, none, also}
 use Rattle.logos_hir.specs.Matches.{Matches, Pieces}
 
--- A place of a tree: where it reads a byte.
+-- A position of a tree.
 pub data Position : Type 0 where
   -- The literal's byte with this number.
   byte_of : ℕ → Position
-  -- A class, with the bytes of a character that is begun and not yet whole.
+  -- A class, with the bytes that have been read of a character that is not complete.
   member : List ℕ → Position
-  -- A place in the part or the branch with this number, or in this copy of the body.
+  -- A position in the part or the branch with this number, or in this copy of the body.
   within : ℕ → Position → Position
 
 -- The copies of a repetition's body: the greater of 1 and the largest count, or the least count
--- plus 1 where there is no largest.
+-- plus 1 if there is no largest.
 abbrev pub copies : ℕ → Option ℕ → ℕ
 copies least None = least + 1
 copies least (Some most) = max 1 most
 
--- The bytes of a character that are read so far, if these are not all of them.
+-- The bytes of a character that have been read, if they are not all of its bytes.
 abbrev pub begun : ℕ → List ℕ → List ℕ
 begun n text = if n + 1 == length text then [] else take (n + 1) text
 
 abbrev mutual
-  -- In a match from `from` on, the place can read the byte at `at`, all looks before it holding.
+  -- In a match from `from` on, the position can read the byte at `at`, where all look-around
+  -- assertions before it hold.
   pub Reads : Tree → List ℕ → ℕ → Position → ℕ → Type 0
   Reads empty bytes from position at = ⊥
   Reads (literal text) bytes from position at =
@@ -41,7 +42,7 @@ abbrev mutual
   Reads (concat parts) bytes from position at = ReadsInOrder parts 0 bytes from position at
   Reads (alternation branches) bytes from position at = SomeReads branches 0 bytes from position at
 
-  -- Some part reads it, after the parts before it; the parts are numbered.
+  -- Some part reads the byte, after the parts before it. The parts are numbered.
   pub ReadsInOrder : Trees → ℕ → List ℕ → ℕ → Position → ℕ → Type 0
   ReadsInOrder none n bytes from position at = ⊥
   ReadsInOrder (also part parts) n bytes from position at =
@@ -55,7 +56,7 @@ abbrev mutual
       ⊎ SomeReads branches (n + 1) bytes from position at
 
 abbrev mutual
-  -- A tree has a look.
+  -- A tree has a look-around assertion.
   pub has_look : Tree → Bool
   has_look empty = false
   has_look (literal text) = false

@@ -1,9 +1,9 @@
--- Repetitions and literals, written out.
+-- Repetitions and literals as core patterns.
 use Rattle.std.specs.Prelude.{ℕ, zero, suc, ◌-◌, ◌<◌, ◌≤◌, max, ◌==◌, List, [], ◌∷◌, Option, Some, None}
 use Rattle.logos_positions.specs.Core as core
 use Rattle.logos_positions.specs.Core.{Core}
 
--- The pattern `n` times, and then b.
+-- The pattern `n` times, followed by `b`.
 abbrev pub in_front : ℕ → Core → Core → Core
 in_front zero a b = b
 in_front (suc n) a b = core.cat a (in_front n a b)
@@ -22,17 +22,17 @@ abbrev pub repeated : ℕ → Option ℕ → Core → Core
 repeated least None a = at_least least a
 repeated least (Some most) a = in_front least a (up_to (most - least) a)
 
--- Some number of copies is meant, but not none alone.
+-- The counts are in order, and the greatest count is not zero.
 abbrev pub IsOrdered : ℕ → Option ℕ → Type 0
 IsOrdered least None = Unit {0}
 IsOrdered least (Some most) = (least ≤ most) × (0 < most)
 
--- How many copies stand apart.
+-- The number of copies that have their own positions.
 abbrev pub count_of : ℕ → Option ℕ → ℕ
 count_of least None = max least 1
 count_of least (Some most) = most
 
--- A byte after the other.
+-- One byte after another.
 abbrev pub spelled : List ℕ → Core
 spelled [] = core.empty
 spelled (b ∷ bs) = core.cat (core.byte_in (λ x. x == b)) (spelled bs)

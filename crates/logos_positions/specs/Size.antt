@@ -4,7 +4,7 @@ use Rattle.logos_hir.specs.Tree.{Tree, empty, literal, byte_class, char_class, l
 use Rattle.logos_positions.specs.Positions.{copies}
 
 abbrev mutual
-  -- The size of a tree, which bounds the number of its places.
+  -- The size of a tree, which bounds the number of its positions.
   pub size : Tree → ℕ
   size empty = 0
   size (literal text) = length text

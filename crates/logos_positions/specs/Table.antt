@@ -11,7 +11,7 @@ use Rattle.logos_positions.specs.declared.characters.builder.Block.{Block}
 use Rattle.logos_positions.specs.declared.characters.builder.CharacterRest.{CharacterRest}
 use Rattle.logos_positions.specs.declared.characters.reader.CharacterTable.{CharacterTable}
 
--- What a row stands for.
+-- The meaning of a row.
 pub record Row : Type 0 where
   pub left : ℕ
   pub offsets : List CharRange
@@ -19,23 +19,23 @@ pub record Row : Type 0 where
 abbrev pub row_of : CharacterRest → Row
 row_of r = record { left = r.left; offsets = r.offsets.items }
 
--- The row i is r.
+-- Row `i` is `r`.
 pub record IsAt (ks : List CharacterRest) (i : ℕ) (r : Row) : Type 0 where
   pub key : CharacterRest
   pub is : slice_get ks i ≡ Some key
   pub same : row_of key ≡ r
 
--- Rows keep their numbers.
+-- Rows are added, and the existing rows keep their numbers.
 pub record Grows (old new : List CharacterRest) : Type 0 where
   pub keeps : (i : ℕ) (r : Row) → IsAt old i r → IsAt new i r
 
--- Row 0 is the end, and alone has no byte left.
+-- Row 0 is the end, and is the only row without a remaining byte.
 pub record AreRests (ks : List CharacterRest) : Type 0 where
   pub small : (i : ℕ) (r : Row) → IsAt ks i r → r.left ≤ 3
   pub whole : (i : ℕ) (r : Row) → IsAt ks i r → r.left ≡ 0 → i ≡ 0
   pub end : (r : Row) × IsAt ks 0 r × (r.left ≡ 0) × (in_ranges r.offsets 0 ≡ true)
 
--- There is an offset, and the row i has what is left; or there is none.
+-- If there is an offset, row `i` has the remaining offsets; otherwise there is no row.
 pub record IsRowFor (ks : List CharacterRest) (n : ℕ) (has : ℕ → Bool) (i : ℕ) : Type 0 where
   pub row : Row
   pub at : IsAt ks i row
@@ -51,31 +51,32 @@ abbrev pub FindsFirst : List CharacterRest → (ℕ → Bool) → Option Lead �
 FindsFirst ks c None to = to ≡ None
 FindsFirst ks c (Some by) to = Finds ks by.left (after_lead c by) to
 
--- The target of a continuation byte b.
+-- The target of a continuation byte `b`.
 abbrev pub FindsNext : List CharacterRest → Row → ℕ → ℕ → Option ℕ → Type 0
 FindsNext ks r zero b to = to ≡ None
 FindsNext ks r (suc n) b to = Finds ks n (after_byte n (in_ranges r.offsets) b) to
 
--- The cell j has the target of its row and byte.
+-- Cell `j` has the target of its row and byte.
 pub record IsCell (ks : List CharacterRest) (cells : List (Option ℕ)) (j : ℕ) : Type 0 where
   pub row : Row
   pub at : IsAt ks (j / 64) row
   pub next : FindsNext ks row row.left (0x80 + j % 64) (slice_index_or cells j None)
 
--- What a block stands for.
+-- The meaning of a block.
 abbrev pub lead_of : Block → Lead
 lead_of b = record { left = b.left; start = b.start; floor = b.floor }
 
--- How many rows there are, at most, from a place on where so many bytes are left.
+-- An upper bound on the number of rows that can be reached from a row with this number of remaining
+-- bytes.
 abbrev pub led_to : ℕ → ℕ
 led_to zero = 0
 led_to (suc n) = 1 + 64 * led_to n
 
--- The same for the rows from the n-th on, those that are not there yet too.
+-- An upper bound for the rows from the `n`-th on, including those that have not been added yet.
 abbrev pub weight : ℕ → List CharacterRest → ℕ
 weight n ks = sum_by (λ r. 1 + 64 * led_to (r.left - 1)) (drop n ks)
 
--- The same for all first bytes below b.
+-- An upper bound for all first bytes below `b`.
 abbrev pub first_weight : ℕ → ℕ
 first_weight b = (min b 0xE0 - 0xC0) + 65 * (min b 0xF0 - 0xE0) + 4161 * (min b 0xF8 - 0xF0)
 

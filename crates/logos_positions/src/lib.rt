@@ -1,4 +1,5 @@
-//! From trees to sets of places, and the places to which a byte leads.
+//! Steps of trees: from the set of positions that read one byte to the positions that read the next
+//! byte. `logos_automaton` builds its states with it.
 
 #![tactic(auto)]
 

@@ -1,4 +1,5 @@
-//! Trees, prepared for the automaton. `prepare` makes them, and steps read them.
+//! Trees, prepared for the automaton. `prepare` makes them, and steps read them. A tree is entered
+//! where a match of it begins, and can be left where a match of it ends.
 
 ghost use Rattle.std.specs.Prelude.{◌≡◌, ◌+◌, ◌*◌, ◌^◌, ◌<◌, ◌≤◌, ◌-◌, IsTrue, false};
 ghost use Rattle.logos_positions.specs.Views.{count_of, core_of, is_measured};
@@ -7,12 +8,12 @@ ghost use Rattle.logos_positions.specs.Core as core;
 use crate::characters::reader::CharacterTable;
 use logos_hir::hir::{Look, Range};
 
-/// A tree whose parts and branches are in pairs, with their numbers of places.
+/// A tree whose parts and branches are in pairs, with the numbers of their positions.
 #[derive(Drop)]
 pub enum Node {
     /// Matches nothing.
     Void,
-    /// Matches the empty text.
+    /// Matches the empty string.
     Empty,
     /// These bytes, in order.
     Literal(Vec<u8>),
@@ -20,33 +21,33 @@ pub enum Node {
     Bytes(Vec<Range>),
     /// One character of a class.
     Characters(CharacterTable),
-    /// A look: a condition on a position in the input.
+    /// A look-around assertion: a condition on a point of the input.
     Look(Look),
     /// One tree after the other.
     Cat {
-        /// The number of places of both.
+        /// The number of positions of both trees.
         width: usize,
         first: Box<Node>,
         second: Box<Node>,
     },
     /// One of two trees.
     Alt {
-        /// The number of places of both.
+        /// The number of positions of both trees.
         width: usize,
         first: Box<Node>,
         second: Box<Node>,
     },
-    /// The body, at least `least` times, and at most `most` times if there is such a bound.
+    /// The body, at least `least` times, and at most `most` times if `most` is not `None`.
     Repeat {
         least: usize,
         most: Option<usize>,
-        /// The number of places of the body.
+        /// The number of positions of the body.
         each: usize,
         body: Box<Node>,
     },
 }
 
-/// Returns how many copies of its body a repetition has, each with places of its own.
+/// Returns the number of copies of the body of a repetition that have their own positions.
 pub fn copy_count(least: usize, most: Option<usize>) -> usize
     ensures { result ≡ count_of least most }
 {
@@ -56,7 +57,7 @@ pub fn copy_count(least: usize, most: Option<usize>) -> usize
     }
 }
 
-/// Returns the number of places of a tree.
+/// Returns the number of positions of a tree.
 pub fn width(node: &Node) -> usize
     requires fits { core.width (core_of node.now) < 2 ^ 64 }
     requires measured { IsTrue (is_measured node.now) }
@@ -78,17 +79,17 @@ pub fn width(node: &Node) -> usize
     }
 }
 
-/// Where a tree stands in a step: at which place its own begin, and whether it is entered.
+/// A tree in a step: its first position, and whether it is entered.
 #[derive(Clone, Copy)]
 pub struct TreeSpot {
-    /// The first place of the tree.
+    /// The first position of the tree.
     pub base: usize,
-    /// Whether a match of the tree begins at the position of the step.
+    /// Whether a match of the tree begins at the point of the step.
     pub entered: bool,
 }
 
 impl TreeSpot {
-    /// Returns the spot of a tree whose places begin at `base`, and that is not entered.
+    /// Returns the spot of a tree that is not entered and whose positions begin at `base`.
     pub fn unentered(base: usize) -> TreeSpot
         ensures base { result.base ≡ base }
         ensures entered { result.entered ≡ false }
@@ -99,7 +100,7 @@ impl TreeSpot {
         }
     }
 
-    /// Returns the spot after the next `width` places.
+    /// Returns the spot after the next `width` positions.
     pub fn after(self, width: usize, entered: bool) -> TreeSpot
         requires { self.base + width < 2 ^ 64 }
         ensures base { result.base ≡ self.base + width }
@@ -115,9 +116,9 @@ impl TreeSpot {
 /// Copies of the body of a repetition, one after another.
 #[derive(Clone, Copy)]
 pub struct Copies {
-    /// The first place of the first copy.
+    /// The first position of the first copy.
     pub base: usize,
-    /// The number of places of each copy.
+    /// The number of positions of each copy.
     pub each: usize,
     /// The number of copies.
     pub count: usize,
@@ -126,7 +127,7 @@ pub struct Copies {
 }
 
 impl Copies {
-    /// Returns `count` copies of a body with `each` places, the first of which stands at `spot`.
+    /// Returns `count` copies of a body with `each` positions, the first of which is at `spot`.
     pub fn new(spot: TreeSpot, each: usize, count: usize) -> Copies
         ensures base { result.base ≡ spot.base }
         ensures entered { result.entered ≡ spot.entered }
@@ -141,7 +142,7 @@ impl Copies {
         }
     }
 
-    /// Returns the copies from this number on. `entered` says whether the first one is entered.
+    /// Returns the copies from `number` on. `entered` is whether the first of them is entered.
     pub fn from(self, number: usize, entered: bool) -> Copies
         requires fits { self.base + self.each * number < 2 ^ 64 }
         requires within { number ≤ self.count }

@@ -1,5 +1,5 @@
-//! Preparation of a pattern's tree: the tree that the automaton steps on. `logos_automaton` calls
-//! it once for each rule, before it builds states.
+//! Prepares a pattern's tree for the steps of the automaton. `logos_automaton` calls it once for
+//! each rule, before it builds states.
 
 ghost use Rattle.std.specs.Prelude.{◌≡◌, ℕ, ◌+◌, ◌^◌, ◌<◌, ◌≤◌, IsTrue, IfOk, Bool, true, length, map, vec_len};
 ghost use Rattle.logos_positions.specs.Views.{trees, literal, repetition, class_tree, tree_of, IsCoreOf, pair_up, of_none, IsPair, IsJoined, AreCoresOf, width_of, sizes, core_of, is_measured, AreMeasured};
@@ -46,7 +46,7 @@ fn prepare_class(alloc: Global, class: &Class) -> Result<Node, AllocError>
     }
 }
 
-/// Returns one tree after the other, or the choice of the two, each with places of its own.
+/// Returns one tree after the other, or the choice of the two, each with its own positions.
 ///
 /// # Errors
 ///
@@ -76,7 +76,8 @@ fn apart(alloc: Global, in_order: bool, first: Node, second: Node) -> Result<Nod
     })
 }
 
-/// Returns one tree after the other, or the choice of the two: for two classes of bytes, one class.
+/// Returns one tree after the other, or the choice of the two. The choice of two classes of bytes
+/// is one class.
 ///
 /// # Errors
 ///
@@ -98,7 +99,7 @@ fn pair(alloc: Global, in_order: bool, first: Node, second: Node) -> Result<Node
     }
 }
 
-/// Returns the join of no trees.
+/// Returns the combination of no trees.
 fn none_of(in_order: bool) -> Node
     ensures occurs { core_of result ≡ of_none in_order }
     ensures measured { IsTrue (is_measured result) }
@@ -109,7 +110,7 @@ fn none_of(in_order: bool) -> Node
     Node::Void
 }
 
-/// Returns the only tree, or the join of none.
+/// Returns the only tree, or the combination of no trees.
 fn sole(in_order: bool, mut nodes: Vec<Node>) -> Node
     requires measured { AreMeasured nodes.items }
     requires few { vec_len nodes < 2 }
@@ -122,7 +123,7 @@ fn sole(in_order: bool, mut nodes: Vec<Node>) -> Node
     node
 }
 
-/// Joins trees in pairs of about the same length: all of them in order, or the choice of one of
+/// Combines trees in pairs of about the same length: all of them in order, or the choice of one of
 /// them.
 ///
 /// # Errors

@@ -1,5 +1,5 @@
-//! The programs `logos`, `logos_cli` and `logos_show`: one executable, which runs as the program by
-//! whose name it is called. It is built and checked once, since most of it is shared.
+//! The programs `logos`, `logos_cli` and `logos_show`: one executable, which acts as the program
+//! whose name it is invoked under. It is built and checked once, since most of its code is shared.
 
 #![tactic(auto)]
 
@@ -14,7 +14,7 @@ use std::io;
 use std::process::ExitCode;
 
 /// Runs `logos` with the arguments of the process: it prints the lexer of an enum in a file or its
-/// chart, or lexes another file by it. Returns the exit status.
+/// state diagram, or lexes another file with it. Returns the exit status.
 fn run_logos(rt: &HostRuntime) -> u8 {
     run_with(
         rt.alloc(),

@@ -1,4 +1,5 @@
--- Definitions that clauses cite: of lower crates, and those of this one that name no type of it.
+-- Definitions that contracts cite: those of lower crates, and those of this crate that name none of
+-- its types.
 pub use Rattle.logos_answers.specs.Views.{loss_value}
 pub use Rattle.logos_automaton.specs.Faults.{AllStart}
 pub use Rattle.logos_graph.specs.GraphOf.{IsGraphOf}

@@ -1,4 +1,4 @@
-//! The object of an item.
+//! The JSON object for an item. Used by `logos_items`.
 
 ghost use Rattle.std.specs.Prelude.{◌≡◌, ◌∷◌, []};
 ghost use Rattle.logos_records.specs.Views.{Gains, Puts, object, item_members, kind_members, location_members};
@@ -6,7 +6,7 @@ ghost use Rattle.logos_records.specs.Views.{Gains, Puts, object, item_members, k
 use logos_json::JsonLines;
 use logos_lines::Location;
 
-/// An item of an input, as its object shows it.
+/// An item of an input, with the values of its object.
 #[derive(Clone, Copy)]
 pub struct ItemRecord<'i> {
     /// The line and the column at which it begins.
@@ -31,7 +31,7 @@ pub fn push_item_record(lines: &mut JsonLines, item: ItemRecord<'_>)
     lines.end_line();
 }
 
-/// Appends where an item begins.
+/// Appends the location of an item.
 fn push_location_members(lines: &mut JsonLines, item: ItemRecord<'_>)
     ensures { Gains (location_members item.entry) lines.old lines.new }
 {
@@ -40,7 +40,7 @@ fn push_location_members(lines: &mut JsonLines, item: ItemRecord<'_>)
     lines.push_number("from", item.from);
 }
 
-/// Appends what an item is.
+/// Appends the leaf, the variant and the text of an item.
 fn push_kind_members(lines: &mut JsonLines, item: ItemRecord<'_>)
     ensures { Gains (kind_members item.entry) lines.old lines.new }
 {

@@ -1,4 +1,5 @@
--- Definitions that clauses cite: of lower crates, and those of this one that name no type of it.
+-- Definitions that contracts cite: those of lower crates, and those of this crate that name none of
+-- its types.
 pub use Rattle.logos_reduce.specs.Edges.{IsMarked}
 pub use Rattle.logos_reduce.specs.Lists.{ArePredecessors, AreRising, Rises, has, has_in}
 pub use Rattle.logos_reduce.specs.Order.{IsMet, IsOrder}

@@ -1,4 +1,4 @@
--- Lists in which some chunks are put in place of others.
+-- Lists in which some chunks replace others.
 use Rattle.std.proofs.Common.{◌≡◌, ◌∙◌, ℕ, List, ◌++◌, length, take, drop, Result, Ok, Err, IfOk, OnOk, OnErr, sym, ap, subst}
 use Rattle.std.proofs.Math.Seq.{drop-length}
 use Rattle.std.proofs.lemmas.List.{append_assoc, append-nil}

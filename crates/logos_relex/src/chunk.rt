@@ -1,4 +1,5 @@
-//! Chunks: the items of a few thousand bytes, which were found in the bytes of a window alone.
+//! Chunks: the items of a few thousand bytes, determined by the bytes of a window alone. Used by
+//! `anew`, `borders` and `lexed`.
 
 ghost use Rattle.std.specs.Prelude.{◌≡◌, ◌<◌, ◌≤◌, length, map, take, IfOk, IfErr, IfSome};
 ghost use Rattle.logos_relex.specs.Views.{Runs, answers_of, offset_of, item_at, IsChunk, IsInput, IsRefused, SettlesUpTo, TakesMatches};
@@ -10,19 +11,19 @@ use logos_machine::machine::{Action, Item, Lexer, Within};
 use logos_token::token::Span;
 use std::alloc::{AllocError, Global};
 
-/// An item without its bytes: what it is, and where it stands.
+/// An item without its bytes: its kind, its leaf and its span.
 #[derive(Clone, Copy, Debug, PartialEq, Eq)]
 pub enum ItemAt {
     /// A match.
     Token { leaf: LeafId, span: Span },
-    /// Bytes that no leaf matches, if `leaf` is `None`, or a match that the callback of its leaf
+    /// Bytes that no leaf matches, if `leaf` is `None`, or a match that the callback of `leaf`
     /// refused.
     Error { leaf: Option<LeafId>, span: Span },
 }
 
 /// Neighboring items, and the bytes from the first of them to the next chunk.
 ///
-/// Spans count from the chunk's first byte, so a chunk stays as it is where bytes before it change.
+/// Spans count from the chunk's first byte, so an edit before a chunk leaves it unchanged.
 #[derive(Debug, Drop)]
 pub struct Chunk {
     items: Vec<ItemAt>,
@@ -45,7 +46,7 @@ impl Chunk {
         self.length
     }
 
-    /// Returns how many bytes from the chunk's first one on were looked at to find its items.
+    /// Returns how many bytes, counted from the chunk's first one, were examined to find its items.
     pub fn window(&self) -> usize
         ensures { result ≡ self.now.window }
     {
@@ -63,8 +64,8 @@ fn offset_of(item: Item<'_>) -> ItemAt
     }
 }
 
-/// Returns the items that are found at the front of a lexer's part whatever follows it, and the
-/// offset up to which they are.
+/// Returns the first items of a lexer's part that are found whatever follows it, and the offset at
+/// which they end.
 ///
 /// # Errors
 ///
@@ -86,8 +87,8 @@ fn settled<C: Fn(LeafId, &[u8]) -> Action + Drop>(
     Ok((items, lexer.span().to))
 }
 
-/// Returns the longest beginning of a part that a lexer of the code takes: in UTF-8 mode, without
-/// the character that the part's end cuts.
+/// Returns the longest prefix of a part that a lexer of the code takes: in UTF-8 mode, without an
+/// incomplete character at the end.
 fn characters<'p>(code: &Code, part: &'p [u8]) -> &'p [u8]
     ensures front { result.now ≡ take (length result.now) part.now }
     ensures within { length result.now ≤ length part.now }
@@ -101,7 +102,7 @@ fn characters<'p>(code: &Code, part: &'p [u8]) -> &'p [u8]
     }
 }
 
-/// Returns a chunk that is found in a part alone, if there is one.
+/// Returns a chunk that is determined by a part alone, if there is one.
 ///
 /// # Errors
 ///
@@ -131,8 +132,8 @@ fn chunk_of<C: Fn(LeafId, &[u8]) -> Action + Drop>(
     }))
 }
 
-/// Returns the first chunk of some bytes, found in a window of at least this size. Returns `None`
-/// if what is found first depends on the end of the bytes.
+/// Returns the first chunk of `bytes`, found in a window of at least this size. Returns `None` if
+/// the first item depends on the end of the bytes.
 ///
 /// # Errors
 ///

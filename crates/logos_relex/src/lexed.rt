@@ -1,4 +1,4 @@
-//! Items of an input that changes.
+//! The items of an input that changes. Called by users' code.
 
 ghost use Rattle.std.specs.Prelude.{◌≡◌, ◌≤◌, IfOk, IfErr, OnErr, OnOk, length};
 ghost use Rattle.logos_relex.specs.Views.{answers_of, ComesAfter, IsInput, IsLexed, IsRefused, PutsAnew, Stays, TakesMatches, WasLexed, Memory as OutOfMemory, NotUtf8 as NoUtf8};
@@ -16,7 +16,7 @@ use std::alloc::{AllocError, AllocFailed, Global};
 #[derive(Clone, Copy, Debug, PartialEq, Eq)]
 pub enum RelexError {
     /// The input is not UTF-8, and the code is in UTF-8 mode. `valid_up_to` is the length in bytes
-    /// of the input's longest beginning that is.
+    /// of its longest prefix that is.
     NotUtf8 { valid_up_to: usize },
     /// Memory ran out.
     Memory,
@@ -48,7 +48,7 @@ impl From<NotUtf8> for RelexError {
     }
 }
 
-/// An edit of an input: other bytes, perhaps none, are put in place of a span.
+/// An edit of an input: other bytes, possibly none, replace a span.
 #[derive(Clone, Copy, Debug)]
 pub struct Edit<'i> {
     /// The bytes that were replaced, as a span of the former input.
@@ -57,7 +57,7 @@ pub struct Edit<'i> {
     pub input: &'i [u8],
 }
 
-/// The items of an input, in chunks. After an edit, only chunks that looked at it are made anew.
+/// The items of an input, in chunks. After an edit, only chunks that looked at it are lexed again.
 #[derive(Debug, Drop)]
 pub struct Lexed {
     alloc: Global,
@@ -67,7 +67,7 @@ pub struct Lexed {
 }
 
 impl Lexed {
-    /// Lexes an input. For a match of a leaf with a callback, the callback decides by the leaf and
+    /// Lexes an input. For a match of a leaf with a callback, `callback` decides by the leaf and
     /// the slice.
     ///
     /// # Errors
@@ -127,8 +127,8 @@ impl Lexed {
     }
 
     /// Lexes an edited input. The items that did not look at the edit stay: those before it, and
-    /// those from the first border after it on that is met again. The callback is asked again only
-    /// for what is lexed anew, so it has to answer by the leaf and the slice alone.
+    /// those from the first border after it that is met again. The callback is called only for
+    /// bytes that are lexed again, so its answer must depend on the leaf and the slice alone.
     ///
     /// # Errors
     ///
@@ -183,7 +183,7 @@ impl Lexed {
         Ok(())
     }
 
-    /// Puts what was made in place of the former chunks from one on.
+    /// Replaces the former chunks from index `from` on with the new ones.
     ///
     /// # Errors
     ///
@@ -208,7 +208,7 @@ impl Lexed {
         Ok(())
     }
 
-    /// Returns the allocator of all that is made.
+    /// Returns the allocator of the chunks and items.
     pub(crate) fn alloc(&self) -> Global
         ensures { result ≡ self.now.alloc }
     {
@@ -222,8 +222,8 @@ impl Lexed {
         self.length
     }
 
-    /// Returns the chunks, in order. The first begins at the input's first byte, and each other one
-    /// where the one before it ends.
+    /// Returns the chunks, in order. The first begins at the input's first byte, and every other
+    /// one where its predecessor ends.
     pub fn chunks(&self) -> &[Chunk]
         ensures { result.now ≡ self.now.chunks.items }
     {

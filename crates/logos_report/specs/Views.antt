@@ -1,4 +1,4 @@
--- Definitions that clauses cite: those of `Words`, and those that name types of this crate.
+-- Definitions that contracts cite: those of `Imports`, and those that name types of this crate.
 pub use Rattle.logos_report.specs.Imports.{IsLineOf, IsLongLine, IsNoLine, count_by, fault_of, faults_of, is_ambiguity, is_error, name_of, location_at, shown_char, shown_text}
 pub use Rattle.logos_report.specs.Faults.{code_text, count_text, counted_texts, fault_texts, faults_texts, first_line, has_name, head_line, left_out, listed_texts, rest_line, rest_text, seen_of, summary_line, texts_after}
 pub use Rattle.logos_page.specs.Pages.{Gains, Shows, begun, ended, painted, style_text, times}

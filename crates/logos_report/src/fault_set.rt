@@ -1,14 +1,14 @@
 //! The faults of sets of ambiguous leaves. Reports and messages of a fault name the other leaves of
-//! its set with the positions of their faults.
+//! its set with the positions of their faults. Used by `faults` and `logos_messages`.
 
 use logos_token::error::{Detail, SpannedError};
 
-/// The faults of a set of ambiguous leaves, of which one is shown.
+/// The faults of a set of ambiguous leaves, with the one that is shown.
 #[derive(Clone, Copy)]
 pub struct FaultSet<'f> {
-    /// The faults, in the order of the leaves; none if the fault that is shown is another one.
+    /// The faults, in the order of the leaves; none if the shown fault is not of an ambiguous leaf.
     faults: &'f [SpannedError],
-    /// The number of the one that is shown.
+    /// The number of the shown fault.
     own: usize,
 }
 
@@ -23,8 +23,8 @@ impl<'f> FaultSet<'f> {
     }
 }
 
-/// Returns the set of the fault with this number, which has no faults if that is not of an
-/// ambiguous leaf.
+/// Returns the set of the fault with this number. It is empty if the fault is not of an ambiguous
+/// leaf.
 pub fn set_at(faults: &[SpannedError], number: usize) -> FaultSet<'_> {
     let from = begin_of_set(faults, number);
     let to = end_of_set(faults, number);

@@ -14,23 +14,23 @@ use crate::source::Part;
 use logos_page::{Page, Style};
 use logos_token::error::{Errors, FaultCode, SpannedError};
 
-/// How many faults of one code are shown of a file.
+/// The maximum number of faults with one code that are shown for a file.
 pub const MOST: usize = 50;
 
-/// A fault, with what is known of it.
+/// A fault, with the clues about it.
 #[derive(Clone, Copy)]
 pub struct KnownFault<'f> {
     pub fault: &'f SpannedError,
-    /// The faults of its set, if it is one of an ambiguous leaf.
+    /// The faults of its set, if it is of an ambiguous leaf.
     pub set: FaultSet<'f>,
-    /// What to do about it, if there is something to say.
+    /// The help for it, if there is one.
     pub help: Option<&'static str>,
 }
 
-/// Appends the faults of a part of a file, in order. For each, a line with the name of its code and
-/// the first line of its message, and one with its position in the file stand in what is pushed. Of
-/// the faults of a set of ambiguous leaves of which something is known the first one has the line,
-/// and all have their positions under it.
+/// Appends the faults of a part of a file, in order. For each, the appended text has a line with
+/// the name of its code and the first line of its message, and one with its position in the file.
+/// In a set of ambiguous leaves with a clue the first fault has the line, and all have their
+/// positions under it.
 pub fn push_faults(page: &mut Page, part: Part<'_, '_>, errors: &Errors, clues: &Clues)
     ensures { Shows (faults_texts page.old.is_colored part.entry.source.now part.entry.offset
         (sizes_of clues.now) errors.now) page.old page.new }
@@ -43,7 +43,7 @@ pub fn push_faults(page: &mut Page, part: Part<'_, '_>, errors: &Errors, clues: 
     push_all(page, part, listing, first_faults(clues));
 }
 
-/// Appends the faults of a part, of which these come first.
+/// Appends the faults of a part, beginning with the first one.
 pub(crate) fn push_all(
     page: &mut Page,
     part: Part<'_, '_>,
@@ -63,8 +63,8 @@ pub(crate) fn push_all(
     }
 }
 
-/// Appends a fault of a part, which has this number there. Of the faults of one code 50 are shown.
-/// In place of the next one stands how many are left out.
+/// Appends the fault of a part with this number. At most 50 faults of one code are shown. In place
+/// of the next one is the number of those that are left out.
 fn push_counted(
     page: &mut Page,
     part: Part<'_, '_>,
@@ -93,7 +93,7 @@ fn push_counted(
     }
 }
 
-/// Appends how many faults of a code are left out, and an empty line.
+/// Appends the number of faults of a code that are left out, and an empty line.
 pub fn push_rest(page: &mut Page, code: FaultCode, count: usize)
     ensures { Shows (rest_line page.old.is_colored code count ∷ []) page.old page.new }
 {
@@ -101,7 +101,7 @@ pub fn push_rest(page: &mut Page, code: FaultCode, count: usize)
     page.push("\n");
 }
 
-/// Appends the line that says how many faults of a code are left out.
+/// Appends the line with the number of faults of a code that are left out.
 fn push_rest_line(page: &mut Page, code: FaultCode, count: usize)
     ensures { Gains (rest_line page.old.is_colored code count) page.old page.new }
 {
@@ -110,7 +110,7 @@ fn push_rest_line(page: &mut Page, code: FaultCode, count: usize)
     page.push("\n");
 }
 
-/// Appends what follows the code of faults that are left out.
+/// Appends the text after the code of faults that are left out.
 fn push_rest_text(page: &mut Page, count: usize)
     ensures { Gains (painted page.old.is_colored Style.Strong (rest_text count)) page.old page.new }
 {
@@ -121,7 +121,7 @@ fn push_rest_text(page: &mut Page, count: usize)
     page.end();
 }
 
-/// Returns how many of these faults have a code.
+/// Returns how many of these faults have this code.
 pub(crate) fn count_code(faults: &[SpannedError], code: FaultCode) -> usize
     ensures { result ≡ count_by (has_name (name_of code)) (faults_of faults.now) }
 {
@@ -132,8 +132,8 @@ pub(crate) fn count_code(faults: &[SpannedError], code: FaultCode) -> usize
     count
 }
 
-/// Returns how many of these faults have a code, but no more than one above the number that is
-/// shown. It looks from the last one on, so that the time of all these calls is linear in the
+/// Returns how many of these faults have this code, but at most one more than the number that is
+/// shown. It searches from the last one on, so that the time of all these calls is linear in the
 /// number of faults.
 pub(crate) fn seen_of(faults: &[SpannedError], code: FaultCode) -> usize
     ensures { result ≡ seen_of code (faults_of faults.now) }
@@ -157,16 +157,15 @@ fn has_code(fault: &SpannedError, code: FaultCode) -> bool
     fault.code.name() == code.name()
 }
 
-/// Returns how many reports of errors these faults give. `Previous` is an earlier
-/// definition that an error speaks of, and a set of ambiguous leaves of which something is known
-/// has one report.
+/// Returns how many reports of errors these faults have. `Previous` is an earlier definition to
+/// which an error refers, and a set of ambiguous leaves with a clue has one report.
 pub fn count_errors(errors: &Errors, clues: &Clues) -> usize
     ensures { result ≡ errors_after (first_faults (sizes_of clues.now)) errors.now }
 {
     count_all(errors.list(), first_faults(clues))
 }
 
-/// Returns how many reports of errors these faults give.
+/// Returns how many reports of errors these faults have.
 fn count_all(faults: &[SpannedError], first: NextFaults<'_>) -> usize
     ensures { result ≡ errors_after (next_value first.entry) (faults_of faults.now) }
 {
@@ -193,7 +192,7 @@ pub fn is_error(code: FaultCode) -> bool
     !matches!(code, FaultCode::Previous)
 }
 
-/// Appends the line that says how many errors there are.
+/// Appends the line with the number of errors.
 pub fn push_summary(page: &mut Page, count: usize)
     ensures { Gains (summary_line page.old.is_colored count) page.old page.new }
 {
@@ -204,7 +203,7 @@ pub fn push_summary(page: &mut Page, count: usize)
     page.push("\n");
 }
 
-/// Appends how many errors there are.
+/// Appends the number of errors.
 fn push_count(page: &mut Page, count: usize)
     ensures { Gains (count_text count) page.old page.new }
 {
@@ -213,7 +212,7 @@ fn push_count(page: &mut Page, count: usize)
     page.push(errors_text(count));
 }
 
-/// Returns the word for so many errors.
+/// Returns the word for `count` errors.
 fn errors_text(count: usize) -> &'static str
     ensures { result.now ≡ (if count == 1 then codes " previous error" else codes " previous errors") }
 {
@@ -234,8 +233,8 @@ pub fn push_fault(page: &mut Page, part: Part<'_, '_>, known: KnownFault<'_>)
     push_notes(page, ShownFault { part, known, width });
 }
 
-/// Appends where a fault begins, and its lines with carets, but no line of a source that is too
-/// long. Returns how wide the column of line numbers is.
+/// Appends the position of a fault, and its lines with carets, unless the source is too long.
+/// Returns the width of the column of line numbers.
 fn push_span(page: &mut Page, part: Part<'_, '_>, fault: &SpannedError) -> usize
     ensures { Shows (location_line page.old.is_colored part.entry.source.now part.entry.offset
         fault.now.span.from ∷ []) page.old page.new }
@@ -247,8 +246,8 @@ fn push_span(page: &mut Page, part: Part<'_, '_>, fault: &SpannedError) -> usize
     push_marked(page, part, fault, "")
 }
 
-/// Appends where a fault begins, and its lines with carets and a label. Returns how wide the column
-/// of line numbers is.
+/// Appends the position of a fault, and its lines with carets and a label. Returns the width of the
+/// column of line numbers.
 pub(crate) fn push_marked(
     page: &mut Page,
     part: Part<'_, '_>,
@@ -275,7 +274,7 @@ pub(crate) fn push_head(page: &mut Page, fault: &SpannedError)
     page.push("\n");
 }
 
-/// Appends the first line of a message, and what parts it from the code.
+/// Appends the first line of a message, and the separator between it and the code.
 fn push_message(page: &mut Page, line: &str)
     ensures { Gains (painted page.old.is_colored Style.Strong (codes ": " ++ shown_text line.now))
         page.old page.new }

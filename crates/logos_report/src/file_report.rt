@@ -1,4 +1,5 @@
-//! The faults of a whole file, part by part. The parts have the count of what is shown in common.
+//! The faults of a whole file, part by part. The parts share the count of shown faults. Used by
+//! `logos_derive`, `logos_expand` and `logos_messages`.
 
 ghost use Rattle.std.specs.Prelude.{◌≡◌, ◌++◌, ◌+◌, ◌<◌, ◌^◌, ◌-◌, length, min};
 ghost use Rattle.logos_page.specs.Pages.{PageValue};
@@ -13,18 +14,18 @@ use logos_token::error::{Errors, FaultCode, SpannedError};
 /// The faults of a part of a file: of an enum, or of a file that cannot be read.
 #[derive(Drop)]
 pub struct Refused {
-    /// Where the part begins in the file, in bytes.
+    /// The byte offset of the part in the file.
     pub offset: usize,
     /// Its faults.
     pub errors: Errors,
-    /// What is known of the faults of its graph.
+    /// The clues about the faults of its graph.
     pub clues: Clues,
 }
 
 /// The faults of a part of a file, and the parts around it.
 #[derive(Clone, Copy)]
 pub struct FaultListing<'f> {
-    /// The parts in front of it.
+    /// The parts before it.
     pub earlier: &'f [Refused],
     /// Its faults.
     pub faults: &'f [SpannedError],
@@ -32,8 +33,8 @@ pub struct FaultListing<'f> {
     pub later: &'f [Refused],
 }
 
-/// Appends the faults of these parts of a file, in order, as `push_faults` does. Of the faults of
-/// one code in all parts 50 are shown.
+/// Appends the faults of these parts of a file, in order, like `push_faults`. At most 50 faults of
+/// one code in all parts are shown.
 pub fn push_refused(page: &mut Page, source: &Source<'_>, refused: &[Refused])
     ensures { Shows (refused_texts page.old.is_colored source.now refused.now) page.old page.new }
 {
@@ -65,8 +66,8 @@ fn push_part(page: &mut Page, source: &Source<'_>, refused: &[Refused], number: 
     );
 }
 
-/// Returns how many faults of these parts, and of some more, have a code, but no more than one
-/// above the number that is shown. It looks from the last one on.
+/// Returns how many faults of these parts, and of `front`, have this code, but at most one more
+/// than the number that is shown. It searches from the last one on.
 pub fn seen_in(earlier: &[Refused], front: &[SpannedError], code: FaultCode) -> usize
     ensures { result ≡ seen_of code (all_faults earlier.now ++ faults_of front.now) }
 {
@@ -82,7 +83,8 @@ pub fn seen_in(earlier: &[Refused], front: &[SpannedError], code: FaultCode) -> 
     count
 }
 
-/// Returns how many faults of a part and of those around it have a code, or the largest number.
+/// Returns how many faults of a part and of those around it have this code, saturating at the
+/// greatest number.
 pub fn count_in(listing: FaultListing<'_>, code: FaultCode) -> usize
     ensures { result ≡ min (count_by (has_name (name_of code)) (listed_faults listing.entry))
         (2 ^ 64 - 1) }
@@ -92,7 +94,7 @@ pub fn count_in(listing: FaultListing<'_>, code: FaultCode) -> usize
         .saturating_add(count_parts(listing.later, code))
 }
 
-/// Returns how many faults of these parts have a code, or the largest number.
+/// Returns how many faults of these parts have this code, saturating at the greatest number.
 fn count_parts(parts: &[Refused], code: FaultCode) -> usize
     ensures { result ≡ min (count_by (has_name (name_of code)) (all_faults parts.now)) (2 ^ 64 - 1) }
 {

@@ -9,35 +9,35 @@ use logos_lines::Location;
 use logos_page::{Page, Style, digits};
 use logos_token::token::Span;
 
-/// A span of a file, and how it is shown.
+/// A span of a file, and the style in which it is shown.
 #[derive(Clone, Copy)]
 struct Frame<'p, 't> {
     source: &'p Source<'t>,
-    /// Where the span begins.
+    /// The start of the span.
     first: FileSpot,
-    /// Where it ends.
+    /// The end of the span.
     last: FileSpot,
-    /// How wide the column of line numbers is.
+    /// The width of the column of line numbers.
     width: usize,
     /// The style of the carets and of the label.
     style: Style,
-    /// What stands after the carets.
+    /// The text after the carets.
     label: &'p str,
 }
 
-/// What carets show in lines of a file.
+/// Carets in lines of a file.
 #[derive(Clone, Copy)]
 pub(crate) struct Marks<'l> {
-    /// What carets stand under.
+    /// The span under which the carets are.
     pub(crate) span: Span,
     /// The style of the carets and of the label.
     pub(crate) style: Style,
-    /// What stands after the carets, if it is not empty.
+    /// The text after the carets, if it is not empty.
     pub(crate) label: &'l str,
 }
 
-/// Appends where a span begins, the lines at which it begins and ends, and carets of this style
-/// under it. Long lines are cut around it. Returns how many digits the number of the last line has.
+/// Appends the start of a span, the lines at which it begins and ends, and carets of this style
+/// under it. Long lines are cut around it. Returns the number of digits of the last line's number.
 pub fn push_frame(page: &mut Page, part: Part<'_, '_>, span: Span, style: Style) -> usize
     ensures { Shows (location_line page.old.is_colored part.entry.source.now part.entry.offset span.from
         ∷ []) page.old page.new }
@@ -51,7 +51,7 @@ pub fn push_frame(page: &mut Page, part: Part<'_, '_>, span: Span, style: Style)
 }
 
 /// Appends an offset of a part of a file, the lines at which a span begins and ends, and carets
-/// under the span. Returns how many digits the number of the last line has.
+/// under the span. Returns the number of digits of the last line's number.
 pub(crate) fn push_frame_with(
     page: &mut Page,
     part: Part<'_, '_>,
@@ -67,7 +67,7 @@ pub(crate) fn push_frame_with(
     frame.width
 }
 
-/// Returns how a span of a part of a file is shown.
+/// Returns the frame for a span of a part of a file.
 fn frame_of<'p, 't>(part: Part<'p, 't>, marks: Marks<'p>) -> Frame<'p, 't> {
     let first = spot_in(part, marks.span.from);
     let last = last_shown(part.source, first, spot_in(part, marks.span.to));
@@ -81,7 +81,7 @@ fn frame_of<'p, 't>(part: Part<'p, 't>, marks: Marks<'p>) -> Frame<'p, 't> {
     }
 }
 
-/// Returns the spot in the file of an offset of a part.
+/// Returns the location in the file of an offset of a part.
 fn spot_in(part: Part<'_, '_>, offset: usize) -> FileSpot {
     FileSpot {
         offset: offset.saturating_add(part.offset),
@@ -89,8 +89,8 @@ fn spot_in(part: Part<'_, '_>, offset: usize) -> FileSpot {
     }
 }
 
-/// Returns where what is shown of a span ends: at the end of the line before, where it ends with a
-/// line.
+/// Returns the end of the shown part of a span. If the span ends with a line end, it is the end of
+/// that line.
 fn last_shown(source: &Source<'_>, first: FileSpot, end: FileSpot) -> FileSpot {
     if (end.location.column > 1) | (lines_after(first, end) == 0) {
         return end;
@@ -129,7 +129,7 @@ fn push_line_column(page: &mut Page, source: &Source<'_>, location: Location)
     page.push_number(location.column);
 }
 
-/// Appends the line that says where a span begins, without its blanks in front.
+/// Appends the line with the start of a span, without its leading blanks.
 fn push_arrow(page: &mut Page, source: &Source<'_>, location: Location)
     ensures { Gains (arrow_line page.old.is_colored source.now.path location) page.old page.new }
 {
@@ -154,7 +154,7 @@ fn push_lines(page: &mut Page, frame: Frame<'_, '_>)
     }
 }
 
-/// Appends the line of a span that ends where it begins.
+/// Appends the line of a span that begins and ends on it.
 fn push_only_line(page: &mut Page, frame: Frame<'_, '_>)
     ensures { Shows [] page.old page.new }
 {
@@ -185,7 +185,7 @@ fn push_dots(page: &mut Page, frame: Frame<'_, '_>)
     }
 }
 
-/// Returns how many lines a spot is below another one.
+/// Returns how many lines `last` is below `first`.
 fn lines_after(first: FileSpot, last: FileSpot) -> usize {
     last.location.line.saturating_sub(first.location.line)
 }
@@ -208,7 +208,7 @@ fn push_margin(page: &mut Page, width: usize)
     page.paint(Style::Frame, "|");
 }
 
-/// Appends what is shown of a line of the file, with its number.
+/// Appends the shown part of a line of the file, with its number.
 fn push_line(page: &mut Page, frame: Frame<'_, '_>, line: usize, window: LineWindow<'_>)
     ensures { Shows [] page.old page.new }
 {
@@ -231,8 +231,8 @@ fn push_line_number(page: &mut Page, line: usize, width: usize)
     page.end();
 }
 
-/// Appends carets under what is shown of a line, from a column to another one, which is not under
-/// them. There is at least one.
+/// Appends carets under the shown part of a line, from a column up to another one, exclusive. There
+/// is at least one.
 fn push_carets(
     page: &mut Page,
     frame: Frame<'_, '_>,
@@ -253,7 +253,7 @@ fn push_carets(
     page.push("\n");
 }
 
-/// Appends what stands after carets.
+/// Appends the text after carets.
 fn push_label(page: &mut Page, label: &str)
     ensures { Shows [] page.old page.new }
 {

@@ -1,4 +1,5 @@
-//! The lines under a fault: the rest of its message, its second span, and what to do.
+//! The lines under a fault: the rest of its message, its second span, and its help. Used by
+//! `logos_messages`.
 
 ghost use Rattle.std.specs.Prelude.{[]};
 ghost use Rattle.logos_page.specs.Pages.{Shows};
@@ -10,12 +11,12 @@ use crate::source::Part;
 use logos_page::{Page, Style};
 use logos_token::error::SpannedError;
 
-/// A fault that was shown with its position. What belongs to it follows.
+/// A fault whose position was shown. Its notes and its help follow.
 #[derive(Clone, Copy)]
 pub(crate) struct ShownFault<'f, 'p, 't> {
     pub(crate) part: Part<'p, 't>,
     pub(crate) known: KnownFault<'f>,
-    /// How wide the column of line numbers is.
+    /// The width of the column of line numbers.
     pub(crate) width: usize,
 }
 
@@ -30,7 +31,8 @@ pub(crate) fn push_notes(page: &mut Page, shown: ShownFault<'_, '_, '_>)
     page.push("\n");
 }
 
-/// Appends which subpattern is put in, if the byte of a fault counts with it.
+/// Appends the name of the substituted subpattern, if the byte of a fault is counted after its
+/// substitution.
 fn push_put_in_note(page: &mut Page, shown: ShownFault<'_, '_, '_>)
     ensures { Shows [] page.old page.new }
 {
@@ -41,7 +43,8 @@ fn push_put_in_note(page: &mut Page, shown: ShownFault<'_, '_, '_>)
     }
 }
 
-/// Appends with which subpattern the byte of a fault counts, and where that is defined.
+/// Appends the name of the substituted subpattern after which the byte of a fault is counted, and
+/// the position of its definition.
 pub fn push_put_in(page: &mut Page, part: Part<'_, '_>, put: PutIn<'_>)
     ensures { Shows [] page.old page.new }
 {
@@ -81,7 +84,7 @@ fn push_other_location(page: &mut Page, shown: ShownFault<'_, '_, '_>)
     }
 }
 
-/// Appends what to do about a fault, if there is something to say.
+/// Appends the help for a fault, if there is one.
 pub(crate) fn push_help(page: &mut Page, shown: ShownFault<'_, '_, '_>)
     ensures { Shows [] page.old page.new }
 {
@@ -92,7 +95,7 @@ pub(crate) fn push_help(page: &mut Page, shown: ShownFault<'_, '_, '_>)
 }
 
 /// Appends the lines of a message after its first one. Those of a set of ambiguous leaves begin
-/// with the names of the other leaves, which get their positions.
+/// with the names of the other leaves, to which their positions are added.
 fn push_other_lines(page: &mut Page, shown: ShownFault<'_, '_, '_>)
     ensures { Shows [] page.old page.new }
 {
@@ -103,7 +106,7 @@ fn push_other_lines(page: &mut Page, shown: ShownFault<'_, '_, '_>)
     }
 }
 
-/// Appends a line of a message, which has this number after its first one. In the message of an
+/// Appends the line of a message with this number after its first one. In the message of an
 /// ambiguous leaf it may be the name of another leaf.
 fn push_other_line(page: &mut Page, shown: ShownFault<'_, '_, '_>, line: &str, number: usize)
     ensures { Shows [] page.old page.new }

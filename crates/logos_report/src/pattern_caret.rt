@@ -1,12 +1,13 @@
-//! The characters of a literal at which its pattern is faulty, and the subpattern with which the
-//! byte of such a fault counts. Reports and the derive macro draw their carets with it.
+//! The characters of a literal at which its pattern is faulty, and the subpattern whose
+//! substitution shifts the byte of such a fault. Reports and the derive macro draw their carets
+//! with it.
 
 use crate::source::Part;
 use logos_token::error::{Detail, PatternDetail, SpannedError};
 use logos_token::token::Span;
 
-/// Returns the span under which the carets of a fault stand: the character of a literal at which
-/// its pattern is faulty, or else the span of the fault.
+/// Returns the span for the carets of a fault: the character of a literal at which its pattern is
+/// faulty, or otherwise the span of the fault.
 pub fn caret_span(part: Part<'_, '_>, fault: &SpannedError) -> Span {
     match fault.detail {
         Detail::Pattern(detail) => pattern_span(part, fault.span, detail),
@@ -14,8 +15,8 @@ pub fn caret_span(part: Part<'_, '_>, fault: &SpannedError) -> Span {
     }
 }
 
-/// Returns the span of the character at which a pattern is faulty, or that of its literal where the
-/// byte of the fault is not one that the literal spells.
+/// Returns the span of the character at which a pattern is faulty, or that of its literal if the
+/// literal does not spell the byte of the fault.
 fn pattern_span(part: Part<'_, '_>, literal: Span, detail: PatternDetail) -> Span {
     let Some(byte) = detail.origin.own else {
         return literal;
@@ -29,16 +30,16 @@ fn pattern_span(part: Part<'_, '_>, literal: Span, detail: PatternDetail) -> Spa
     }
 }
 
-/// A subpattern that is put into a pattern in front of the byte at which it is faulty.
+/// A subpattern that was substituted into a pattern before the faulty byte.
 #[derive(Clone, Copy)]
 pub struct PutIn<'t> {
     pub name: &'t str,
-    /// The offset of its name at its definition, in bytes of the part of the file.
+    /// The byte offset of its name, at its definition, in the part of the file.
     pub definition: usize,
 }
 
-/// Returns the first subpattern that is put into the pattern of a fault in front of its byte, if
-/// there is one.
+/// Returns the first subpattern that was substituted into the pattern of a fault before its byte,
+/// if there is one.
 pub fn put_in<'t>(part: Part<'_, 't>, fault: &SpannedError) -> Option<PutIn<'t>> {
     let Detail::Pattern(detail) = fault.detail else {
         return None;
@@ -66,18 +67,18 @@ fn piece_at(literal: &str, byte: usize) -> Option<Span> {
     find(reader, inner, byte)
 }
 
-/// What a character of a literal continues.
+/// The construct that the next character of a literal continues.
 #[derive(Clone, Copy)]
 enum LiteralState {
-    /// Nothing: a piece begins.
+    /// None: a piece begins.
     Plain,
     /// A backslash.
     Escape,
     /// `\x`.
     Hex,
-    /// `\x` and a digit, which is 8 at least or not.
+    /// `\x` and a digit. `is_high` is whether the digit is at least 8.
     Digit { is_high: bool },
-    /// `\u{` with digits, which make this number.
+    /// `\u{` with digits, whose value is this number so far.
     Number(u32),
     /// A backslash at the end of a line, and blanks.
     Blanks,
@@ -93,7 +94,7 @@ struct Reader {
     piece: Span,
 }
 
-/// Returns the piece that spells a byte, by what stands between the quotes.
+/// Returns the piece that spells the byte with this number. `inner` is the text between the quotes.
 fn find(start: Reader, inner: &str, byte: usize) -> Option<Span> {
     let mut reader = start;
     let mut left = byte;
@@ -109,8 +110,8 @@ fn find(start: Reader, inner: &str, byte: usize) -> Option<Span> {
 }
 
 impl Reader {
-    /// Returns the reader after a character, and how many bytes the piece that ends with it spells,
-    /// or 0 if none ends.
+    /// Returns the reader after a character, and the number of bytes that the piece spells which
+    /// ends with it, or 0 if none ends.
     fn after(self, character: char) -> (Reader, usize) {
         let from = match self.state {
             LiteralState::Plain => self.piece.to,
@@ -132,8 +133,8 @@ impl Reader {
         )
     }
 
-    /// Returns what the next character continues, and how many bytes the piece that ends with this
-    /// one spells, or 0 if none ends.
+    /// Returns the state after this character, and the number of bytes that the piece spells which
+    /// ends with it, or 0 if none ends.
     fn step(self, character: char) -> (LiteralState, usize) {
         match self.state {
             LiteralState::Plain => self.begin(character),
@@ -154,8 +155,8 @@ impl Reader {
         }
     }
 
-    /// Does what `step` does, for a character that begins a piece. CR is read only in front of LF,
-    /// and is left out.
+    /// Returns the result of `step` for a character that begins a piece. CR is read only before LF,
+    /// and is dropped.
     fn begin(self, character: char) -> (LiteralState, usize) {
         if (character == '\\') & !self.is_raw {
             (LiteralState::Escape, 0)
@@ -167,7 +168,7 @@ impl Reader {
     }
 }
 
-/// Does what `Reader::step` does, for a character after a backslash.
+/// Returns the result of `Reader::step` for a character after a backslash.
 fn escape(character: char) -> (LiteralState, usize) {
     match character {
         'x' => (LiteralState::Hex, 0),
@@ -178,7 +179,8 @@ fn escape(character: char) -> (LiteralState, usize) {
     }
 }
 
-/// Does what `Reader::step` does, for a character in `\u{..}`, whose digits so far make `number`.
+/// Returns the result of `Reader::step` for a character in `\u{..}`, whose digits so far have the
+/// value `number`.
 fn digit(number: u32, character: char) -> (LiteralState, usize) {
     if character == '}' {
         return (LiteralState::Plain, utf8_length(number));
@@ -192,7 +194,7 @@ fn digit(number: u32, character: char) -> (LiteralState, usize) {
     }
 }
 
-/// Returns how many bytes a character has in UTF-8, by its number.
+/// Returns the length in UTF-8 of the character with this number.
 fn utf8_length(number: u32) -> usize {
     match number {
         0..=0x7F => 1,

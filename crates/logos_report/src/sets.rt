@@ -1,5 +1,5 @@
-//! Faults of a graph: one report for each set of ambiguous leaves, and the patterns that can look
-//! at what stands before their first byte.
+//! Faults of a graph: one report for each set of ambiguous leaves, and the patterns that can
+//! examine the bytes before their start. Used by `faults`.
 
 ghost use Rattle.std.specs.Prelude.{◌∷◌, [], nat_lt, if◌then◌else◌};
 ghost use Rattle.logos_report.specs.Views.{fault_of, fault_texts, listed_texts, Shows, location_line, next_value};
@@ -12,10 +12,10 @@ use crate::source::Part;
 use logos_page::{Page, Style};
 use logos_token::error::SpannedError;
 
-/// How many patterns are shown under a fault.
+/// The maximum number of patterns that are shown under a fault.
 const MOST: usize = 50;
 
-/// Appends a fault that comes next.
+/// Appends the next fault of a list.
 pub(crate) fn push_listed(
     page: &mut Page,
     part: Part<'_, '_>,
@@ -31,7 +31,7 @@ pub(crate) fn push_listed(
     }
 }
 
-/// Appends a fault of a set of ambiguous leaves, and what is known of the set after the last one.
+/// Appends a fault of a set of ambiguous leaves, and the clue about the set after the last one.
 fn push_member(page: &mut Page, part: Part<'_, '_>, known: KnownFault<'_>, member: Member<'_>)
     ensures { Shows (if nat_lt 0 member.entry.number
         then location_line page.old.is_colored part.entry.source.now part.entry.offset
@@ -43,8 +43,8 @@ fn push_member(page: &mut Page, part: Part<'_, '_>, known: KnownFault<'_>, membe
     push_end(page, ShownFault { part, known, width }, member);
 }
 
-/// Appends the position of a fault of a set of ambiguous leaves, and in front of the first one the
-/// line of the report. Returns how wide the column of line numbers is.
+/// Appends the position of a fault of a set of ambiguous leaves, and before the first one the line
+/// of the report. Returns the width of the column of line numbers.
 fn push_location_of(
     page: &mut Page,
     part: Part<'_, '_>,
@@ -64,8 +64,8 @@ fn push_location_of(
     }
 }
 
-/// Appends the line of a report and the position of its fault, with a label. Returns how wide the
-/// column of line numbers is.
+/// Appends the line of a report and the position of its fault, with a label. Returns the width of
+/// the column of line numbers.
 fn push_begin(page: &mut Page, part: Part<'_, '_>, fault: &SpannedError, label: &str) -> usize
     ensures { Shows (fault_texts page.old.is_colored part.entry.source.now part.entry.offset
         (fault_of fault.now)) page.old page.new }
@@ -74,7 +74,7 @@ fn push_begin(page: &mut Page, part: Part<'_, '_>, fault: &SpannedError, label: 
     push_marked(page, part, fault, label)
 }
 
-/// Appends what is known of a set of ambiguous leaves, if this is the last of its faults.
+/// Appends the clue about a set of ambiguous leaves, if this is the last of its faults.
 fn push_end(page: &mut Page, shown: ShownFault<'_, '_, '_>, member: Member<'_>)
     ensures { Shows [] page.old page.new }
 {
@@ -83,7 +83,7 @@ fn push_end(page: &mut Page, shown: ShownFault<'_, '_, '_>, member: Member<'_>)
     }
 }
 
-/// Appends on what text leaves meet and what to do, and an empty line.
+/// Appends the text on which leaves meet, the help, and an empty line.
 fn push_meeting(page: &mut Page, shown: ShownFault<'_, '_, '_>, meeting: &Meeting)
     ensures { Shows [] page.old page.new }
 {
@@ -93,7 +93,7 @@ fn push_meeting(page: &mut Page, shown: ShownFault<'_, '_, '_>, meeting: &Meetin
     page.push("\n");
 }
 
-/// Appends a fault that is not one of a known set, with the patterns that explain it.
+/// Appends a fault that is not of a set with a clue, with the patterns that explain it.
 fn push_single(page: &mut Page, part: Part<'_, '_>, known: KnownFault<'_>, starts: &[Start])
     ensures { Shows (fault_texts page.old.is_colored part.entry.source.now part.entry.offset
         (fault_of known.entry.fault.now)) page.old page.new }
@@ -105,7 +105,8 @@ fn push_single(page: &mut Page, part: Part<'_, '_>, known: KnownFault<'_>, start
     }
 }
 
-/// Appends a fault of a whole enum, with the patterns that explain it in place of all its lines.
+/// Appends a fault of a whole enum, with the patterns that explain it instead of the lines of the
+/// enum.
 fn push_explained(page: &mut Page, part: Part<'_, '_>, known: KnownFault<'_>, starts: &[Start])
     ensures { Shows (fault_texts page.old.is_colored part.entry.source.now part.entry.offset
         (fault_of known.entry.fault.now)) page.old page.new }
@@ -126,7 +127,7 @@ fn push_starts(page: &mut Page, part: Part<'_, '_>, starts: &[Start])
     }
 }
 
-/// Appends a pattern that can look at what stands before its first byte.
+/// Appends a pattern that can examine the bytes before its start.
 fn push_start(page: &mut Page, part: Part<'_, '_>, start: &Start)
     ensures { Shows [] page.old page.new }
 {

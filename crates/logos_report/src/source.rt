@@ -8,12 +8,12 @@ use logos_token::token::Span;
 use std::alloc::{AllocError, Global};
 use std::marker::Model;
 
-/// A part of a file. Its offsets count bytes from where it begins.
+/// A part of a file. Its offsets are bytes from its beginning.
 #[derive(Clone, Copy)]
 pub struct Part<'p, 't> {
     /// The whole file.
     pub source: &'p Source<'t>,
-    /// Where the part begins in the file, in bytes.
+    /// The byte offset of the part in the file.
     pub offset: usize,
 }
 
@@ -28,7 +28,7 @@ impl Part<'_, '_> {
 }
 
 impl<'t> Part<'_, 't> {
-    /// Returns the text of the part at a span, or an empty one where the file has no such span.
+    /// Returns the text of the part at a span, or an empty one if the file has no such span.
     pub fn text_at(self, span: Span) -> &'t str {
         let from = span.from.saturating_add(self.offset);
         let to = span.to.saturating_add(self.offset);
@@ -42,7 +42,7 @@ impl<'t> Part<'_, 't> {
     }
 }
 
-/// A file: its path, and its text with the index of its lines.
+/// A file: its path, and its text with an index of its lines.
 #[derive(Drop)]
 pub struct Source<'t> {
     path: &'t str,
@@ -96,8 +96,8 @@ impl<'t> Source<'t> {
         self.index.line_column(offset)
     }
 
-    /// Returns the text of a line, or `None` if the file has no such line, or if the line has more
-    /// than `most` bytes. It looks at no more than `most` bytes and the end of the line.
+    /// Returns the text of a line, or `None` if the file has no such line or the line has more than
+    /// `most` bytes. It examines at most `most` bytes and the end of the line.
     pub fn short_line(&self, line: usize, most: usize) -> Option<&'t str>
         ensures { MatchOption result
             (IsNoLine self.now.text line ⊎ IsLongLine self.now.text line most)

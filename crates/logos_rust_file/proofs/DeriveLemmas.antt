@@ -167,7 +167,7 @@ helper_quiet (also (identifier text span) rest) h = go (bytes_eq text (codes "de
     go true e = let f : false ≡ true = rw (other_name text e) at h in cc
     go false e = rw e refl
 
--- what stands after attributes begins with a word
+-- the tokens after attributes begin with a word
 abbrev BeginsWord : TokenList → Type 0
 BeginsWord (also (identifier text span) rest) = Unit {0}
 BeginsWord run = ⊥

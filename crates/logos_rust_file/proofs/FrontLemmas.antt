@@ -126,7 +126,7 @@ shape_at (also (identifier text span) rest) = go (bytes_eq text (codes "enum")) 
     go false e true f = rw (e, f) (module_shape text span rest)
     go false e false f = rw (e, f) another
 
--- what is left of a run after what stands before an item has this shape
+-- the rest of a run after the attributes and the visibility of an item has this shape
 pub record Item (run : TokenList) (kind : KindValue) : Type 0 where
   pub at : TokenList
   pub front : IsRestOf run at

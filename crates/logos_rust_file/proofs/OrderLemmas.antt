@@ -1,4 +1,4 @@
--- The enums of a run stand in it in order.
+-- The enums of a run occur in it in order.
 use Rattle.std.proofs.Common.{◌<◌, ◌≤◌, ◌+◌, ◌-◌, ℕ, List, [], ◌∷◌, ◌++◌, length, map, sym, arith}
 use Rattle.std.proofs.lemmas.List.{map-append}
 use Rattle.logos_lexeme.specs.declared.lexeme.Span.{Span}
@@ -12,7 +12,7 @@ use Rattle.logos_rust_file.specs.Fronts.{is_module, is_other}
 use Rattle.logos_rust_file.specs.Replacing.{AreInOrder, found_span}
 use Rattle.logos_rust_file.proofs.FrontLemmas.{item_of, Shape, another, a_module}
 
--- a token stands between its ends
+-- a token is between its ends
 token_between : (bytes : List ℕ) (from : ℕ) (token : Token) → TokenOccurs bytes from token → (from ≤ (span_of token).from) × ((span_of token).from < (span_of token).to)
 token_between bytes from (identifier text span) s = (s.0, s.1)
 token_between bytes from (punctuation character spacing span) s = (s.0, s.1)
@@ -26,7 +26,7 @@ run_order bytes from (also token rest) to s =
     let t = token_between bytes from token s.0 in
     omega (arith, t.0, t.1, run_order bytes (span_of token).to rest to s.1)
 
--- a part of a run stands between these places, and what follows it from its end on
+-- a part of a run is between these offsets, and its rest begins at its end
 record Occurs (bytes : List ℕ) (from : ℕ) (span : Span) (rest : TokenList) (to : ℕ) : Type 0 where
   after : from ≤ span.from
   whole : span.from < span.to
@@ -40,7 +40,7 @@ part_occurs bytes from token (also next tail) rest to s =
     let more = part_occurs bytes (span_of token).to next tail rest to s.1 in
     record { after = t.0; whole = omega (arith, t.1, more.after, more.whole); left = more.left }
 
--- what is left of a run stands from some place on
+-- the rest of a run begins at some offset
 record OccursLater (bytes : List ℕ) (from : ℕ) (rest : TokenList) (to : ℕ) : Type 0 where
   site : ℕ
   after : from ≤ site
@@ -64,7 +64,7 @@ both : (from : ℕ) (one : List Span) (middle site : ℕ) (other : List Span) (t
 both from [] middle site other to s l t = earlier from site other to (omega (arith, l, s)) t
 both from (span ∷ rest) middle site other to s l t = (s.0, s.1, both span.to rest middle site other to s.2 l t)
 
--- a module stands, what is in it, and what follows it
+-- the spans of a module, of its content, and of its rest are in order
 record ModuleOccurs (bytes : List ℕ) (from : ℕ) (inside rest : TokenList) (to : ℕ) : Type 0 where
   open_at : ℕ
   close_at : ℕ

@@ -14,7 +14,7 @@ order_end : (from : ℕ) (spans : List Span) (to : ℕ) → AreInOrder from span
 order_end from [] to s = s
 order_end from (span ∷ rest) to s = omega (arith, s.0, s.1, order_end span.to rest to s.2)
 
--- the next part stands after this place, and the others after it
+-- the next part follows this offset, and the others follow the part
 pub record Next (from : ℕ) (part : Replacement) (rest : List Replacement) (to : ℕ) : Type 0 where
   pub after : from ≤ part.span.from
   pub inside : part.span.from ≤ to

@@ -18,8 +18,7 @@ pub struct FoundEnum {
     /// Its span in the file, in bytes: from its first attribute, its visibility or `enum` to the
     /// end of its braces.
     pub span: Span,
-    /// The span of its name in the file, in bytes: of the identifier that follows `enum`, if one
-    /// does.
+    /// The span of its name in the file, in bytes: of the identifier after `enum`, if there is one.
     pub name: Option<Span>,
     /// Whether one of its `derive` attributes lists `Logos`, `logos::Logos` or `::logos::Logos`.
     pub derives: bool,
@@ -101,7 +100,7 @@ fn add_all(run: Tokens<'_, '_>, found: &mut Vec<FoundEnum>) -> Result<(), Memory
     Ok(())
 }
 
-/// Appends the enums of the first item. Returns what follows it, or `None` if there is no item.
+/// Appends the enums of the first item. Returns the tokens after it, or `None` if there is no item.
 #[cycle(find)]
 fn add_first<'t, 's>(
     tokens: Tokens<'t, 's>,

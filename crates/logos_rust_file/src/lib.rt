@@ -1,4 +1,5 @@
-//! The enums of a whole Rust file, and replacing parts of a file.
+//! The enums of a whole Rust file, and replacing parts of a file. Called by `logos_cli` and
+//! `logos_show`.
 
 #![tactic(auto)]
 

@@ -1,4 +1,4 @@
-//! Replacing parts of a text. `logos_cli` puts the expansions into a file with it.
+//! Replacing parts of a text. `logos_cli` inserts the expansions into a file with it.
 
 ghost use Rattle.std.specs.Prelude.{◌≡◌, ◌≤◌, IfOk, length, map, slice_range};
 ghost use Rattle.logos_rust_file.specs.Views.{AreInOrder, part_span, replaced};
@@ -11,12 +11,12 @@ use std::alloc::{AllocError, Global};
 pub struct Replacement {
     /// The part, in bytes.
     pub span: Span,
-    /// What replaces it.
+    /// Its replacement.
     pub text: String,
 }
 
 /// Returns a text with some parts replaced. The parts are in order and do not overlap. All bytes
-/// between them stay as they are.
+/// between them stay unchanged.
 ///
 /// # Errors
 ///

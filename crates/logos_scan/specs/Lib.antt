@@ -1,3 +1,5 @@
+pub mod walk
+pub mod fold
 pub mod Attempts
 pub mod Runs
 pub mod Items

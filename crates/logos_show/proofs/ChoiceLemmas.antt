@@ -6,7 +6,7 @@ use Rattle.logos_rust_file.specs.declared.finder.FoundEnum.{FoundEnum}
 use Rattle.logos_rust_file.specs.Files.{AreEnumsOf}
 use Rattle.logos_show.specs.Choices.{IsLexerOf, IsSameOr, IsTaken, first_deriving, first_near, taken}
 
--- what is chosen stands among these enums, and derives `Logos`
+-- the selected enum is among these enums, and derives `Logos`
 abbrev pub AreAmong : List FoundEnum → Option FoundEnum → Type 0
 AreAmong found chosen = (one : FoundEnum) → chosen ≡ Some one → Contains found one × (one.derives ≡ true)
 

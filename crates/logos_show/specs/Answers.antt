@@ -1,4 +1,4 @@
--- What is printed about lexers.
+-- The output about lexers.
 pub use Rattle.logos_answers.specs.Comparing.{IsCompared}
 pub use Rattle.logos_graph.specs.View.{GraphValue}
 use Rattle.std.specs.Prelude.{◌≢◌, ℕ, Bool, List, ◌++◌, Option, codes, decimal, take}
@@ -21,11 +21,11 @@ use Rattle.logos_records.specs.Matches.{AreMatchRecords}
 use Rattle.logos_show.specs.declared.replies.Agreement.{Agreement}
 use Rattle.logos_show.specs.declared.replies.Agreement.TheVariants.{Different, Same}
 
--- The line that names a point.
+-- The line with a point.
 abbrev pub location_line : Location → List ℕ
 location_line location = codes "from " ++ (decimal location.line ++ (codes ":" ++ (decimal location.column ++ codes "\n")))
 
--- Standard output got the lines about all matches from a point of an input.
+-- The lines about all matches from a point of an input were written to standard output.
 pub record PrintsMatches (leaves : List Leaf) (input : List ℕ) (location : Location) (old new : Option (List ℕ)) : Type 0 where
   pub from : ℕ
   pub at : IsOffsetOf input location from
@@ -35,7 +35,7 @@ pub record PrintsMatches (leaves : List Leaf) (input : List ℕ) (location : Loc
   pub lines : AreLines leaves input from matches text
   pub printed : Appends old new (location_line location ++ text)
 
--- Standard output got the lines of JSON about all matches from a point of an input.
+-- The lines of JSON about all matches from a point of an input were written to standard output.
 pub record PrintsMatchRecords (leaves : List Leaf) (input : List ℕ) (location : Location) (old new : Option (List ℕ)) : Type 0 where
   pub from : ℕ
   pub at : IsOffsetOf input location from
@@ -43,14 +43,14 @@ pub record PrintsMatchRecords (leaves : List Leaf) (input : List ℕ) (location 
   pub lines : AreMatchRecords leaves input from text
   pub printed : Appends old new text
 
--- Standard output got the first inputs, at most so many, of those that together pass all edges of a
--- graph.
+-- The first `most` inputs that together take all edges of a graph were written to standard output.
 pub record PrintsInputs (graph : List GraphState) (utf8 : Bool) (most : ℕ) (old new : Option (List ℕ)) : Type 0 where
   pub inputs : List (List ℕ)
   pub covering : AreCoveringInputs graph utf8 inputs
   pub printed : Appends old new (flat_map input_line (take most inputs))
 
--- The same as lines of JSON.
+-- The first `most` inputs that together take all edges of a graph were written to standard output,
+-- as lines of JSON.
 pub record PrintsInputRecords (graph : List GraphState) (utf8 : Bool) (most : ℕ) (old new : Option (List ℕ)) : Type 0 where
   pub count : ℕ
   pub text : List ℕ

@@ -1,4 +1,5 @@
--- Definitions that clauses cite: of lower crates, and those of this one that name no type of it.
+-- Definitions that contracts cite: those of lower crates, and those of this crate that name none of
+-- its types.
 pub use Rattle.logos_answers.specs.Imports.{AllStart, Gains, IsBytes, IsGraphOf, rules_of}
 pub use Rattle.logos_host.specs.Failures.{status_of}
 pub use Rattle.logos_show.specs.Orders.{IsNoMisuse, requested}

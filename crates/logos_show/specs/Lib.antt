@@ -1,3 +1,4 @@
+pub mod questions
 pub mod Answers
 pub mod Choices
 pub mod Orders

@@ -1,4 +1,4 @@
-//! Which enum of a file is meant by a name.
+//! Selects the enum of a file by its name.
 
 ghost use Rattle.std.specs.Prelude.{◌≡◌, IfErr, IfOk, IfSome, option_map};
 ghost use Rattle.logos_show.specs.Views.{IsLexerOf, IsNextChoice, IsNoMisuse, IsTaken, chosen_first, first_near, name_requested, taken};
@@ -14,7 +14,7 @@ use logos_rust_file::{FoundEnum, enums_in, path_of};
 use std::alloc::Global;
 use std::io::Write;
 
-/// The enums of a file that a name may mean.
+/// The candidates among the enums of a file for a name.
 #[derive(Clone, Copy)]
 struct Choice<'n> {
     /// The name, if one is given.
@@ -27,17 +27,17 @@ struct Choice<'n> {
     second: Option<FoundEnum>,
 }
 
-/// The enum that a name means.
+/// The enum that a name selects.
 #[derive(Clone, Copy)]
 pub(crate) enum Chosen {
     Nothing,
     One(FoundEnum),
-    /// These two, which have different paths, and perhaps others.
+    /// These two, which have different paths, and possibly others.
     Several(FoundEnum, FoundEnum),
 }
 
-/// Returns the enum of a file whose lexer is asked for: the first one if no name is given. If there
-/// are others then, says so on standard error.
+/// Returns the requested enum of a file, which is the first one if no name is given. If there are
+/// others then, writes a note to standard error.
 pub(crate) fn lexer_in<'w, E: Write>(
     alloc: Global,
     task: Task<'w>,
@@ -59,7 +59,7 @@ pub(crate) fn lexer_in<'w, E: Write>(
     }
 }
 
-/// Returns the first of several enums, and says so on standard error, if no name is given.
+/// Returns the first of several enums and writes a note to standard error, if no name is given.
 fn one_of<'w, E: Write>(
     task: Task<'w>,
     source: &Source<'_>,
@@ -78,7 +78,7 @@ fn one_of<'w, E: Write>(
     Ok(enums.0)
 }
 
-/// Returns the note that the first of several enums is meant.
+/// Returns the note that the first of several enums was selected.
 fn first_text(
     alloc: Global,
     source: &Source<'_>,
@@ -97,7 +97,7 @@ fn first_text(
     Ok(page.finish()?)
 }
 
-/// Returns the enums of a file that are asked for, of which there are some.
+/// Returns the requested enums of a file. There is at least one.
 pub(crate) fn found_in<'w>(
     alloc: Global,
     task: Task<'w>,
@@ -129,7 +129,7 @@ pub(crate) fn found_in<'w>(
     }
 }
 
-/// Returns the refusal of a file that has no such lexer.
+/// Returns the refusal of a file without the requested lexer.
 fn no_lexer(alloc: Global, file: &str, name: Option<&str>) -> Failure<'static>
     ensures { IsNoMisuse result }
 {
@@ -142,7 +142,7 @@ fn no_lexer(alloc: Global, file: &str, name: Option<&str>) -> Failure<'static>
     refusal_of(page.finish())
 }
 
-/// Returns the refusal of a name that two enums have, which stand in two modules.
+/// Returns the refusal of a name that two enums in different modules have.
 fn several(
     alloc: Global,
     task: Task<'_>,
@@ -187,8 +187,8 @@ fn push_name(page: &mut Page, name: Option<&str>) {
     }
 }
 
-/// Returns the enum that derives `Logos` and that a name means: the one with this path, or the only
-/// one whose path ends with it. Without a name each may be meant.
+/// Returns the enum that derives `Logos` and that a name selects: the one with this path, or the
+/// only one whose path ends with it. Without a name each is a candidate.
 fn enum_meant(
     alloc: Global,
     source: &Source<'_>,
@@ -210,7 +210,7 @@ fn enum_meant(
     Ok(chosen_of(choice))
 }
 
-/// Returns the enum that is chosen, where no other one may be meant.
+/// Returns the selected enum, if there is no other candidate.
 fn chosen_of(choice: Choice<'_>) -> Chosen
     ensures { chosen_first result ≡ taken choice.entry.exact choice.entry.first }
 {

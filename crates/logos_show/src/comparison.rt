@@ -1,4 +1,4 @@
-//! Two lexers, compared.
+//! Compares two lexers. Called for `--compare`.
 
 ghost use Rattle.std.specs.Prelude.{IfErr};
 ghost use Rattle.logos_show.specs.Orders.{IsNoMisuse};
@@ -16,7 +16,7 @@ use logos_rust_file::FoundEnum;
 use std::io::{IsTerminal, Write};
 use std::time::Clock;
 
-/// Writes whether the lexer of another file is the same, and returns that.
+/// Writes whether the lexer of another file is equivalent, and returns that.
 pub(crate) fn compare<'w, F: Files, C: Clock, O: Write, E: Write + IsTerminal>(
     task: Task<'w>,
     source: &Source<'_>,
@@ -34,7 +34,7 @@ pub(crate) fn compare<'w, F: Files, C: Clock, O: Write, E: Write + IsTerminal>(
     Ok(agreement)
 }
 
-/// Writes whether the lexers of two files are the same, and returns that with a note.
+/// Writes whether the lexers of two files are equivalent, and returns that with a note.
 fn compare_files<'w, O: Write, E: Write>(
     task: Task<'w>,
     source: &Source<'_>,
@@ -67,7 +67,7 @@ fn named_lexer<'m, 's>(
     }
 }
 
-/// Writes whether a lexer and that of another file are the same, and returns that with a note.
+/// Writes whether a lexer and that of another file are equivalent, and returns that with a note.
 fn compare_to<'w, O: Write, E: Write>(
     task: Task<'w>,
     one: NamedLexer<'_, '_>,

@@ -1,4 +1,4 @@
-//! The program `logos_show`: it shows the lexers of a Rust file, and lexes other files by them.
+//! The program `logos_show`: it shows the lexers of a Rust file, and lexes other files with them.
 
 #![tactic(auto)]
 
@@ -6,6 +6,7 @@ mod choice;
 mod comparison;
 mod pages;
 mod program;
+mod questions;
 mod refusals;
 mod replies;
 mod stream;

@@ -1,4 +1,4 @@
-//! The lexers of a file, as tables.
+//! The lexers of a file, as tables. Used by `comparison`, `program` and `stream`.
 
 ghost use Rattle.std.specs.Prelude.{IfErr};
 ghost use Rattle.logos_show.specs.Orders.{IsNoMisuse};
@@ -9,6 +9,7 @@ use logos_answers::{push_costs, push_examples, push_rows};
 use logos_causes::{Explained, Lexer, explain_enum};
 use logos_codegen::error::Memory;
 use logos_codegen::generator::Config;
+use logos_codegen::token::{TokenStream, tokenize};
 use logos_codegen::{Generated, generate};
 use logos_file_warnings::{
     Showing, add_accepted, add_missing, add_passed, add_text, add_warnings, denial_text, has_lexer,
@@ -23,28 +24,28 @@ use logos_records::{
 };
 use logos_report::{Part, Source, Warning};
 use logos_rust_file::{FoundEnum, read_file};
-use logos_codegen::token::{TokenStream, tokenize};
 use logos_warnings::Origin;
 use std::alloc::Global;
 use std::mem;
 
-/// The shape of the code whose tables are counted. The other one has as many.
+/// The shape of the code whose tables are counted. The number of tables does not depend on the
+/// shape.
 pub(crate) const SHAPE: Config = Config {
     use_state_machine_codegen: true,
 };
 
-/// What is shown of a file.
+/// The output for a file.
 #[derive(Drop)]
 pub(crate) struct Shown {
     /// The tables of its lexers, or their examples.
     pub(crate) tables: String,
-    /// The same as lines of JSON. One of both is empty.
+    /// The tables or examples as lines of JSON. Either this or `tables` is empty.
     pub(crate) records: Vec<u8>,
-    /// What is written of its warnings.
+    /// The text of its warnings.
     pub(crate) warnings: Vec<u8>,
 }
 
-/// In which form the lexers of a file are shown.
+/// The form in which the lexers of a file are shown.
 #[derive(Clone, Copy)]
 pub(crate) enum Form {
     Tables,
@@ -53,15 +54,15 @@ pub(crate) enum Form {
     ExampleRecords,
 }
 
-/// How a file is shown.
+/// The style in which a file is shown.
 #[derive(Clone, Copy)]
 pub(crate) struct PageStyle {
-    /// How faults and warnings are shown.
+    /// The settings for showing faults and warnings.
     pub(crate) showing: Showing,
     pub(crate) form: Form,
 }
 
-/// The pages of what is shown of a file.
+/// The pages of the output for a file.
 #[derive(Drop)]
 struct Pages {
     tables: Page,
@@ -70,7 +71,7 @@ struct Pages {
     style: PageStyle,
 }
 
-/// An enum of a file: where it begins there, the lines of the file, and its own text.
+/// An enum of a file: its offset there, the lines of the file, and its own text.
 #[derive(Clone, Copy)]
 pub(crate) struct EnumInFile<'f, 's> {
     pub(crate) part: Part<'f, 's>,
@@ -79,7 +80,7 @@ pub(crate) struct EnumInFile<'f, 's> {
     pub(crate) found: FoundEnum,
 }
 
-/// Returns what is shown of a file, or of the enums in it that have a name.
+/// Returns the output for a file, or for the enums in it with a given name.
 ///
 /// # Errors
 ///
@@ -105,7 +106,7 @@ pub(crate) fn shown_of(
     shown_by(source, pages, !has_lexer(&file.found))
 }
 
-/// Returns the pages of the enums of a file, or of those that have a name.
+/// Returns the pages of the enums of a file, or of those with a given name.
 fn pages_of<'f, 's>(
     source: &'f Source<'s>,
     lines: &'f LineIndex<'s>,
@@ -128,7 +129,7 @@ fn pages_of<'f, 's>(
     Ok(pages)
 }
 
-/// Returns what is shown of a file with these pages. `is_missing` says whether none of its enums
+/// Returns the output for a file with these pages. `is_missing` is whether none of its enums
 /// derives `Logos`.
 fn shown_by(source: &Source<'_>, pages: Pages, is_missing: bool) -> Result<Shown, Failure<'static>>
     ensures { IfErr result IsNoMisuse }
@@ -151,7 +152,7 @@ fn denied(source: &Source<'_>, showing: Showing, warned: &[Warning]) -> Failure<
     refusal_of(denial_text(source, showing, warned))
 }
 
-/// Returns an enum with its position in a file.
+/// Returns an enum with its location in a file.
 fn enum_in<'f, 's>(
     source: &'f Source<'s>,
     lines: &'f LineIndex<'s>,
@@ -168,7 +169,7 @@ fn enum_in<'f, 's>(
     }
 }
 
-/// Appends what is shown of an enum, if it has the name, or none is given.
+/// Appends the output for an enum, if it has the given name, or none is given.
 fn push_named(
     pages: &mut Pages,
     one: EnumInFile<'_, '_>,
@@ -183,7 +184,7 @@ fn push_named(
     Ok(())
 }
 
-/// Appends what is shown of an enum.
+/// Appends the output for an enum.
 fn push_enum(
     alloc: Global,
     pages: &mut Pages,
@@ -198,7 +199,7 @@ fn push_enum(
     Ok(())
 }
 
-/// Appends what is shown of an enum that derives `Logos`.
+/// Appends the output for an enum that derives `Logos`.
 fn push_lexer(
     alloc: Global,
     pages: &mut Pages,
@@ -215,7 +216,7 @@ fn push_lexer(
     }
 }
 
-/// Returns what is known of an enum that is refused, with the warnings so far and all of its own.
+/// Returns the explanation of a refused enum, with the warnings so far and all of its own.
 fn known_after(
     alloc: Global,
     pages: &mut Pages,
@@ -279,7 +280,7 @@ fn push_form(
     }
 }
 
-/// Appends the leaves of the lexer of an enum, and what the lexer costs.
+/// Appends the leaves of the lexer of an enum, and the cost of the lexer.
 fn push_table(
     alloc: Global,
     page: &mut Page,
@@ -306,7 +307,7 @@ fn push_example_lines(
     Ok(())
 }
 
-/// Appends the leaves of the lexer of an enum and what it costs, as lines of JSON.
+/// Appends the leaves of the lexer of an enum and its cost, as lines of JSON.
 fn push_leaves(
     alloc: Global,
     lines: &mut JsonLines,
@@ -332,7 +333,7 @@ fn rows_of<'l>(
     Ok(rows)
 }
 
-/// Appends the name of the enum and its position.
+/// Appends the name of the enum and its location.
 fn push_title(page: &mut Page, part: Part<'_, '_>, made: &Generated<'_>) {
     page.push("enum ");
     page.push(made.name.text);

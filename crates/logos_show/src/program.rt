@@ -1,4 +1,4 @@
-//! The program, from its arguments to an exit status. `run_logos_show` calls it.
+//! The program, from its arguments to its exit status. `run_logos_show` calls it.
 
 ghost use Rattle.std.specs.Prelude.{◌≡◌, ◌≤◌, ◌↔◌, ◌⊎◌, None, IfErr, IfOk, map, string_bytes};
 ghost use Rattle.logos_show.specs.Imports.{status_of, IsNoMisuse, requested};
@@ -6,6 +6,7 @@ ghost use Rattle.logos_show.specs.Imports.{status_of, IsNoMisuse, requested};
 use crate::choice::{found_in, lexer_in};
 use crate::comparison::compare;
 use crate::pages::{Form, PageStyle, SHAPE, Shown, shown_of};
+use crate::questions::{Question, ShowOrder, ShowRequest, request_of};
 use crate::refusals::{refused, text_of, write_note};
 use crate::replies::{
     Agreement, Input, InputPoint, write_agreement, write_input_records, write_inputs,
@@ -22,7 +23,6 @@ use logos_options::{
     HelpText, OptionName, Program, STANDARD_INPUT, path_by_word, print_help, print_version,
     with_nearest,
 };
-use logos_questions::{Question, ShowOrder, ShowRequest, request_of};
 use logos_report::{Part, Source};
 use logos_rust_file::FoundEnum;
 use std::alloc::Global;
@@ -56,8 +56,8 @@ options:
 
 const VERSION: &str = "logos_show 0.1.0 (for logos 0.16)\n";
 
-/// What the program reads, and where messages go: files, a clock, which also gives standard input,
-/// and standard error.
+/// The inputs of the program, and the destination of its messages: files, a clock, which also
+/// provides standard input, and standard error.
 #[derive(Drop)]
 pub(crate) struct Host<'h, F, C, E> {
     pub(crate) files: &'h mut F,
@@ -65,8 +65,8 @@ pub(crate) struct Host<'h, F, C, E> {
     pub(crate) err: &'h mut E,
 }
 
-/// Runs the program with arguments, if they can be read, and returns the exit status of `run`. If
-/// they cannot be read, the status is that of the failure.
+/// Runs the program with its arguments, and returns the exit status of `run`. If the arguments
+/// cannot be read, the status is that of the failure.
 pub(crate) fn run_with<
     F: ComparableFiles,
     C: Clock + StandardInput,
@@ -90,9 +90,9 @@ pub(crate) fn run_with<
     }
 }
 
-/// Runs the program, and returns the exit status: 0 if the request is carried out, 1 if it is
-/// refused or two lexers differ, 2 if the arguments are invalid, and 3 if a file, an output or
-/// memory fails. The messages of failures go to standard error, and so do warnings.
+/// Runs the program, and returns the exit status: 0 if the request is fulfilled, 1 if it is refused
+/// or two lexers differ, 2 if the arguments are invalid, and 3 if a file, an output or memory
+/// fails. The messages of failures and the warnings are written to standard error.
 pub(crate) fn run<F: ComparableFiles, C: Clock + StandardInput, O: Write, E: Write + IsTerminal>(
     alloc: Global,
     arguments: &[String],
@@ -113,7 +113,7 @@ pub(crate) fn run<F: ComparableFiles, C: Clock + StandardInput, O: Write, E: Wri
     }
 }
 
-/// Writes why the program failed, and returns the exit status.
+/// Writes the message of a failure, and returns the exit status.
 fn failed<E: Write>(failure: &Failure<'_>, err: &mut E) -> u8
     ensures { result ≡ status_of failure.now }
 {
@@ -121,15 +121,15 @@ fn failed<E: Write>(failure: &Failure<'_>, err: &mut E) -> u8
     failure.status()
 }
 
-/// An order that is carried out.
+/// An order that is being carried out.
 #[derive(Clone, Copy)]
 pub(crate) struct Task<'w> {
     pub(crate) order: ShowOrder<'w>,
-    /// How messages are shown.
+    /// The settings for showing messages.
     pub(crate) showing: Showing,
 }
 
-/// Does what is asked for, and returns whether what was to be compared is the same.
+/// Carries out the request, and returns the outcome of its comparison, if it has one.
 fn carry_out<'w, F: ComparableFiles, C: Clock + StandardInput, O: Write, E: Write + IsTerminal>(
     alloc: Global,
     request: ShowRequest<'w>,
@@ -155,7 +155,7 @@ fn carry_out<'w, F: ComparableFiles, C: Clock + StandardInput, O: Write, E: Writ
     as_same(done)
 }
 
-/// Returns that nothing differs, if nothing failed.
+/// Returns `Same` for a request without a comparison, if nothing failed.
 fn as_same<'w>(done: Result<(), Failure<'w>>) -> Result<Agreement, Failure<'w>>
     requires { IfErr done IsNoMisuse }
     ensures { IfErr result IsNoMisuse }
@@ -166,8 +166,8 @@ fn as_same<'w>(done: Result<(), Failure<'w>>) -> Result<Agreement, Failure<'w>>
     }
 }
 
-/// Answers what is asked of the lexers of a file, or compares the answer with a stored one. Returns
-/// whether what was to be compared is the same.
+/// Answers the question about the lexers of a file, or compares the answer with a stored one.
+/// Returns the outcome of the comparison, if there is one.
 fn answer_or_compare<'w, F: Files, C: Clock + StandardInput, O: Write, E: Write + IsTerminal>(
     alloc: Global,
     task: Task<'w>,
@@ -186,8 +186,8 @@ fn answer_or_compare<'w, F: Files, C: Clock + StandardInput, O: Write, E: Write 
     write_agreement(alloc, path, &stored, &made, out)
 }
 
-/// Answers what is asked of the lexers of a file, and returns whether what was to be compared is
-/// the same.
+/// Answers the question about the lexers of a file, and returns the outcome of its comparison, if
+/// it has one.
 fn answer<'w, F: Files, C: Clock + StandardInput, O: Write, E: Write + IsTerminal>(
     alloc: Global,
     task: Task<'w>,
@@ -202,8 +202,8 @@ fn answer<'w, F: Files, C: Clock + StandardInput, O: Write, E: Write + IsTermina
     answer_about(task, &source, host, out)
 }
 
-/// Answers what is asked of the lexers of this file, and returns whether what was to be compared is
-/// the same.
+/// Answers the question about the lexers of this file, and returns the outcome of its comparison,
+/// if it has one.
 fn answer_about<'w, F: Files, C: Clock + StandardInput, O: Write, E: Write + IsTerminal>(
     task: Task<'w>,
     source: &Source<'_>,
@@ -257,7 +257,7 @@ pub(crate) fn is_json(order: ShowOrder<'_>) -> bool {
     order.settings.has(OptionName::Json)
 }
 
-/// Returns in which form the lexers of a file are shown.
+/// Returns the form in which the lexers of a file are shown.
 fn form_of(order: ShowOrder<'_>) -> Form {
     match (order.question, is_json(order)) {
         (Question::Examples, false) => Form::Examples,
@@ -267,7 +267,7 @@ fn form_of(order: ShowOrder<'_>) -> Form {
     }
 }
 
-/// Writes inputs that together pass all edges of the graph of a lexer, at most so many.
+/// Writes inputs that together take all edges of the graph of a lexer.
 fn yield_inputs<'w, O: Write, E: Write>(
     task: Task<'w>,
     source: &Source<'_>,
@@ -281,7 +281,7 @@ fn yield_inputs<'w, O: Write, E: Write>(
     Ok(())
 }
 
-/// Writes inputs by the lexer of a file that is asked for, and returns the note about them.
+/// Writes inputs for the requested lexer of a file, and returns the note about them.
 fn inputs_by_file<'w, O: Write, E: Write>(
     task: Task<'w>,
     source: &Source<'_>,
@@ -299,7 +299,7 @@ fn inputs_by_file<'w, O: Write, E: Write>(
     }
 }
 
-/// Writes inputs by a lexer, and returns the note about them.
+/// Writes inputs for a lexer, and returns the note about them.
 fn inputs_by_lexer<O: Write>(
     alloc: Global,
     order: ShowOrder<'_>,
@@ -316,7 +316,7 @@ fn inputs_by_lexer<O: Write>(
     }
 }
 
-/// Returns how many inputs are asked for.
+/// Returns the requested maximum number of inputs.
 fn most_of(question: Question<'_>) -> usize {
     match question {
         Question::Inputs(most) => most,
@@ -324,7 +324,7 @@ fn most_of(question: Question<'_>) -> usize {
     }
 }
 
-/// Writes the items of an input, or what matches from a line and column of it.
+/// Writes the items of an input, or the matches from a line and column of it.
 fn lex<'w, F: Files, C: Clock, O: Write, E: Write + IsTerminal>(
     task: Task<'w>,
     source: &Source<'_>,
@@ -344,7 +344,7 @@ fn lex<'w, F: Files, C: Clock, O: Write, E: Write + IsTerminal>(
     lex_by_file(task, source, input, host, out)
 }
 
-/// Returns the path of the input of a question, and the line and column in it that are asked for.
+/// Returns the path of the input of a question, and the requested line and column in it.
 fn input_of<'w>(question: Question<'w>) -> (&'w str, Option<Location>) {
     match question {
         Question::Items(input) => (input, None),
@@ -353,8 +353,8 @@ fn input_of<'w>(question: Question<'w>) -> (&'w str, Option<Location>) {
     }
 }
 
-/// Writes the items of an input or what matches from a point of it, by the lexer of a file that is
-/// asked for.
+/// Writes the items of an input or the matches from a point of it, found with the requested lexer
+/// of a file.
 fn lex_by_file<'w, F: Files, C: Clock, O: Write, E: Write + IsTerminal>(
     task: Task<'w>,
     source: &Source<'_>,
@@ -381,7 +381,7 @@ pub(crate) fn part_of<'f, 's>(source: &'f Source<'s>, one: FoundEnum) -> Part<'f
     }
 }
 
-/// Writes the items of an input, or what matches from a point of it.
+/// Writes the items of an input, or the matches from a point of it.
 fn lex_by_lexer<'w, F: Files, C: Clock, O: Write, E: Write + IsTerminal>(
     alloc: Global,
     made: &Generated<'_>,
@@ -430,7 +430,7 @@ fn items_by_lexer<C: Clock, O: Write>(
     write_items(order, made, input.bytes, clock, out)
 }
 
-/// Writes what matches from a point of an input.
+/// Writes the matches from a point of an input.
 fn match_by_lexer<O: Write>(
     alloc: Global,
     graph: &Graph<'_>,

@@ -32,7 +32,7 @@ pub(crate) fn text_of<'t>(source: &Source<'t>, found: FoundEnum) -> &'t str {
     slice(source.text(), found.span)
 }
 
-/// Returns the refusal of a part of a file, with its faults, and with what is known of them if the
+/// Returns the refusal of a part of a file, with its faults, and with the clues about them if the
 /// part is an enum.
 pub(crate) fn refused(
     alloc: Global,
@@ -48,7 +48,7 @@ pub(crate) fn refused(
     }
 }
 
-/// Returns what is known of the enum that begins where a part of a file does, if one does.
+/// Returns the explanation of the enum at the beginning of a part of a file, if there is one.
 fn known_of(alloc: Global, part: Part<'_, '_>) -> Result<Explained, Memory> {
     let Explained { clues, warnings } = explain(alloc, enum_at(alloc, part)?)?;
     let mut warned = Vec::new(alloc);
@@ -59,8 +59,8 @@ fn known_of(alloc: Global, part: Part<'_, '_>) -> Result<Explained, Memory> {
     })
 }
 
-/// Returns the refusal of a part of a file, with its faults and with what is known of them. The
-/// warnings count from the beginning of the file.
+/// Returns the refusal of a part of a file, with its faults and the clues about them. The spans of
+/// the warnings are relative to the beginning of the file.
 pub(crate) fn refused_with(
     part: Part<'_, '_>,
     showing: Showing,
@@ -75,7 +75,7 @@ pub(crate) fn refused_with(
     refusal_of(refusal_text(part, showing, &errors, known))
 }
 
-/// Returns the refusal with a text, or that there was no memory for it.
+/// Returns the refusal with a text, or `Memory` if memory ran out for it.
 pub(crate) fn refusal_of<E: Drop>(text: Result<String, E>) -> Failure<'static>
     ensures { IsNoMisuse result }
 {
@@ -85,13 +85,13 @@ pub(crate) fn refusal_of<E: Drop>(text: Result<String, E>) -> Failure<'static>
     }
 }
 
-/// Writes a note to standard error. Where that fails, the note is lost.
+/// Writes a note to standard error. If that fails, the note is lost.
 pub(crate) fn write_note<E: Write>(err: &mut E, note: &[u8]) {
     let _ = err.write_all(note);
     let _ = err.flush();
 }
 
-/// Returns what is written of faults, after the warnings.
+/// Returns the text of faults, after the warnings.
 fn refusal_text(
     part: Part<'_, '_>,
     showing: Showing,
@@ -117,7 +117,7 @@ fn refusal_text(
     }
 }
 
-/// Returns the text of the enum that begins where a part of a file does, or an empty one.
+/// Returns the text of the enum at the beginning of a part of a file, or an empty one.
 fn enum_at<'t>(alloc: Global, part: Part<'_, 't>) -> Result<&'t str, Memory> {
     let found = match enums_in(alloc, part.source.text()) {
         Ok(found) => found,

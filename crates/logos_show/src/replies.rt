@@ -1,4 +1,4 @@
-//! Answers to what is asked of lexers.
+//! Answers to questions about lexers. Used by `comparison` and `program`.
 
 ghost use Rattle.std.specs.Prelude.{◌≡◌, [], IfErr, IfOk, OnOk};
 ghost use Rattle.logos_show.specs.Views.{AllStart, Gains, IsBytes, IsGraphOf, rules_of, IsNoMisuse, GraphValue, IsCompared, IsJudged, PrintsInputRecords, PrintsInputs, PrintsMatchRecords, PrintsMatches, location_line};
@@ -20,20 +20,20 @@ use logos_records::{
 use std::alloc::{AllocError, Global};
 use std::io::Write;
 
-/// Whether what was to be compared is the same.
+/// The outcome of a comparison.
 #[derive(Clone, Copy)]
 pub(crate) enum Agreement {
     Same,
     Different,
 }
 
-/// An input: its path, its bytes, and the point that is asked for, if one is.
+/// An input: its path, its bytes, and the requested point, if there is one.
 #[derive(Clone, Copy)]
 pub(crate) struct Input<'w, 'i> {
     pub(crate) path: &'w str,
     pub(crate) bytes: &'i [u8],
     pub(crate) location: Option<Location>,
-    /// The settings that are given.
+    /// The given settings.
     pub(crate) settings: Settings<'w>,
 }
 
@@ -45,7 +45,7 @@ pub(crate) struct InputPoint<'w, 'i> {
     pub(crate) location: Location,
 }
 
-/// Writes what matches from a point of an input, as lines of text.
+/// Writes the matches from a point of an input, as lines of text.
 ///
 /// # Errors
 ///
@@ -73,7 +73,7 @@ pub(crate) fn write_matches<O: Write>(
     print_bytes(text.as_str().as_bytes(), out)
 }
 
-/// Writes what matches from a point of an input, as lines of JSON.
+/// Writes the matches from a point of an input, as lines of JSON.
 ///
 /// # Errors
 ///
@@ -98,7 +98,7 @@ pub(crate) fn write_match_records<O: Write>(
     print_bytes(&bytes, out)
 }
 
-/// Appends the line that names a point.
+/// Appends the line with a point.
 fn push_location(page: &mut Page, location: Location)
     ensures { Gains (location_line location) page.old page.new }
 {
@@ -124,8 +124,8 @@ fn no_location(alloc: Global, path: &str, location: Location) -> Failure<'static
     refusal_of(page.finish())
 }
 
-/// Writes at most so many inputs of those that together pass all edges of a graph, as literals of
-/// Rust. Returns a note that says how many were left out, which is empty if none was.
+/// Writes at most `most` inputs that together take all edges of a graph, as Rust literals. Returns
+/// a note with the number of those that were left out, which is empty if none was.
 ///
 /// # Errors
 ///
@@ -149,8 +149,8 @@ pub(crate) fn write_inputs<O: Write>(
     Ok(note)
 }
 
-/// Writes at most so many inputs of those that together pass all edges of a graph, as lines of
-/// JSON. Returns a note that says how many were left out, which is empty if none was.
+/// Writes at most `most` inputs that together take all edges of a graph, as lines of JSON. Returns
+/// a note with the number of those that were left out, which is empty if none was.
 ///
 /// # Errors
 ///
@@ -171,7 +171,8 @@ pub(crate) fn write_input_records<O: Write>(
     Ok(note)
 }
 
-/// Returns the note that says how many of so many inputs were left out, which is empty if none was.
+/// Returns the note with the number of the `count` inputs that were left out, which is empty if
+/// none was.
 fn note_of_cut(alloc: Global, most: usize, count: usize) -> Result<String, AllocError> {
     let mut page = Page::new(alloc, false);
     if most < count {
@@ -184,8 +185,8 @@ fn note_of_cut(alloc: Global, most: usize, count: usize) -> Result<String, Alloc
     page.finish()
 }
 
-/// Writes whether an answer is the stored one at a path, and returns that. If not, writes where
-/// they differ.
+/// Writes whether an answer equals the stored one at a path, and returns that. If not, writes the
+/// first difference.
 ///
 /// # Errors
 ///
@@ -216,16 +217,16 @@ pub(crate) struct Pair<'m, 's, 't> {
     pub(crate) is_json: bool,
 }
 
-/// What a comparison of two lexers gives.
+/// The result of comparing two lexers.
 #[derive(Drop)]
 pub(crate) struct Judgment {
     pub(crate) agreement: Agreement,
-    /// A note about callbacks, which is empty if there is nothing to say.
+    /// A note about callbacks, which may be empty.
     pub(crate) note: String,
 }
 
-/// Writes whether two lexers are the same, and returns that. If they differ, writes a shortest
-/// input at whose beginning they find different things, and what each of them finds there.
+/// Writes whether two lexers are equivalent, and returns that. If they differ, writes a shortest
+/// input at whose beginning their findings differ, and both findings.
 ///
 /// # Errors
 ///
@@ -254,7 +255,7 @@ pub(crate) fn compare_with<O: Write>(
     })
 }
 
-/// Returns whether two lexers are the same, by their comparison.
+/// Returns whether two lexers are equivalent, given the result of their comparison.
 fn agreement_of(compared: &Compared) -> Agreement
     ensures { (one other : GraphValue) → IsCompared one other compared.now →
         IsJudged one other result }
@@ -266,7 +267,7 @@ fn agreement_of(compared: &Compared) -> Agreement
     }
 }
 
-/// Returns the note about callbacks that are written in another way.
+/// Returns the note about callbacks that are written differently.
 fn callback_note<'l>(
     alloc: Global,
     one: NamedLexer<'l, '_>,
@@ -277,7 +278,7 @@ fn callback_note<'l>(
     page.finish()
 }
 
-/// Returns what is printed about a comparison of two lexers.
+/// Returns the output about a comparison of two lexers.
 fn comparison_bytes(
     alloc: Global,
     pair: Pair<'_, '_, '_>,

@@ -1,4 +1,4 @@
-//! The items of standard input, a line each, written as they are found.
+//! The items of standard input, one line for each, written as they are found. Used by `program`.
 
 ghost use Rattle.std.specs.Prelude.{IfErr};
 ghost use Rattle.logos_show.specs.Imports.{IsNoMisuse};

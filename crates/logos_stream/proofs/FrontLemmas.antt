@@ -46,7 +46,7 @@ next_slice uses callback bytes search (fails from to s) = refl
 runs_slice : (code : CodeValue) (callback : Callback) (bytes : List ℕ) (from to : ℕ) (item : Item) → RunsOn code callback bytes from item to → HasSlice bytes item
 runs_slice code callback bytes from to item r = next_slice code.leaves callback bytes (CodeFinds code bytes) r
 
--- the item without its bytes has the span at which the lexer stands
+-- the item without its bytes has the span of the lexer
 with_slice : (bytes slice : List ℕ) (short : StreamItem) → HasSlice bytes (item_with short slice) → item_with short slice ≡ item_in short bytes
 with_slice bytes slice short h = go short h
   where

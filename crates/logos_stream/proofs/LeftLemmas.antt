@@ -16,7 +16,7 @@ use Rattle.logos_stream.specs.declared.item.StreamItem.{StreamItem}
 use Rattle.logos_stream.specs.declared.item.StreamItem.TheVariants.{Token, Error}
 use Rattle.logos_stream.proofs.WholeLemmas.{streams_are_of_the_whole}
 
--- the place of an item with its bytes
+-- the span of an item with its bytes
 placed_with : (item : StreamItem) (slice : List ℕ) → placed (item_with item slice) ≡ item
 placed_with (Token leaf span) slice = refl
 placed_with (Error None span) slice = refl

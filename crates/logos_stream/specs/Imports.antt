@@ -1,4 +1,4 @@
--- Definitions that clauses cite: of lower crates.
+-- Definitions that contracts cite: those of lower crates.
 pub use Rattle.logos_machine.specs.LexerValue.{TakesMatches, answers_of, begun, item_of}
 pub use Rattle.logos_machine.specs.Streams.{item_later}
 pub use Rattle.std.specs.Coded.{codes}

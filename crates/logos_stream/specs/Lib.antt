@@ -1,3 +1,4 @@
+pub mod parts
 pub mod Imports
 pub mod Fronts
 pub mod Tails

@@ -1,4 +1,4 @@
-//! Stripping of runs, group by group.
+//! Strips runs of tokens, group by group. The stripper calls `strip_run` for a whole enum.
 
 ghost use Rattle.std.specs.Prelude.{◌≡◌, ◌<◌, ◌≤◌, ◌∷◌, List, Option, Some, None, IfOk};
 ghost use Rattle.logos_strip.specs.Views.{Token, tokens_of, tree_of, stream_tokens, Open, scope_inside, left, thinned, sorted, completed, group_token};
@@ -9,7 +9,8 @@ use logos_token::error::Memory;
 use logos_token::token::{Group, TokenStream, TokenTree, Tokens};
 use std::alloc::Global;
 
-/// Adds a group, with the tokens in it stripped. `scope` is the part of the enum that they are.
+/// Adds a group, with the tokens inside it stripped. `scope` is the part of the enum that these
+/// tokens are.
 #[cycle(walk)]
 fn keep_group<'s>(
     alloc: Global,
@@ -24,7 +25,7 @@ fn keep_group<'s>(
     writer.with_tree(TokenTree::Group(inside.group(whole.delimiter, whole.span)))
 }
 
-/// Adds a token that stays, with the tokens in it stripped. `rest` has the tokens after it.
+/// Adds a token that remains, with the tokens inside it stripped. `rest` are the tokens after it.
 #[cycle(walk)]
 fn keep<'s>(
     alloc: Global,
@@ -48,7 +49,7 @@ fn keep<'s>(
     }
 }
 
-/// Returns the tokens of a run that stay. `scope` is the part of the enum that the run is.
+/// Returns the tokens of a run that remain. `scope` is the part of the enum that the run is.
 ///
 /// # Errors
 ///

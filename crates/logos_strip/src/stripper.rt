@@ -1,4 +1,4 @@
-//! Stripping of a source. `logos strip` and the expansion of files call it.
+//! Strips sources. `logos strip` and the expansion of files call it.
 
 ghost use Rattle.std.specs.Prelude.{◌≡◌, ◌<◌, [], ◌∷◌, length, IfOk, IfErr, IsErrAnd};
 ghost use Rattle.logos_strip.specs.Views.{source_limit, Fault, Spells, stream_tokens, tokens_of, EnumValue, too_long, EndsReading, EndsTokens, Refuses, IsMemory, stripped, AreStripped, IsStripped, SpellsEnum};
@@ -27,19 +27,21 @@ fn strip_tokens<'s>(alloc: Global, stream: &TokenStream<'s>) -> Result<TokenStre
     }
 }
 
-/// Returns the tokens of the enum that a source spells, without what belongs to the derive macro.
+/// Returns the tokens of the enum that a source spells, without the parts that belong to the derive
+/// macro.
 ///
-/// The helper attributes `logos`, `token` and `regex` go from the enum, its variants and its
-/// fields, whatever their arguments. From each `derive` of the enum the entries `Logos`,
-/// `logos::Logos` and `::logos::Logos` go, each with the comma after it. Punctuation directly
-/// before what goes is alone from then on. All else stays as it is, with its span in the source.
+/// The helper attributes `logos`, `token` and `regex` are removed from the enum, its variants and
+/// its fields, whatever their arguments. From each `derive` of the enum the entries `Logos`,
+/// `logos::Logos` and `::logos::Logos` are removed, each with the comma after it. Punctuation
+/// directly before a removed part becomes alone. All other tokens are unchanged, with their spans
+/// in the source.
 ///
 /// # Errors
 ///
-/// Returns `Errors` with the one fault that ends the reading: `LimitSource` when the source is
-/// longer than 16 MiB; `Lexical` or `LimitTokenNesting` when it has no tokens; `NotAnEnum`,
-/// `Grammar`, `TypeUnsupported` or `LimitTypeNesting` when its tokens are not an enum. Returns
-/// `Memory` if memory runs out.
+/// Returns `Errors` with the one fault that ends the reading: `LimitSource` if the source is longer
+/// than 16 MiB; `Lexical` or `LimitTokenNesting` if it has no tokens; `NotAnEnum`, `Grammar`,
+/// `TypeUnsupported` or `LimitTypeNesting` if its tokens are not an enum. Returns `Memory` if
+/// memory runs out.
 pub fn strip_attributes<'s>(alloc: Global, src: &'s str) -> Result<TokenStream<'s>, Refusal>
     ensures ok { IfOk result (λ left. IsStripped src.now (stream_tokens left)) }
     ensures err { IfErr result (Refuses (λ faults. (ending : Fault) × EndsReading src.now ending
@@ -55,8 +57,8 @@ pub fn strip_attributes<'s>(alloc: Global, src: &'s str) -> Result<TokenStream<'
     }
 }
 
-/// Returns the same tokens as `strip_attributes`, for the tokens of a source that is known to spell
-/// an enum, as one from which `generate` has made a lexer. The enum is not read again.
+/// Returns the tokens that `strip_attributes` returns, for the tokens of a source that is known to
+/// spell an enum, such as one from which `generate` has made a lexer. The enum is not read again.
 ///
 /// # Errors
 ///

@@ -1,4 +1,5 @@
--- Definitions that clauses cite: of lower crates, and those of this one that name no type of it.
+-- Definitions that contracts cite: those of lower crates, and those of this crate that name none of
+-- its types.
 pub use Rattle.logos_hir.specs.Hir.{pairs, tree_of}
 pub use Rattle.logos_hir.specs.Operands.{combination}
 pub use Rattle.logos_hir.specs.RangeSets.{set_of}

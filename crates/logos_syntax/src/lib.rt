@@ -1,4 +1,5 @@
-//! Reads a pattern's text by the grammar into the tree that it spells.
+//! Reads the text of a pattern into the tree that it spells by the grammar. `logos_pattern` calls
+//! `parse` for each pattern.
 
 #![tactic(auto)]
 

@@ -21,7 +21,8 @@ pub(crate) fn one_of(alloc: Global, flags: Flags, set: RangeSet) -> Result<Hir, 
     builder::byte_class(alloc, set)
 }
 
-/// Returns the set of the number alone, or if `i` is on also of what differs from it in case alone.
+/// Returns the set that contains only the number. If `i` is on, it also contains the numbers that
+/// differ from it only in case.
 fn same_as(alloc: Global, flags: Flags, code: u32) -> Result<RangeSet, AllocError>
     ensures { IfOk result (λ set. set_of set ≡ same_as flags code) }
 {
@@ -38,7 +39,7 @@ fn encoding(alloc: Global, c: char) -> Result<Hir, AllocError>
     Ok(Hir::Literal(Vec::from_slice(alloc, bytes)?))
 }
 
-/// Returns the tree of a character, or if `i` is on of the character in each case.
+/// Returns the tree of a character, in each case if `i` is on.
 fn character(alloc: Global, flags: Flags, c: char) -> Result<Hir, AllocError>
     ensures { IfOk result (λ hir. tree_of hir ≡ character_tree flags c) }
 {
@@ -62,7 +63,7 @@ fn byte(alloc: Global, flags: Flags, b: u8) -> Result<Hir, AllocError>
     Ok(Hir::Literal(Vec::from_slice(alloc, &[b])?))
 }
 
-/// Returns the set of a dot: all but line ends, or all if `s` is on.
+/// Returns the set of a dot: all characters but line ends, or all characters if `s` is on.
 fn dot_set(alloc: Global, flags: Flags) -> Result<RangeSet, AllocError>
     ensures { IfOk result (λ set. set_of set ≡ dot_set flags) }
 {
@@ -77,7 +78,7 @@ fn dot_set(alloc: Global, flags: Flags) -> Result<RangeSet, AllocError>
     RangeSet::from_ranges(alloc, &[Range::new(0, 9), Range::new(11, last)])
 }
 
-/// Returns the look of `^`.
+/// Returns the look-around assertion of `^`.
 fn start_look(flags: Flags) -> Look
     ensures { result ≡ start_look flags }
 {
@@ -88,7 +89,7 @@ fn start_look(flags: Flags) -> Look
     }
 }
 
-/// Returns the look of `$`.
+/// Returns the look-around assertion of `$`.
 fn end_look(flags: Flags) -> Look
     ensures { result ≡ end_look flags }
 {
@@ -99,7 +100,7 @@ fn end_look(flags: Flags) -> Look
     }
 }
 
-/// Returns the look of a word boundary, or of its opposite.
+/// Returns the look-around assertion of a word boundary, or of its negation.
 fn boundary(negated: bool) -> Look
     ensures { result ≡ (if negated then Look.WordAsciiNegate else Look.WordAscii) }
 {
@@ -123,7 +124,7 @@ fn class(alloc: Global, flags: Flags, negated: bool, set: RangeSet) -> Result<Hi
     )
 }
 
-/// Returns the tree of an atom under the flags.
+/// Returns the tree of an atom with these flags.
 pub(crate) fn atom_tree(alloc: Global, flags: Flags, atom: Atom) -> Result<Hir, AllocError>
     ensures { IfOk result (λ hir. tree_of hir ≡ atom_tree flags atom) }
 {
@@ -146,7 +147,7 @@ pub(crate) fn atom_tree(alloc: Global, flags: Flags, atom: Atom) -> Result<Hir, 
     }
 }
 
-/// Returns whether the atom is allowed under the flags: a word boundary if the pattern matches
+/// Returns whether the flags allow the atom. A word boundary is allowed if the pattern matches
 /// bytes, and a property if it matches characters.
 pub(crate) fn atom_fits(flags: Flags, atom: Atom) -> bool
     ensures { result ≡ atom_fits flags atom }

@@ -66,6 +66,6 @@ steps_held tables symbols distinct step count e many placed are classes state sy
     read tables state symbol (step state symbol) there inside (omega (arith, m, classes.many)) (rw wide (classes.are symbol m).0)
     (rw e (entry_held tables.slots tables.classes symbols distinct step count many placed are classes state symbol l m))
 
--- the runs stand for the rows by classes
+-- the runs encode the rows by classes
 pub runs_held : (symbols steps : List ℕ) (distinct : List (List ℕ)) → steps ≡ flat_map (by_classes symbols) distinct → steps ≡ flat_map (λ row. row) (map (by_classes symbols) distinct)
 runs_held symbols steps distinct e = e ∙ sym (flat_map-map (λ (row : List ℕ). row) (by_classes symbols) distinct)

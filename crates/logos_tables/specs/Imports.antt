@@ -1,4 +1,5 @@
--- Definitions that clauses cite: of lower crates, and those of this one that name no type of it.
+-- Definitions that contracts cite: those of lower crates, and those of this crate that name none of
+-- its types.
 pub use Rattle.logos_byte_class.specs.ClassText.{byte_text}
 pub use Rattle.logos_code.specs.Bytes.{passes_test}
 pub use Rattle.logos_code.specs.CodeView.{code_of, mark_of, state_at, use_of}

@@ -17,20 +17,20 @@ use Rattle.logos_token.specs.Tokens.{TokenList}
 use Rattle.logos_type.specs.Printed.{printed_type}
 use Rattle.logos_type.specs.TypeTrees.{type_tree}
 
--- The shape of the code that a lexer is made of.
+-- The shape of the code from which a lexer is printed.
 abbrev pub config_of : Shape → Config
 config_of (Code config) = config
 config_of Tables = record { use_state_machine_codegen = true }
 
--- A text is that of a code as code, with these texts around its function: it begins with the head
--- of an implementation for the type of the enum, and the texts of all bit tables and those of all
--- conditions are in it.
+-- A text is the generated code of a code value, with these texts around its function: it begins
+-- with the head of an implementation for the type of the enum, and the texts of all bit tables and
+-- those of all conditions are in it.
 pub record IsCodeText (around : AroundValue) (code : CodeValue) (shown : List ℕ) : Type 0 where
   pub occur : OccurInOrder (texts_of code) shown
   pub begins : BeginsWith (opening_text short_core around (printed_type (type_tree code.header.this))) shown
 
--- A code is shown in a shape, with these texts around its function: as code, or as the front of an
--- implementation and tables that hold all that the code does.
+-- A code is printed in a shape, with these texts around its function: as generated code, or as the
+-- front of an implementation and tables that hold all steps of the code.
 abbrev pub IsShown : Shape → AroundValue → CodeValue → List ℕ → Type 0
 IsShown (Code config) around code shown = IsCodeText around code shown
 IsShown Tables around code shown = HoldsTables around code shown

@@ -15,7 +15,7 @@ abbrev pub are_at_most : ℕ → List ℕ → Bool
 are_at_most most [] = true
 are_at_most most (number ∷ numbers) = nat_le number most && are_at_most most numbers
 
--- The number of bytes that each number has: 1, 2, 4 or 8, as few as hold all of them.
+-- The number of bytes for each number: 1, 2, 4 or 8, the least that holds all of them.
 abbrev pub size_number : List ℕ → ℕ
 size_number numbers =
     if are_at_most 255 numbers then 1
@@ -28,11 +28,11 @@ abbrev pub entry_text : ℕ → ℕ → List ℕ
 entry_text zero number = []
 entry_text (suc size) number = byte_text (number % 256) ++ entry_text size (number / 256)
 
--- Numbers, each with as many bytes.
+-- Numbers, each with `size` bytes.
 abbrev pub entries_text : ℕ → List ℕ → List ℕ
 entries_text size numbers = flat_map (entry_text size) numbers
 
--- A field with numbers: its name, the number of bytes that each number has, and all bytes.
+-- A field with numbers: its name, the number of bytes for each number, and all bytes.
 abbrev pub field_head : List ℕ → ℕ → List ℕ
 field_head name size = name ++ codes ": (" ++ decimal size ++ codes ", b\""
 
@@ -50,7 +50,7 @@ step_texts class_runs runs slots =
     runs_texts (codes "class_lengths") (codes "classes") class_runs
     ++ (runs_texts (codes "lengths") (codes "steps") runs ++ (field_text (codes "rows") slots ∷ []))
 
--- The mark of each state, and which leaves are skipped.
+-- The mark of each state, and the leaves that are skipped.
 abbrev pub marks_text : CodeValue → List ℕ
 marks_text code = field_text (codes "marks") (map (λ state. mark_number state.mark) code.states)
 
@@ -66,14 +66,14 @@ head_text this =
 abbrev pub data_text : ℕ → ℕ → List ℕ
 data_text root width = codes "const DATA: _Data = _Data { root: " ++ decimal root ++ codes ", width: " ++ decimal width ++ codes ", "
 
--- The end of the tables, and the type of what they are unpacked to, by the numbers of the states
--- and of the runs.
+-- The end of the tables, and the type of the unpacked tables, for these numbers of states and of
+-- runs.
 abbrev pub unpacked_text : ℕ → ℕ → List ℕ
 unpacked_text states runs =
     codes "};\ntype Unpacked = _Unpacked<" ++ decimal states ++ codes ", " ++ decimal runs
     ++ codes ">;\nconst UNPACKED: &'static Self::Unpacked = { ::core::assert!(Self::DATA.width > 0); &<Self::Unpacked>::new::<Self>() };\n"
 
--- The constants that the runtime makes of the tables, with the numbers of their entries.
+-- The constants that the runtime computes from the tables, with the numbers of their entries.
 abbrev pub entries_size_text : ℕ → List ℕ
 entries_size_text entries =
     codes "const ROWS: &'static [u32] = { ::core::assert!(Self::DATA.width > 0); &<Self::Unpacked>::rows::<Self, " ++ decimal entries
@@ -87,8 +87,8 @@ masks_text masks =
 abbrev pub folded_text : ℕ → List ℕ
 folded_text entries = codes "const FOLDED: &'static [u32] = { ::core::assert!(Self::DATA.width > 0); &<Self::Unpacked>::folded::<Self, " ++ decimal entries ++ codes ">() };\n"
 
--- What follows the tables: how the runtime calls the functions before them, and the call of its
--- loop.
+-- The text after the tables: the functions through which the runtime calls the ones before them,
+-- and the call of its loop.
 abbrev pub end_text : List ℕ
 end_text =
     codes "fn bytes(source: &'s <Self as Logos<'s>>::Source) -> &'s [u8] { source.as_ref() }\n"
@@ -97,14 +97,14 @@ end_text =
     ++ codes "fn error(lex: &mut _Lexer<'s>) -> <Self as Logos<'s>>::Error { _make_error(lex) }\n"
     ++ codes "}\n_Tables::run(lex)\n} }\n"
 
--- How many entries and masks the runtime makes of the tables. It refuses other numbers than its own
--- when the text is compiled.
+-- The numbers of entries and masks that the runtime computes from the tables. When the text is
+-- compiled, it rejects wrong numbers.
 pub record Sizes : Type 0 where
   pub entries : ℕ
   pub masks : ℕ
   pub folded : ℕ
 
--- The texts of these constants, by the numbers of the states and of the runs.
+-- The texts of these constants, for these numbers of states and of runs.
 abbrev pub numbers_texts : ℕ → ℕ → Sizes → List (List ℕ)
 numbers_texts states runs sizes =
     unpacked_text states runs ∷ entries_size_text sizes.entries ∷ masks_text sizes.masks ∷ folded_text sizes.folded ∷ []
@@ -125,9 +125,9 @@ joined texts = flat_map (λ text. text) texts
 abbrev pub tables_text : CodeValue → Tables → Sizes → List ℕ
 tables_text code tables sizes = head_text (printed_type (type_tree code.header.this)) ++ (joined (made_texts code tables sizes) ++ end_text)
 
--- The text is that of a lexer by tables that hold what the code does: the front of an
--- implementation for the type of the enum, with these texts around its function, and right after it
--- the tables, which are all that follows.
+-- The text is a lexer with tables that hold the steps of the code: the front of an implementation
+-- for the type of the enum, with these texts around its function, followed directly by the tables
+-- and nothing else.
 pub record HoldsTables (around : AroundValue) (code : CodeValue) (text : List ℕ) : Type 0 where
   pub tables : Tables
   pub sizes : Sizes

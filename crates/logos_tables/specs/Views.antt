@@ -1,4 +1,4 @@
--- Definitions that clauses cite, and that name types of this crate.
+-- Definitions that contracts cite, and that name types of this crate.
 pub use Rattle.logos_tables.specs.RowsView.{rows_of}
 pub use Rattle.logos_tables.specs.Shapes.{IsShown, config_of, shape_runs}
 pub use Rattle.logos_text.specs.FrontRuns.{front_runs}

@@ -1,4 +1,4 @@
-//! Prints numbers as the bytes of a byte string. `fields` calls it.
+//! Prints numbers as the bytes of a byte string. Called by `fields`.
 
 ghost use Rattle.std.specs.Prelude.{◌≡◌, ◌++◌, OnOk, string_bytes};
 ghost use Rattle.logos_tables.specs.Imports.{flat_map, are_at_most, byte_text, entries_text, entry_text, size_number};
@@ -6,7 +6,7 @@ ghost use Rattle.logos_tables.specs.Imports.{flat_map, are_at_most, byte_text, e
 use logos_byte_class::text::{is_printable, letter_of, lower_digit};
 use logos_token::error::Memory;
 
-/// Returns the number of bytes that each of the numbers has: 1, 2, 4 or 8, as few as hold all of
+/// Returns the number of bytes for each of the numbers: 1, 2, 4 or 8, the least that holds all of
 /// them.
 pub(crate) fn size_of(numbers: &[usize]) -> usize
     ensures { result ≡ size_number numbers.now }

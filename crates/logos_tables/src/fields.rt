@@ -1,4 +1,4 @@
-//! Prints lists of numbers as fields of the tables. `lexer` and `parts` call it.
+//! Prints lists of numbers as fields of the tables. Called by `lexer` and `parts`.
 
 ghost use Rattle.std.specs.Prelude.{◌≡◌, ◌++◌, ◌∷◌, [], OnOk, map, string_bytes};
 ghost use Rattle.logos_tables.specs.Imports.{Appends, field_head, field_text, runs_texts};
@@ -29,7 +29,7 @@ fn push_whole_field(text: &mut String, name: &str, numbers: &[usize]) -> Result<
     Ok(())
 }
 
-/// Appends the name of a field, and the number of bytes that each of its numbers has.
+/// Appends the name of a field, and the number of bytes for each of its numbers.
 fn push_head(text: &mut String, name: &str, size: usize) -> Result<(), Memory>
     ensures { OnOk result (string_bytes text.new
         ≡ string_bytes text.old ++ field_head name.now size) }

@@ -1,4 +1,4 @@
-//! Prints a lexer as tables. `shape` calls it for the shape `tables`.
+//! Prints a lexer as tables. Called by `shape` for the shape `tables`.
 
 ghost use Rattle.std.specs.Prelude.{◌∷◌, [], IfOk, OnOk, length, string_bytes};
 ghost use Rattle.logos_tables.specs.Views.{Appends, AppendsMade, AppendsNumbers, AppendsTables, ArePrinted, HoldsTables, around_made, front_runs, marks_text, skips_text, step_texts};
@@ -48,7 +48,7 @@ fn push_implementation(alloc: Global, text: &mut String, code: &Code<'_>) -> Res
     Ok(())
 }
 
-/// Appends all tables of a code, and the constants that are made of them.
+/// Appends all tables of a code, and the constants that are computed from them.
 fn push_code(alloc: Global, text: &mut String, code: &Code<'_>) -> Result<(), Memory>
     ensures { OnOk result (AppendsMade code.now (string_bytes text.old) (string_bytes text.new)) }
 {
@@ -81,7 +81,7 @@ fn push_marks(alloc: Global, text: &mut String, code: &Code<'_>) -> Result<(), M
     push_field(text, "marks", &marks)
 }
 
-/// Appends which leaves are skipped.
+/// Appends the flags of the leaves that are skipped.
 fn push_skips(alloc: Global, text: &mut String, code: &Code<'_>) -> Result<(), Memory>
     ensures { OnOk result (Appends (skips_text code.now ∷ []) (string_bytes text.old)
         (string_bytes text.new)) }
@@ -90,7 +90,7 @@ fn push_skips(alloc: Global, text: &mut String, code: &Code<'_>) -> Result<(), M
     push_field(text, "skips", &skips)
 }
 
-/// Appends the constants that are made of the tables.
+/// Appends the constants that are computed from the tables.
 fn push_numbers(text: &mut String, made: &PrintedTables, leaves: usize) -> Result<(), Memory>
     ensures { OnOk result (AppendsNumbers (length made.now.rows.slots.items)
         (length made.now.runs.items) (string_bytes text.old) (string_bytes text.new)) }

@@ -1,5 +1,5 @@
-//! The Rust text of a lexer in each shape, and that of the shape `tables`: the tables of the lexer,
-//! for the loop of the runtime.
+//! The generated code of a lexer in each shape. For the shape `tables` it is the tables of the
+//! lexer, for the loop of the runtime. Called by `logos_derive` and `logos_expand`.
 
 #![tactic(auto)]
 

@@ -1,4 +1,4 @@
-//! What the tables of a code are printed from. `lexer` makes it first.
+//! The values from which the tables of a code are printed. Called first by `lexer`.
 
 ghost use Rattle.std.specs.Prelude.{◌≡◌, IfOk};
 ghost use Rattle.logos_tables.specs.Imports.{AreMade};
@@ -18,7 +18,7 @@ pub(crate) struct PrintedTables {
     pub(crate) classes: SymbolClasses,
     /// The runs of these classes.
     pub(crate) class_runs: Vec<Run>,
-    /// The runs of the distinct rows by classes.
+    /// The runs of the distinct rows, with one step for each class.
     pub(crate) runs: Vec<Run>,
 }
 

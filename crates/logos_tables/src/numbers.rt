@@ -1,24 +1,25 @@
-//! How many entries the runtime makes of the tables. `lexer` prints these numbers, and the compiler
-//! refuses others.
+//! The numbers of entries that the runtime makes from the tables. `lexer` prints these numbers, and
+//! the compiler rejects wrong ones.
 
 use crate::made::PrintedTables;
 use crate::steps::Steps;
 
-/// The most states for which the rows of the runtime have an entry for each byte.
+/// The maximum number of states for which the rows of the runtime have an entry for each byte.
 const FEW: usize = 300;
 
 /// The columns of such rows.
 const BYTES: usize = 272;
 
-/// The most entries, and the most leaves, of folded tables with rows.
+/// The maximum number of entries, and of leaves, of folded tables with rows.
 const MOST_ENTRIES: usize = 1048575;
 
 const MOST_LEAVES: usize = 1023;
 
-/// What folded tables have before their rows, and after them.
+/// The number of entries of folded tables before and after their rows.
 const BESIDE: usize = 1024;
 
-/// Returns the number of columns of a row, where a row by classes has `more` beside the classes.
+/// Returns the number of columns of a row. A row by classes has `more` columns beside those of the
+/// classes.
 fn columns(tables: &PrintedTables, more: usize) -> usize {
     if tables.rows.slots.len() <= FEW {
         BYTES
@@ -50,8 +51,8 @@ pub(crate) fn folded_count(tables: &PrintedTables, leaves: usize) -> usize {
     power_of_two(entries).saturating_add(BESIDE)
 }
 
-/// Returns the number of masks: a power of two that is not below the number of rows in which a byte
-/// stays.
+/// Returns the number of masks: the least power of two that is at least the number of rows in which
+/// a byte stays.
 pub(crate) fn mask_count(tables: &PrintedTables) -> usize {
     power_of_two(loop_count(tables.rows.distinct.as_slice()))
 }
@@ -67,7 +68,7 @@ fn loop_count(rows: &[Steps]) -> usize {
     count
 }
 
-/// Returns the least power of two that is not below a number.
+/// Returns the least power of two that is at least `number`.
 fn power_of_two(number: usize) -> usize {
     number.checked_next_power_of_two().unwrap_or(usize::MAX)
 }

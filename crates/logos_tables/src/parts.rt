@@ -1,4 +1,4 @@
-//! Prints the parts of the implementation of `Tables`. `lexer` calls it for each part in turn.
+//! Prints the parts of the implementation of `Tables`. Called by `lexer` for each part in turn.
 
 ghost use Rattle.std.specs.Prelude.{◌≡◌, ◌++◌, ◌∷◌, [], OnOk, string_bytes};
 ghost use Rattle.logos_tables.specs.Imports.{Appends, data_text, end_text, entries_size_text, folded_text, head_text, masks_text, unpacked_text};
@@ -7,9 +7,9 @@ use crate::fields::push_str;
 use logos_token::error::Memory;
 
 // rustc evaluates a reference to the value of a call when it checks a package, unless the constant
-// can end before the call. So each constant of the text begins with an assertion.
+// can end before the call. Therefore each constant of the text begins with an assertion.
 
-/// What follows the tables.
+/// The text after the tables.
 const END: &str = "fn bytes(source: &'s <Self as Logos<'s>>::Source) -> &'s [u8] { source.as_ref() }
 fn plain(leaf: usize) -> _Option<Self> { _token(leaf) }
 fn act(lex: &mut _Lexer<'s>, leaf: usize) -> CallbackResult<'s, Self> { _get_action(lex, leaf) }
@@ -43,7 +43,7 @@ pub(crate) fn push_data(text: &mut String, root: usize, width: usize) -> Result<
     Ok(())
 }
 
-/// Appends the end of the tables, and the type of what they are unpacked to.
+/// Appends the end of the tables, and the type of the unpacked tables.
 pub(crate) fn push_unpacked(text: &mut String, states: usize, runs: usize) -> Result<(), Memory>
     ensures { OnOk result (string_bytes text.new
         ≡ string_bytes text.old ++ unpacked_text states runs) }
@@ -89,7 +89,7 @@ pub(crate) fn push_folded(text: &mut String, entries: usize) -> Result<(), Memor
     Ok(())
 }
 
-/// Appends what follows the tables.
+/// Appends the text after the tables.
 pub(crate) fn push_end(text: &mut String) -> Result<(), Memory>
     ensures { OnOk result (string_bytes text.new ≡ string_bytes text.old ++ end_text) }
 {

@@ -1,4 +1,4 @@
-//! The rows of all states, with each row once. `lexer` makes them first.
+//! The rows of all states, with each distinct row once. Used by `made`.
 
 ghost use Rattle.std.specs.Prelude.{◌≡◌, ℕ, ◌<◌, ◌++◌, ◌∷◌, [], IfOk, OnOk, length, vec_len, slice_index, slice_index_or};
 ghost use Rattle.logos_tables.specs.Imports.{AreRows, AreWide, rows_at};
@@ -13,7 +13,7 @@ use std::alloc::{AllocError, Global};
 pub(crate) struct StepRows {
     /// The number of each row among the distinct ones.
     pub(crate) slots: Vec<usize>,
-    /// Each row once.
+    /// The distinct rows.
     pub(crate) distinct: IndexSet<Steps>,
     ghost wide: { AreWide distinct.keys },
     ghost placed: { (i : ℕ) → i < vec_len slots → slice_index slots.items i < length distinct.keys },
@@ -32,7 +32,7 @@ impl StepRows {
         }
     }
 
-    /// Adds a row at the end.
+    /// Appends a row.
     fn push(&mut self, row: &Steps) -> Result<(), AllocError>
         ensures { OnOk result (rows_of self.new ≡ rows_of self.old ++ row.now ∷ []) }
     {

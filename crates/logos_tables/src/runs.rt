@@ -1,5 +1,5 @@
-//! Runs of equal numbers. `made` makes them of the classes of symbols and of the rows by classes,
-//! and `fields` prints them.
+//! Runs of equal numbers. `made` makes them from the classes of symbols and from the rows by
+//! classes, and `fields` prints them.
 
 ghost use Rattle.std.specs.Prelude.{◌≡◌, ◌<◌, ◌++◌, ◌∷◌, [], IfOk, OnOk, IsTrue, map};
 ghost use Rattle.logos_tables.specs.Imports.{flat_map, by_classes, spread};
@@ -8,7 +8,7 @@ use crate::classes::step_at;
 use crate::steps::Steps;
 use std::alloc::{AllocError, Global};
 
-/// The most numbers in a run.
+/// The maximum length of a run.
 const LONGEST: usize = 65535;
 
 /// A run: the number of equal numbers, and that number.
@@ -29,7 +29,7 @@ pub(crate) fn runs_of(alloc: Global, numbers: &[usize]) -> Result<Vec<Run>, Allo
     Ok(runs)
 }
 
-/// Returns the runs of the rows, which follow one another, each with one step for each class.
+/// Returns the runs of the concatenated rows, each with one step for each class.
 ///
 /// # Errors
 ///
@@ -74,14 +74,14 @@ fn push_step(runs: &mut Vec<Run>, step: usize) -> Result<(), AllocError>
     Ok(())
 }
 
-/// Returns whether a run can have this step too.
+/// Returns whether a run can be extended by this step.
 fn goes_on(run: Run, step: usize) -> bool
     ensures { IsTrue result → (run.1 ≡ step) × (run.0 < LONGEST) }
 {
     (run.1 == step) & (run.0 < LONGEST)
 }
 
-/// Returns how many steps each run has.
+/// Returns the length of each run.
 ///
 /// # Errors
 ///

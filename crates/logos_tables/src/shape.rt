@@ -1,4 +1,5 @@
-//! The shapes in which lexers are printed. `logos_derive`, `logos_expand` and `logos_cli` call it.
+//! The shapes in which lexers are printed. Called by `logos_derive`, `logos_expand` and
+//! `logos_cli`.
 
 ghost use Rattle.std.specs.Prelude.{◌≡◌, IfOk, string_bytes};
 ghost use Rattle.logos_tables.specs.Views.{ArePrinted, IsShown, around_made, config_of, shape_runs};
@@ -10,16 +11,16 @@ use logos_text::Sink;
 use logos_token::error::Memory;
 use std::alloc::Global;
 
-/// How lexers are printed.
+/// The shape of generated code.
 #[derive(Clone, Copy)]
 pub enum Shape {
-    /// As code, in one of its shapes.
+    /// Code, in one of its shapes.
     Code(Config),
-    /// As tables for the loop of the runtime.
+    /// Tables for the loop of the runtime.
     Tables,
 }
 
-/// Returns the shape of the code that a lexer is made of.
+/// Returns the shape of the code from which a lexer is printed.
 pub fn config_of(shape: Shape) -> Config
     ensures { result ≡ config_of shape }
 {

@@ -1,4 +1,5 @@
--- Definitions that clauses cite: of lower crates, and those of this one that name no type of it.
+-- Definitions that contracts cite: those of lower crates, and those of this crate that name none of
+-- its types.
 pub use Rattle.logos_byte_class.specs.Bytes.{comparison_of}
 pub use Rattle.logos_code.specs.CodeView.{branch_of, code_of, condition_of, fork_of, state_of}
 pub use Rattle.logos_pattern.specs.Leaf.{callback_value, kind_value}

@@ -6,8 +6,8 @@ abbrev pub OccurInOrder : List (List ℕ) → List ℕ → Type 0
 OccurInOrder [] whole = Unit {0}
 OccurInOrder (text ∷ texts) whole = (before after : List ℕ) × (whole ≡ before ++ (text ++ after)) × OccurInOrder texts after
 
--- A text is appended to: the old text is its beginning, and these texts are parts of what was
--- added, in order.
+-- A text is appended to: the old text is its prefix, and these texts are parts of the appended one,
+-- in order.
 pub record Adds (texts : List (List ℕ)) (old new : List ℕ) : Type 0 where
   pub added : List ℕ
   pub is : new ≡ old ++ added

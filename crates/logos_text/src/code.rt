@@ -1,4 +1,4 @@
-//! Prints a whole code. `logos_codegen` calls it.
+//! Prints a whole code. Called by `logos_codegen`.
 
 ghost use Rattle.std.specs.Prelude.{IfOk, OnOk, map, string_bytes};
 ghost use Rattle.logos_text.specs.Views.{Adds, ArePrinted, BeginsWith, Grows, IsFront, Notes, OccurInOrder, action_runs, around_value, code_of, flat_map, front_runs, opening_text, printed_type, short_core, state_of, state_texts, text_runs, texts_in, texts_of, type_tree};
@@ -17,7 +17,8 @@ use logos_token::error::Memory;
 use logos_type::print_type;
 use std::alloc::Global;
 
-/// The path of `core`, with the gap after it, in a text of code, which has the names of the crate.
+/// The path of `core`, with the gap after it, in generated code, where the names of the crate are
+/// in scope.
 const SHORT_CORE: &str = "core ";
 /// The same in a text of tables: the whole path, which no module beside the enum changes.
 const WHOLE_CORE: &str = ":: core ";

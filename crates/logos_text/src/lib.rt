@@ -1,4 +1,4 @@
-//! Prints a code value as Rust text.
+//! Prints a code value as generated code. Called by `logos_codegen` and `logos_tables`.
 
 #![tactic(auto)]
 

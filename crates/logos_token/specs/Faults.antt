@@ -4,12 +4,12 @@ use Rattle.logos_lexeme.specs.declared.lexeme.Span.{Span}
 use Rattle.logos_token.specs.declared.error.fault_code.FaultCode.{FaultCode}
 use Rattle.logos_token.specs.declared.error.detail.Detail.{Detail}
 
--- A fault: its code, its text, its span, perhaps a second span, and what else is known of it.
+-- A fault: its code, its text, its span, a second span if there is one, and its detail.
 pub record Fault : Type 0 where
   pub code : FaultCode
   pub message : List ℕ
   pub span : Span
   -- A second span that the fault is about.
   pub also : Option Span
-  -- What else is known of the fault.
+  -- The detail of the fault.
   pub detail : Detail

@@ -1,4 +1,5 @@
--- Definitions that clauses cite: of lower crates, and those of this one that name no type of it.
+-- Definitions that contracts cite: those of lower crates, and those of this crate that name none of
+-- its types.
 pub use Rattle.logos_lexeme.specs.Lexemes.{IsNext}
 pub use Rattle.logos_lexeme.specs.LiteralBodies.{Holds, bytes_of}
 pub use Rattle.std.proofs.Props.{props}

@@ -1,4 +1,4 @@
--- Definitions that clauses cite: those of `Words`, and those that name types of this crate.
+-- Definitions that contracts cite: those of `Imports`, and those that name types of this crate.
 pub use Rattle.logos_token.specs.Imports.{EndsJoint, Holds, IsCharBoundary, IsNext, IsRestOf, IsRunOf, RunOccurs, Spells, SpellsAgain, TokenList, YieldsFirstBy, after_colon, after_path_mark, after_word, also, append, begins_with, bytes_of, closing_text, count_of, delimiter_limit, depth_of, encode_utf8, first_of, flat_map, gap_after, group, identifier, is_line_comment, is_path_mark, item_count, none, opening_text, print_part, printed, rest_of, run_span, source_limit, span_of}
 pub use Rattle.logos_token.specs.FaultNames.{name_of}
 pub use Rattle.logos_token.specs.FaultView.{fault_of, faults_of}

@@ -1,5 +1,5 @@
 //! The faults found in a source, in the order in which they were found. Every crate that reads a
-//! source adds its faults here.
+//! source adds its faults to an `Errors`.
 
 mod detail;
 mod fault_code;
@@ -13,7 +13,7 @@ use std::error::Error;
 use std::fmt;
 use std::marker::Model;
 
-/// The error of a call for which there was not enough memory.
+/// The error of a call that runs out of memory.
 #[derive(Clone, Copy, Debug, PartialEq, Eq)]
 pub struct Memory;
 
@@ -45,7 +45,7 @@ pub struct SpannedError {
     pub span: Span,
     /// A second span that the fault is about.
     pub also: Option<Span>,
-    /// What else is known of the fault.
+    /// The detail of the fault.
     pub detail: Detail,
 }
 
@@ -99,7 +99,7 @@ impl Errors {
         self.add(code, message, span, None, Detail::Plain)
     }
 
-    /// Adds a fault of which more is known, at the end.
+    /// Adds a fault with a detail at the end.
     ///
     /// # Errors
     ///
@@ -147,7 +147,7 @@ impl Errors {
         self.add(code, message, span, Some(also), Detail::Plain)
     }
 
-    /// Adds these faults at the end, in their order.
+    /// Adds the faults of `more` at the end, in their order.
     ///
     /// # Errors
     ///

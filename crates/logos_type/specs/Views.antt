@@ -1,4 +1,4 @@
--- Definitions that clauses cite: those of `Words`, and those that name types of this crate.
+-- Definitions that contracts cite: those of `Imports`, and those that name types of this crate.
 pub use Rattle.logos_type.specs.Imports.{print_part, printed_of}
 pub use Rattle.logos_type.specs.Depth.{depth, exceeds, some_exceed}
 pub use Rattle.logos_type.specs.Parts.{Tree, sign_of, tree_of, trees}

@@ -1,4 +1,5 @@
-//! Prints types.
+//! Prints types. `logos_text` and `logos_tables` print the types of generated code with it, and
+//! `logos_definition` the error type.
 
 ghost use Rattle.std.specs.Prelude.{◌≡◌, IfOk, OnOk, fold, string_bytes};
 ghost use Rattle.logos_type.specs.Views.{print_part, printed_of, sign_of, tree_of, lifetime_parts, sign_parts, type_parts, printed_type, type_tree};
@@ -71,8 +72,8 @@ fn add_part(printer: &mut Printer, part: &TypePart<'_>) -> Result<(), Memory>
     }
 }
 
-/// Returns the text of a type: its tokens with a space between each two. `<`, `>` and `&` stand
-/// alone; `::`, `->` and a lifetime are one lexeme each. The tokens of an array's length and of
+/// Returns the text of a type: its tokens, separated by one space. `<`, `>` and `&` are lexemes of
+/// their own; `::`, `->` and a lifetime are one lexeme each. The tokens of an array's length and of
 /// braces keep their spacing.
 ///
 /// # Errors

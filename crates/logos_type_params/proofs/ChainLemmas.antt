@@ -1,11 +1,11 @@
--- Chains of types, by the names and by the places of the types.
+-- Chains of types, by the names and by the indexes of the types.
 use Rattle.std.proofs.Common.{◌≡◌, ℕ, zero, suc, ◌+◌, ◌<◌, ◌⊎◌, inl, inr, ⊎_elim, ◌↔◌, List, [], ◌∷◌, ◌++◌, ◌||◌, map, length, drop, get_or, Bool, true, false, cond, IsTrue, slice_index_or, Contains, Bor, refl, sym, ap, ◌∙◌, arith, subst, append_assoc, true≢false}
 use Rattle.std.proofs.lemmas.List.{map_push, at_drop_more, length-map}
 use Rattle.std.proofs.lemmas.List.Elements.{Contains-push, Contains-push_cases, Contains-append_left}
 use Rattle.std.proofs.lemmas.Slice.Eq.{bytes_eq-Decides}
 use Rattle.std.specs.Str.{bytes_eq}
 use Rattle.std.specs.List.{list_any}
-use Rattle.logos_cycles.specs.Cycles.{targets_of, Leads as Path, one as step, on as steps}
+use Rattle.logos_type_params.specs.cycles.Cycles.{targets_of, Leads as Path, one as step, on as steps}
 use Rattle.logos_type.specs.declared.type_expr.TypePart.{TypePart}
 use Rattle.logos_type.specs.Parts.{name, trees, also, tree_of}
 use Rattle.logos_type_params.specs.declared.substitution.TypeParam.{TypeParam}

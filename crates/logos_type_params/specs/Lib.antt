@@ -1,3 +1,4 @@
+pub mod cycles
 pub mod NameLists
 pub mod Substitution
 pub mod SubstitutionViews

@@ -1,4 +1,4 @@
--- Definitions that clauses cite: those of `Words`, and those that name types of this crate.
+-- Definitions that contracts cite: those of `Imports`, and those that name types of this crate.
 pub use Rattle.logos_type_params.specs.Imports.{IfDeep, IfFault, IsTypeExpr, NoTypeExpr, Tree, exceeds, name, run_span, sign_of, tokens_of, tree_of, trees, type_tree, whole}
 pub use Rattle.logos_type_params.specs.Generics.{and_fault, and_type, between_brackets, concrete_types, generics, generics_of, missing_types, no_concrete_type, type_at, type_of}
 pub use Rattle.logos_type_params.specs.SelfFaults.{AreChecked}

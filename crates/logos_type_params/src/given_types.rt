@@ -1,4 +1,5 @@
-//! Holds the types given to the parameters, and finds them by name.
+//! Stores the types given to the parameters, and finds them by name. `type_params` fills it, and
+//! substitution reads it.
 
 ghost use Rattle.std.specs.Prelude.{◌≡◌, ◌++◌, ◌∷◌, [], ◌<◌, None, Some, length, option_copied, IfSome, OnOk, OnErr};
 ghost use Rattle.std.specs.Map.{lookup};
@@ -13,10 +14,10 @@ use std::collections::HashMap;
 /// The types given to the parameters, at most one to each name.
 #[derive(Drop)]
 pub struct GivenTypes<'s> {
-    /// The types with the names to which they are given, in the order in which the names first got
-    /// one.
+    /// The types with the names to which they are given, in the order in which the names first
+    /// received one.
     pub(crate) entries: Vec<(&'s str, TypeParam<'s>)>,
-    /// For each name the index of its type.
+    /// For each name, the index of its type.
     slots: HashMap<&'s str, usize>,
     ghost placed: { ArePlaced entries.items slots.entries },
 }
@@ -32,7 +33,7 @@ impl<'s> GivenTypes<'s> {
         }
     }
 
-    /// Returns the index of the type given to a name, or `None` if none is.
+    /// Returns the index of the type given to a name, or `None` if it has none.
     pub(crate) fn slot_of(&self, text: &str) -> Option<usize>
         ensures slot { result ≡ slot_in self.now.entries.items text.now }
         ensures within { IfSome result (λ at. at < length self.now.entries.items) }
@@ -40,7 +41,7 @@ impl<'s> GivenTypes<'s> {
         self.slots.get(text).copied()
     }
 
-    /// Returns the type given to a name, or `None` if none is.
+    /// Returns the type given to a name, or `None` if it has none.
     pub fn get(&self, text: &str) -> Option<&TypeParam<'s>>
         ensures { option_copied result ≡
             lookup (λ k. bytes_eq text.now k.now) self.now.entries.items }
@@ -52,14 +53,15 @@ impl<'s> GivenTypes<'s> {
     }
 
     /// Returns the types with the names to which they are given, in the order in which the names
-    /// first got one.
+    /// first received one.
     pub fn list(&self) -> &[(&'s str, TypeParam<'s>)]
         ensures { result.now ≡ self.now.entries.items }
     {
         self.entries.as_slice()
     }
 
-    /// Gives a type to a name, in place of a former one, whose index it gets.
+    /// Gives a type to a name. If the name already has a type, the new one replaces it at the same
+    /// index.
     ///
     /// # Errors
     ///

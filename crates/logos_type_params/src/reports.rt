@@ -1,4 +1,5 @@
-//! Reports faults of names and types. Each function adds one fault.
+//! Reports faults of names and types. Each function adds one fault. `logos_definition` and this
+//! crate call it.
 
 ghost use Rattle.std.specs.Prelude.{◌≡◌, ◌++◌, ◌∷◌, [], IfOk, OnOk, OnErr, string_bytes};
 ghost use Rattle.logos_type_params.specs.Views.{named_of, about, about_with, previous, type_nesting_text, limit_type_nesting};
@@ -7,7 +8,7 @@ use logos_token::error::{Detail, Errors, FaultCode, Memory};
 use logos_token::token::{Ident, Span};
 use std::alloc::Global;
 
-/// Returns three texts in a row.
+/// Returns the concatenation of three texts.
 fn joined(alloc: Global, before: &str, text: &str, after: &str) -> Result<String, Memory>
     ensures { IfOk result (λ message.
         string_bytes message ≡ (before.now ++ text.now) ++ after.now) }
@@ -37,8 +38,7 @@ pub fn report_about(
     report_about_with(errors, code, before, name, after, Detail::Plain)
 }
 
-/// Reports a fault of a name, of which `detail` is known. The message has the name between two
-/// texts.
+/// Reports a fault of a name, with a detail. The message has the name between two texts.
 ///
 /// # Errors
 ///
@@ -60,7 +60,7 @@ pub fn report_about_with(
     Ok(())
 }
 
-/// Reports the span of an earlier value, after the fault that is about it.
+/// Reports the span of an earlier value, after the fault that refers to it.
 ///
 /// # Errors
 ///
@@ -72,15 +72,15 @@ pub fn report_previous(errors: &mut Errors, at: Span) -> Result<(), Memory>
     errors.err(FaultCode::Previous, "Previously assigned here", at)
 }
 
-/// Returns the message of the fault that too many types stand inside one another.
+/// Returns the message of a fault of too many nested types.
 pub fn type_nesting_text() -> &'static str
     ensures { result.now ≡ type_nesting_text }
 {
     "limit LimitTypeNesting passed"
 }
 
-/// Reports that too many types stand inside one another in the value at this span. After an error
-/// the faults are unchanged.
+/// Reports that too many types are nested in the value at the span `at`. After an error the faults
+/// are unchanged.
 pub(crate) fn report_depth(errors: &mut Errors, at: Span) -> Result<(), Memory>
     ensures ok { OnOk result (errors.new ≡ errors.old ++ limit_type_nesting at ∷ []) }
     ensures err { OnErr result (errors.new ≡ errors.old) }

@@ -1,4 +1,5 @@
--- Definitions that clauses cite: of lower crates, and those of this one that name no type of it.
+-- Definitions that contracts cite: those of lower crates, and those of this crate that name none of
+-- its types.
 pub use Rattle.logos_token.specs.Tokens.{IsRestOf, TokenList, count_of, rest_of, run_span}
 pub use Rattle.logos_token.specs.Views.{inside_of, tokens_of}
 pub use Rattle.logos_type.specs.Depth.{depth}

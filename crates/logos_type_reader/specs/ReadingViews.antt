@@ -22,12 +22,12 @@ outside_of None = None
 abbrev pub spot_of : SpotView → Spot
 spot_of spot = record { stage = spot.stage; run = tokens_of spot.run; outside = outside_of spot.outside }
 
--- A measure of what is left: twice the tokens, and one more if a group has to be closed.
+-- A termination measure: twice the number of tokens left, plus one if a group is open.
 abbrev pub left : TokenList → Option TokenList → ℕ
 left run None = 2 * count_of run
 left run (Some rest) = 2 * (count_of run + count_of rest) + 1
 
--- The step is what comes next.
+-- The result is this next step.
 abbrev pub IsStep : Result TypeStep StepFault → Move → Type 0
 IsStep (Ok End) next = next ≡ ends
 IsStep (Ok (Take leaf spot)) next = next ≡ takes (sign_of leaf) (spot_of spot)
@@ -39,13 +39,13 @@ IsStep (Ok (Nest leaf spot stage)) next = next ≡ nests (sign_of leaf) (spot_of
 IsStep (Err (Unsupported span)) next = next ≡ stops (unsupported span)
 IsStep (Err (Mismatch span)) next = next ≡ stops (mismatch span)
 
--- The same for the first token.
+-- The result is this first token.
 abbrev pub IsFirst : Result Beginning StepFault → First → Type 0
 IsFirst (Ok read) first = first ≡ starts read.barred (sign_of read.leaf) (spot_of read.spot)
 IsFirst (Err (Unsupported span)) first = first ≡ refused (unsupported span)
 IsFirst (Err (Mismatch span)) first = first ≡ refused (mismatch span)
 
--- This holds of the fault, unless there was not enough memory.
+-- Unless memory ran out, the fault has this property.
 abbrev pub IfFault : (Fault → Type 0) → TypeFault → Type 0
 IfFault Holds (faults.Unsupported span) = Holds (unsupported span)
 IfFault Holds (faults.Mismatch span) = Holds (mismatch span)
@@ -59,15 +59,15 @@ fault_of (Mismatch span) = faults.Mismatch span
 abbrev pub spot_left : Spot → ℕ
 spot_left spot = left spot.run spot.outside
 
--- One step is made: its parts are added, and the spot after them is returned, if something comes
--- next; or the fault is returned.
+-- One step is made: its parts are added, and the spot after them is returned if a step follows; or
+-- the fault is returned.
 abbrev pub YieldsMove : ℕ → Spot → List Tree → List Tree → Result (Option (Bool × SpotView)) TypeFault → Type 0
 YieldsMove levels spot old new (Ok None) = (next_of spot ≡ ends) × (new ≡ old)
 YieldsMove levels spot old new (Ok (Some read)) = (front : List Tree) × (new ≡ old ++ front) × IsMove levels read.0 spot front (spot_of read.1)
 YieldsMove levels spot old new (Err fault) = IfFault (NoMove levels spot) fault
 
--- All parts from the spot on are added, and whether one of them makes the type one that is not
--- supported is returned with the rest.
+-- All parts from the spot on are added. Whether one of them makes the type unsupported is returned
+-- with the rest.
 abbrev pub YieldsParts : ℕ → Spot → List Tree → List Tree → Result (Bool × Tokens) TypeFault → Type 0
 YieldsParts levels spot old new (Ok read) = (parts : List Tree) × (new ≡ old ++ parts) × AreParts levels read.0 spot parts (tokens_of read.1)
 YieldsParts levels spot old new (Err fault) = IfFault (NoParts levels spot) fault

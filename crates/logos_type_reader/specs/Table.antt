@@ -1,4 +1,4 @@
--- The grammar of types as a table: what can come next at each spot inside a type.
+-- The grammar of types as a table: the next step at each spot inside a type.
 use Rattle.std.specs.Prelude.{ℕ, ◌==◌, ◌&&◌, ◌||◌, not, if◌then◌else◌, List, Bool, true, false, Option, Some, None, codes}
 use Rattle.std.specs.Str.{bytes_eq}
 use Rattle.logos_lexeme.specs.declared.lexeme.Span.{Span}
@@ -21,49 +21,49 @@ abbrev pub first_span : TokenList → Span
 first_span none = record { from = 0; to = 0 }
 first_span (also token rest) = span_of token
 
--- Why a run does not begin with a type.
+-- The reasons why a run does not begin with a type.
 pub data Fault : Type 0 where
-  -- A type that is not supported stands at this span.
+  -- An unsupported type is at this span.
   unsupported : (span : Span) → Fault
-  -- The first token that does not fit stands at this span.
+  -- The first token that does not fit is at this span.
   mismatch : (span : Span) → Fault
-  -- More types stand inside one another than are allowed.
+  -- More types are nested than the limit allows.
   too_deep : Fault
 
--- The position of the reader: a spot, the tokens that are left there, and, if these are inside a
--- group, the tokens after the group.
+-- The state of the reader: a stage, the tokens at the spot, and, if these are inside a group, the
+-- tokens after the group.
 pub record Spot : Type 0 where
   pub stage : Stage
   pub run : TokenList
   pub outside : Option TokenList
 
--- The tokens after all groups that are open.
+-- The tokens after the open group, if there is one.
 abbrev pub outer : TokenList → Option TokenList → TokenList
 outer run None = run
 outer run (Some rest) = rest
 
 -- The next step.
 pub data Move : Type 0 where
-  -- Ends what was begun.
+  -- Ends the construct that was begun.
   ends : Move
   -- Takes this token.
   takes : Sign → Spot → Move
-  -- Takes this token, which only types that are not supported have.
+  -- Takes this token, which occurs only in unsupported types.
   bars : Sign → Spot → Move
-  -- Reads a type and goes on at this spot; `+` can join bounds if `plus` holds.
+  -- Reads a type and continues at this stage. `+` can join bounds if `plus` is `true`.
   needs : (plus : Bool) → Stage → Move
-  -- Reads a type that is never replaced and goes on at this spot.
+  -- Reads a type that is never replaced and continues at this stage.
   keeps_type : Stage → Move
   -- Takes these tokens without reading types in them.
   keeps : TokenList → Spot → Move
-  -- Takes this token, with which a path or bounds begin, reads these from the spot on, and goes on
-  -- at this spot.
+  -- Takes this token, with which a path or bounds begin, reads the path or bounds from the spot on,
+  -- and continues at the stage.
   nests : Sign → Spot → Stage → Move
-  -- Nothing fits, for this reason.
+  -- No step fits, for this reason.
   stops : Fault → Move
 
--- The beginning of a type: its first token, whether only types that are not supported have that,
--- and the spot after it; or the reason why none begins.
+-- The beginning of a type: its first token, whether that token occurs only in unsupported types,
+-- and the spot after it; or the reason why no type begins.
 pub data First : Type 0 where
   starts : (barred : Bool) → Sign → Spot → First
   refused : Fault → First
@@ -71,7 +71,7 @@ pub data First : Type 0 where
 abbrev pub mismatches : TokenList → Move
 mismatches run = stops (mismatch (first_span run))
 
--- A spot with the tokens that are left there.
+-- A stage with the tokens at the spot.
 abbrev pub to : Stage → TokenList → Option TokenList → Spot
 to p run outside = record { stage = p; run = run; outside = outside }
 
@@ -100,11 +100,11 @@ abbrev pub begins_parenthesis : TokenList → Bool
 begins_parenthesis (also (group Parenthesis span inside) rest) = true
 begins_parenthesis run = false
 
--- Whether `:` comes first that is not the beginning of `::`.
+-- Whether the run begins with a `:` that is not the start of `::`.
 abbrev pub typing : TokenList → Bool
 typing run = begins_mark 58 run && not (begins_colons run)
 
--- Whether a path goes on after a name: with `<`, `::` or a parenthesis.
+-- Whether a path continues after a name: with `<`, `::` or a parenthesis.
 abbrev pub goes_on : TokenList → Bool
 goes_on run = (begins_mark 60 run || begins_colons run) || begins_parenthesis run
 
@@ -123,7 +123,7 @@ abbrev pub after_three : TokenList → TokenList
 after_three (also first (also second (also third rest))) = rest
 after_three run = none
 
--- A group is opened; only one can be open at a time.
+-- Opens a group. Only one group can be open at a time.
 abbrev pub opens : Delimiter → Span → Stage → TokenList → TokenList → Option TokenList → Move
 opens delimiter span next inside rest None = takes (opening delimiter) (to next inside (Some rest))
 opens delimiter span next inside rest (Some other) = stops (mismatch span)
@@ -140,7 +140,7 @@ abbrev pub name_end : PathKind → TokenList → Option TokenList → Move
 name_end Plain (also (punctuation c spacing span) rest) outside = if c == 33 then bars (mark 33) (to stage.Macro rest outside) else ends
 name_end kind run outside = ends
 
--- After a path that has had its arguments.
+-- After the arguments of a path.
 abbrev pub segments_move : PathKind → TokenList → Option TokenList → Move
 segments_move kind run outside = if begins_colons run then takes colons (to (stage.Colons kind false) (after_two run) outside) else ends
 
@@ -158,11 +158,11 @@ abbrev pub macro_move : TokenList → Option TokenList → Move
 macro_move (also (group delimiter span inside) rest) outside = takes (opening delimiter) (to stage.End rest outside)
 macro_move run outside = mismatches run
 
--- After the parentheses of a path or of a function: perhaps `->`.
+-- After the parentheses of a path or of a function: optionally `->`.
 abbrev pub output_move : TokenList → Option TokenList → Move
 output_move run outside = if begins_arrow run then takes arrow (to stage.Target (after_two run) outside) else ends
 
--- The end of a group, and the spot after it.
+-- Closes the group and continues after it at this stage.
 abbrev pub closes : Delimiter → Stage → Option TokenList → Move
 closes delimiter next (Some rest) = takes (closing delimiter) (to next rest None)
 closes delimiter next None = ends
@@ -177,7 +177,7 @@ input_end_move none outside = closes Parenthesis stage.Output outside
 input_end_move (also (punctuation c spacing span) rest) outside = if c == 44 then takes (mark 44) (to stage.Inputs rest outside) else stops (mismatch span)
 input_end_move run outside = mismatches run
 
--- After `::`: a name, or `<` where arguments may stand.
+-- After `::`: a name, or `<` if arguments are allowed.
 abbrev pub colons_move : PathKind → Bool → TokenList → Option TokenList → Move
 colons_move kind arguments (also (identifier text span) rest) outside = takes (word text) (to (stage.Named kind) rest outside)
 colons_move kind arguments (also (punctuation c spacing span) rest) outside =
@@ -194,7 +194,7 @@ abbrev pub lifetime_move : PathKind → TokenList → Option TokenList → Move
 lifetime_move kind (also (identifier text span) rest) outside = takes (argument_lifetime kind text) (to (stage.ArgumentEnd kind) rest outside)
 lifetime_move kind run outside = mismatches run
 
--- Among arguments, at a name: before `=` it is bound, before `:` constrained, and else a type
+-- Among arguments, at a name: before `=` it is bound, before `:` constrained, and otherwise a type
 -- begins.
 abbrev pub argument_word : PathKind → List ℕ → TokenList → Option TokenList → Move
 argument_word kind text rest outside =
@@ -236,7 +236,7 @@ argument_end_move kind (also (punctuation c spacing span) rest) outside =
     else stops (mismatch span))
 argument_end_move kind run outside = mismatches run
 
--- After `&` and its lifetime: perhaps `mut`, and a type.
+-- After `&` and its lifetime: optionally `mut`, then a type.
 abbrev pub referent_move : TokenList → Option TokenList → Move
 referent_move (also (identifier text span) rest) outside = if bytes_eq text (codes "mut") then takes (word text) (to stage.Target rest outside) else needs false stage.End
 referent_move run outside = needs false stage.End
@@ -246,7 +246,7 @@ abbrev pub pointer_move : TokenList → Option TokenList → Move
 pointer_move (also (identifier text span) rest) outside = if bytes_eq text (codes "const") || bytes_eq text (codes "mut") then takes (word text) (to stage.Target rest outside) else stops (mismatch span)
 pointer_move run outside = mismatches run
 
--- In parentheses: types with commas between them, and perhaps one after the last.
+-- In parentheses: types with commas between them, with an optional comma after the last.
 abbrev pub list_move : TokenList → Option TokenList → Move
 list_move none outside = closes Parenthesis stage.End outside
 list_move run outside = needs true stage.ListEnd
@@ -262,12 +262,12 @@ element_end_move none outside = closes Bracket stage.End outside
 element_end_move (also (punctuation c spacing span) rest) outside = if c == 59 then takes (mark 59) (to stage.Length rest outside) else stops (mismatch span)
 element_end_move run outside = mismatches run
 
--- After that `;`: tokens in which no types are read.
+-- After the `;` of an array: tokens in which no types are read.
 abbrev pub length_move : TokenList → Option TokenList → Move
 length_move none outside = mismatches none
 length_move run outside = keeps run (to stage.LengthEnd none outside)
 
--- After the type with which `<` begins: `as` or `>`.
+-- After the type that follows `<`: `as` or `>`.
 abbrev pub self_end_move : TokenList → Option TokenList → Move
 self_end_move (also (identifier text span) rest) outside = if bytes_eq text (codes "as") then takes (word text) (to stage.SelfTrait rest outside) else stops (mismatch span)
 self_end_move (also (punctuation c spacing span) rest) outside = if c == 62 then takes (mark 62) (to stage.SelfClosed rest outside) else stops (mismatch span)
@@ -281,32 +281,32 @@ path_move kind next (also (punctuation c spacing span) rest) =
     else stops (mismatch span)
 path_move kind next run = mismatches run
 
--- After that path: `>`.
+-- After the path that follows `as`: `>`.
 abbrev pub self_trait_end_move : TokenList → Option TokenList → Move
 self_trait_end_move (also (punctuation c spacing span) rest) outside = if c == 62 then takes (mark 62) (to stage.SelfClosed rest outside) else stops (mismatch span)
 self_trait_end_move run outside = mismatches run
 
--- After that `>`: `::`.
+-- After the `>` of `<T as P>`: `::`.
 abbrev pub self_closed_move : TokenList → Option TokenList → Move
 self_closed_move run outside = if begins_colons run then takes colons (to (stage.Colons OfType false) (after_two run) outside) else mismatches run
 
--- After a bound.
+-- The stage after a bound.
 abbrev pub after_bound : BoundKind → Stage
 after_bound (Listed plus) = stage.BoundEnd plus
 after_bound (Enclosed plus) = stage.EnclosedEnd plus
 
--- After `dyn` or `impl`, where a bound stands, at `'`: a lifetime.
+-- At `'` where a bound is expected: a lifetime.
 abbrev pub bound_lifetime_move : Bool → TokenList → Option TokenList → Move
 bound_lifetime_move plus (also (identifier text span) rest) outside = takes (other_lifetime text) (to (stage.BoundEnd plus) rest outside)
 bound_lifetime_move plus run outside = mismatches run
 
--- Where the path of a bound may have `for<..>` before it.
+-- Where the path of a bound is expected, with an optional `for<..>` before it.
 abbrev pub trait_move : BoundKind → TokenList → Option TokenList → Move
 trait_move kind (also (identifier text span) rest) outside =
     if bytes_eq text (codes "for") then takes (word text) (to (stage.For (OfTrait kind)) rest outside) else path_move OfBound (after_bound kind) (also (identifier text span) rest)
 trait_move kind run outside = path_move OfBound (after_bound kind) run
 
--- Where the path of a bound may also have `?` before it.
+-- Where the path of a bound is expected, with an optional `?` before it.
 abbrev pub question_move : BoundKind → TokenList → Option TokenList → Move
 question_move kind (also (punctuation c spacing span) rest) outside =
     if c == 63 then takes (mark 63) (to (stage.Trait kind) rest outside) else trait_move kind (also (punctuation c spacing span) rest) outside
@@ -319,21 +319,21 @@ bound_move plus (also (punctuation c spacing span) rest) outside =
 bound_move plus (also (group Parenthesis span inside) rest) outside = opens Parenthesis span (stage.Question plus) inside rest outside
 bound_move plus run outside = question_move (Listed plus) run outside
 
--- After a bound: perhaps `+`.
+-- After a bound: optionally `+`.
 abbrev pub bound_end_move : Bool → TokenList → Option TokenList → Move
 bound_end_move plus (also (punctuation c spacing span) rest) outside = if plus && (c == 43) then takes (mark 43) (to stage.Further rest outside) else ends
 bound_end_move plus run outside = ends
 
--- After `+`: perhaps a bound.
+-- After `+`: optionally a bound.
 abbrev pub further_move : TokenList → Option TokenList → Move
 further_move run outside = if begins_bound run then bound_move true run outside else ends
 
--- After a bound in parentheses: their end.
+-- After the path in the parentheses of a bound: the end of the parentheses.
 abbrev pub enclosed_end_move : Bool → TokenList → Option TokenList → Move
 enclosed_end_move plus none outside = closes Parenthesis (stage.BoundEnd plus) outside
 enclosed_end_move plus run outside = mismatches run
 
--- After `for<..>`: a function, or the path of a bound.
+-- The stage after `for<..>`: a function, or the path of a bound.
 abbrev pub after_for : Binder → Stage
 after_for OfFunction = stage.Qualified
 after_for (OfTrait kind) = stage.TraitPath kind
@@ -347,7 +347,7 @@ abbrev pub for_lifetime_move : Binder → TokenList → Option TokenList → Mov
 for_lifetime_move binder (also (identifier text span) rest) outside = takes (other_lifetime text) (to (stage.ForEnd binder) rest outside)
 for_lifetime_move binder run outside = mismatches run
 
--- Among the lifetimes of `for<..>`: one, or `>`.
+-- Among the lifetimes of `for<..>`: a lifetime, or `>`.
 abbrev pub for_list_move : Binder → TokenList → Option TokenList → Move
 for_list_move binder (also (punctuation c spacing span) rest) outside =
     if c == 62 then takes (mark 62) (to (after_for binder) rest outside)
@@ -355,7 +355,7 @@ for_list_move binder (also (punctuation c spacing span) rest) outside =
     else stops (mismatch span))
 for_list_move binder run outside = mismatches run
 
--- After one: `,` or `>`.
+-- After a lifetime of `for<..>`: `,` or `>`.
 abbrev pub for_end_move : Binder → TokenList → Option TokenList → Move
 for_end_move binder (also (punctuation c spacing span) rest) outside =
     if c == 44 then takes (mark 44) (to (stage.ForList binder) rest outside)
@@ -378,7 +378,7 @@ abbrev pub qualified_move : TokenList → Option TokenList → Move
 qualified_move (also (identifier text span) rest) outside = if bytes_eq text (codes "unsafe") then takes (word text) (to stage.Unsafe rest outside) else unsafe_move (also (identifier text span) rest) outside
 qualified_move run outside = mismatches run
 
--- After `extern`: perhaps a literal.
+-- After `extern`: optionally a literal.
 abbrev pub extern_move : TokenList → Option TokenList → Move
 extern_move (also (literal text span) rest) outside = takes (value text) (to stage.Linked rest outside)
 extern_move run outside = linked_move run outside
@@ -388,7 +388,7 @@ abbrev pub function_move : TokenList → Option TokenList → Move
 function_move (also (group Parenthesis span inside) rest) outside = opens Parenthesis span stage.Taken inside rest outside
 function_move run outside = mismatches run
 
--- Where the type of a parameter can begin, or `...`.
+-- Where the type of a parameter or `...` is expected.
 abbrev pub taken_value : TokenList → Option TokenList → Move
 taken_value run outside = if begins_dots run then bars (mark 46) (to stage.Variadic (after_three run) outside) else needs true stage.OneTaken
 
@@ -408,7 +408,7 @@ one_taken_move none outside = closes Parenthesis stage.Output outside
 one_taken_move (also (punctuation c spacing span) rest) outside = if c == 44 then takes (mark 44) (to stage.Taken rest outside) else stops (mismatch span)
 one_taken_move run outside = mismatches run
 
--- After `...`: perhaps `,`.
+-- After `...`: optionally `,`.
 abbrev pub variadic_move : TokenList → Option TokenList → Move
 variadic_move none outside = closes Parenthesis stage.Output outside
 variadic_move (also (punctuation c spacing span) rest) outside = if c == 44 then takes (mark 44) (to stage.VariadicEnd rest outside) else stops (mismatch span)
@@ -475,7 +475,7 @@ abbrev pub reference_lifetime_first : TokenList → First
 reference_lifetime_first (also (identifier text span) rest) = starts false (reference (Some text)) (to stage.Referent rest None)
 reference_lifetime_first run = refused (mismatch (first_span run))
 
--- After `&`: perhaps a lifetime.
+-- After `&`: optionally a lifetime.
 abbrev pub reference_first : TokenList → First
 reference_first (also (punctuation c spacing span) rest) =
     if c == 39 then reference_lifetime_first rest else starts false (reference None) (to stage.Referent (also (punctuation c spacing span) rest) None)
@@ -487,7 +487,7 @@ group_first Parenthesis span inside rest = starts false (opening Parenthesis) (t
 group_first Bracket span inside rest = starts false (opening Bracket) (to stage.Element inside (Some rest))
 group_first Brace span inside rest = refused (mismatch span)
 
--- The spot after the word with which a type begins.
+-- The stage after the word at the start of a type.
 abbrev pub word_stage : Bool → List ℕ → Stage
 word_stage plus text =
     if bytes_eq text (codes "dyn") || bytes_eq text (codes "impl") then stage.Bound plus
@@ -503,7 +503,7 @@ word_first plus text span rest =
     if bytes_eq text (codes "_") then refused (unsupported span)
     else starts (bytes_eq text (codes "impl")) (word text) (to (word_stage plus text) rest None)
 
--- A punctuation.
+-- Punctuation.
 abbrev pub mark_first : ℕ → Span → TokenList → TokenList → First
 mark_first c span run rest =
     if c == 38 then reference_first rest
@@ -520,13 +520,13 @@ begin plus (also (group delimiter span inside) rest) = group_first delimiter spa
 begin plus (also (punctuation c spacing span) rest) = mark_first c span (also (punctuation c spacing span) rest) rest
 begin plus run = refused (mismatch (first_span run))
 
--- A word that is reserved, so that it is not the name of a type.
+-- The word is reserved, so that it is not the name of a type.
 abbrev pub is_reserved : List ℕ → Bool
 is_reserved text =
     ((bytes_eq text (codes "dyn") || bytes_eq text (codes "impl")) || (bytes_eq text (codes "_") || bytes_eq text (codes "for")))
     || ((bytes_eq text (codes "fn") || bytes_eq text (codes "unsafe")) || bytes_eq text (codes "extern"))
 
--- The name, if the type is exactly a name.
+-- The name, if the type at the start of the run is exactly a name.
 abbrev pub name_of : TokenList → Option (List ℕ)
 name_of (also (identifier text span) rest) = if is_reserved text then None else (if goes_on rest || begins_mark 33 rest then None else Some text)
 name_of run = None

@@ -1,4 +1,4 @@
--- Definitions that clauses cite: those of `Words`, and those that name types of this crate.
+-- Definitions that contracts cite: those of `Imports`, and those that name types of this crate.
 pub use Rattle.logos_type_reader.specs.Imports.{IsRestOf, TokenList, Tree, also, closing, count_of, depth, inside_of, none, opening, rest_of, run_span, sign, sign_of, still, still_run, still_token, tokens_of, tree_of, trees, type_tree}
 pub use Rattle.logos_type_reader.specs.FaultStages.{FaultStage, IsAt, SameSign}
 pub use Rattle.logos_type_reader.specs.Reading.{IsMove, IsType, NoType, after_type, next_of}

@@ -1,5 +1,5 @@
-//! Reads types. `logos_enum` calls it at each field, and `logos_type_params` at each type that an
-//! attribute gives.
+//! Reads types. `logos_enum` calls it at each field, and `logos_type_params` at each type in an
+//! attribute.
 
 ghost use Rattle.std.specs.Prelude.{◌≡◌, ◌<◌, ◌∷◌, ◌++◌, [], ℕ, map, IfOk, IfErr, OnOk, None, Ok, false};
 ghost use Rattle.logos_type_reader.specs.Views.{IsRestOf, count_of, run_span, tokens_of, inside_of, tree_of, sign_of, sign, opening, closing, still, trees, also, none, still_run, still_token, type_tree, Spot as SpotOfRuns, outer, name_of, needs, keeps_type, nests, IsType, NoType, IsMove, after_type, next_of, spot_of, outside_of, IfFault, IsStep, YieldsMove, YieldsParts, IsTypeExpr, NoTypeExpr, Memory, fault_of};
@@ -13,14 +13,13 @@ use std::alloc::{AllocError, AllocFailed, Global};
 /// The reasons why a run does not begin with a type.
 #[derive(Clone, Copy)]
 pub enum TypeFault {
-    /// A type that is not supported stands at this span.
+    /// An unsupported type is at this span.
     Unsupported { span: Span },
-    /// The first token that does not fit stands at this span; it is `0..0` at the end of the
-    /// tokens.
+    /// The first token that does not fit is at this span, which is `0..0` at the end of the tokens.
     Mismatch { span: Span },
-    /// More types stand inside one another than are allowed.
+    /// More types are nested than the limit allows.
     LimitNesting,
-    /// There is not enough memory.
+    /// Memory ran out.
     Memory,
 }
 
@@ -51,10 +50,10 @@ impl From<StepFault> for TypeFault {
     }
 }
 
-/// The greatest number of types that can stand inside one another. The outermost one counts.
+/// The greatest number of types that can be nested. The outermost one counts.
 pub const TYPE_NESTING: u32 = 128;
 
-/// Adds a token.
+/// Adds a token as a part.
 fn add_leaf<'s>(leaf: TypeToken<'s>, parts: &mut Vec<TypePart<'s>>) -> Result<(), AllocError>
     ensures { OnOk result (map tree_of parts.new.items ≡
         map tree_of parts.old.items ++ sign (sign_of leaf.entry) ∷ []) }
@@ -63,7 +62,8 @@ fn add_leaf<'s>(leaf: TypeToken<'s>, parts: &mut Vec<TypePart<'s>>) -> Result<()
     Ok(())
 }
 
-/// Adds the tokens of a run without reading types in them; groups add the tokens inside them.
+/// Adds the tokens of a run without reading types in them. A group adds its delimiters and the
+/// tokens inside it.
 #[cycle(keeping)]
 fn keep_tokens<'s>(run: Tokens<'_, 's>, parts: &mut Vec<TypePart<'s>>) -> Result<(), AllocError>
     ensures { OnOk result (map tree_of parts.new.items ≡
@@ -77,7 +77,7 @@ fn keep_tokens<'s>(run: Tokens<'_, 's>, parts: &mut Vec<TypePart<'s>>) -> Result
     Ok(())
 }
 
-/// Adds one token in this way.
+/// Adds one token without reading types in it.
 #[cycle(keeping)]
 fn keep_token<'s>(tree: TokenTree<'_, 's>, parts: &mut Vec<TypePart<'s>>) -> Result<(), AllocError>
     ensures { OnOk result (map tree_of parts.new.items ≡
@@ -95,7 +95,7 @@ fn keep_token<'s>(tree: TokenTree<'_, 's>, parts: &mut Vec<TypePart<'s>>) -> Res
     }
 }
 
-/// Adds a group in this way: its delimiters, and the tokens between them.
+/// Adds the delimiters of a group and the tokens between them, without reading types in them.
 #[cycle(keeping)]
 fn keep_group<'s>(group: Group<'_, 's>, parts: &mut Vec<TypePart<'s>>) -> Result<(), AllocError>
     ensures { OnOk result (map tree_of parts.new.items ≡ map tree_of parts.old.items ++
@@ -107,7 +107,7 @@ fn keep_group<'s>(group: Group<'_, 's>, parts: &mut Vec<TypePart<'s>>) -> Result
     add_leaf(TypeToken::Close(group.delimiter), parts)
 }
 
-/// Returns the tokens after all groups that are open at `spot`.
+/// Returns the tokens after the group that is open at `spot`, or the tokens at `spot` if none is.
 fn after_all<'t, 's>(spot: Spot<'t, 's>) -> Tokens<'t, 's>
     ensures { tokens_of result ≡ outer (tokens_of spot.entry.run) (outside_of spot.entry.outside) }
 {
@@ -117,7 +117,7 @@ fn after_all<'t, 's>(spot: Spot<'t, 's>) -> Tokens<'t, 's>
     }
 }
 
-/// Returns the spot after a type or a path that was read.
+/// Returns the spot at `stage` after a type or a path before `run` was read.
 fn after_type<'t, 's>(spot: Spot<'t, 's>, stage: Stage, run: Tokens<'t, 's>) -> Spot<'t, 's>
     ensures { spot_of result ≡ after_type (spot_of spot.entry) stage (tokens_of run.entry) }
 {
@@ -137,8 +137,8 @@ fn begun_parts<'s>(alloc: Global, part: TypePart<'s>) -> Result<Vec<TypePart<'s>
     Ok(parts)
 }
 
-/// Adds one part and goes on at the spot `next`. `bars` says whether the part makes the type one
-/// that is not supported.
+/// Adds one part and continues at the spot `next`. `bars` is whether the part makes the type
+/// unsupported.
 fn move_past<'t, 's>(
     bars: bool,
     part: TypePart<'s>,
@@ -153,7 +153,7 @@ fn move_past<'t, 's>(
     Ok(Some((bars, next)))
 }
 
-/// Adds the tokens of a run without reading types in them, and goes on at the spot after them.
+/// Adds the tokens of a run without reading types in them, and continues at the spot after them.
 fn move_past_run<'t, 's>(
     alloc: Global,
     run: Tokens<'t, 's>,
@@ -172,7 +172,8 @@ fn move_past_run<'t, 's>(
     }
 }
 
-/// Adds a part that is never replaced, made of the one part `part`, and goes on at the spot `next`.
+/// Adds a part that is never replaced, made of the one part `part`, and continues at the spot
+/// `next`.
 fn move_past_still<'t, 's>(
     alloc: Global,
     part: TypePart<'s>,
@@ -190,7 +191,7 @@ fn move_past_still<'t, 's>(
     }
 }
 
-/// Reads a type, adds it, and goes on at a spot after it.
+/// Reads a type, adds it, and continues at a spot after it.
 #[cycle(types)]
 fn move_past_type<'t, 's>(
     alloc: Global,
@@ -210,7 +211,7 @@ fn move_past_type<'t, 's>(
     }
 }
 
-/// Reads a type, adds it as a part that is never replaced, and goes on at a spot after it.
+/// Reads a type, adds it as a part that is never replaced, and continues at a spot after it.
 #[cycle(types)]
 fn move_past_still_type<'t, 's>(
     alloc: Global,
@@ -229,7 +230,7 @@ fn move_past_still_type<'t, 's>(
     }
 }
 
-/// Adds the first token of a path or of bounds and then their parts, and goes on at a spot after
+/// Adds the first token of a path or of bounds and then their parts, and continues at a spot after
 /// them.
 #[cycle(types)]
 fn move_past_nest<'t, 's>(
@@ -252,7 +253,7 @@ fn move_past_nest<'t, 's>(
     }
 }
 
-/// Adds the parts of the next step at a spot.
+/// Adds the parts of `step`, the next step at a spot.
 #[cycle(types)]
 fn make_step<'t, 's>(
     alloc: Global,
@@ -278,8 +279,8 @@ fn make_step<'t, 's>(
     }
 }
 
-/// Adds the next parts at a spot. Returns whether one of them makes the type one that is not
-/// supported, and the spot after them; `None` if nothing comes next.
+/// Adds the next parts at a spot. Returns whether one of them makes the type unsupported, and the
+/// spot after them. Returns `None` if no step follows.
 #[cycle(types)]
 fn move_on<'t, 's>(
     alloc: Global,
@@ -296,8 +297,8 @@ fn move_on<'t, 's>(
     }
 }
 
-/// Adds the parts from a spot to the end of what was begun there. Returns whether one of them makes
-/// the type one that is not supported, and the tokens after them.
+/// Adds the parts from a spot to the end of the construct that was begun there. Returns whether one
+/// of them makes the type unsupported, and the tokens after them.
 #[cycle(types)]
 fn parts_at<'t, 's>(
     alloc: Global,
@@ -317,7 +318,7 @@ fn parts_at<'t, 's>(
     Ok((barred, after_all(spot)))
 }
 
-/// Returns the span of the tokens before the rest.
+/// Returns the span of the tokens before `rest`.
 fn span_before<'t, 's>(tokens: Tokens<'t, 's>, rest: Tokens<'t, 's>) -> Span
     requires { IsRestOf (tokens_of tokens) (tokens_of rest) }
     ensures { (split : IsRestOf (tokens_of tokens.entry) (tokens_of rest.entry)) →
@@ -327,8 +328,7 @@ fn span_before<'t, 's>(tokens: Tokens<'t, 's>, rest: Tokens<'t, 's>) -> Span
     front.span()
 }
 
-/// Returns the type with which the tokens begin, if that is more than a name, and the tokens after
-/// it.
+/// Returns the type at the start of the tokens, if it is more than a name, and the tokens after it.
 #[cycle(types)]
 fn formed_at<'t, 's>(
     alloc: Global,
@@ -362,8 +362,8 @@ fn formed_at<'t, 's>(
     Ok((TypePart::Whole(parts), rest))
 }
 
-/// Returns the type with which the tokens begin, and the tokens after it. At most `levels` types
-/// can stand inside one another; the outermost one counts. `+` joins bounds only if `plus` holds.
+/// Returns the type at the start of the tokens, and the tokens after it. At most `levels` types can
+/// be nested, where the outermost one counts. `+` joins bounds only if `plus` is `true`.
 #[cycle(types)]
 pub(crate) fn type_at<'t, 's>(
     alloc: Global,
@@ -384,13 +384,13 @@ pub(crate) fn type_at<'t, 's>(
     Ok((TypePart::Name(name), rest))
 }
 
-/// Returns the type with which the tokens begin, and the tokens after it.
+/// Returns the type at the start of the tokens, and the tokens after it.
 ///
 /// # Errors
 ///
-/// Returns `Unsupported` with the span of a type that is not supported, `Mismatch` with the span of
-/// the first token that does not fit, `LimitNesting` if more than 128 types stand inside one
-/// another, and `Memory` if memory runs out.
+/// Returns `Unsupported` with the span of an unsupported type, `Mismatch` with the span of the
+/// first token that does not fit, `LimitNesting` if more than 128 types are nested, and `Memory` if
+/// memory runs out.
 pub fn read_type<'t, 's>(
     alloc: Global,
     tokens: Tokens<'t, 's>,

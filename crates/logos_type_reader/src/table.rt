@@ -1,4 +1,5 @@
-//! The grammar of types, spot by spot: what can come next.
+//! The grammar of types: the next step at each spot inside a type. The reader of types calls
+//! `next_at` at each spot.
 
 ghost use Rattle.std.specs.Prelude.{IsTrue};
 ghost use Rattle.logos_type_reader.specs.Views.{tokens_of, next_at, outside_of, spot_of, IsStep, IsAction, is_in_bounds};
@@ -34,7 +35,7 @@ use paths::{
 pub(crate) use stage::{Spot, Stage, StepFault, TypeStep};
 use stage::{BoundKind, Next, Outside, PathKind, TableEntry};
 
-/// Returns what is to be done at a spot inside a type.
+/// Returns the action at a spot inside a type.
 #[tactic(auto, unfolding(crate::specs::Table::next_at))]
 fn action_at(at: &Spot<'_, '_>) -> Next
     ensures { IsAction result (spot_of at.now)
@@ -73,7 +74,7 @@ fn action_at(at: &Spot<'_, '_>) -> Next
     }
 }
 
-/// Returns what is to be done at a spot in a bound, in `for<..>` or in the type of a function.
+/// Returns the action at a spot in a bound, in `for<..>` or in the type of a function.
 #[tactic(auto, unfolding(crate::specs::Table::next_at))]
 fn bound_action_at(at: &Spot<'_, '_>) -> Next
     requires { IsTrue (is_in_bounds at.now.stage) }

@@ -1,4 +1,5 @@
-//! Probable mistakes in the enums of a file that are not faults, as warnings.
+//! Warnings: probable mistakes in the enums of a file that are not faults. Called by the programs
+//! and the derive macro.
 
 #![tactic(auto)]
 

@@ -1,4 +1,4 @@
-//! Mistakes as warnings.
+//! The warnings for mistakes. Used by `logos_causes`, `logos_derive` and `logos_file_warnings`.
 
 ghost use Rattle.std.specs.Prelude.{◌≡◌, IfOk};
 ghost use Rattle.logos_warnings.specs.Views.{mistake_value, span_of};
@@ -13,10 +13,10 @@ use logos_token::error::Memory;
 use logos_token::token::{TokenError, Tokens, tokenize};
 use std::alloc::{AllocError, Global};
 
-/// Returns the warnings of an enum with this text: those of its own attributes and then those of
-/// its variants', in source order, then that it has no pattern or does not derive `Logos`, and last
-/// those of attributes that its lexer passes over. An enum that cannot be read has none. An active
-/// `cfg` is no mistake in an enum from the derive macro.
+/// Returns the warnings for an enum with this text: those for its own attributes and then those for
+/// its variants' attributes, in source order; then that it has no pattern or does not derive
+/// `Logos`; and last those for attributes that its lexer ignores. An enum that cannot be read has
+/// none. An active `cfg` is not a mistake in an enum from the derive macro.
 ///
 /// # Errors
 ///
@@ -52,7 +52,7 @@ pub fn token_warnings(
     }
 }
 
-/// Returns the same of an enum that was read.
+/// Returns the warnings of `enum_warnings` for an enum that was read.
 ///
 /// # Errors
 ///
@@ -76,7 +76,7 @@ pub fn item_warnings(
     Ok(warnings)
 }
 
-/// Returns the warning about a mistake in the enum with this name.
+/// Returns the warning for a mistake in the enum with this name.
 fn warning_of(alloc: Global, name: &str, mistake: Mistake<'_>) -> Result<Warning, AllocError>
     ensures { IfOk result (λ warning. warning.span ≡ span_of (mistake_value mistake.entry)) }
 {

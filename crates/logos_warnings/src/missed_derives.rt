@@ -1,5 +1,5 @@
-//! Entries of `derive` that name the derive macro and are passed over, since the enum is not found
-//! or the entry is not known.
+//! Entries of `derive` that name the derive macro and are ignored, since the enum is not found or
+//! the entry is unknown. Used by `logos_file_warnings`.
 
 use crate::warning_list::fixed_warning;
 use logos_report::Warning;
@@ -30,8 +30,7 @@ pub fn passed_over(
     Ok(warnings_of(alloc, &derives, found)?)
 }
 
-/// Returns the warnings of those of these spans that stand in none of the others. Both are in
-/// order.
+/// Returns the warnings for the spans that are outside of the spans `found`. Both are in order.
 fn warnings_of(
     alloc: Global,
     derives: &[Span],
@@ -48,7 +47,7 @@ fn warnings_of(
     Ok(warnings)
 }
 
-/// Returns these spans without those at the front that end at an offset or in front of it.
+/// Returns the spans without the leading ones that end at or before an offset.
 fn from_offset(found: &[Span], offset: usize) -> &[Span] {
     let mut left = found;
     while let [first, rest @ ..] = left {
@@ -60,7 +59,7 @@ fn from_offset(found: &[Span], offset: usize) -> &[Span] {
     left
 }
 
-/// Returns whether the first of these spans begins at an offset or in front of it.
+/// Returns whether the first of these spans begins at or before an offset.
 fn begins_before(found: &[Span], offset: usize) -> bool {
     match found.first() {
         Some(span) => span.from <= offset,
@@ -68,7 +67,7 @@ fn begins_before(found: &[Span], offset: usize) -> bool {
     }
 }
 
-/// Appends the spans of all lists of `derive` in a run that have the derive macro.
+/// Appends the spans of all lists of `derive` in a run that contain the derive macro.
 #[cycle(search)]
 fn search_run(run: Tokens<'_, '_>, found: &mut Vec<Span>) -> Result<(), AllocError> {
     let mut rest = run;
@@ -79,7 +78,7 @@ fn search_run(run: Tokens<'_, '_>, found: &mut Vec<Span>) -> Result<(), AllocErr
     Ok(())
 }
 
-/// Appends that of a list with which a run begins, and those in a group with which it begins.
+/// Appends the span of such a list at the beginning of a run, and the spans in a group there.
 #[cycle(search)]
 fn search_first(run: Tokens<'_, '_>, found: &mut Vec<Span>) -> Result<(), AllocError> {
     add_derive(run, found)?;
@@ -89,7 +88,8 @@ fn search_first(run: Tokens<'_, '_>, found: &mut Vec<Span>) -> Result<(), AllocE
     }
 }
 
-/// Appends the span of a list of `derive` with which a run begins, if it has the derive macro.
+/// Appends the span of a list of `derive` at the beginning of a run, if it contains the derive
+/// macro.
 fn add_derive(run: Tokens<'_, '_>, found: &mut Vec<Span>) -> Result<(), AllocError> {
     let Some(rest) = after_word("derive", run) else {
         return Ok(());
@@ -106,7 +106,7 @@ fn add_derive(run: Tokens<'_, '_>, found: &mut Vec<Span>) -> Result<(), AllocErr
     }
 }
 
-/// Returns whether a token is a list in parentheses that has the derive macro.
+/// Returns whether a token is a list in parentheses that contains the derive macro.
 fn is_list(tree: TokenTree<'_, '_>) -> bool {
     match tree {
         TokenTree::Group(group) => (group.delimiter == Delimiter::Parenthesis)

@@ -1,5 +1,5 @@
-//! Attributes of an enum and of its variants that a lexer passes over, but not for their names:
-//! those of older lexers, and those that stand under a condition.
+//! Attributes of an enum and of its variants that a lexer ignores for reasons other than their
+//! names: those of older lexers, and those under a condition. Used by `messages`.
 
 use crate::attributes::name_of;
 use crate::helper::is_helper_name;
@@ -17,7 +17,7 @@ const CONDITION: &str = "the attribute in this `cfg_attr` is passed over";
 
 const CONDITION_HELP: &str = "write it alone, or derive the lexer in place";
 
-/// Adds the warnings of attributes that the lexer of an enum passes over, in source order.
+/// Adds the warnings for attributes that the lexer of an enum ignores, in source order.
 pub(crate) fn add_others(
     item: &ItemEnum<'_, '_>,
     warnings: &mut Vec<Warning>,
@@ -29,7 +29,7 @@ pub(crate) fn add_others(
     Ok(())
 }
 
-/// Adds those of the attributes of a run, which stand on a variant or not.
+/// Adds the warnings for the attributes of a run, which is on the enum or on a variant.
 fn add_run(
     run: Tokens<'_, '_>,
     is_variant: bool,
@@ -43,7 +43,7 @@ fn add_run(
     Ok(())
 }
 
-/// Adds that of an attribute, if it has one.
+/// Adds the warning for an attribute, if it has one.
 fn add_attribute(
     attribute: Attribute<'_, '_>,
     is_variant: bool,
@@ -70,7 +70,7 @@ fn add(
     Ok(())
 }
 
-/// Returns whether the list of an attribute has a helper attribute in it.
+/// Returns whether the list of an attribute contains a helper attribute.
 fn hides_helper(attribute: Attribute<'_, '_>) -> bool {
     match attribute.inside {
         Some(tokens) => match tokens.rest().first() {
@@ -81,7 +81,7 @@ fn hides_helper(attribute: Attribute<'_, '_>) -> bool {
     }
 }
 
-/// Returns whether the name of a helper attribute stands in a run with a group after it.
+/// Returns whether a run contains the name of a helper attribute, followed by a group.
 fn has_helper_call(run: Tokens<'_, '_>) -> bool {
     let mut rest = run;
     while !rest.is_empty() {

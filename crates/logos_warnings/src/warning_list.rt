@@ -1,4 +1,5 @@
-//! Warnings that have a message, a span and perhaps what to do.
+//! Warnings with a message, a span and optionally a help. Used by `logos_causes` and
+//! `logos_file_warnings`.
 
 ghost use Rattle.std.specs.Prelude.{◌≡◌, IfOk, string_bytes};
 

@@ -1,16 +1,16 @@
-//! Runs a program on the runtime of this process. The programs `logos`, `logos_cli` and
-//! `logos_show` call it.
+//! Runs a program on the runtime of this process. Called by the programs `logos`, `logos_cli` and
+//! `logos_show`.
 
 use std::alloc::set_budget_of_program;
 use std::io::Write;
 use std::prelude::HostRuntime;
 use std::process::ExitCode;
 
-/// The line that `--version` prints after the version. The programs print none where it names no
+/// The line that `--version` prints after the version. The programs print none if it names no
 /// commit.
 const COMMIT: &str = concat!("commit: ", env!("LOGOS_COMMIT"), "\n");
 
-/// The exit status where an argument or a variable has a form that is not known.
+/// The exit status for an argument or a variable in an unknown form.
 const MISUSE: u8 = 2;
 
 /// Runs a program, which returns its exit status.

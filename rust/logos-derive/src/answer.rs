@@ -1,4 +1,4 @@
-//! What the library answers about an enum, in types of Rust's own library.
+//! The library's answers about an enum, in types of Rust's own library.
 
 use crate::question::Question;
 use logos_codegen::logos_codegen::generator::Config;
@@ -9,7 +9,7 @@ use rattle_std::alloc::{set_budget_of_program, Global};
 use std::ops::Range;
 use std::panic::{catch_unwind, AssertUnwindSafe};
 
-/// What the library answers: the implementation, if the enum is accepted, and faults and warnings.
+/// The library's answer: the implementation, if the enum is accepted, and faults and warnings.
 pub struct Answer {
     pub implementation: Option<Implementation>,
     pub diagnostics: Vec<Diagnostic>,
@@ -23,9 +23,9 @@ pub struct Implementation {
 
 /// A piece of the source that the implementation repeats.
 pub struct Piece {
-    /// Where it is in the implementation, in bytes.
+    /// Its range in the implementation, in bytes.
     pub range: Range<usize>,
-    /// Where its tokens are in the source, in bytes.
+    /// The range of its tokens in the source, in bytes.
     pub source: Range<usize>,
 }
 
@@ -34,25 +34,25 @@ pub struct Diagnostic {
     pub is_error: bool,
     /// The first line, after the code of a fault in brackets.
     pub message: String,
-    /// What it is about, in bytes of the source.
+    /// The primary span, in bytes of the source.
     pub span: Range<usize>,
-    /// The part of a literal that is at fault, if that is not all of `span`.
+    /// The faulty part of a literal, if that is not all of `span`.
     pub carets: Option<Range<usize>>,
     pub labels: Vec<Label>,
     /// Lines that begin with `note: ` or `help: `.
     pub notes: Vec<String>,
 }
 
-/// Another place of a diagnostic, with what is said of it.
+/// Another span of a diagnostic, with its label.
 pub struct Label {
     pub span: Range<usize>,
     pub text: String,
 }
 
-/// Why there is no answer, and what to do.
+/// Why there is no answer, and how to fix it.
 pub struct Failure(pub String);
 
-/// The shape of an implementation, as the variable `LOGOS_SHAPE` names it.
+/// The shape of an implementation, named as in the variable `LOGOS_SHAPE`.
 #[derive(Clone, Copy)]
 pub struct ShapeName(pub &'static str);
 
@@ -74,20 +74,20 @@ impl ShapeName {
     }
 }
 
-/// Sets how much memory the library uses.
+/// Sets the maximum memory that the library uses.
 ///
 /// # Errors
 ///
-/// Returns what to say if the variable `LOGOS_MEMORY` names no number of bytes.
+/// Returns a message if the variable `LOGOS_MEMORY` is not a number of bytes.
 pub fn set_budget() -> Result<(), Failure> {
     set_budget_of_program().map_err(|error| Failure(error.to_string()))
 }
 
-/// Asks the library for the implementation of an enum.
+/// Calls the library for the implementation of an enum.
 ///
 /// # Errors
 ///
-/// Returns what to say if memory is refused, or if the library panics, which is a mistake in it.
+/// Returns a message if memory runs out, or if the library panics, which is a mistake in it.
 pub fn ask(question: &Question, shape: ShapeName) -> Result<Answer, Failure> {
     let derive = || library::derive(Global, &question.text, shape.shape());
     match catch_unwind(AssertUnwindSafe(derive)) {

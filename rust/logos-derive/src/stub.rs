@@ -1,5 +1,5 @@
-//! The implementation for an enum that is refused. It finds nothing; it is there so that the uses
-//! of the enum as a lexer are no errors beside the faults.
+//! The implementation for a refused enum. It finds nothing, and exists so that uses of the enum as
+//! a lexer are not errors in addition to the faults.
 
 use crate::generics::{read_generics, with_lifetime, Generics, Types};
 use crate::type_syntax::{is_path, is_type};
@@ -7,14 +7,14 @@ use proc_macro::{Delimiter, Group, TokenStream, TokenTree};
 use std::collections::HashMap;
 use std::iter::Peekable;
 
-/// What the implementation names.
+/// The names for the implementation.
 struct Head {
     name: TokenTree,
     generics: Generics,
     options: Options,
 }
 
-/// The options of `#[logos(..)]` that the implementation shows.
+/// The options of `#[logos(..)]` that the implementation needs.
 struct Options {
     path: TokenStream,
     source: TokenStream,
@@ -24,10 +24,10 @@ struct Options {
     types: Types,
 }
 
-/// The tokens of an item that are still to be read.
+/// The remaining tokens of an item.
 pub type Trees = Peekable<proc_macro::token_stream::IntoIter>;
 
-/// What is written in place of the words that begin with `logos_`.
+/// The template, in which words that begin with `logos_` are replaced.
 const TEXT: &str = "\
 impl<'s, logos_parameters> logos_path::Logos<'s> for logos_name<logos_arguments> logos_where {
     type Error = logos_error;
@@ -73,7 +73,7 @@ pub fn stub(item: TokenStream) -> Option<TokenStream> {
     Some(replace(TEXT.parse().ok()?, &HashMap::from(words)))
 }
 
-/// Puts tokens in the place of words.
+/// Replaces words by tokens.
 fn replace(text: TokenStream, words: &HashMap<&str, TokenStream>) -> TokenStream {
     let replaced = |tree| match &tree {
         TokenTree::Ident(word) => match words.get(word.to_string().as_str()) {
@@ -139,7 +139,7 @@ fn attribute(trees: &mut Trees, options: &mut Options) -> Option<()> {
 }
 
 /// Takes an option: `name = value`, `error(type, ..)` or `type name = value`. Faulty values are
-/// passed over.
+/// ignored.
 fn take(option: &[TokenTree], options: &mut Options) {
     let [TokenTree::Ident(name), rest @ ..] = option else {
         return;
@@ -172,7 +172,7 @@ fn take(option: &[TokenTree], options: &mut Options) {
     }
 }
 
-/// Takes the type of a type parameter.
+/// Takes the type for a type parameter.
 fn take_type(parameter: &str, value: &[TokenTree], options: &mut Options) {
     if is_type(value) {
         let tokens = value.iter().cloned().collect();

@@ -1,49 +1,52 @@
-//! A chunk of an input, walked over by folded tables.
+//! The entries for a chunk of an input, computed with folded tables. Called by `walk`.
 
 use crate::folded::{leaf_of, Folded, ENDED, PLACE};
 use crate::internal::Tables;
 use crate::Span;
 
-/// The bytes of a block, and those of a chunk: as many blocks are walked at once.
+/// The number of bytes of a block, and of a chunk, whose blocks are processed at once.
 const BLOCK: usize = 768;
 const BLOCKS: usize = 6;
-/// The bytes of a block that are walked over in one go.
+/// The number of bytes of a block that are processed in one step.
 const STEPS: usize = 6;
 const _: () = assert!(BLOCK % STEPS == 0);
 pub(crate) const CHUNK: usize = BLOCKS * BLOCK;
-/// The bytes of a word, which has a bit for each of them, and the words of a chunk.
+/// The number of bytes of a word, which has a bit for each of them, and the number of words of a
+/// chunk.
 pub(crate) const WORD: usize = 64;
 const WORDS: usize = CHUNK / WORD;
-/// Fewer bytes than these are not worth a walk.
+/// The minimum number of bytes for which a walk pays off.
 pub(crate) const FEWEST: usize = 256;
-/// So many bytes before a block are looked at to guess its place, and so many for a line end.
+/// The number of bytes before a block that are examined to guess its state, and the number that are
+/// examined for a line end.
 const NEAR: usize = 32;
 const FAR: usize = 384;
 
-/// What the walk over a chunk has found.
+/// The results of the walk over a chunk.
 #[derive(Clone)]
 pub(crate) struct Chunk {
     /// The entry of each byte.
     trace: [u32; CHUNK],
     /// A bit for each byte before which a match ends, and for each before which a token does. A bit
-    /// in `tokens` alone is that of a byte which needs a try by itself.
+    /// that is set only in `tokens` marks a byte that needs a separate match attempt.
     ends: [u64; WORDS],
     tokens: [u64; WORDS],
 }
 
-/// What a walk over a whole chunk comes to.
+/// The result of a walk over a whole chunk.
 pub(crate) struct Walked {
-    /// The place after the chunk.
+    /// The row position after the chunk.
     pub(crate) place: u32,
-    /// How many bytes were walked over again.
+    /// The number of bytes that were processed again.
     pub(crate) again: usize,
-    /// How many bytes guesses by lines looked at.
+    /// The number of bytes that guesses by lines examined.
     pub(crate) looked: usize,
-    /// A guess was wrong to the end of its block.
+    /// Whether a guess was wrong up to the end of its block.
     pub(crate) missed: bool,
 }
 
-/// Guesses at the places of blocks, and how many bytes were looked at by lines.
+/// Guesses at the row positions of blocks, and the number of bytes that were examined for line
+/// ends.
 type Guesses = ([u32; BLOCKS], usize);
 
 impl Chunk {
@@ -65,7 +68,7 @@ impl Chunk {
         Some(leaf_of(*self.trace.get(at)?))
     }
 
-    /// Returns the place after a byte.
+    /// Returns the row position after a byte.
     pub(crate) fn place(&self, at: usize) -> u32 {
         self.trace[at] & PLACE
     }
@@ -90,7 +93,7 @@ impl Chunk {
         }
     }
 
-    /// Sets the bits of some bytes, which are few.
+    /// Sets the bits of a few bytes.
     pub(crate) fn set_few_bits(&mut self, from: usize, to: usize) {
         for (at, entry) in self.trace[..to].iter().enumerate().skip(from) {
             let (word, bit) = (at / WORD, at % WORD);
@@ -100,8 +103,8 @@ impl Chunk {
         }
     }
 
-    /// Walks over all bytes of a chunk from a place on. The blocks but the first begin where it is
-    /// guessed: by lines or by few bytes, and from `start` on after a line end.
+    /// Processes all bytes of a chunk from row position `place` on. The states of the blocks except
+    /// the first are guessed, by lines or from few bytes, and after a line end from `start`.
     pub(crate) fn walk<'s, T: Tables<'s>>(
         &mut self,
         input: &[u8; CHUNK],
@@ -121,7 +124,7 @@ impl Chunk {
         Walked { looked, ..walked }
     }
 
-    /// Walks again over the blocks whose places were not guessed, as far as that changes something.
+    /// Processes again the blocks whose states were guessed wrong, until their entries agree.
     fn repair<'s, T: Tables<'s>>(
         &mut self,
         input: &[u8; CHUNK],
@@ -150,8 +153,8 @@ impl Chunk {
         walked
     }
 
-    /// Walks over the last bytes of an input, fewer than a chunk has, and returns the place after
-    /// them.
+    /// Processes the last bytes of an input, which are shorter than a chunk, and returns the row
+    /// position after them.
     pub(crate) fn walk_rest<'s, T: Tables<'s>>(&mut self, rest: &[u8], place: u32) -> u32 {
         let mut place = place;
         for (entry, byte) in self.trace.iter_mut().zip(rest) {
@@ -164,8 +167,8 @@ impl Chunk {
         place
     }
 
-    /// Walks over some bytes again from a place, until the trace has the same place. Returns where,
-    /// and the place there.
+    /// Processes some bytes again from a row position, until the trace has the same row position.
+    /// Returns the offset and the row position there.
     pub(crate) fn walk_again<'s, T: Tables<'s>>(
         &mut self,
         input: &[u8],
@@ -185,8 +188,8 @@ impl Chunk {
         (range.end, place)
     }
 
-    /// Counts, in one of so many words up to a byte: the bytes of these words, the matches that end
-    /// there, and the states that are entered.
+    /// Samples one of `one_of` words up to a byte: returns the number of bytes of these words, of
+    /// the matches that end there, and of the states that are entered.
     pub(crate) fn sample(&self, to: usize, one_of: usize) -> [usize; 3] {
         let mut sums = [0; 3];
         for word in (0..(to / WORD).min(WORDS)).step_by(one_of) {
@@ -199,7 +202,7 @@ impl Chunk {
     }
 }
 
-/// Returns how often a state is entered in a word, but for its first byte.
+/// Returns how often a state is entered in a word, not counting its first byte.
 fn entered(trace: &[u32; WORD]) -> usize {
     let mut entered = 0;
     for at in 1..WORD {
@@ -209,8 +212,9 @@ fn entered(trace: &[u32; WORD]) -> usize {
     entered as usize
 }
 
-/// Gathers the flags of the entries of a word: of each half those of every fourth entry stand in a
-/// number, four bits apart. It is called and writes to memory, so that the compiler makes vectors.
+/// Gathers the flags of the entries of a word: for each half a number with the flags of every
+/// fourth entry, four bits apart. It is not inlined and writes to memory, so that the compiler
+/// vectorizes it.
 #[inline(never)]
 fn gather(trace: &[u32; WORD], to: &mut [u32; 8]) {
     let (low, high) = trace.split_at(WORD / 2);
@@ -237,13 +241,14 @@ fn bits_of(flags: &[u32; 8]) -> (u64, u64) {
     (ends, tokens)
 }
 
-/// Returns the entry of a byte in the row at a place, or at the place of an entry.
+/// Returns the entry of a byte in the row at a position. The position may be that of an entry.
 #[inline(always)]
 fn step<'s, T: Tables<'s>>(byte: u8, place: u32) -> u32 {
     T::entry_of(byte, place)
 }
 
-/// Walks over all blocks at once, each from its place, and returns the places after them.
+/// Processes all blocks at once, each from its row position, and returns the row positions after
+/// them.
 #[inline(never)]
 fn walk_blocks<'s, T: Tables<'s>>(
     input: &[u8; CHUNK],
@@ -255,7 +260,7 @@ fn walk_blocks<'s, T: Tables<'s>>(
         core::array::from_fn(|k| input[k * BLOCK..].first_chunk().expect("a block"));
     for at in (0..BLOCK).step_by(STEPS) {
         let part: Option<&mut [u32; CHUNK - BLOCK + STEPS]> = trace[at..].first_chunk_mut();
-        // The compiler does not see where the part begins: so each store is at a fixed distance
+        // The compiler must not see where the part begins: then each store has a fixed distance
         // from it. Many processors have more units for these than for stores with an index.
         let part = core::hint::black_box(part.expect("a part"));
         for n in 0..STEPS {
@@ -269,9 +274,9 @@ fn walk_blocks<'s, T: Tables<'s>>(
     places.map(|place| place & PLACE)
 }
 
-/// Guesses the places of the blocks but the first: those to which the bytes after the last line end
-/// lead, of those before each block that are in a block from `from` on. All are guessed at once, as
-/// blocks are walked.
+/// Guesses the row positions of the blocks except the first: those after the bytes that follow the
+/// last line end, from byte `from` of the previous block on. All are guessed at once, like blocks
+/// are processed.
 #[inline(always)]
 fn guess_places<'s, T: Tables<'s>>(input: &[u8; CHUNK], from: usize, start: u32) -> [u32; BLOCKS] {
     let mut places = [start; BLOCKS];
@@ -285,7 +290,7 @@ fn guess_places<'s, T: Tables<'s>>(input: &[u8; CHUNK], from: usize, start: u32)
     places.map(|place| place & PLACE)
 }
 
-/// Guesses those places by more bytes: from the last line end on before each block.
+/// Guesses these row positions from more bytes: from the last line end before each block on.
 #[cold]
 #[inline(never)]
 fn guess_by_lines<'s, T: Tables<'s>>(input: &[u8; CHUNK], start: u32) -> Guesses {
@@ -298,8 +303,8 @@ fn guess_by_lines<'s, T: Tables<'s>>(input: &[u8; CHUNK], start: u32) -> Guesses
     (guess_places::<T>(input, from, start), looked)
 }
 
-/// Returns which byte of a window is the last line end, or the first of the last few bytes if none
-/// is.
+/// Returns the index of the last line end in a window, or of the first of the last few bytes if
+/// there is none.
 fn last_line_end(window: &[u8; FAR]) -> usize {
     for (n, eight) in window.chunks_exact(8).enumerate().rev() {
         let ends = line_ends(eight);
@@ -310,7 +315,7 @@ fn last_line_end(window: &[u8; FAR]) -> usize {
     FAR - NEAR
 }
 
-/// Returns which of eight bytes are line ends: their upper bits.
+/// Returns which of eight bytes are line ends, in their upper bits.
 fn line_ends(eight: &[u8]) -> u64 {
     const ONES: u64 = 0x7F7F_7F7F_7F7F_7F7F;
     let eight = u64::from_le_bytes([

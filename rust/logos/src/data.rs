@@ -1,26 +1,27 @@
-//! The tables of a lexer as generated code has them, and what they are unpacked to.
+//! The tables of a lexer in the form of generated code, and their unpacked form.
 
 use crate::internal::Tables;
 use crate::loops::Mask;
 
 /// The symbols: each byte, and the end of the input.
 pub(crate) const SYMBOLS: usize = 257;
-/// The symbol that is the end of the input.
+/// The symbol for the end of the input.
 pub(crate) const END: usize = 256;
-/// The most states for which a row has an entry for each byte.
+/// The maximum number of states for which a row has an entry for each byte.
 const FEW: usize = 300;
-/// The columns of such a row. At a distance of a power of two, the entries of a byte in all rows
-/// would share a few lines of a cache.
+/// The number of columns of such a row. At a distance of a power of two, the entries of a byte in
+/// all rows would share a few cache lines.
 const BYTES: usize = 272;
 
-/// Numbers: the bytes of each, and all of them one after another, with the lowest byte first.
+/// Numbers: the size of each in bytes, and all of them one after another, with the lowest byte
+/// first.
 pub type Numbers = (usize, &'static [u8]);
 
-/// The tables of a lexer, as generated code has them.
+/// The tables of a lexer in the form of generated code.
 ///
-/// A symbol is a byte, or the end of the input. Symbols of one class do the same in each state. A
-/// state has a row with a step for each class. A step is 0 if nothing leads on, 1 if the byte stays
-/// in the state, and else 2 more than the next state.
+/// A symbol is a byte, or the end of the input. Symbols of one class have the same step in each
+/// state. A state has a row with a step for each class. A step is 0 if it leads to no state, 1 if
+/// the byte stays in the state, otherwise 2 plus the next state.
 #[derive(Clone, Copy)]
 pub struct Data {
     /// The state in which each match attempt begins.
@@ -31,20 +32,20 @@ pub struct Data {
     pub class_lengths: Numbers,
     /// The class of each such run.
     pub classes: Numbers,
-    /// The number of equal steps in each run of the rows, which follow one another.
+    /// The number of equal steps in each run of the concatenated rows.
     pub lengths: Numbers,
     /// The step of each run.
     pub steps: Numbers,
     /// The row of each state.
     pub rows: Numbers,
-    /// The mark of each state: 0 if it has none, 2 more than twice the leaf of a match that ends
-    /// there, and 1 more if the match ends one byte before.
+    /// The mark of each state: 0 if it has none, otherwise 2 plus twice the leaf of a match that
+    /// ends there, plus 1 if the match ends one byte before.
     pub marks: Numbers,
-    /// For each leaf 1 if its matches are skipped without a callback, and else 0.
+    /// For each leaf 1 if its matches are skipped without a callback, otherwise 0.
     pub skips: Numbers,
 }
 
-/// Equal steps that follow one another.
+/// Consecutive equal steps.
 #[derive(Clone, Copy)]
 pub(crate) struct Run {
     pub(crate) length: usize,
@@ -54,18 +55,19 @@ pub(crate) struct Run {
 /// A row of steps.
 #[derive(Clone, Copy)]
 pub(crate) struct Row {
-    /// The run that has the first step, and how many steps of that run belong to former rows.
+    /// The run that has the first step, and the number of steps of that run that belong to earlier
+    /// rows.
     pub(crate) run: usize,
     pub(crate) passed: usize,
-    /// Some step leads on.
+    /// Whether a step leads to a state.
     pub(crate) leads: bool,
     /// The number of bytes that stay.
     pub(crate) staying: u16,
-    /// The number of former rows in which a byte stays.
+    /// The number of earlier rows in which a byte stays.
     pub(crate) number: usize,
 }
 
-/// The tables of a lexer, unpacked. They are there at compile time alone.
+/// The tables of a lexer, unpacked. They exist only at compile time.
 pub struct Unpacked<const STATES: usize, const RUNS: usize> {
     pub(crate) data: Data,
     /// The class of each symbol.
@@ -79,20 +81,21 @@ pub struct Unpacked<const STATES: usize, const RUNS: usize> {
     pub(crate) loops: usize,
 }
 
-/// What the constants of a lexer are. Each is made from the enum, and not from another constant:
-/// rustc evaluates constants that a constant names when it checks a package, and these in builds
-/// alone.
+/// The values of the constants of a lexer. Each is made from the enum, and not from another
+/// constant: when rustc checks a package it evaluates the constants that a constant names, but it
+/// evaluates these only in builds.
 ///
 /// # Panics
 ///
-/// All panic if a number is not the one of the tables.
+/// Each function panics if a number is not that of the tables.
 impl<const STATES: usize, const RUNS: usize> Unpacked<STATES, RUNS> {
     /// Returns the tables of a lexer, unpacked.
     pub const fn new<'source, T: Tables<'source>>() -> Self {
         T::DATA.unpacked()
     }
 
-    /// Returns the rows of a lexer: an entry for each state and each of its columns, and 256 more.
+    /// Returns the rows of a lexer: an entry for each state and each of its columns, and 256 more
+    /// entries.
     pub const fn rows<'source, T, const N: usize>() -> [u32; N]
     where
         T: Tables<'source, Unpacked = Self>,
@@ -142,7 +145,7 @@ const fn number(numbers: &Numbers, n: usize) -> usize {
 }
 
 impl Data {
-    /// The tables of an enum that is refused. No constant can be made of them.
+    /// The tables of a refused enum. No constant can be made from them.
     pub const NOTHING: Data = Data {
         root: 0,
         width: 0,
@@ -165,13 +168,13 @@ impl Data {
         count(&self.skips)
     }
 
-    /// Returns whether a row has an entry for each byte, and not for each class.
+    /// Returns whether a row has an entry for each byte instead of for each class.
     pub(crate) const fn by_bytes(&self) -> bool {
         self.states() <= FEW
     }
 
-    /// Returns the number of columns of a row that has an entry for each byte, or for each class
-    /// and `more`.
+    /// Returns the number of columns of a row: one for each byte, or one for each class and `more`
+    /// others.
     pub(crate) const fn columns(&self, more: usize) -> usize {
         if self.by_bytes() {
             BYTES
@@ -213,7 +216,7 @@ impl Data {
     /// # Panics
     ///
     /// Panics if these are not the numbers of the states and of the runs, or if the tables name a
-    /// class, a row, a state or a leaf that is not there.
+    /// class, a row, a state or a leaf that does not exist.
     const fn unpacked<const STATES: usize, const RUNS: usize>(&self) -> Unpacked<STATES, RUNS> {
         assert!(STATES == self.states() && STATES == count(&self.marks));
         let (classes, runs) = (self.classes(), self.runs());
@@ -243,8 +246,8 @@ impl Data {
         let (mut runs, mut n) = ([Run { length: 0, step: 0 }; RUNS], 0);
         let ((long, lengths), (size, steps)) = (self.lengths, self.steps);
         let (mut at, past) = (0, self.states() + 2);
-        // There are many runs, and each call takes the compiler long: so short numbers are read
-        // here.
+        // There are many runs, and the compiler takes long for each call. Therefore short numbers
+        // are read here.
         while n < RUNS {
             let length = match long {
                 1 => lengths[n] as usize,
@@ -264,7 +267,7 @@ impl Data {
         runs
     }
 
-    /// Returns the distinct rows, how many there are, and in how many of them a byte stays.
+    /// Returns the distinct rows, their number, and the number of those in which a byte stays.
     const fn distinct<const STATES: usize>(
         &self,
         runs: &[Run],
@@ -310,7 +313,7 @@ impl Data {
     }
 }
 
-/// Returns the number of bytes that are of the classes before each one.
+/// Returns the number of bytes in the classes before each one.
 const fn bytes_before(classes: &[u16; SYMBOLS]) -> [u16; SYMBOLS + 1] {
     let (mut before, mut byte, mut class) = ([0; SYMBOLS + 1], 0, 0);
     while byte < END {

@@ -1,4 +1,4 @@
-//! What printed texts call. Programs have no need of it.
+//! The interface between generated code and the runtime. Programs do not need it.
 
 pub use crate::data::Data;
 pub use crate::data::{Data as _Data, Unpacked as _Unpacked};
@@ -9,21 +9,21 @@ use crate::source::Chunk;
 use crate::{Filter, FilterResult, Lexer, Logos, Skip, Source};
 pub use Tables as _Tables;
 
-/// What a text calls on its lexer.
+/// The methods of a lexer that generated code calls.
 pub trait LexerInternal<'source> {
-    /// Returns what stands at the byte offset.
+    /// Returns the bytes at the byte offset.
     fn read<C: Chunk<'source>>(&self, offset: usize) -> Option<C>;
 
-    /// Returns where the token begins.
+    /// Returns the byte offset at which the token begins.
     fn offset(&self) -> usize;
 
     /// Ends the token at the byte offset.
     fn end(&mut self, offset: usize);
 
-    /// Ends the token at the first boundary from the byte offset on.
+    /// Ends the token at the first boundary at or after the byte offset.
     fn end_to_boundary(&mut self, offset: usize);
 
-    /// Leaves the token out: the next one begins where it ends.
+    /// Skips the token: the next one begins where it ends.
     fn trivia(&mut self);
 }
 
@@ -55,12 +55,12 @@ impl<'source, Token: Logos<'source>> LexerInternal<'source> for Lexer<'source, T
     }
 }
 
-/// The tables of a lexer, as generated code has them.
+/// The tables of a lexer in the form of generated code.
 pub trait Tables<'source>: Logos<'source> {
     /// The tables.
     const DATA: Data;
 
-    /// The tables unpacked, for the constants that follow.
+    /// The unpacked tables, for the constants that follow.
     type Unpacked: 'static;
     const UNPACKED: &'static Self::Unpacked;
 
@@ -80,23 +80,23 @@ pub trait Tables<'source>: Logos<'source> {
     /// Returns the bytes of an input.
     fn bytes(source: &'source Self::Source) -> &'source [u8];
 
-    /// Returns the token of a leaf for which nothing is called, and which has no value.
+    /// Returns the token of a leaf that has no callback and no value.
     fn plain(leaf: usize) -> Option<Self>;
 
-    /// Returns what becomes of a match of another leaf.
+    /// Returns the outcome of a match of another leaf.
     fn act(lexer: &mut Lexer<'source, Self>, leaf: usize) -> CallbackResult<'source, Self>;
 
-    /// Returns the error in place of a token.
+    /// Returns the error for unmatched input.
     fn error(lexer: &mut Lexer<'source, Self>) -> Self::Error;
 
-    /// Finds the next token, or the error that is in its place, by these tables.
+    /// Finds the next token, or the error instead of it, with these tables.
     #[inline(always)]
     fn run(lexer: &mut Lexer<'source, Self>) -> Option<Result<Self, Self::Error>> {
         Self::lex_on(lexer)
     }
 }
 
-/// What becomes of a match.
+/// The outcome of a match.
 pub enum CallbackResult<'source, Token: Logos<'source>> {
     Emit(Token),
     Error(Token::Error),
@@ -104,7 +104,7 @@ pub enum CallbackResult<'source, Token: Logos<'source>> {
     Skip,
 }
 
-/// What becomes of a match of a skip.
+/// The outcome of a match of a skip.
 pub enum SkipResult<'source, Token: Logos<'source>> {
     Skip,
     Error(Token::Error),
@@ -121,9 +121,9 @@ impl<'source, Token: Logos<'source>> From<SkipResult<'source, Token>>
     }
 }
 
-/// What a callback may return whose token has such a value.
+/// A type that a callback may return if its token has such a value.
 pub trait CallbackRetVal<'source, Value, Token: Logos<'source>> {
-    /// Returns what becomes of the match; `constructor` makes the token of its value.
+    /// Returns the outcome of the match; `constructor` makes the token from its value.
     fn construct<Constructor: FnOnce(Value) -> Token>(
         self,
         constructor: Constructor,
@@ -234,9 +234,9 @@ where
     }
 }
 
-/// What a callback of a skip may return.
+/// A type that a callback of a skip may return.
 pub trait SkipRetVal<'source, Token: Logos<'source>> {
-    /// Returns what becomes of the match.
+    /// Returns the outcome of the match.
     fn construct(self) -> SkipResult<'source, Token>;
 }
 

@@ -1,4 +1,4 @@
-//! Lexers: runs of a printed text over an input.
+//! Lexers: runs of generated code over an input.
 
 use crate::scan::{Scan, Scanner};
 use crate::{Logos, Source};
@@ -8,8 +8,7 @@ use core::ops::{Deref, DerefMut, Range};
 /// A part of an input, in byte offsets.
 pub type Span = Range<usize>;
 
-/// A run of a lexer over an input. As an iterator it yields each token, or the error that stands in
-/// its place.
+/// A run of a lexer over an input. As an iterator it yields each token, or the error instead of it.
 pub struct Lexer<'source, Token: Logos<'source>> {
     source: &'source Token::Source,
     start: usize,
@@ -19,7 +18,7 @@ pub struct Lexer<'source, Token: Logos<'source>> {
 }
 
 impl<'source, Token: Logos<'source>> Lexer<'source, Token> {
-    /// Returns a lexer at the start of an input, with extras of their default value.
+    /// Returns a lexer at the start of an input, with default extras.
     pub fn new(source: &'source Token::Source) -> Self
     where
         Token::Extras: Default,
@@ -42,7 +41,7 @@ impl<'source, Token: Logos<'source>> Lexer<'source, Token> {
         self.source
     }
 
-    /// Returns the place of the last token.
+    /// Returns the span of the last token.
     pub fn span(&self) -> Span {
         self.start..self.end
     }
@@ -61,15 +60,15 @@ impl<'source, Token: Logos<'source>> Lexer<'source, Token> {
     ///
     /// # Panics
     ///
-    /// Panics if the token would end after the input, or inside a character. The lexer is then as
-    /// it was before the call.
+    /// Panics if the token would end after the input, or inside a character. The lexer is unchanged
+    /// then.
     pub fn bump(&mut self, n: usize) {
         let end = self.end.checked_add(n);
         let is_end = |end: &usize| *end <= self.source.len() && self.source.is_boundary(*end);
         self.end = end.filter(is_end).expect("Invalid Lexer bump");
     }
 
-    /// Returns a lexer for another enum at the same place of the same input.
+    /// Returns a lexer for another enum at the same offset of the same input.
     pub fn morph<Other>(self) -> Lexer<'source, Other>
     where
         Other: Logos<'source, Source = Token::Source>,
@@ -83,14 +82,14 @@ impl<'source, Token: Logos<'source>> Lexer<'source, Token> {
         }
     }
 
-    /// Returns an iterator over tokens with their places.
+    /// Returns an iterator over tokens with their spans.
     pub fn spanned(self) -> SpannedIter<'source, Token> {
         SpannedIter { lexer: self }
     }
 
-    /// Returns an iterator over the tokens that follow, with their places, by chunks of the input:
-    /// the items of [`Lexer::spanned`]. [`Iterator::for_each`] and [`Iterator::fold`] are mostly
-    /// faster than calls of `next`.
+    /// Returns an iterator over the remaining tokens, with their spans, by chunks of the input. The
+    /// items are those of [`Lexer::spanned`]. [`Iterator::for_each`] and [`Iterator::fold`] are
+    /// mostly faster than calls of `next`.
     pub fn scan(self) -> Scanner<'source, Token>
     where
         Token: Scan<'source>,
@@ -98,10 +97,11 @@ impl<'source, Token: Logos<'source>> Lexer<'source, Token> {
         Scanner::new(self, false)
     }
 
-    /// Returns an iterator over those items that are the same whatever follows the input, of which
-    /// more is to come. At its end [`Lexer::remainder`] is what the next part has to begin with.
+    /// Returns an iterator over the items that do not depend on the bytes after this part of the
+    /// input. At its end [`Lexer::remainder`] is the text with which the next part has to begin.
     ///
-    /// That holds for callbacks that read their match alone: others see the part and not the rest.
+    /// This requires callbacks that read only their match: others would see the part without the
+    /// rest.
     pub fn scan_part(self) -> Scanner<'source, Token>
     where
         Token: Scan<'source>,
@@ -109,7 +109,7 @@ impl<'source, Token: Logos<'source>> Lexer<'source, Token> {
         Scanner::new(self, true)
     }
 
-    /// Sets where the token begins to where the last one ended.
+    /// Sets the start of the token to the end of the last one.
     pub(crate) fn begin(&mut self) {
         self.start = self.end;
     }
@@ -175,7 +175,7 @@ where
     }
 }
 
-/// An iterator over tokens with their places.
+/// An iterator over tokens with their spans.
 pub struct SpannedIter<'source, Token: Logos<'source>> {
     lexer: Lexer<'source, Token>,
 }

@@ -1,27 +1,29 @@
-//! The loops over bytes that stay in a state: their tables, and where the bytes end.
+//! The loops over bytes that stay in a state: their tables, and the search for the end of the
+//! bytes.
 
 use crate::data::{Unpacked, END, SYMBOLS};
 use crate::internal::Tables;
 
-/// For each byte 0 if it stays, and else entry `k` has bit `k` alone: so eight bytes make one sum.
+/// For each byte 0 if it stays. Otherwise entry `k` has only bit `k`, so that eight bytes add up to
+/// the set of those that do not stay.
 pub type Mask = [[u8; 8]; 256];
 
 #[derive(Clone, Copy)]
 #[repr(align(16))]
 struct Bytes([u8; 16]);
 
-/// The ranges of the bytes that stay: their lowest bytes, and how far the highest ones are from
-/// these, each sixteen times.
+/// The ranges of the bytes that stay: their lowest bytes, and the distances of the highest ones
+/// from these, each sixteen times.
 #[derive(Clone, Copy)]
 struct Range {
     lowest: Bytes,
     length: Bytes,
 }
-/// The most ranges that a search by ranges looks at.
+/// The maximum number of ranges that a search by ranges compares with.
 const MOST_RANGES: usize = 4;
 
-/// The ranges of the bytes that stay, and how many there are. Where there are fewer than
-/// [`MOST_RANGES`], the first one is repeated.
+/// The ranges of the bytes that stay, and their number. If there are fewer than [`MOST_RANGES`],
+/// the first one is repeated.
 pub struct Ranges([Range; MOST_RANGES], usize);
 
 impl<const STATES: usize, const RUNS: usize> Unpacked<STATES, RUNS> {
@@ -29,7 +31,7 @@ impl<const STATES: usize, const RUNS: usize> Unpacked<STATES, RUNS> {
     ///
     /// # Panics
     ///
-    /// Panics if this is not a number of masks for all loops.
+    /// Panics if this is not the number of masks for all loops.
     pub(crate) const fn all_masks<const LOOPS: usize>(&self) -> [Mask; LOOPS] {
         assert!(LOOPS >= self.loops && LOOPS.is_power_of_two());
         let (mut masks, mut done, mut state) = ([[EACH; 256]; LOOPS], 0, 0);
@@ -67,7 +69,7 @@ impl<const STATES: usize, const RUNS: usize> Unpacked<STATES, RUNS> {
     }
 }
 
-/// Each bit alone.
+/// The masks with one bit.
 const EACH: [u8; 8] = [1, 2, 4, 8, 16, 32, 64, 128];
 
 impl Ranges {
@@ -112,7 +114,7 @@ impl Ranges {
         ranges
     }
 
-    /// Returns the most ranges of a loop that a search by ranges looks at.
+    /// Returns the maximum number of ranges of a loop that a search by ranges compares with.
     pub(crate) const fn most(all: &[Ranges]) -> usize {
         let (mut most, mut n) = (1, 0);
         while n < all.len() {
@@ -134,7 +136,7 @@ const NONE: Ranges = {
     Ranges([range; MOST_RANGES], 0)
 };
 
-/// Returns the bits of a block. Sums of bits that differ are their union, and keep the compiler
+/// Returns the bits of a block. The sum of distinct bits is their union, and keeps the compiler
 /// from making one long chain of all eight.
 #[inline(always)]
 fn bits(mask: &Mask, block: &[u8; 8]) -> u8 {
@@ -145,8 +147,8 @@ fn bits(mask: &Mask, block: &[u8; 8]) -> u8 {
     low | high
 }
 
-/// Returns for each byte of a block how far it is past the nearest range before it, and so 0 where
-/// it stays, by `most` ranges. Compilers make vectors of these loops.
+/// Returns for each byte of a block its distance from the end of the nearest of `most` ranges
+/// before it, and 0 if it stays. Compilers vectorize these loops.
 #[inline(always)]
 fn past(ranges: &Ranges, most: usize, block: &[u8; 16]) -> u128 {
     let (mut past, mut k) = ([0u8; 16], 0);
@@ -169,23 +171,23 @@ fn past(ranges: &Ranges, most: usize, block: &[u8; 16]) -> u128 {
 /// Searches for the end of the bytes that stay. These are functions of the enum, so that the
 /// compiler puts them beside its loop.
 pub(crate) trait Loops<'source>: Tables<'source> {
-    /// The most ranges that a search by ranges looks at.
+    /// The maximum number of ranges that a search by ranges compares with.
     const MOST: usize = Ranges::most(Self::RANGES);
-    /// The bits of the number of a loop.
+    /// The bit mask for the number of a loop.
     const LOOP: usize = Self::MASKS.len() - 1;
-    /// Whether the compiler makes vectors of loops over 16 bytes.
+    /// Whether the compiler vectorizes loops over 16 bytes.
     const VECTORS: bool = option_env!("LOGOS_VECTORS").is_some()
         && cfg!(any(target_feature = "sse2", target_feature = "neon"));
 
-    /// Returns whether a byte stays, by the loop with this number.
+    /// Returns whether a byte stays, according to the loop with this number.
     #[inline(always)]
     fn stays(number: usize, byte: u8) -> bool {
         Self::MASKS[number & Self::LOOP][byte as usize][0] == 0
     }
 
-    /// Returns the position from `from` on of the first byte that does not stay, by the loop with
-    /// this number, or the end of the input. What comes after the first bytes is out of line, so
-    /// that the loop over match attempts has its registers for itself.
+    /// Returns the position from `from` on of the first byte that does not stay, according to the
+    /// loop with this number, or the end of the input. The part after the first bytes is out of
+    /// line, so that the loop over match attempts has all registers.
     #[inline(always)]
     fn stop(number: usize, bytes: &[u8], from: usize) -> usize {
         let Some(rest) = bytes.get(from..) else {
@@ -202,8 +204,8 @@ pub(crate) trait Loops<'source>: Tables<'source> {
         from + bits.trailing_zeros() as usize
     }
 
-    /// Does what [`Loops::stop`] does. The first loops have a function each: a branch finds out
-    /// which one it is, so that the search need not wait for the tables.
+    /// Like [`Loops::stop`], for bytes after the first ones. Each of the first four loops has its
+    /// own function, chosen by a branch, so that the search does not wait for a table load.
     #[inline(never)]
     fn stop_far(number: usize, bytes: &[u8], from: usize) -> usize {
         match number {
@@ -270,7 +272,7 @@ pub(crate) trait Loops<'source>: Tables<'source> {
         Self::stop_late(number, bytes, bytes.len() - rest.len())
     }
 
-    /// Does what [`Loops::stop`] does, byte by byte.
+    /// Like [`Loops::stop`], byte by byte.
     #[cold]
     #[inline(never)]
     fn stop_late(number: usize, bytes: &[u8], from: usize) -> usize {

@@ -1,8 +1,8 @@
 //! The rows that the loop over match attempts reads.
 //!
 //! A row has an entry for each byte and for the end of the input, or for each class. An entry below
-//! [`STAYS`] leads to a state: it is the position of that state's row. Else its upper bits are its
-//! kind, and its lower bits are the number of a leaf or of a loop.
+//! [`STAYS`] leads to a state: it is the position of that state's row. Otherwise its upper bits are
+//! its kind, and its lower bits are the number of a leaf or of a loop.
 
 use crate::data::{Unpacked, SYMBOLS};
 
@@ -10,31 +10,31 @@ const KIND_BIT: u32 = 29;
 const ONE_KIND: u32 = 1 << KIND_BIT;
 /// The bits of a number.
 pub(crate) const NUMBERS: u32 = ONE_KIND - 1;
-/// The byte stays in the state, by the loop with this number. [`SINGLY`] is added where each of the
-/// next bytes has a branch of its own.
+/// The byte stays in the state, in the loop with this number. [`SINGLY`] is added if each of the
+/// next bytes has its own branch.
 pub(crate) const STAYS: u32 = ONE_KIND;
 pub(crate) const SINGLY: u32 = ONE_KIND / 2;
 /// A match of the leaf ends before the byte. In the next kind the leaf is skipped without a
 /// callback.
 pub(crate) const ENDS: u32 = 2 * ONE_KIND;
-/// A match of the leaf ends after the byte, and nothing leads on from there. In the next kind the
-/// leaf is skipped without a callback.
+/// A match of the leaf ends after the byte, and no byte continues it. In the next kind the leaf is
+/// skipped without a callback.
 pub(crate) const CLOSES: u32 = 4 * ONE_KIND;
-/// The byte leads nowhere, and no match ends before it.
+/// The byte leads to no state, and no match ends before it.
 pub(crate) const NOWHERE: u32 = 6 * ONE_KIND;
-/// The end of the input leads on. Another attempt finds the last match.
+/// The end of the input leads to a state. Another attempt finds the last match.
 pub(crate) const AGAIN: u32 = 7 * ONE_KIND;
 
 /// There is no last match, or it depends on the bytes.
 pub(crate) const NEVER: u32 = 1;
 pub(crate) const VARIES: u32 = 2;
-/// It ended a number of bytes after the start, and not before.
+/// It ended this many bytes after the start.
 pub(crate) const FORTH: u32 = 128;
 const FARTHEST: u32 = 30;
 
 impl<const STATES: usize, const RUNS: usize> Unpacked<STATES, RUNS> {
-    /// Returns the rows of all states. There are `N` entries, so that the position of each row,
-    /// plus a byte or a class, is one of an entry.
+    /// Returns the rows of all states. There are `N` entries, so that the position of each row plus
+    /// a byte or a class is the index of an entry.
     ///
     /// # Panics
     ///
@@ -83,8 +83,8 @@ impl<const STATES: usize, const RUNS: usize> Unpacked<STATES, RUNS> {
             0 if self.marks[state] % 2 == 0 => self.ended(self.marks[state], ENDS),
             0 => NOWHERE,
             1 => {
-                // Inside of matches, and where few bytes stay, as blanks do, mostly as many stay as
-                // the times before.
+                // Inside of matches, and for small sets of bytes such as blanks, mostly as many
+                // bytes stay as before.
                 let row = &self.rows[state];
                 let singly = self.marks[state] == 0 || row.staying <= 4;
                 STAYS + singly as u32 * SINGLY + row.number as u32
@@ -99,7 +99,7 @@ impl<const STATES: usize, const RUNS: usize> Unpacked<STATES, RUNS> {
         }
     }
 
-    /// Returns the entry of a mark, of a kind.
+    /// Returns the entry of a kind for a mark.
     const fn ended(&self, mark: u32, kind: u32) -> u32 {
         if mark == 0 {
             return NOWHERE;
@@ -108,9 +108,10 @@ impl<const STATES: usize, const RUNS: usize> Unpacked<STATES, RUNS> {
         kind + self.data.skips(leaf as usize) as u32 * ONE_KIND + leaf
     }
 
-    /// Returns for each state the last match of an attempt that is over there, where the byte leads
-    /// nowhere: [`NEVER`], [`VARIES`], or else 256 times 1 more than the leaf, and where it ended:
-    /// a number of bytes before, or [`FORTH`] more than a number of bytes after the start.
+    /// Returns for each state the last match of an attempt that ends there with a byte that leads
+    /// to no state: [`NEVER`], [`VARIES`], or otherwise 256 times 1 plus the leaf, plus the
+    /// distance of its end: a number of bytes before, or [`FORTH`] plus a number of bytes after the
+    /// start.
     pub(crate) const fn all_lasts(&self) -> [u32; STATES] {
         let (mut before, mut is_new) = ([[0; 3]; STATES], [false; STATES]);
         let (mut lasts, mut changed, runs) = ([0; STATES], true, &self.runs);
@@ -151,12 +152,12 @@ impl<const STATES: usize, const RUNS: usize> Unpacked<STATES, RUNS> {
     }
 }
 
-/// The last match before a state, without the match of the state itself: by bytes before, by bytes
-/// after the start, and [`FORTH`] more than the bytes since the start. All are 0 for a state that
-/// no bytes are known to lead to.
+/// The last match before a state, without the match of the state itself: as bytes before, as bytes
+/// after the start, and as [`FORTH`] plus the bytes since the start. All are 0 for a state to which
+/// no bytes are known to lead.
 type Before = [u32; 3];
 
-/// Returns the last match in a state, and what is known before the states after it.
+/// Returns the last match in a state, and the last match before the states after it.
 const fn last_in(mark: u32, loops: bool, before: Before) -> (u32, Before) {
     let (leaf, late) = ((mark / 2) << 8, mark % 2);
     let [mut back, mut forth, mut since] = before;
@@ -195,7 +196,7 @@ const fn last_in(mark: u32, loops: bool, before: Before) -> (u32, Before) {
     (last, [back, forth, since])
 }
 
-/// Returns what is known before a state to which also a state leads that knows this.
+/// Returns the last match before a state that is reached in two ways, given that of each.
 const fn met(before: Before, after: Before) -> Before {
     let [back, forth, since] = before;
     [

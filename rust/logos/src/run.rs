@@ -1,4 +1,5 @@
-//! The loop over match attempts, by the tables of a lexer. `Logos::lex` of generated code calls it.
+//! The loop over match attempts, with the tables of a lexer. Called by `Logos::lex` of generated
+//! code.
 
 use crate::data::END;
 use crate::internal::{CallbackResult, LexerInternal, Tables};
@@ -6,19 +7,19 @@ use crate::loops::Loops;
 use crate::rows::{AGAIN, CLOSES, ENDS, FORTH, NEVER, NOWHERE, NUMBERS, SINGLY, STAYS, VARIES};
 use crate::Lexer;
 
-/// The loop and its steps. These are functions of the enum: so the compiler puts them beside its
-/// `lex`, and can make that a part of the one which calls it.
+/// The loop and its steps. These are functions of the enum, so that the compiler places them next
+/// to its `lex` and can inline that into its caller.
 pub(crate) trait Run<'source>: Loops<'source> {
-    /// Whether a row has an entry for each byte, and not for each class.
+    /// Whether a row has an entry for each byte instead of for each class.
     const BY_BYTES: bool = Self::DATA.by_bytes();
-    /// The columns of a row, and that of the end of the input.
+    /// The columns of a row, and the column of the end of the input.
     const COLUMNS: usize = Self::DATA.columns(0);
     const END_COLUMN: usize = if Self::BY_BYTES {
         END
     } else {
         Self::DATA.classes()[END] as usize
     };
-    /// An entry below it leads to a state, and this is the entry that leads to the first state.
+    /// The bound below which entries lead to a state, and the entry that leads to the first state.
     const LEADS: u32 = (Self::DATA.states() * Self::COLUMNS) as u32;
     const START: u32 = (Self::DATA.root * Self::COLUMNS) as u32;
     /// The number of leaves.
@@ -38,8 +39,8 @@ pub(crate) trait Run<'source>: Loops<'source> {
         }
     }
 
-    /// Returns the entry of a byte in a state. The column is added to the position of the table
-    /// first: the state is known last, by the step before.
+    /// Returns the entry of a byte in a state. The column is added to the address of the table
+    /// first, because the state is known last, from the step before.
     #[inline(always)]
     fn step(state: u32, byte: u8) -> u32 {
         let column = if Self::BY_BYTES {
@@ -50,14 +51,14 @@ pub(crate) trait Run<'source>: Loops<'source> {
         Self::ROWS[column as usize..][state as usize]
     }
 
-    /// Returns whether the entry is of this kind, which has a leaf. Its number is not taken from
-    /// here: that would cost a register more.
+    /// Returns whether the entry is of this kind, which has a leaf. The leaf is not extracted here,
+    /// which would cost a register more.
     #[inline(always)]
     fn has_leaf(entry: u32, kind: u32) -> bool {
         entry.wrapping_sub(kind) < Self::LEAVES as u32
     }
 
-    /// Returns the entry of the end of the input. Where it leads on, another attempt finds the
+    /// Returns the entry of the end of the input. If it leads to a state, another attempt finds the
     /// match.
     #[cold]
     #[inline(never)]
@@ -70,8 +71,8 @@ pub(crate) trait Run<'source>: Loops<'source> {
         }
     }
 
-    /// Makes an attempt again, byte by byte, with the marks that it passes. Returns the last leaf,
-    /// with the end of its match, or a number that no leaf has, with where the attempt is over.
+    /// Repeats an attempt, byte by byte, with the marks on its way. Returns the last leaf and the
+    /// end of its match; or a number that no leaf has, and the offset at which the attempt ended.
     #[cold]
     #[inline(never)]
     fn try_again(bytes: &[u8], start: usize) -> (usize, usize) {
@@ -101,9 +102,9 @@ pub(crate) trait Run<'source>: Loops<'source> {
         }
     }
 
-    /// Returns the match of an attempt that is over before a byte for which the state has this
-    /// entry, and where no match ends: its leaf and its end, or a number that no leaf has, with
-    /// where the attempt is over.
+    /// Returns the match of an attempt that ends before a byte with this entry, where no match
+    /// ends: its leaf and its end; or a number that no leaf has, and the offset at which the
+    /// attempt ended.
     #[inline(always)]
     fn match_before(
         bytes: &[u8],
@@ -128,8 +129,8 @@ pub(crate) trait Run<'source>: Loops<'source> {
         ((last >> 8) as usize - 1, end)
     }
 
-    /// Returns the first entry of an attempt that does not lead on, the position after its byte,
-    /// and its state, where the first byte leads to a state.
+    /// Returns the first entry of an attempt that leads to no state, the position after its byte,
+    /// and its state, if the first byte leads to a state.
     #[inline(always)]
     fn walk(bytes: &[u8], from: usize, first: u32) -> (u32, usize, u32) {
         let (mut state, mut at) = (first, from);
@@ -148,8 +149,8 @@ pub(crate) trait Run<'source>: Loops<'source> {
                 if next & SINGLY == 0 {
                     at = Self::stop(number, bytes, at);
                 } else if let Some(block) = block {
-                    // What follows need not wait to know how many of these stay. Which number is
-                    // the fastest differs from text to text.
+                    // The code that follows does not wait for the number of these that stay. Which
+                    // number is the fastest depends on the text.
                     for (n, byte) in block.iter().enumerate() {
                         if !Self::stays(number, *byte) {
                             next = Self::step(state, *byte);
@@ -178,7 +179,7 @@ pub(crate) trait Run<'source>: Loops<'source> {
         }
     }
 
-    /// Finds the next token, or the error that is in its place.
+    /// Finds the next token, or the error instead of it.
     #[inline(always)]
     fn lex_on(lex: &mut Lexer<'source, Self>) -> Option<Result<Self, Self::Error>> {
         let bytes = Self::bytes(lex.source());
@@ -186,8 +187,8 @@ pub(crate) trait Run<'source>: Loops<'source> {
         'attempts: loop {
             let byte = bytes.get(start)?;
             let (mut entry, mut at, mut state) = (Self::first_step(*byte), start + 1, Self::START);
-            // The leaf, and where its match ends. Each way is a branch: the next attempt need not
-            // wait for the entry to know where it begins.
+            // The leaf and the end of its match. Each case is a branch, so that the next attempt
+            // does not wait for the entry to know its start.
             let (leaf, end) = 'found: {
                 if Self::has_leaf(entry, CLOSES) {
                     break 'found ((entry & NUMBERS) as usize, at);
@@ -235,7 +236,7 @@ pub(crate) trait Run<'source>: Loops<'source> {
         }
     }
 
-    /// Makes the error that ends at the first boundary from a position on.
+    /// Makes the error that ends at the first boundary at or after a position.
     #[inline(always)]
     fn error_to(lex: &mut Lexer<'source, Self>, end: usize) -> Self::Error {
         lex.end_to_boundary(end);

@@ -1,4 +1,4 @@
-//! Lexing by chunks of the input: [`Scan::scan`], for lexers that are tables.
+//! Lexing by chunks of the input: [`Scan::scan`], for lexers of the shape `tables`.
 
 use crate::chunk::{FEWEST, WORD};
 use crate::folded::{leaf_of, Folded};
@@ -9,23 +9,23 @@ use crate::{Lexer, Logos, Span};
 use core::fmt;
 use core::ops::{Deref, DerefMut};
 
-/// What comes next.
+/// The next event.
 enum Next<Item> {
     Again,
     Item(Item),
     End,
 }
 
-/// An enum whose lexer is tables, and can walk over the input by chunks.
+/// An enum whose lexer has the shape `tables`, and can walk over the input by chunks.
 ///
-/// The derive macro, and `logos_cli`, implement it with [`Logos`] in the shape `tables`.
+/// The derive macro and `logos_cli` implement it together with [`Logos`] in the shape `tables`.
 #[diagnostic::on_unimplemented(
     message = "`{Self}` has no lexer that scans",
     label = "its lexer is no table",
     note = "`scan` is there for lexers in the shape `tables`, which is the default one"
 )]
 pub trait Scan<'source>: Tables<'source> {
-    /// Returns an iterator over the tokens of an input, with their places: the items of
+    /// Returns an iterator over the tokens of an input, with their spans. The items are those of
     /// [`Lexer::spanned`], found by walks over chunks of the input.
     fn scan(source: &'source Self::Source) -> Scanner<'source, Self>
     where
@@ -34,8 +34,8 @@ pub trait Scan<'source>: Tables<'source> {
         Lexer::new(source).scan()
     }
 
-    /// Returns an iterator over those items of an input of which this is the first part that are
-    /// the same whatever follows. See [`Lexer::scan_part`].
+    /// Returns an iterator over the items of an input that do not depend on the bytes after this
+    /// first part. See [`Lexer::scan_part`].
     fn scan_part(source: &'source Self::Source) -> Scanner<'source, Self>
     where
         Self::Extras: Default,
@@ -49,9 +49,9 @@ impl<'source, T: Tables<'source>> Scan<'source> for T {}
 type Found<'source, Token> = Result<Token, <Token as Logos<'source>>::Error>;
 type Item<'source, Token> = (Found<'source, Token>, Span);
 
-/// What `next` calls where it cannot take a token of the word. The places of the items are those of
-/// the lexer. These are functions of the enum: so the compiler puts them beside its `lex`, and can
-/// make that a part of the one which calls it.
+/// The functions that `next` calls if it cannot take a token of the word. The spans of the items
+/// are those of the lexer. These are functions of the enum, so that the compiler places them next
+/// to its `lex` and can inline that into its caller.
 trait Apart<'source>: Scan<'source> {
     /// See [`Scanner::act_on_token`].
     fn act_on_token(scanner: &mut Scanner<'source, Self>) -> Option<Found<'source, Self>>;
@@ -59,11 +59,11 @@ trait Apart<'source>: Scan<'source> {
     /// See [`Scanner::find_item`].
     fn find_item(scanner: &mut Scanner<'source, Self>) -> Option<Found<'source, Self>>;
 
-    /// See [`Tables::plain`]. Out of line, so that it is a look into a table, and no jump.
+    /// See [`Tables::plain`]. Out of line, so that it is a table load instead of a jump.
     fn plain_apart(leaf: usize) -> Option<Self>;
 
-    /// Returns what becomes of a match of the leaf, or of an error if no leaf has the number.
-    /// `None` means that nothing does.
+    /// Returns the outcome of a match of the leaf, or of an error if no leaf has the number. `None`
+    /// means that there is no item.
     fn act_on(
         lexer: &mut Lexer<'source, Self>,
         leaf: usize,
@@ -105,22 +105,22 @@ impl<'source, T: Scan<'source>> Apart<'source> for T {
     }
 }
 
-/// An iterator over tokens with their places, by chunks of the input.
+/// An iterator over tokens with their spans, by chunks of the input.
 ///
-/// It dereferences to the lexer, which stands behind the last token. `fold`, and so `for_each`, is
-/// mostly faster than a loop, and that can be slower than a lexer where tokens are long, or of one
+/// It dereferences to the lexer, which is after the last token. `fold`, and thus `for_each`, is
+/// mostly faster than a loop, and a loop can be slower than a lexer if tokens are long, or have one
 /// byte.
 pub struct Scanner<'source, Token: Scan<'source>> {
     lexer: Lexer<'source, Token>,
     word: Word,
-    /// Up to here `Logos::lex` finds the items.
+    /// The offset up to which `Logos::lex` finds the items.
     plain_to: usize,
     walk: Option<Room>,
-    /// More of the input may follow.
+    /// Whether more of the input may follow.
     is_part: bool,
-    /// The lexer may have been moved.
+    /// Whether the lexer may have been moved.
     is_moved: bool,
-    /// The items are folded.
+    /// Whether the items are folded.
     folds: bool,
 }
 
@@ -137,7 +137,7 @@ impl<'source, Token: Scan<'source>> Scanner<'source, Token> {
         }
     }
 
-    /// Returns the lexer, which stands behind the last token.
+    /// Returns the lexer, which is after the last token.
     pub fn into_lexer(self) -> Lexer<'source, Token> {
         self.lexer
     }
@@ -148,8 +148,8 @@ impl<'source, Token: Scan<'source>> Scanner<'source, Token> {
         self.lexer.end() < self.plain_to
     }
 
-    /// Takes the next token of the word, if there is one for which nothing is called. It is made
-    /// before its place is found, so that few values outlive the call.
+    /// Takes the next token of the word, if there is one without a callback. It is made before its
+    /// span is computed, so that few values are live across the call.
     #[inline(always)]
     fn take_plain(&mut self) -> Option<Item<'source, Token>> {
         let tokens = self.word.tokens;
@@ -164,7 +164,7 @@ impl<'source, Token: Scan<'source>> Scanner<'source, Token> {
         Some((Ok(token), span))
     }
 
-    /// Goes on to the next word of the walk, if there is one.
+    /// Moves to the next word of the walk, if there is one.
     #[inline(never)]
     fn next_word(&mut self) -> bool {
         match &mut self.walk {
@@ -173,8 +173,7 @@ impl<'source, Token: Scan<'source>> Scanner<'source, Token> {
         }
     }
 
-    /// Takes the next token of the word, for which something is called. Returns nothing if nothing
-    /// becomes of it.
+    /// Takes the next token of the word, which has a callback. Returns `None` if it has no item.
     #[inline(always)]
     fn act_on_token(&mut self) -> Option<Found<'source, Token>> {
         let tokens = self.word.tokens;
@@ -184,8 +183,8 @@ impl<'source, Token: Scan<'source>> Scanner<'source, Token> {
         self.act((leaf, span.end), span.start, span.end)
     }
 
-    /// Finds an item after the last word of the walk, or one of `Logos::lex`. Returns nothing at
-    /// the end.
+    /// Finds an item after the last word of the walk, or one of `Logos::lex`. Returns `None` at the
+    /// end.
     #[inline(always)]
     fn find_item(&mut self) -> Option<Found<'source, Token>> {
         loop {
@@ -212,8 +211,8 @@ impl<'source, Token: Scan<'source>> Scanner<'source, Token> {
         }
     }
 
-    /// Returns what becomes of a leaf and the end of its match, which begins at a byte offset. The
-    /// walk goes on from another one.
+    /// Returns the outcome of a match with a leaf and an end, which begins at a byte offset. The
+    /// walk continues from another one.
     #[inline(always)]
     fn act(
         &mut self,
@@ -229,7 +228,7 @@ impl<'source, Token: Scan<'source>> Scanner<'source, Token> {
         item
     }
 
-    /// Goes on from where the lexer stands, if that is not this byte offset of the source.
+    /// Continues at the end of the lexer's token, if that is not this byte offset of the source.
     #[inline]
     fn follow(&mut self, source: &'source Token::Source, end: usize) {
         let start = self.lexer.span().end;
@@ -250,7 +249,7 @@ impl<'source, Token: Scan<'source>> Scanner<'source, Token> {
         };
     }
 
-    /// Forgets what was found.
+    /// Discards the items that were found.
     fn forget(&mut self) {
         self.plain_to = 0;
         let start = self.word.start;
@@ -260,7 +259,8 @@ impl<'source, Token: Scan<'source>> Scanner<'source, Token> {
         };
     }
 
-    /// Finds the item of the entry before which the word is cut, or walks on after the last word.
+    /// Finds the item of the entry before which the word is cut, or continues the walk after the
+    /// last word.
     #[inline(always)]
     fn go_on(&mut self) -> Next<Found<'source, Token>> {
         match self.walk.as_ref().and_then(|walk| walk.cut()) {
@@ -270,7 +270,7 @@ impl<'source, Token: Scan<'source>> Scanner<'source, Token> {
         }
     }
 
-    /// Finds the item of an entry that asks.
+    /// Finds the item of an undecided entry.
     #[inline(never)]
     fn answer(&mut self, cut: usize) -> Option<Found<'source, Token>> {
         let start = self.word.last_end();
@@ -280,8 +280,8 @@ impl<'source, Token: Scan<'source>> Scanner<'source, Token> {
         self.act(found, start, usize::MAX)
     }
 
-    /// Finds the first word of the next chunk, or has `Logos::lex` find items. Returns whether more
-    /// of the input is there.
+    /// Finds the first word of the next chunk, or makes `Logos::lex` find items. Returns whether
+    /// the input has more bytes.
     #[cold]
     #[inline(never)]
     fn refill(&mut self) -> bool {
@@ -294,7 +294,7 @@ impl<'source, Token: Scan<'source>> Scanner<'source, Token> {
         let start = self.word.last_end();
         self.word = self.word.passed();
         let next = self.walk.as_ref().map_or(start, |walk| walk.end());
-        // From here on the lexer goes on by itself, if no walk does.
+        // From here on `Logos::lex` continues, unless a walk does.
         self.lexer.set_span(start..start);
         let left = bytes.len().saturating_sub(next);
         if self.is_part && (left == 0 || !Token::HAS_ROWS) {
@@ -308,8 +308,7 @@ impl<'source, Token: Scan<'source>> Scanner<'source, Token> {
         true
     }
 
-    /// Walks over the next chunk, or has `Logos::lex` find items where walks are not worth their
-    /// time.
+    /// Walks over the next chunk, or makes `Logos::lex` find items if walks do not pay off.
     fn walk_on(&mut self, bytes: &[u8], start: usize) {
         let is_part = self.is_part;
         let room = || new_room(start, <Token as Folded>::ROOT);
@@ -320,7 +319,7 @@ impl<'source, Token: Scan<'source>> Scanner<'source, Token> {
         }
     }
 
-    /// Folds the items of words, up to one for which something is called, or the last word.
+    /// Folds the items of words, up to one with a callback, or the last word.
     #[inline(always)]
     fn fold_words<B, F>(&mut self, init: B, f: &mut F) -> B
     where
@@ -344,7 +343,7 @@ impl<'source, Token: Scan<'source>> Scanner<'source, Token> {
         folded
     }
 
-    /// Folds the items that `Logos::lex` finds, as far as these are wanted. Returns no scanner if
+    /// Folds the items that `Logos::lex` finds, up to the offset `plain_to`. Returns no scanner if
     /// the last item was among them.
     #[inline(always)]
     fn fold_plain<B, F>(self, init: B, f: &mut F) -> (Option<Self>, B)
@@ -371,8 +370,8 @@ impl<'source, Token: Scan<'source>> Scanner<'source, Token> {
     }
 }
 
-/// Folds the items of a word, up to one for which something is called. Returns also the tokens that
-/// are left. As in `take_plain`, a token is made first.
+/// Folds the items of a word, up to one with a callback. Returns also the remaining tokens. As in
+/// `take_plain`, a token is made first.
 #[inline(always)]
 fn fold_word<'source, Token, B, F>(entries: &[u32], word: &Word, init: B, f: &mut F) -> (B, u64)
 where
@@ -398,7 +397,7 @@ where
 impl<'source, Token: Scan<'source>> Iterator for Scanner<'source, Token> {
     type Item = (Result<Token, Token::Error>, Span);
 
-    // What stays in memory between calls of `next` can be in registers here.
+    // Values that are in memory between calls of `next` can be in registers here.
     #[inline]
     fn fold<B, F>(mut self, init: B, mut f: F) -> B
     where
@@ -425,7 +424,8 @@ impl<'source, Token: Scan<'source>> Iterator for Scanner<'source, Token> {
         }
     }
 
-    // What is called has no argument but the scanner: so the caller's values stay in registers.
+    // The called functions have the scanner as their only argument, so that the caller's values
+    // stay in registers.
     #[inline(always)]
     fn next(&mut self) -> Option<Self::Item> {
         loop {

@@ -1,4 +1,4 @@
-//! The walk over an input, chunk by chunk. `scan` takes its tokens.
+//! The walk over an input, chunk by chunk. Called by `scan`, which takes its tokens.
 
 use crate::chunk::{Chunk, CHUNK, WORD};
 use crate::folded::{Folded, Last};
@@ -6,10 +6,10 @@ use crate::internal::Tables;
 use crate::run::Run;
 use crate::Span;
 
-/// What things cost: for a walk each byte, each byte that is walked over again, each that a guess
-/// by lines looks at, each entry that asks, and each try again; for `Logos::lex` each match and
-/// each state that it enters. The numbers are no times: they were chosen so that they tell apart
-/// measured texts on which walks win and lose.
+/// The costs: for a walk of each byte, each byte that is processed again, each that a guess by
+/// lines examines, each undecided entry, and each repeated attempt; for `Logos::lex` of each match
+/// and each state that it enters. The numbers are not times: they were chosen to separate measured
+/// texts on which walks are faster from those on which they are slower.
 const STEP: usize = 6;
 const AGAIN: usize = 24;
 const LOOK: usize = 10;
@@ -17,27 +17,27 @@ const ASK: usize = 400;
 const TRY: usize = 400;
 const MATCH: usize = 39;
 const ENTER: usize = 19;
-/// Walks whose items are folded lose where matches have fewer bytes in the mean.
+/// Walks whose items are folded are slower if the mean length of matches is below this many bytes.
 const SHORTEST: usize = 2;
-/// The bits of so many bytes are set one by one.
+/// The maximum number of bytes whose bits are set one by one.
 const FEW: usize = 6;
-/// One of so many words is looked at to tell whether walks are worth their time.
+/// One of this many words is examined to decide whether walks pay off.
 const SAMPLED: usize = 18;
 
-/// What is left of a word of a chunk.
+/// The rest of a word of a chunk.
 #[derive(Clone, Copy)]
 pub(crate) struct Word {
     ends: u64,
     pub(crate) tokens: u64,
-    /// Where the word begins, in the input and in the chunk.
+    /// The byte offsets of the word in the input and in the chunk.
     here: usize,
     pub(crate) at: usize,
-    /// Where the last match ended that is not among `ends`.
+    /// The end of the last match that is not among `ends`.
     pub(crate) start: usize,
 }
 
 impl Word {
-    /// Returns the word in which nothing is left, where the next match begins at a byte offset.
+    /// Returns an empty word, with the next match beginning at a byte offset.
     pub(crate) const fn empty(start: usize) -> Word {
         Word {
             ends: 0,
@@ -48,20 +48,20 @@ impl Word {
         }
     }
 
-    /// Returns the place of the first of some tokens, of which there is one.
+    /// Returns the span of the first of some tokens, of which there is at least one.
     #[inline(always)]
     pub(crate) fn span_of(&self, tokens: u64) -> Span {
         let end = self.here + tokens.trailing_zeros() as usize;
         self.after(self.ends & !tokens & tokens.wrapping_sub(1))..end
     }
 
-    /// Returns where the last match ended.
+    /// Returns the end of the last match.
     #[inline(always)]
     pub(crate) fn last_end(&self) -> usize {
         self.after(self.ends)
     }
 
-    /// Returns the word in which nothing is left.
+    /// Returns the word without its rest.
     pub(crate) fn passed(&self) -> Word {
         Word {
             ends: 0,
@@ -71,7 +71,7 @@ impl Word {
         }
     }
 
-    /// Returns where the last match ended, after some of the ends.
+    /// Returns the end of the last match, after some of the ends.
     #[inline(always)]
     fn after(&self, ends: u64) -> usize {
         if ends == 0 {
@@ -85,21 +85,21 @@ impl Word {
 #[derive(Clone)]
 pub(crate) struct Walk {
     chunk: Chunk,
-    /// The byte of the chunk before which the word is cut, since its entry asks.
+    /// The byte of the chunk before which the word is cut, since its entry is undecided.
     cut: Option<usize>,
-    /// Where the chunk begins and how many bytes it has, and the places before and after it.
+    /// The offset and the length of the chunk, and the row positions before and after it.
     base: usize,
     len: usize,
     first: u32,
     place: u32,
-    /// What was to be done twice in the chunk, and what the last walks gained.
+    /// The cost of repeated work in the chunk, and the gain of the last walks.
     cost: usize,
     gain: isize,
-    /// How many chunks are not walked where walks are not worth their time.
+    /// The number of chunks that are not walked if walks do not pay off.
     plain: usize,
-    /// A guess was wrong to the end of its block.
+    /// Whether a guess was wrong up to the end of its block.
     missed: bool,
-    /// What guesses by few bytes cost of late in a chunk, and guesses by lines.
+    /// The recent costs per chunk of guesses from few bytes, and of guesses by lines.
     guesses: [usize; 2],
 }
 
@@ -145,7 +145,7 @@ impl Walk {
         self.chunk.leaf(word.at + tokens.trailing_zeros() as usize)
     }
 
-    /// Goes on to the next word of the chunk, if there is one.
+    /// Moves to the next word of the chunk, if there is one.
     #[inline(always)]
     pub(crate) fn next_word(&mut self, word: &mut Word) -> bool {
         let at = word.at + WORD;
@@ -156,8 +156,8 @@ impl Walk {
         true
     }
 
-    /// Returns what is left in the word that begins at a byte of the chunk, and of the input: the
-    /// bits `from`, up to an entry that asks.
+    /// Returns the rest of the word that begins at a byte of the chunk, and of the input: the bits
+    /// `from`, up to an undecided entry.
     #[inline(always)]
     fn word(&mut self, at: usize, here: usize, from: u64, start: usize) -> Word {
         let (ends, tokens) = self.chunk.bits(at);
@@ -176,7 +176,7 @@ impl Walk {
         }
     }
 
-    /// Returns where the bytes begin that are not walked over.
+    /// Returns the offset of the bytes that are not walked.
     pub(crate) fn end(&self) -> usize {
         self.base + self.len
     }
@@ -200,8 +200,8 @@ impl Walk {
         self.word(0, self.base, !0, start)
     }
 
-    /// Walks over a whole chunk. Of both kinds of guesses the one is made that costs less. What is
-    /// known of the other gets less, so that it is made again at times.
+    /// Walks over a whole chunk, with the cheaper kind of guesses. The recorded cost of the other
+    /// kind is lowered, so that it is tried again at times.
     fn walk_chunk<'s, T: Tables<'s>>(&mut self, input: &[u8; CHUNK]) {
         let start = if self.missed {
             self.place
@@ -217,8 +217,9 @@ impl Walk {
         self.guesses[other] -= self.guesses[other] / 16;
     }
 
-    /// Returns the leaf of the try that is over at a byte of the chunk and began at a byte offset,
-    /// and where its match ends; or a number that no leaf has, and where the try is over.
+    /// Returns the leaf and the end of the match of an attempt that began at a byte offset and ends
+    /// at a byte of the chunk; or a number that no leaf has, and the offset at which the attempt
+    /// ended.
     pub(crate) fn found_at<'s, T: Tables<'s>>(
         &mut self,
         bytes: &[u8],
@@ -246,7 +247,7 @@ impl Walk {
         }
     }
 
-    /// Lets the next match begin at a byte offset.
+    /// Makes the next match begin at a byte offset.
     pub(crate) fn begin_at<'s, T: Tables<'s>>(&mut self, bytes: &[u8], start: usize) -> Word {
         let root = <T as Folded>::ROOT;
         let at = start.wrapping_sub(self.base);
@@ -269,15 +270,15 @@ impl Walk {
         self.word(at - begun, start - begun, !0 << begun, start)
     }
 
-    /// Forgets the chunk, and lets the next match begin at a byte offset.
+    /// Discards the chunk, and makes the next match begin at a byte offset.
     pub(crate) fn begin_anew(&mut self, start: usize, root: u32) -> Word {
         (self.cut, self.len, self.base, self.place) = (None, 0, start, root);
         Word::empty(start)
     }
 
-    /// Tells by the walk over the chunk, and by those before, whether walks are worth their time,
-    /// where the items are folded or not. If they are not, returns up to which byte offset
-    /// `Logos::lex` is to find the items.
+    /// Decides from the walk over the chunk, and from those before, whether walks pay off,
+    /// depending on whether the items are folded. If they do not, returns the byte offset up to
+    /// which `Logos::lex` shall find the items.
     pub(crate) fn plain_to(&mut self, folds: bool) -> Option<usize> {
         if self.len == 0 {
             return None;

@@ -1,6 +1,6 @@
-//! Building the automaton of rules: one loop over its states, from the start on, until each has its
-//! targets. `Graph::new` of `logos_graph` calls it, once the size of the rules is known to be
-//! within the limit.
+//! Builds the automaton of rules in one loop over its states, from the start on, until each state
+//! has its targets. `Graph::new` of `logos_graph` calls it once the size of the rules is known to
+//! be within the limit.
 
 ghost use Rattle.std.specs.Prelude.{◌≡◌, ◌^◌, ◌<◌, ◌≤◌, ◌+◌, [], Bool, false, List, IfOk, IfErr, OnOk, length, map, vec_len};
 ghost use Rattle.logos_automaton.specs.Views.{AreFree, Core, core_of, AreMeasured, width_of, size_of, AllStart, IsTotal, ReadsOneByteLate, IsCacheOf, IsPrepared, cores_of, IsUnderway, FailsOn, FailsFor, dfa_of, AreDistinct, AreReached, IsBuilt, rules_of};
@@ -13,16 +13,15 @@ use crate::key::{Key, number_of, start_key};
 use crate::nodes::nodes_of;
 use crate::row::{Row, end_after, narrowed, row_of};
 use crate::rule::{RuleView, some_look};
-use crate::trees::Trees;
+use crate::trees::{Trees, starts_of};
 use indexmap::IndexSet;
 use logos_positions::node::Node;
-use logos_positions::positions::trees::starts_of;
 use std::alloc::{AllocError, Global};
 
-/// The greatest number of states that an automaton may have.
+/// The greatest number of states that an automaton can have.
 pub const MAX_STATES: usize = 65_536;
 
-/// Returns the list of states with the start alone.
+/// Returns a list of states that contains only the start.
 ///
 /// # Errors
 ///
@@ -36,8 +35,8 @@ fn only_start(alloc: Global) -> Result<IndexSet<Key>, AllocError>
     Ok(states)
 }
 
-/// Returns states in the order of their numbers. A `Dfa` has them without what finds their numbers,
-/// which nobody asks for once it is built.
+/// Returns the states in the order of their numbers. A `Dfa` has them without the index that finds
+/// their numbers, which is not needed once it is built.
 ///
 /// # Errors
 ///
@@ -48,11 +47,11 @@ fn in_order(alloc: Global, states: IndexSet<Key>) -> Result<Vec<Key>, AllocError
     states.into_iter().collect(alloc)
 }
 
-/// Adds the targets of the first state that has none yet.
+/// Adds the targets of the first state that has none.
 ///
 /// # Errors
 ///
-/// Returns `LimitStates` when there are more states than an automaton may have, and `Memory` when
+/// Returns `LimitStates` if there are more states than an automaton can have, and `Memory` if
 /// memory runs out.
 fn fill_next(
     trees: &Trees<'_>,
@@ -87,7 +86,7 @@ fn fill_next(
 ///
 /// # Errors
 ///
-/// Returns `LimitStates` when there are more states than an automaton may have, and `Memory` when
+/// Returns `LimitStates` if there are more states than an automaton can have, and `Memory` if
 /// memory runs out.
 fn build_nodes(alloc: Global, nodes: &[Node], looks: bool) -> Result<Dfa, BuildError>
     requires fits { width_of (map core_of nodes.now) < 2 ^ 64 }
@@ -129,7 +128,7 @@ fn build_nodes(alloc: Global, nodes: &[Node], looks: bool) -> Result<Dfa, BuildE
 ///
 /// # Errors
 ///
-/// Returns `LimitStates` when the automaton would have more than 65,536 states, and `Memory` when
+/// Returns `LimitStates` if the automaton would have more than 65,536 states, and `Memory` if
 /// memory runs out.
 pub fn build(alloc: Global, rules: &[RuleView<'_>]) -> Result<Dfa, BuildError>
     requires size { size_of (rules_of rules.now) ≤ 2 ^ 20 }

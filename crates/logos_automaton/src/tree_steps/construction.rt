@@ -1,4 +1,4 @@
-//! Making the steps of one tree by each byte. `cache` calls it once for each state of a tree.
+//! Computes the steps of one tree for each byte. `cache` calls it once for each state of a tree.
 
 ghost use Rattle.std.specs.Prelude.{◌≡◌, ◌+◌, ◌-◌, ◌<◌, ◌≤◌, ℕ, false, IsTrue, IfOk, IfSome, OnOk, length, vec_len, slice_get, slice_index, slice_index_or};
 ghost use Rattle.logos_automaton.specs.Views.{AreChangesOf, AreFirstOf, IsPrepared, tree_view, view_of, viewed, AreStepsFrom, IsTreeState, MakesFrom};
@@ -55,7 +55,7 @@ fn add_step(found: &mut Vec<TreeStep>, step: TreeStep) -> Result<usize, AllocErr
     Ok(i)
 }
 
-/// Makes the step of a tree by a byte.
+/// Computes the step of a tree for a byte.
 ///
 /// # Errors
 ///
@@ -84,7 +84,7 @@ fn step_by(trees: &Trees<'_>, state: &TreeState, byte: u8) -> Result<TreeStep, A
     )
 }
 
-/// Returns the index of the step by a byte: the one that is known, if there is one.
+/// Returns the index of the step for `byte`, which is `known` if that is not `None`.
 ///
 /// # Errors
 ///
@@ -118,8 +118,8 @@ fn index_by(
     Ok(i as u8)
 }
 
-/// Sets the flags of the bytes that the tree of a state or looks can distinguish from the byte
-/// before.
+/// Returns flags of the bytes that the tree of a state or look-around assertions can distinguish
+/// from the byte before them.
 fn first_in(trees: &Trees<'_>, state: &TreeState) -> [bool; 256]
     requires prepared { IsPrepared trees.now }
     requires state { IsTreeState trees.now.nodes.now trees.now.starts.now (tree_view state.now) }
@@ -137,7 +137,7 @@ fn first_in(trees: &Trees<'_>, state: &TreeState) -> [bool; 256]
     first
 }
 
-/// Returns the index of the step by the byte before, if the flag of the byte is not set.
+/// Returns the index of the step for the byte before `byte`, if the flag of `byte` is not set.
 fn index_before(first: &[bool; 256], by_byte: &[u8; 256], byte: usize) -> Option<u8>
     requires within { byte < 256 }
     ensures { IfSome result (λ i. (1 ≤ byte) × (slice_index_or first.now byte false ≡ false)
@@ -152,7 +152,7 @@ fn index_before(first: &[bool; 256], by_byte: &[u8; 256], byte: usize) -> Option
     Some(by_byte[byte - 1])
 }
 
-/// Returns the bytes whose entry differs from that of the byte before, ascending.
+/// Returns the bytes whose entry differs from that of the byte before them, ascending.
 ///
 /// # Errors
 ///
@@ -168,7 +168,7 @@ fn changes_of(alloc: Global, by_byte: &[u8; 256]) -> Result<Vec<u8>, AllocError>
     Ok(changes)
 }
 
-/// Makes the steps of a tree by each byte.
+/// Computes the steps of a tree for each byte.
 ///
 /// # Errors
 ///

@@ -1,4 +1,4 @@
--- The steps of gathering what the enums of a file give.
+-- The steps of gathering the results of the enums of a file.
 use Rattle.std.specs.Prelude.{◌≡◌, ℕ, ◌<◌, ◌≤◌, Bool, List, [], ◌∷◌, ◌++◌, length, map, string_bytes}
 use Rattle.logos_code.specs.Code.{CodeValue}
 use Rattle.logos_tables.specs.declared.shape.Shape.{Shape}
@@ -57,7 +57,7 @@ abbrev pub IsPut : Shape → List ℕ → List Replacement → List ℕ → Type
 IsPut shape text [] bytes = bytes ≡ replaced text 0 []
 IsPut shape text (part ∷ parts) bytes = IsHeaded shape (replaced text 0 (part ∷ parts)) bytes
 
--- One more enum was gathered: what it gives stands at the end.
+-- One more enum was gathered: its result was appended.
 pub record GathersOne (shape : Shape) (text : List ℕ) (one : FoundEnum) (old new : Gathered) : Type 0 where
   pub parts : List Replacement
   pub refused : List Refused
@@ -65,13 +65,13 @@ pub record GathersOne (shape : Shape) (text : List ℕ) (one : FoundEnum) (old n
   pub refused_are : new.refused.items ≡ old.refused.items ++ refused
   pub completes : (rest : List FoundEnum) (more : List Replacement) (worse : List Refused) → Gathers shape text rest more worse → Gathers shape text (one ∷ rest) (parts ++ more) (refused ++ worse)
 
--- These are the faults of a refusal other than for want of memory.
+-- These are the faults of a refusal, unless memory ran out.
 abbrev pub AreFaultsOf : Refusal → List Fault → Type 0
 AreFaultsOf (refusals.Errors faults) others = others ≡ faults
 AreFaultsOf refusals.Memory others = ⊥
 
--- One more refusal stands at the end, with the faults of what begins at an offset, and what is
--- known of them.
+-- One more refusal was appended, with the faults of a part that begins at an offset, and the clues
+-- about them.
 pub record AddsRefusal (offset : ℕ) (refusal : Refusal) (clues : Clues) (old new : List Refused) : Type 0 where
   pub bad : Refused
   pub is_offset : bad.offset ≡ offset

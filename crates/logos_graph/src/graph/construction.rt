@@ -1,4 +1,4 @@
-//! Makes the graph of leaves. `Graph::new` is here.
+//! Builds the graph of leaves. `Graph::new` is in this module.
 
 ghost use Rattle.std.specs.Prelude.{◌≡◌, ◌^◌, ◌<◌, ◌≤◌, [], IfOk, IfErr, length, map};
 ghost use Rattle.logos_graph.specs.Imports.{dfa_of, AreFaults, AllStart, fault_of, IsGraphOf, AreFindings, Refuses, size_of, rules_of, IsTotal, ReadsOneByteLate, Memory, LimitSize};
@@ -27,8 +27,8 @@ fn automaton_of_none(alloc: Global) -> Result<Dfa, BuildError>
     }
 }
 
-/// Returns the automaton of the rules, if each of their trees takes a byte before it looks or
-/// matches, and else of no rules.
+/// Returns the automaton of the rules if none of their trees matches the empty string or has a
+/// look-around assertion before its first byte, and the automaton of no rules otherwise.
 fn automaton(alloc: Global, rules: &[RuleView<'_>]) -> Result<Dfa, BuildError>
     requires { size_of (views.rules_of rules.now) ≤ 2 ^ 20 }
     ensures late { IfOk result (λ dfa. AllStart (views.rules_of rules.now) →
@@ -98,15 +98,15 @@ fn finished<'s>(
 impl<'s> Graph<'s> {
     /// Returns the graph of leaves, which are numbered in their order.
     ///
-    /// The faults of the leaves are in `errors`: a missing universal start alone; else the leaves
-    /// that match nothing; else all sets of leaves that are ambiguous, ascending. Where there is a
-    /// fault, the graph has no states.
+    /// The faults of the leaves are in `errors`: only the missing universal start if there is one;
+    /// otherwise only the leaves that match the empty string if there are any; otherwise all
+    /// ambiguous sets of leaves, ascending. If there is a fault, the graph has no states.
     ///
     /// # Errors
     ///
-    /// `LimitSize` exactly where the size of all trees passes 1,048,576. `LimitStates` only where
-    /// each pattern takes a byte before it looks or matches, and the automaton would have more than
-    /// 65,536 states. `Memory` where memory runs out.
+    /// Returns `LimitSize` exactly if the size of all trees exceeds 1,048,576; `LimitStates` only
+    /// if no pattern matches the empty string or has a look-around assertion before its first byte,
+    /// and the automaton would have more than 65,536 states; and `Memory` if memory runs out.
     pub fn new(
         alloc: Global,
         leaves: Vec<Leaf<'s>>,

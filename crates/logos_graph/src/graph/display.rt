@@ -1,4 +1,4 @@
-//! Prints states and graphs.
+//! Prints states and graphs. `value` and users of the library print with it.
 
 ghost use Rattle.std.specs.Prelude.{◌≡◌, ◌++◌, Some, IfOk, codes, string_bytes};
 ghost use Rattle.logos_graph.specs.Imports.{decimal};
@@ -9,7 +9,7 @@ use std::alloc::Global;
 use std::fmt;
 
 impl State {
-    /// Returns `State` and the number. `Memory` where there is no memory for the text.
+    /// Returns `State` and the number. Fails with `Memory` if memory runs out.
     pub fn pascal_case(self, alloc: Global) -> Result<String, Memory>
         ensures { IfOk result (λ text. string_bytes text ≡ codes "State" ++ decimal self.0) }
     {
@@ -17,7 +17,7 @@ impl State {
         Ok(format!(in alloc; "State{number}")?)
     }
 
-    /// Returns `state` and the number. `Memory` where there is no memory for the text.
+    /// Returns `state` and the number. Fails with `Memory` if memory runs out.
     pub fn snake_case(self, alloc: Global) -> Result<String, Memory>
         ensures { IfOk result (λ text. string_bytes text ≡ codes "state" ++ decimal self.0) }
     {
@@ -54,7 +54,7 @@ impl fmt::Display for StateType {
 #[derive(Clone, Copy)]
 struct StateLines<'g> {
     state: &'g StateData,
-    /// What each line but the first begins with.
+    /// The indentation of each line but the first.
     indent: &'static str,
 }
 
@@ -75,7 +75,7 @@ impl fmt::Display for StateLines<'_> {
     }
 }
 
-/// Prints the marks; in the alternate form the edges too, one on each line.
+/// Prints the marks, and in the alternate form also the edges, one on each line.
 impl fmt::Display for StateData {
     fn fmt<W: fmt::Write>(&self, f: &mut fmt::Formatter<W>) -> fmt::Result {
         if f.alternate() {

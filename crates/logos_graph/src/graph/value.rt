@@ -55,7 +55,7 @@ impl<'s> Model for Graph<'s> {
 }
 
 impl<'s> Graph<'s> {
-    /// Returns a graph without states, of leaves that have faults.
+    /// Returns a graph without states, for leaves with faults.
     pub(crate) fn refused(
         alloc: Global,
         leaves: Vec<Leaf<'s>>,
@@ -82,7 +82,7 @@ impl<'s> Graph<'s> {
         }
     }
 
-    /// Returns the graph that a table stands for, of leaves that have no faults.
+    /// Returns the graph that a table represents, for leaves without faults.
     pub(crate) fn finished(
         alloc: Global,
         leaves: Vec<Leaf<'s>>,
@@ -109,7 +109,7 @@ impl<'s> Graph<'s> {
         })
     }
 
-    /// Returns the leaves that the graph was made of.
+    /// Returns the leaves from which the graph was made.
     pub fn leaves(&self) -> &[Leaf<'s>]
         ensures { result.now ≡ self.now.leaves }
     {
@@ -118,20 +118,20 @@ impl<'s> Graph<'s> {
 }
 
 impl Graph<'_> {
-    /// Returns the state in which each match begins. The graph must have states, as it has where
-    /// there are no errors.
+    /// Returns the state in which each match attempt begins. The graph must have states, which it
+    /// has if there are no errors.
     pub fn root(&self) -> State
         requires { 0 < length self.now.states }
         ensures root { result.0 ≡ 0 }
         ensures finished { self.now.faults ≡ [] →
             IsFinished self.now.states (length self.now.leaves) }
     {
-        // A read of a field brings the invariant of the type into the proof.
+        // Reading a field brings the invariant of the type into the proof.
         let _ = &self.states;
         State(0)
     }
 
-    /// Returns all states, ascending. There are none where there are errors.
+    /// Returns all states, ascending. There are none if there are errors.
     pub fn iter_states(&self) -> States
         ensures states { states_left result ≡ range_with_len 0 (length self.now.states) }
         ensures finished { self.now.faults ≡ [] →
@@ -144,14 +144,14 @@ impl Graph<'_> {
         }
     }
 
-    /// Returns whether it is a state of this graph.
+    /// Returns whether `state` is a state of this graph.
     pub fn contains(&self, state: State) -> bool
         ensures { IsTrue result ↔ (state.0 < length self.now.states) }
     {
         state.0 < self.states.len()
     }
 
-    /// Returns the type and the edges of a state of this graph, as `contains` tests.
+    /// Returns the type and the edges of a state of this graph. `contains` must hold for it.
     pub fn get_state(&self, state: State) -> &StateData
         requires { state.0 < length self.now.states }
         ensures state { slice_get self.now.states state.0 ≡ Some (graph_state_of result.now) }
@@ -161,7 +161,7 @@ impl Graph<'_> {
         &self.states[state.0]
     }
 
-    /// Returns the table that the graph shows.
+    /// Returns the table that the graph represents.
     pub(crate) fn reduced(&self) -> &Reduction
         requires { 0 < length self.now.states }
         ensures shows { Shows result.now.table self.now.states }
@@ -180,15 +180,15 @@ impl Graph<'_> {
         &self.dfa
     }
 
-    /// Returns the faults of the leaves. Where there are some, the graph has no states.
+    /// Returns the faults of the leaves. If there are any, the graph has no states.
     pub fn errors(&self) -> &[GraphError]
         ensures { map fault_of result.now ≡ self.now.faults }
     {
         &self.errors
     }
 
-    /// Returns the chart of the graph in Mermaid's language: a flow chart with a node for each
-    /// state and for each edge. It fails only where there is no memory.
+    /// Returns the state diagram of the graph in Mermaid's language: a flow chart with a node for
+    /// each state and for each edge. Fails only with `Memory`.
     pub fn get_mermaid(&self, alloc: Global) -> Result<String, Memory>
         ensures { IfOk result (λ text. string_bytes text ≡ mermaid_of self.now.states) }
     {

@@ -1,5 +1,5 @@
-//! Builders of alternations, which flatten them and make classes of them. Only the simplifier calls
-//! them.
+//! Builders of alternations, which flatten them and turn them into classes. Only the simplifier
+//! calls them.
 
 ghost use Rattle.std.specs.Prelude.{◌≡◌, ◌≤◌, ◌++◌, ◌∷◌, [], map, length, take, drop, Option, option_map, is_some, ◌&&◌, true, false, IfOk, OnOk};
 ghost use Rattle.logos_hir.specs.Views.{chars, pairs, tree_of, class_tree, sole_char, char_ranges_of, byte_ranges_of, all_ranges, branches_of, bytes_or, chars_or, choice_of, alternation_of, IsSimplest, IsAdded, IsFlatAlone, fits_of};
@@ -9,7 +9,7 @@ use crate::hir::{Class, Hir, Range};
 use crate::sets::RangeSet;
 use std::alloc::{AllocError, Global};
 
-/// Returns the character that is the whole text, if the text is one character.
+/// Returns the only character of the text, or `None` if the text is not one character.
 fn sole_char(alloc: Global, bytes: &[u8]) -> Result<Option<char>, AllocError>
     ensures { IfOk result (λ c. c ≡ sole_char bytes.now) }
 {
@@ -102,8 +102,7 @@ fn byte_ranges(alloc: Global, branches: &[Hir]) -> Result<Option<Vec<Range>>, Al
     Ok(Some(out))
 }
 
-/// Appends branches after the others. Where there are no others yet, the vector of the branches is
-/// taken over as it is.
+/// Appends the branches of `inner`. If `branches` is empty, `inner` is reused without a copy.
 fn push_branches(branches: &mut Vec<Hir>, mut inner: Vec<Hir>) -> Result<(), AllocError>
     ensures { OnOk result (map tree_of branches.new.items ≡
         map tree_of branches.old.items ++ map tree_of inner.items) }
@@ -115,7 +114,7 @@ fn push_branches(branches: &mut Vec<Hir>, mut inner: Vec<Hir>) -> Result<(), All
     Ok(branches.append(&mut inner)?)
 }
 
-/// Appends the branches that a tree brings into an alternation.
+/// Appends the branches that a tree adds to an alternation.
 fn push_branch(branches: &mut Vec<Hir>, branch: Hir) -> Result<(), AllocError>
     ensures { OnOk result (map tree_of branches.new.items ≡
         map tree_of branches.old.items ++ branches_of (tree_of branch)) }
@@ -126,7 +125,7 @@ fn push_branch(branches: &mut Vec<Hir>, branch: Hir) -> Result<(), AllocError>
     }
 }
 
-/// Makes a class of bytes if each branch fits one, else an alternation of the branches.
+/// Makes a class of bytes if each branch fits one, and an alternation of the branches otherwise.
 fn bytes_or(alloc: Global, branches: Vec<Hir>) -> Result<Hir, AllocError>
     ensures { IfOk result (λ hir. tree_of hir ≡
         bytes_or (map tree_of branches.items)
@@ -138,8 +137,8 @@ fn bytes_or(alloc: Global, branches: Vec<Hir>) -> Result<Hir, AllocError>
     }
 }
 
-/// Makes a class of characters if each branch fits one, else a class of bytes or an alternation of
-/// the branches.
+/// Makes a class of characters if each branch fits one, and a class of bytes or an alternation of
+/// the branches otherwise.
 fn chars_or(alloc: Global, branches: Vec<Hir>) -> Result<Hir, AllocError>
     ensures { IfOk result (λ hir. tree_of hir ≡
         chars_or (map tree_of branches.items)
@@ -152,7 +151,7 @@ fn chars_or(alloc: Global, branches: Vec<Hir>) -> Result<Hir, AllocError>
 }
 
 /// Makes an alternation of branches that are not alternations themselves. One branch is itself, and
-/// branches that fit a class become it.
+/// branches that fit a class become that class.
 pub(crate) fn choice(mut branches: Vec<Hir>) -> Result<Hir, AllocError>
     ensures { IfOk result (λ hir. tree_of hir ≡ choice_of (map tree_of branches.items)) }
 {
@@ -166,9 +165,8 @@ pub(crate) fn choice(mut branches: Vec<Hir>) -> Result<Hir, AllocError>
     }
 }
 
-/// Makes an alternation in its simplest form: branches of alternations inside it become its own,
-/// one branch is itself, characters alone become a class of characters, and bytes alone a class of
-/// bytes.
+/// Makes an alternation in its simplest form. Branches of inner alternations become its own, one
+/// branch is itself, only characters become a class of characters, and only bytes a class of bytes.
 ///
 /// # Errors
 ///
@@ -183,7 +181,7 @@ pub fn alternation(all: Vec<Hir>) -> Result<Hir, AllocError>
     choice(branches)
 }
 
-/// The classes that some branches can become together.
+/// The classes that branches can become together.
 #[derive(Clone, Copy)]
 pub(crate) struct Fits {
     /// Each branch is a class of characters, or a literal of one.
@@ -193,7 +191,7 @@ pub(crate) struct Fits {
 }
 
 impl Fits {
-    /// Returns what no branches at all fit: every class.
+    /// Returns the classes that an empty list of branches fits: every class.
     pub(crate) fn all() -> Fits
         ensures { result ≡ fits_of [] }
     {
@@ -203,7 +201,7 @@ impl Fits {
         }
     }
 
-    /// Returns what these branches and the others fit together.
+    /// Returns the classes that these branches and the branches of `other` fit together.
     pub(crate) fn both(self, other: Fits) -> Fits
         ensures { result ≡ record { chars = self.chars && other.chars; bytes = self.bytes && other.bytes } }
     {
@@ -231,7 +229,7 @@ fn is_one_char(bytes: &[u8]) -> bool
     }
 }
 
-/// Returns which classes a class fits as a branch.
+/// Returns the classes that a branch that is a class fits.
 fn fits_of_class(class: &Class) -> Fits
     ensures { result ≡ fits_of (class_tree class.now ∷ []) }
 {
@@ -247,9 +245,8 @@ fn fits_of_class(class: &Class) -> Fits
     }
 }
 
-/// Returns which classes fit the branches that a tree in its simplest form brings into an
-/// alternation. The branches of an alternation fit no class, since otherwise it would be that
-/// class.
+/// Returns the classes that fit the branches that a simplified tree adds to an alternation. The
+/// branches of a simplified alternation fit no class, since otherwise it would be that class.
 fn fits_of(branch: &Hir) -> Fits
     requires { IsSimplest (tree_of branch.now) }
     ensures { result ≡ fits_of (branches_of (tree_of branch.now)) }
@@ -267,8 +264,8 @@ fn fits_of(branch: &Hir) -> Fits
     }
 }
 
-/// Appends the branches that a tree in its simplest form brings into an alternation. Returns which
-/// classes they fit.
+/// Appends the branches that a simplified tree adds to an alternation. Returns the classes that
+/// they fit.
 pub(crate) fn push_fitting(branches: &mut Vec<Hir>, branch: Hir) -> Result<Fits, AllocError>
     requires { IsSimplest (tree_of branch) }
     ensures items { OnOk result (map tree_of branches.new.items ≡
@@ -280,8 +277,8 @@ pub(crate) fn push_fitting(branches: &mut Vec<Hir>, branch: Hir) -> Result<Fits,
     Ok(fits)
 }
 
-/// Replaces the branches from `from` on with one class, if they fit one. Returns which classes the
-/// branches from there on fit afterwards.
+/// Replaces the branches from `from` on with one class, if they fit one. Returns the classes that
+/// the branches from `from` on fit afterwards.
 pub(crate) fn join_class(
     alloc: Global,
     branches: &mut Vec<Hir>,

@@ -1,4 +1,4 @@
--- An enum without a fault says one thing.
+-- An enum without a fault has one meaning.
 use Rattle.std.proofs.Common.{◌≡◌, List, [], map, ◌∙◌, ap, sym, refl, subst}
 use Rattle.logos_token.specs.Faults.{Fault}
 use Rattle.logos_token.specs.Tokens.{TokenList, run_span}
@@ -9,7 +9,7 @@ use Rattle.logos_enum.specs.EnumValues.{EnumValue, VariantValue}
 use Rattle.logos_enum.specs.Values.{ParameterValue}
 use Rattle.logos_definition.specs.Attributes.{ReadsAttribute, parameter_report}
 use Rattle.logos_definition.specs.Options.{OptionsView}
-use Rattle.logos_subpattern.specs.Substitution.{Stored}
+use Rattle.logos_leaf.specs.subpattern.Substitution.{Stored}
 use Rattle.logos_leaf.specs.Leaves.{LeafView}
 use Rattle.logos_leaf.specs.Variants.{VariantsAdd, SkipsAdd}
 use Rattle.logos_leaf.specs.Sources.{ReadsParameters, no_parameter, one_parameter, ReadsAttributes, no_attribute, one_attribute, YieldsLeaves, ReadsSource}

@@ -6,9 +6,9 @@ use Rattle.logos_syntax.specs.Grammar.{first_flags}
 use Rattle.logos_syntax.proofs.patterns.Texts.{one}
 use Rattle.logos_attribute.specs.Literals.{NamedLiteral}
 use Rattle.logos_attribute.specs.Reports.{Report, with_faults, and_then, only}
-use Rattle.logos_subpattern.specs.PatternFaults.{Reading, spelled, broken, too_deep, Reads}
-use Rattle.logos_subpattern.specs.Substitution.{Stored}
-use Rattle.logos_subpattern.specs.Subpatterns.{is_name, subpattern_name, test_report, text_report, reading_report, IsAdded, AreAdded, ended, further}
+use Rattle.logos_leaf.specs.subpattern.PatternFaults.{Reading, spelled, broken, too_deep, Reads}
+use Rattle.logos_leaf.specs.subpattern.Substitution.{Stored}
+use Rattle.logos_leaf.specs.subpattern.Subpatterns.{is_name, subpattern_name, test_report, text_report, reading_report, IsAdded, AreAdded, ended, further}
 use Rattle.logos_leaf.proofs.agreement.Report.{Grows, Agree, grows_same, grows_then, report_grows, none_before, none_added, report_once, no_front, no_after}
 
 -- a text that spells a tree is read so alone

@@ -18,7 +18,7 @@ use Rattle.logos_attribute.specs.Reports.{IsReport}
 use Rattle.logos_definition.specs.Attributes.{meta_report}
 use Rattle.logos_definition.specs.Definitions.{DefinitionView}
 use Rattle.logos_definition.specs.Metas.{Meta, meta_of}
-use Rattle.logos_subpattern.specs.Substitution.{Stored}
+use Rattle.logos_leaf.specs.subpattern.Substitution.{Stored}
 use Rattle.logos_leaf.specs.Leaves.{LeafView, IsTokenLeaf, IsRegexLeaf}
 use Rattle.logos_leaf.specs.Variants.{holds, KindIs, no_field, empty, with_first, with_names, is_named, TokenYields, no_token, a_token, RegexYields, no_regex, a_regex, AttributeYields, on_error, on_token, on_regex, on_other, AttributesAdd, no_attribute, one_attribute, VariantAdds, VariantsAdd, no_variant, one_variant, SkipsAdd, no_skip, one_skip}
 use Rattle.logos_leaf.proofs.agreement.Report.{Grows, Agree, grows_by, grows_same, grows_then, report_grows, none_before, never, none_added, added_none, report_once, no_some, the_same, not_both}

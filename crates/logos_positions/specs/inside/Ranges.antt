@@ -14,7 +14,7 @@ in_ranges (r ∷ rs) c = in_range r c || in_ranges rs c
 abbrev pub from_floor : (ℕ → Bool) → ℕ → ℕ → ℕ → Bool
 from_floor has floor start o = nat_le floor (start + o) && has (start + o)
 
--- Some offset, below n.
+-- A non-empty range of offsets below `n`.
 abbrev pub IsPart : ℕ → CharRange → Type 0
 IsPart n r = (r.first ≤ r.last) × (r.last < n)
 

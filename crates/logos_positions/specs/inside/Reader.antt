@@ -11,34 +11,34 @@ use Rattle.logos_positions.specs.inside.Characters.{size, Lead, lead, after_lead
 abbrev pub is_char_in : List (ℕ × ℕ) → ℕ → Bool
 is_char_in ranges c = scalar c && is_in ranges c
 
--- These bytes stand from i to j.
+-- These bytes are at `i` to `j`.
 abbrev pub Spells : List ℕ → List ℕ → ℕ → ℕ → Type 0
 Spells bytes [] i j = j ≡ i
 Spells bytes (b ∷ bs) i j = (slice_get bytes i ≡ Some b) × Spells bytes bs (suc i) j
 
--- A character of the class stands from i to j.
+-- A character of the class is at `i` to `j`.
 pub record IsCharAt (c : ℕ → Bool) (bytes : List ℕ) (i j : ℕ) : Type 0 where
   pub char : ℕ
   pub scalar : IsScalar char
   pub within : c char ≡ true
   pub spelled : Spells bytes (encode_utf8 char) i j
 
--- A character of the class is begun, and not ended, from i to j.
+-- A prefix of a character of the class, but not the whole character, is at `i` to `j`.
 pub record IsBegunAt (c : ℕ → Bool) (bytes : List ℕ) (i j : ℕ) : Type 0 where
   pub read : List ℕ
   pub beginning : IsBeginningOf c read
   pub spelled : Spells bytes read i j
 
--- What is left of a character.
+-- The remainder of a character.
 pub record Remainder : Type 0 where
   pub left : ℕ
   pub has : ℕ → Bool
 
--- The offsets are the same.
+-- The offsets are equal.
 abbrev pub Same : ℕ → (ℕ → Bool) → (ℕ → Bool) → Type 0
 Same n f g = (o : ℕ) → o < size n → f o ≡ g o
 
--- The remainder has n bytes and these offsets, of which there is one.
+-- The remainder has `n` bytes and these offsets, of which there is at least one.
 pub record IsRest (r : Remainder) (n : ℕ) (f : ℕ → Bool) : Type 0 where
   pub left : r.left ≡ n
   pub same : Same n r.has f
@@ -47,11 +47,11 @@ pub record IsRest (r : Remainder) (n : ℕ) (f : ℕ → Bool) : Type 0 where
 abbrev pub IsShut : ℕ → (ℕ → Bool) → Type 0
 IsShut n f = (o : ℕ) → o < size n → f o ≡ false
 
--- The place that is led to, if any, is that of what is left.
+-- The position to which the byte leads, if there is one, is the position of this remainder.
 abbrev pub LeadsTo : (ℕ → Remainder) → ℕ → ℕ → (ℕ → Bool) → Option ℕ → Type 0
 LeadsTo rest others n f to = MatchOption to (IsShut n f) (λ q. (q ≤ others) × IsRest (rest q) n f)
 
--- The reader is the one for the class.
+-- The reader reads exactly the characters of the class.
 pub record IsReaderOf (c : ℕ → Bool) (l : Reader) : Type 0 where
   pub rest : ℕ → Remainder
   pub small : (q : ℕ) → q ≤ l.others → (rest q).left ≤ 3

@@ -1,4 +1,4 @@
-//! Building the table that reads a character of a class. `prepare` calls it for each class of
+//! Builds the table that reads a character of a class. `prepare` calls it for each class of
 //! characters.
 
 ghost use Rattle.std.specs.Prelude.{zero, min, ◌≡◌, ℕ, ◌+◌, ◌-◌, ◌*◌, ◌/◌, ◌%◌, ◌^◌, ◌<◌, ◌≤◌, ◌||◌, OnOk, IfOk, IfSome, Bool, Some, None, slice_index_or, length, vec_len};
@@ -11,18 +11,18 @@ use indexmap::IndexSet;
 use logos_hir::hir::Range;
 use std::alloc::{AllocError, Global};
 
-/// The rest of a character that is begun.
+/// The rest of a character whose first bytes have been read.
 #[derive(PartialEq, Eq, Hash, Drop)]
 pub struct CharacterRest {
-    /// The number of bytes that are left.
+    /// The number of remaining bytes.
     pub left: u8,
-    /// The characters that they can complete, as offsets in the block of numbers that they
-    /// distinguish.
+    /// The characters that the remaining bytes can complete, as offsets in the block of numbers
+    /// that these bytes distinguish.
     pub offsets: Vec<CharRange>,
 }
 
-/// The characters that a first byte begins: those from `floor` on, in the block from `start` on
-/// that `left` bytes distinguish.
+/// The characters that begin with a given first byte: those from `floor` on, in the block of
+/// numbers from `start` on that `left` bytes distinguish.
 #[derive(Clone, Copy)]
 struct Block {
     left: u8,
@@ -30,7 +30,7 @@ struct Block {
     start: u32,
 }
 
-/// Returns the number of a row, which is added if it is new.
+/// Returns the number of the row for `rest`, which is added if it is new.
 ///
 /// # Errors
 ///
@@ -79,8 +79,8 @@ fn position(
     Ok(Some(i))
 }
 
-/// Returns the row for the characters of the ranges that a first byte begins, or `None` if there
-/// are none.
+/// Returns the row for the characters of the ranges that begin with a given first byte, or `None`
+/// if there are none.
 ///
 /// # Errors
 ///
@@ -111,7 +111,7 @@ fn row_for(
     position(rests, block.left, offsets)
 }
 
-/// Returns the characters that a first byte begins, or `None` if no character begins with it.
+/// Returns the characters that begin with `byte`, or `None` if none does.
 fn block_of(byte: u8) -> Option<Block>
     ensures block { MatchOption result (lead byte ≡ None)
         (λ block. lead byte ≡ Some (table.lead_of block)) }
@@ -155,7 +155,7 @@ fn block_of(byte: u8) -> Option<Block>
     None
 }
 
-/// Returns the row after a first byte, if there is one.
+/// Returns the row after a first byte, or `None` if no character of the ranges begins with it.
 ///
 /// # Errors
 ///
@@ -181,8 +181,7 @@ fn first_for(
     row_for(alloc, rests, ranges, block)
 }
 
-/// Returns the offsets that are left after the continuation byte with the number `part`, from 0 to
-/// 63.
+/// Returns the remaining offsets after the continuation byte with the number `part`, from 0 to 63.
 ///
 /// # Errors
 ///
@@ -208,7 +207,7 @@ fn after(
     clip(alloc, &rest.offsets, window)
 }
 
-/// Returns the row after a row and the continuation byte with the number `part`, if there is one.
+/// Returns the row after `row` and the continuation byte with the number `part`, if there is one.
 ///
 /// # Errors
 ///
@@ -242,7 +241,7 @@ fn next_for(
     position(rests, left, offsets)
 }
 
-/// Returns how many numbers `left` continuation bytes distinguish.
+/// Returns the number of numbers that `left` continuation bytes distinguish.
 fn block_size(left: u8) -> u32
     requires { left ≤ 3 }
     ensures size { result ≡ size left }
@@ -283,7 +282,7 @@ fn first_cells(
     Ok(cells)
 }
 
-/// Adds the rows after a row and each continuation byte.
+/// Adds the rows after `row` and each continuation byte.
 ///
 /// # Errors
 ///
@@ -315,7 +314,8 @@ fn follow_row(
     Ok(())
 }
 
-/// Returns the rows after each row and each continuation byte, with the rows that these lead to.
+/// Returns the rows after each row and each continuation byte, and adds the rows to which these
+/// lead.
 ///
 /// # Errors
 ///
@@ -342,7 +342,7 @@ fn follow_cells(
     Ok(cells)
 }
 
-/// Returns the list of rows with row 0 alone, at which a whole character is read.
+/// Returns the list of rows that contains only row 0, at which a whole character has been read.
 ///
 /// # Errors
 ///

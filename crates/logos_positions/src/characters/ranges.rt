@@ -1,4 +1,4 @@
-//! Ranges of characters. The building of a table cuts and splits them.
+//! Ranges of characters. The builder of tables clips and splits them.
 
 ghost use Rattle.std.specs.Prelude.{◌&&◌, nat_le, ◌≡◌, ℕ, ◌+◌, ◌^◌, ◌<◌, ◌≤◌, ◌||◌, OnOk, IfOk};
 ghost use Rattle.logos_positions.specs.Views.{scalar, pairs, is_in, is_char_in, in_range, in_ranges, from_floor, ClipsTo, AreParts};

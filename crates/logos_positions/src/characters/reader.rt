@@ -1,15 +1,15 @@
 //! A table that reads a character of a class, byte by byte. Steps on a class of characters look up
-//! the next place in it.
+//! the next position in it.
 
 ghost use Rattle.std.specs.Prelude.{◌<◌, ◌^◌};
 
-/// A class of characters as an automaton over the bytes of UTF-8. At row 0 a whole character is
-/// read; at each other row a character is begun.
+/// A class of characters as an automaton over the bytes of UTF-8. At row 0 a whole character has
+/// been read; at each other row a prefix of a character has been read.
 #[derive(Drop)]
 pub struct CharacterTable {
     /// The number of rows.
     pub rows: usize,
-    /// The row after each first byte, by the byte.
+    /// The row after each first byte, indexed by the byte.
     pub first: Vec<Option<usize>>,
     /// The row after each continuation byte: 64 entries for each row.
     pub follow: Vec<Option<usize>>,
@@ -31,7 +31,7 @@ impl CharacterTable {
         }
     }
 
-    /// Returns the row after a row and a byte, if there is one.
+    /// Returns the row after `row` and `byte`, if there is one.
     pub fn follow(&self, row: usize, byte: u8) -> Option<usize>
         requires { row < self.now.rows }
         ensures { result ≡ (table.reader_of self.now).follow row byte }

@@ -1,5 +1,5 @@
-//! Whether a tree can be left. Steps ask it of each part that the next part follows, and `all` of
-//! each tree.
+//! Determines whether a tree can be left: whether a match of it ends at a point. Steps call it for
+//! each part that is followed by another one, and `trees` calls it for each tree.
 
 ghost use Rattle.std.specs.Prelude.{max, ◌≡◌, ℕ, ◌+◌, ◌*◌, ◌-◌, ◌^◌, ◌<◌, ◌⊎◌, ◌↔◌, IsTrue, Bool, false, List, length};
 ghost use Rattle.logos_positions.specs.Views.{Core, Exits, IsFirstFrom, IsRising, Has, spelled, in_front, up_to, at_least, repeated, count_of, IsOrdered, Look, test_at, core_of, is_measured};
@@ -11,7 +11,7 @@ use crate::positions::set::{
     OwnPositions, alike_copies, any_mark, has_mark, next_copy, own_positions,
 };
 
-/// Returns whether a tree can be left, where `marks` are the places that read the byte before.
+/// Returns whether a tree can be left, where `marks` are the positions that read the byte before.
 #[cycle(exits)]
 pub(crate) fn exits(node: &Node, marks: &[usize], spot: TreeSpot, at: Context) -> bool
     requires fits { spot.base + core.width (core_of node.now) < 2 ^ 64 }
@@ -32,8 +32,8 @@ pub(crate) fn exits(node: &Node, marks: &[usize], spot: TreeSpot, at: Context) -
     exits_node(node, marks, spot, at)
 }
 
-/// Returns whether a tree can be left that is not entered and has these places of the set. A branch
-/// without one of them is passed over.
+/// Returns whether a tree can be left that is not entered and has these positions of the set.
+/// Branches without one of them are skipped.
 #[cycle(exits)]
 fn exits_marked(node: &Node, marks: &[usize], own: OwnPositions, at: Context) -> bool
     requires fits { own.base + core.width (core_of node.now) < 2 ^ 64 }
@@ -65,7 +65,7 @@ fn exits_marked(node: &Node, marks: &[usize], own: OwnPositions, at: Context) ->
     one | other
 }
 
-/// Returns whether a tree can be left, by its form.
+/// Returns whether a tree can be left, dispatching on its form.
 #[cycle(exits)]
 fn exits_node(node: &Node, marks: &[usize], spot: TreeSpot, at: Context) -> bool
     requires fits { spot.base + core.width (core_of node.now) < 2 ^ 64 }
@@ -103,7 +103,7 @@ fn exits_node(node: &Node, marks: &[usize], spot: TreeSpot, at: Context) -> bool
     }
 }
 
-/// Returns whether a literal can be left: whether its last place is in the set.
+/// Returns whether a literal can be left: whether its last position is in the set.
 fn exits_literal(text: &[u8], marks: &[usize], spot: TreeSpot) -> bool
     requires fits { spot.base + length text.now < 2 ^ 64 }
     requires rising { IsRising marks.now }
@@ -116,8 +116,8 @@ fn exits_literal(text: &[u8], marks: &[usize], spot: TreeSpot) -> bool
     has_mark(marks, spot.base + text.len() - 1)
 }
 
-/// Returns whether a repetition can be left: at least these copies of its body, and at most `most`
-/// if there is such a bound.
+/// Returns whether a repetition can be left, given at least these copies of its body, and at most
+/// `most` if it is not `None`.
 #[cycle(exits)]
 fn exits_repeat(
     body: &Node,
@@ -147,7 +147,7 @@ fn exits_repeat(
     exits_up_to(body, rest, marks, at)
 }
 
-/// Returns whether at least these copies of the body of a repetition can be left.
+/// Returns whether a repetition of at least these copies of its body can be left.
 #[cycle(exits)]
 fn exits_at_least(body: &Node, copies: Copies, marks: &[usize], at: Context) -> bool
     requires fits { copies.base + copies.each * max copies.count 1 < 2 ^ 64 }
@@ -173,8 +173,9 @@ fn exits_at_least(body: &Node, copies: Copies, marks: &[usize], at: Context) -> 
     exits(body, marks, copies.at(fronts.count, front), at)
 }
 
-/// Returns how many copies after the first one have the same places and are entered as it is, so
-/// that they can be left as it can. `left` says whether the first copy can be left.
+/// Returns the number of copies after the first one that have the same positions as it and are also
+/// entered or also not entered, so that they can be left if and only if it can. `left` is whether
+/// the first copy can be left.
 fn alike_exits(marks: &[usize], rest: Copies, left: bool) -> usize
     requires rising { IsRising marks.now }
     requires fits { rest.base + rest.each * rest.count < 2 ^ 64 }
@@ -190,7 +191,7 @@ fn alike_exits(marks: &[usize], rest: Copies, left: bool) -> usize
     alike_copies(marks, rest)
 }
 
-/// Returns whether all of the copies can be left, whatever comes after them.
+/// Returns whether all of the copies can be left, one after another.
 #[cycle(exits)]
 fn exits_copies(body: &Node, copies: Copies, marks: &[usize], at: Context) -> bool
     requires fits { copies.base + copies.each * copies.count < 2 ^ 64 }
@@ -214,7 +215,7 @@ fn exits_copies(body: &Node, copies: Copies, marks: &[usize], at: Context) -> bo
     left
 }
 
-/// Returns whether at most as many copies can be left.
+/// Returns whether a repetition of at most these copies can be left.
 #[cycle(exits)]
 fn exits_up_to(body: &Node, copies: Copies, marks: &[usize], at: Context) -> bool
     requires fits { copies.base + copies.each * copies.count < 2 ^ 64 }

@@ -1,5 +1,5 @@
-//! Where a look holds, by the kind of the byte before. Steps and exits ask it at each look of a
-//! tree.
+//! Evaluates look-around assertions by the kind of the byte before a point and by the byte after
+//! it. Steps and exits call it for each assertion of a tree.
 
 ghost use Rattle.std.specs.Prelude.{◌≡◌, Some, is_none};
 ghost use Rattle.logos_positions.specs.Views.{is_byte, side_before, kind_of_byte, test_at, is_word_byte};
@@ -7,12 +7,12 @@ ghost use Rattle.logos_hir.specs.Looks as looks;
 
 use logos_hir::hir::Look;
 
-/// What the steps remember of the byte before a position: what the looks after it can depend on.
+/// The kind of the byte before a point: all that look-around assertions after it can depend on.
 #[derive(Clone, Copy, PartialEq, Eq, Hash)]
 pub enum ByteKind {
-    /// There is no byte: the position is the start of the input.
+    /// There is no byte: the point is the start of the input.
     Start,
-    /// A byte that no look can depend on.
+    /// A byte that no look-around assertion can depend on.
     Unseen,
     /// One of `[0-9A-Za-z_]`.
     Word,
@@ -24,7 +24,7 @@ pub enum ByteKind {
     Other,
 }
 
-/// The bytes on both sides of a position.
+/// The bytes on both sides of a point.
 #[derive(Clone, Copy)]
 pub struct Context {
     /// The kind of the byte before.
@@ -103,7 +103,7 @@ fn is_word_after(side: Option<u8>) -> bool
     }
 }
 
-/// Returns whether the look holds at a position.
+/// Returns whether the look-around assertion holds at a point.
 pub fn holds(look: Look, at: Context) -> bool
     ensures { result ≡ test_at at look }
 {

@@ -1,4 +1,4 @@
-//! Sets of places, as ascending lists. Steps look up places in them, and add places to them.
+//! Sets of positions, as ascending lists. Steps look up and add positions.
 
 ghost use Rattle.std.specs.Prelude.{◌⊎◌, OnOk, ◌^◌, ◌≡◌, ℕ, ◌+◌, ◌-◌, ◌*◌, ◌<◌, ◌≤◌, ◌↔◌, IsTrue, IsFalse, length, slice_index};
 ghost use Rattle.logos_positions.specs.Marks.{IsRising, IsSet, Has, HasBetween, IsFirstFrom};
@@ -6,7 +6,8 @@ ghost use Rattle.logos_positions.specs.Marks.{IsRising, IsSet, Has, HasBetween, 
 use crate::node::Copies;
 use std::alloc::AllocError;
 
-/// Returns the index of the first place from `place` on, which is from `low` to `high`.
+/// Returns the index of the first position from `position` on, which is between `low` and `high`,
+/// inclusive.
 fn first_between(marks: &[usize], low: usize, high: usize, position: usize) -> usize
     requires rising { IsRising marks.now }
     requires order { low ≤ high }
@@ -28,7 +29,7 @@ fn first_between(marks: &[usize], low: usize, high: usize, position: usize) -> u
     low
 }
 
-/// Returns the index of the first place from `from` on.
+/// Returns the index of the first position from `from` on.
 pub fn first_from(marks: &[usize], from: usize) -> usize
     requires { IsRising marks.now }
     ensures { IsFirstFrom marks.now from result }
@@ -36,7 +37,7 @@ pub fn first_from(marks: &[usize], from: usize) -> usize
     first_between(marks, 0, marks.len(), from)
 }
 
-/// Returns whether the place is in the set.
+/// Returns whether the position is in the set.
 pub fn has_mark(marks: &[usize], position: usize) -> bool
     requires { IsRising marks.now }
     ensures { IsTrue result ↔ Has marks.now position }
@@ -45,7 +46,7 @@ pub fn has_mark(marks: &[usize], position: usize) -> bool
     i < marks.len() && marks[i] == position
 }
 
-/// Returns whether one of the `width` places from `from` on is in the set.
+/// Returns whether one of the `width` positions from `from` on is in the set.
 pub fn any_mark(marks: &[usize], from: usize, width: usize) -> bool
     requires { IsRising marks.now }
     ensures { IsTrue result ↔ ((q : ℕ) × (q < width) × Has marks.now (from + q)) }
@@ -54,16 +55,16 @@ pub fn any_mark(marks: &[usize], from: usize, width: usize) -> bool
     i < marks.len() && marks[i] - from < width
 }
 
-/// Where the places of a tree stand in a set: from the index `from` on, and below `to`.
+/// The positions of a tree in a set: those from the index `from` on and below `to`.
 #[derive(Clone, Copy)]
 pub struct OwnPositions {
-    /// The first place of the tree.
+    /// The first position of the tree.
     pub base: usize,
     pub from: usize,
     pub to: usize,
 }
 
-/// Returns where the `width` places from `base` on stand in the set.
+/// Returns the indexes of the `width` positions from `base` on in the set.
 pub fn own_positions(marks: &[usize], base: usize, width: usize) -> OwnPositions
     requires rising { IsRising marks.now }
     requires fits { base + width < 2 ^ 64 }
@@ -79,7 +80,7 @@ pub fn own_positions(marks: &[usize], base: usize, width: usize) -> OwnPositions
 }
 
 impl OwnPositions {
-    /// Returns the places below `middle`, and those of a tree that begins there.
+    /// Returns the positions below `middle`, and the positions of a tree that begins at `middle`.
     pub fn parted(self, marks: &[usize], middle: usize) -> (OwnPositions, OwnPositions)
         requires rising { IsRising marks.now }
         requires order { self.from ≤ self.to }
@@ -109,8 +110,8 @@ impl OwnPositions {
     }
 }
 
-/// Returns how many of the copies have no place, up to the first that has one. Returns 0 if the
-/// first copy is entered.
+/// Returns the number of copies without a position, up to the first copy that has one. Returns 0 if
+/// the first copy is entered.
 fn empty_copies(marks: &[usize], copies: Copies) -> usize
     requires { IsRising marks.now }
     ensures bound { result ≤ copies.count }
@@ -133,8 +134,8 @@ fn empty_copies(marks: &[usize], copies: Copies) -> usize
     ((marks[i] - copies.base) / copies.each).min(copies.count)
 }
 
-/// Returns the number of the first copy from `done` on that is entered or has a place, or the
-/// number of copies if there is none. `entered` says whether the copy with the number `done` is
+/// Returns the number of the first copy from `done` on that is entered or has a position, or the
+/// number of copies if there is none. `entered` is whether the copy with the number `done` is
 /// entered.
 pub fn next_copy(marks: &[usize], copies: Copies, done: usize, entered: bool) -> usize
     requires rising { IsRising marks.now }
@@ -158,9 +159,9 @@ pub fn next_copy(marks: &[usize], copies: Copies, done: usize, entered: bool) ->
     done + empty_copies(marks, rest)
 }
 
-/// Returns whether a copy has the same places as the first one. Those of the first are from the
-/// index `from` on and below `to`, those of the other begin at the index `at`, and `shift` is how
-/// far the other stands from the first.
+/// Returns whether a copy has the same positions as the first one. The positions of the first copy
+/// are from the index `from` on and below `to`, those of the other begin at the index `at`, and
+/// `shift` is the distance between the two copies.
 fn is_marked_alike(
     marks: &[usize],
     from: usize,
@@ -196,8 +197,8 @@ fn is_marked_alike(
     copies.base + shift + copies.each <= marks[at + i]
 }
 
-/// Returns how many copies after the first one have the same places as it, up to the next that has
-/// not.
+/// Returns the number of copies after the first one that have the same positions as it, up to the
+/// next copy that does not.
 pub fn alike_copies(marks: &[usize], copies: Copies) -> usize
     requires rising { IsRising marks.now }
     requires fits { copies.base + copies.each * copies.count < 2 ^ 64 }
@@ -223,7 +224,7 @@ pub fn alike_copies(marks: &[usize], copies: Copies) -> usize
     more
 }
 
-/// Appends the places from the index `from` on and below `to` once more, each moved by `shift`.
+/// Appends copies of the positions from the index `from` on and below `to`, each moved by `shift`.
 ///
 /// # Errors
 ///
@@ -257,7 +258,7 @@ pub(crate) fn push_moved(
     Ok(())
 }
 
-/// Adds the place, unless it is in the set.
+/// Adds the position, unless it is in the set.
 ///
 /// # Errors
 ///

@@ -1,5 +1,5 @@
-//! Steps from the places that read one byte to those that read the next byte. `all` and `tree` call
-//! it on each tree.
+//! Steps from the positions that read one byte to those that read the next byte. `tree` and `trees`
+//! call it for each tree.
 
 ghost use Rattle.std.specs.Prelude.{max, ◌≡◌, ℕ, ◌+◌, ◌-◌, ◌*◌, ◌^◌, ◌<◌, ◌≤◌, ◌⊎◌, IsTrue, IfOk, OnOk, IfSome, ◌↔◌, Bool, false, Option, Some, List, length, slice_get, slice_index};
 ghost use Rattle.logos_positions.specs.Views.{Core, IsFirstFrom, IsRising, IsSet, Has, spelled, in_front, up_to, at_least, repeated, count_of, IsOrdered, Stepped, Owes, is_in, pairs, Look, test_at, core_of, is_measured, reader_of};
@@ -17,14 +17,14 @@ use crate::positions::set::{
 use logos_hir::hir::Range;
 use std::alloc::AllocError;
 
-/// A byte that a step reads, and what was read before it.
+/// A byte that a step reads, and the state before it.
 #[derive(Clone, Copy)]
 pub struct ReadByte<'m> {
     /// The byte.
     pub byte: u8,
-    /// The places that read the byte before, ascending.
+    /// The positions that read the byte before, ascending.
     pub marks: &'m [usize],
-    /// The position before the byte.
+    /// The point before the byte.
     pub at: Context,
 }
 
@@ -41,8 +41,8 @@ pub fn has_byte(ranges: &[Range], byte: u8) -> bool
     false
 }
 
-/// Steps on the place of a class that has one byte. `fits` says whether the class has the byte that
-/// is read.
+/// Steps on the position of a class, which has one byte. `fits` is whether the class contains the
+/// byte that is read.
 ///
 /// # Errors
 ///
@@ -128,7 +128,7 @@ fn step_literal(
     Ok(left)
 }
 
-/// Appends the place after a place of a literal, if it reads the byte.
+/// Appends the position after a position of a literal, if it reads the byte.
 ///
 /// # Errors
 ///
@@ -156,7 +156,7 @@ fn push_after(
     Ok(())
 }
 
-/// Steps on a literal that is not entered and has these places of the set.
+/// Steps on a literal that is not entered and has these positions of the set.
 ///
 /// # Errors
 ///
@@ -185,7 +185,7 @@ fn step_marked_literal(
     Ok(by.marks[own.to - 1] + 1 == own.base + text.len())
 }
 
-/// Adds the place of a row, if there is one, of a class whose places begin at `base`.
+/// Adds the position of a row, if there is one, of a class whose positions begin at `base`.
 ///
 /// # Errors
 ///
@@ -251,7 +251,7 @@ fn step_characters(
     Ok(left)
 }
 
-/// Adds the places of a tree that read the byte, and returns whether the tree can be left before
+/// Adds the positions of a tree that read the byte, and returns whether the tree can be left before
 /// the byte.
 ///
 /// # Errors
@@ -284,8 +284,8 @@ pub(crate) fn step(
     step_node(node, by, spot, next)
 }
 
-/// Steps on a tree that is not entered and has these places of the set. A branch without one of
-/// them is passed over.
+/// Steps on a tree that is not entered and has these positions of the set. Branches without one of
+/// them are skipped.
 ///
 /// # Errors
 ///
@@ -331,7 +331,7 @@ fn step_marked(
     Ok(one | other)
 }
 
-/// Steps on a tree by its form.
+/// Steps on a tree, dispatching on its form.
 ///
 /// # Errors
 ///
@@ -380,8 +380,8 @@ fn step_node(
     }
 }
 
-/// Steps on a repetition: at least these copies of its body, and at most `most` if there is such a
-/// bound.
+/// Steps on a repetition: at least these copies of its body, and at most `most` if it is not
+/// `None`.
 ///
 /// # Errors
 ///
@@ -454,9 +454,9 @@ fn step_at_least(
     step_plus(body, by, copies.at(fronts.count, front), next)
 }
 
-/// Steps on the copies after the first one that have the same places and are entered as it is, and
-/// returns how many these are. The step on the first one is made, and `left` says whether it can be
-/// left.
+/// Steps on the copies after the first one that have the same positions as it and are also entered
+/// or also not entered, and returns their number. The step on the first copy has been made, and
+/// `left` is whether the first copy can be left.
 ///
 /// # Errors
 ///
@@ -494,7 +494,7 @@ fn repeat_step(
     Ok(count)
 }
 
-/// Steps on all of the copies, whatever comes after them.
+/// Steps on all of the copies, one after another.
 ///
 /// # Errors
 ///
@@ -527,7 +527,7 @@ fn step_copies(
     Ok(left)
 }
 
-/// Steps on at most as many copies.
+/// Steps on a repetition of at most these copies.
 ///
 /// # Errors
 ///
@@ -561,7 +561,7 @@ fn step_up_to(
     Ok(any | left)
 }
 
-/// Steps on one or more times the body.
+/// Steps on one or more repetitions of the body.
 ///
 /// # Errors
 ///

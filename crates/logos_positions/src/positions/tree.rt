@@ -1,25 +1,24 @@
-//! Steps on one tree of several, whose places stand one after another. `logos_automaton` calls it
-//! for the steps that it stores.
+//! Steps on one tree of several, whose positions are numbered consecutively. `logos_automaton`
+//! calls it for the steps that it stores.
 
-ghost use Rattle.std.specs.Prelude.{◌≡◌, ◌^◌, ◌<◌, ◌≤◌, ◌↔◌, ◌+◌, ℕ, IsTrue, IfOk};
-ghost use Rattle.logos_positions.specs.Views.{Has, IsRising, test_at, core_of, is_measured, IsStepOf};
+ghost use Rattle.std.specs.Prelude.{◌^◌, ◌<◌, ◌+◌, IsTrue, IfOk};
+ghost use Rattle.logos_positions.specs.Views.{IsRising, test_at, core_of, is_measured, IsStepOf};
 ghost use Rattle.logos_positions.specs.Core as core;
 
 use crate::node::{Node, TreeSpot};
-use crate::positions::set::first_from;
 use crate::positions::step::{ReadByte, step};
 use std::alloc::{AllocError, Global};
 
 /// The step of one tree by a byte.
 #[derive(PartialEq, Eq, Drop)]
 pub struct TreeStep {
-    /// The places of the tree that read the byte, ascending.
+    /// The positions of the tree that read the byte, ascending.
     pub positions: Vec<usize>,
     /// Whether the tree can be left before the byte.
     pub left: bool,
 }
 
-/// Makes the step of one tree, which is not entered here and whose places begin at `base`.
+/// Makes the step of one tree that is not entered and whose positions begin at `base`.
 ///
 /// # Errors
 ///
@@ -43,26 +42,4 @@ pub fn step_tree(
     };
     let left = step(node, by, spot, &mut positions)?;
     Ok(TreeStep { positions, left })
-}
-
-/// Returns the places from `low` on and below `high`.
-///
-/// # Errors
-///
-/// Returns `AllocError` if memory runs out.
-pub fn marks_between(
-    alloc: Global,
-    marks: &[usize],
-    low: usize,
-    high: usize,
-) -> Result<Vec<usize>, AllocError>
-    requires rising { IsRising marks.now }
-    requires order { low ≤ high }
-    ensures rising { IfOk result (λ own. IsRising own.items) }
-    ensures has { IfOk result (λ own. (q : ℕ) → low ≤ q → q < high →
-        Has own.items q ↔ Has marks.now q) }
-{
-    let from = first_from(marks, low);
-    let to = first_from(marks, high);
-    Vec::from_slice(alloc, &marks[from..to])
 }

@@ -1,57 +1,35 @@
-//! Steps on several trees, whose places stand one after another. `logos_automaton` calls it for the
-//! key of each state that it meets.
+//! Steps on several trees, whose positions are numbered consecutively. `logos_automaton` calls it
+//! for the key of each state.
 
 ghost use Rattle.std.specs.Prelude.{◌≡◌, ◌∷◌, ◌++◌, ◌^◌, ◌<◌, ◌≤◌, ◌+◌, ◌-◌, ℕ, [], IsTrue, IsFalse, IfOk, OnOk, length, map, slice_index, if◌then◌else◌};
 ghost use Rattle.logos_positions.specs.Views.{IsRising, Has, HasBetween, width_of, test_at, core_of, AreMeasured, ReadBy, LeftBy, AreStarts};
 
-use crate::node::{Node, TreeSpot, width};
+use crate::node::{Node, TreeSpot};
 use crate::positions::exits::exits;
 use crate::positions::look::Context;
 use crate::positions::set::first_from;
 use crate::positions::step::{ReadByte, step};
 use std::alloc::{AllocError, Global};
 
-/// Several trees, whose places stand one after another.
+/// Several trees, whose positions are numbered consecutively.
 #[derive(Clone, Copy)]
 pub struct Forest<'n> {
     /// The trees.
     pub nodes: &'n [Node],
-    /// Where the places of each tree begin, and where those of the last tree end.
+    /// The first position of each tree, and the position after the last tree.
     pub starts: &'n [usize],
 }
 
 /// The step of several trees by a byte.
 #[derive(Drop)]
 pub struct JointStep {
-    /// The places that read the byte, ascending.
+    /// The positions that read the byte, ascending.
     pub positions: Vec<usize>,
     /// The numbers of the trees that can be left before the byte, ascending.
     pub left: Vec<usize>,
 }
 
-/// Returns where the places of each tree begin, and where those of the last tree end.
-///
-/// # Errors
-///
-/// Returns `AllocError` if memory runs out.
-pub fn starts_of(alloc: Global, nodes: &[Node]) -> Result<Vec<usize>, AllocError>
-    requires fits { width_of (map core_of nodes.now) < 2 ^ 64 }
-    requires measured { AreMeasured nodes.now }
-    ensures { IfOk result (λ starts. AreStarts nodes.now starts.items) }
-{
-    let mut starts = Vec::new(alloc);
-    let mut base = 0;
-    let mut number = 0;
-    while number < nodes.len() {
-        starts.push(base)?;
-        base += width(&nodes[number]);
-        number += 1;
-    }
-    starts.push(base)?;
-    Ok(starts)
-}
-
-/// Returns the number of the tree, from `from` on, that has the place.
+/// Returns the number of the tree, from `from` on, that has the position.
 fn tree_at(starts: &[usize], from: usize, position: usize) -> usize
     requires some { from + 1 < length starts.now }
     requires low { slice_index starts.now from ≤ position }
@@ -74,7 +52,7 @@ fn tree_at(starts: &[usize], from: usize, position: usize) -> usize
     low
 }
 
-/// Returns the number of the first tree from `from` on that is entered or has a place, or the
+/// Returns the number of the first tree from `from` on that is entered or has a position, or the
 /// number of trees if there is none.
 pub fn next_tree(starts: &[usize], marks: &[usize], entered: bool, from: usize) -> usize
     requires rising { IsRising marks.now }
@@ -116,7 +94,7 @@ fn note(numbers: &mut Vec<usize>, number: usize, is_one: bool) -> Result<(), All
     Ok(())
 }
 
-/// Makes the step of each tree by a byte, where all trees are entered or none is.
+/// Makes the step of each tree by a byte, where all trees are entered or none are.
 ///
 /// # Errors
 ///
@@ -155,7 +133,7 @@ pub fn step_all(
     Ok(JointStep { positions, left })
 }
 
-/// Returns the numbers of the trees that can be left at this place, ascending.
+/// Returns the numbers of the trees that can be left at this point, ascending.
 ///
 /// # Errors
 ///

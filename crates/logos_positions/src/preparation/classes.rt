@@ -1,5 +1,5 @@
-//! Classes of bytes as ranges, two of them joined to one. `prepare` asks for it where it puts two
-//! trees beside each other.
+//! Classes of bytes as ranges, and the union of two classes. `prepare` calls it where it makes the
+//! choice of two trees.
 
 ghost use Rattle.std.specs.Prelude.{◌≡◌, ◌+◌, ◌<◌, ◌≤◌, ◌||◌, ℕ, IsTrue, IfOk, IfSome, OnOk, length, max, min, slice_get};
 ghost use Rattle.logos_positions.specs.Views.{is_in, pairs, byte_in, AreNear, IsEither, is_within, core_of};
@@ -8,14 +8,14 @@ use crate::node::Node;
 use logos_hir::hir::Range;
 use std::alloc::{AllocError, Global};
 
-/// Returns whether no byte lies between the ranges.
+/// Returns whether no byte is between the ranges.
 fn are_near(one: Range, other: Range) -> bool
     ensures { IsTrue result → AreNear one other }
 {
     one.first <= other.last.saturating_add(1) && other.first <= one.last.saturating_add(1)
 }
 
-/// Returns the least range that has both.
+/// Returns the smallest range that contains both.
 fn hull(one: Range, other: Range) -> Range
     ensures first { result.first ≡ min one.first other.first }
     ensures last { result.last ≡ max one.last other.last }
@@ -42,7 +42,7 @@ fn near_range(ranges: &[Range], range: Range) -> usize
     i
 }
 
-/// Adds a range to a class, whose ranges stay few.
+/// Adds a range to a class, and merges it with the ranges near it.
 ///
 /// # Errors
 ///
@@ -60,7 +60,7 @@ fn add_range(ranges: &mut Vec<Range>, range: Range) -> Result<(), AllocError>
     Ok(())
 }
 
-/// Returns the ranges of a class that has the bytes of two classes.
+/// Returns the ranges of the union of two classes.
 ///
 /// # Errors
 ///
@@ -86,8 +86,7 @@ fn ranges_of(node: &Node) -> Option<&[Range]>
     }
 }
 
-/// Returns the ranges of a class that has the bytes of both trees, or `None` if one of them is not
-/// a class of bytes.
+/// Returns the ranges of the union of both trees, or `None` if one of them is not a class of bytes.
 ///
 /// # Errors
 ///

@@ -1,5 +1,5 @@
-//! Turns the elements of a bracket into the sets that they stand for. The stack of brackets calls
-//! it for each element.
+//! Turns the elements of a bracket into the sets that they denote. The stack of brackets calls it
+//! for each element.
 
 ghost use Rattle.std.specs.Prelude.{◌≡◌, ◌==◌, ◌∷◌, [], IfOk, IfSome, OnOk};
 ghost use Rattle.logos_syntax.specs.Imports.{pairs, only_chars, members, union, in_range, code_of, set_of, last_of, case_closure, set_or_complement, item_test, is_negated, item_set, lead_set, symbol_fits, item_fits, combination};
@@ -21,8 +21,7 @@ fn last_of(flags: Flags) -> char
     if flags.unicode { char::MAX } else { '\u{FF}' }
 }
 
-/// Returns the set itself, or if `i` is on the set with all that differs from a member in case
-/// alone.
+/// Returns the set. If `i` is on, it also contains the other cases of all members.
 pub(crate) fn case_closure(
     alloc: Global,
     flags: Flags,
@@ -109,8 +108,8 @@ fn item_set(alloc: Global, flags: Flags, item: BracketItem) -> Result<RangeSet, 
     set_or_complement(flags, is_negated(item), same_letters)
 }
 
-/// Returns the ends of an element whose set is one range that needs no work: a character, a byte or
-/// a range while `i` is off.
+/// Returns the ends of an element whose set is one range and needs no case folding: a character, a
+/// byte or a range while `i` is off.
 fn plain_ends(flags: Flags, item: BracketItem) -> Option<(u32, u32)>
     ensures { IfSome result (λ ends. item_set flags item ≡ members (ends ∷ [])) }
 {
@@ -169,8 +168,8 @@ pub(crate) fn lead_ranges(alloc: Global, lead: Lead) -> Result<Vec<Range>, Alloc
     }
 }
 
-/// Returns whether the symbol is allowed under the flags: if the pattern matches bytes, a character
-/// must be ASCII.
+/// Returns whether the flags allow the symbol. If the pattern matches bytes, a character must be
+/// ASCII.
 fn symbol_fits(flags: Flags, symbol: Symbol) -> bool
     ensures { result ≡ symbol_fits flags symbol }
 {
@@ -180,8 +179,8 @@ fn symbol_fits(flags: Flags, symbol: Symbol) -> bool
     }
 }
 
-/// Returns whether the element is allowed under the flags: if the pattern matches bytes, its
-/// characters must be ASCII, and it must not be a property.
+/// Returns whether the flags allow the element. If the pattern matches bytes, its characters must
+/// be ASCII, and it must not be a property.
 pub(crate) fn item_fits(flags: Flags, item: BracketItem) -> bool
     ensures { result ≡ item_fits flags item }
 {

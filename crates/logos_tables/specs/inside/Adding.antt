@@ -6,24 +6,24 @@ use Rattle.logos_reduce.specs.Rows.{rows_at}
 use Rattle.logos_tables.specs.Layout.{AreClasses, AreRows, Hold, Tables, by_classes, spread}
 use Rattle.logos_tables.specs.Texts.{Sizes, joined, made_texts, numbers_texts, tables_text}
 
--- A text is appended to by these texts, and by nothing else.
+-- Exactly these texts are appended to a text.
 pub record Appends (texts : List (List ℕ)) (old new : List ℕ) : Type 0 where
   pub is : new ≡ old ++ joined texts
 
--- A text is appended to by the constants that the runtime makes of tables with these numbers of
--- states and of runs, and by nothing else.
+-- Exactly the constants that the runtime computes from tables with these numbers of states and of
+-- runs are appended to a text.
 pub record AppendsNumbers (states runs : ℕ) (old new : List ℕ) : Type 0 where
   pub sizes : Sizes
   pub appends : Appends (numbers_texts states runs sizes) old new
 
--- A text is appended to by tables that hold what the code does, and by nothing else.
+-- Exactly the tables that hold the steps of the code are appended to a text.
 pub record AppendsMade (code : CodeValue) (old new : List ℕ) : Type 0 where
   pub tables : Tables
   pub sizes : Sizes
   pub hold : Hold code tables
   pub appends : Appends (made_texts code tables sizes) old new
 
--- A text is appended to by the implementation with such tables, and by nothing else.
+-- Exactly the implementation with such tables is appended to a text.
 pub record AppendsTables (code : CodeValue) (old new : List ℕ) : Type 0 where
   pub tables : Tables
   pub sizes : Sizes

@@ -1,19 +1,19 @@
-//! What is known of a fault where it is found. The crates that read a source add it to the fault.
-//! Reports, helps and messages match on it, so that none of them reads the text of a fault.
+//! Details of a fault, recorded where it is found by the crates that read a source. Reports, helps
+//! and messages match on them, so that none of them parses the text of a fault.
 
 use crate::token::Span;
 use logos_lexeme::lexeme::LexicalKind;
 
-/// What is known of a fault beside its code, its text and its spans.
+/// A detail of a fault, in addition to its code, its text and its spans.
 #[derive(Clone, Copy, Debug)]
 pub enum Detail {
-    /// Nothing.
+    /// No detail.
     Plain,
     /// Why a source cannot be cut into tokens.
     Lexical(LexicalKind),
     /// Why a text is not a pattern, and where.
     Pattern(PatternDetail),
-    /// The unknown argument is one of the option `error`, not one of a pattern.
+    /// The unknown argument belongs to the option `error`, not to a pattern.
     ErrorArgument,
     /// A leaf of an ambiguous set. The faults of a set are neighbors, in the order of its leaves.
     Ambiguous {
@@ -28,14 +28,14 @@ pub enum Detail {
 #[derive(Clone, Copy, Debug)]
 pub struct PatternDetail {
     pub kind: PatternKind,
-    /// The byte offset of the fault in the text of the pattern, with all subpatterns put in.
+    /// The byte offset of the fault in the text of the pattern, with all subpatterns substituted.
     pub at: usize,
     /// The bytes of that text from `at` on.
     pub front: PatternFront,
     pub origin: ByteOrigin,
 }
 
-/// The first bytes from a point of a text on. Each is 0 where the text has ended.
+/// The first bytes of a text from an offset on. Each byte after the end of the text is 0.
 #[derive(Clone, Copy, Debug)]
 pub struct PatternFront {
     pub first: u8,
@@ -44,14 +44,14 @@ pub struct PatternFront {
     pub fourth: u8,
 }
 
-/// Where a byte of a pattern's text is written.
+/// The location at which a byte of a pattern's text is written.
 #[derive(Clone, Copy, Debug)]
 pub struct ByteOrigin {
     /// Its byte offset in the text that the pattern's own literal spells; `None` if it belongs to a
     /// subpattern that was put in, or to the group around the text of a subpattern.
     pub own: Option<usize>,
-    /// The span in the source of the name of the first subpattern that was put in front of the
-    /// byte, at its definition; `None` if there is none.
+    /// The span in the source of the name of the first subpattern that was put in before the byte,
+    /// at its definition; `None` if there is none.
     pub put_in: Option<Span>,
 }
 
@@ -74,13 +74,13 @@ pub enum PatternKind {
     FlagUnsupported,
     /// The characters after `(?` are not a flag setting.
     FlagSyntax,
-    /// Look-around, or a group whose name is malformed or occurs before.
+    /// Look-around, or a group whose name is malformed or occurs earlier.
     GroupSyntax,
     /// A backslash comes before a character that it cannot escape.
     EscapeUnknown,
     /// An escape by number has no digits, too few, or characters that are not digits.
     HexSyntax,
-    /// The number of an escape is not that of a Unicode scalar value.
+    /// The number of an escape is not the number of a Unicode scalar value.
     HexNotScalar,
     /// A range begins after its end, or a class is one of its ends.
     ClassRange,
@@ -88,9 +88,9 @@ pub enum PatternKind {
     UnknownProperty,
     /// A property has a value, or is negated by `^`.
     PropertyForm,
-    /// A property, or a character outside ASCII in a bracket, where the pattern matches bytes.
+    /// A property, or a character outside ASCII in a bracket, in a pattern that matches bytes.
     NotInBytes,
-    /// A word boundary where the pattern matches characters.
+    /// A word boundary in a pattern that matches characters.
     UnicodeWordBoundary,
     /// A word boundary is written as `\b{..}`, `\<` or `\>`.
     WordBoundaryForm,

@@ -1,4 +1,4 @@
-//! Holds the tokens of a source in one flat buffer, and gives views of the runs in it.
+//! Holds the tokens of a source in one flat buffer, and provides views of the runs in it.
 
 ghost use Rattle.logos_token.specs.Imports.{props};
 ghost use Rattle.logos_token.specs.Flat.{IsFlat};
@@ -17,7 +17,7 @@ pub struct TokenStream<'s> {
     ghost nested: { IsFlat entries.items } by { Prim.hlevel props },
 }
 
-/// A run of neighbouring token trees: a view of a buffer, which copies nothing.
+/// A run of neighboring token trees: a view of a buffer, which copies nothing.
 #[derive(Clone, Copy)]
 pub struct Tokens<'t, 's> {
     entries: &'t [Entry<'s>],
@@ -28,7 +28,7 @@ pub struct Tokens<'t, 's> {
 #[derive(Clone, Copy)]
 pub struct Group<'t, 's> {
     pub delimiter: Delimiter,
-    /// From the opening delimiter to the closing one.
+    /// The span from the opening delimiter to the closing one.
     pub span: Span,
     inside: Tokens<'t, 's>,
 }
@@ -53,7 +53,7 @@ impl<'s> TokenStream<'s> {
     ghost use Rattle.std.specs.Prelude.{◌≡◌, IfOk};
     ghost use Rattle.logos_token.specs.ViewImports.{identifier, none, also, IsFlat, tokens_in, stream_tokens, tokens_of};
 
-    /// Returns the buffer with these entries.
+    /// Returns a buffer of these entries.
     pub(super) fn from_entries(entries: Vec<Entry<'s>>) -> TokenStream<'s>
         requires { IsFlat entries.items }
         ensures { stream_tokens result ≡ tokens_in entries.entry.items }
@@ -141,7 +141,7 @@ impl<'t, 's> Tokens<'t, 's> {
         }
     }
 
-    /// Returns the trees after the first one. An empty run stays empty.
+    /// Returns the trees after the first one. The rest of an empty run is empty.
     pub fn rest(self) -> Tokens<'t, 's>
         ensures { tokens_of result ≡ rest_of (tokens_of self.entry) }
     {

@@ -9,11 +9,11 @@ abbrev pub slot_in : {X : Type 0} → List (Bor (List ℕ) × X) → List ℕ �
 slot_in [] text = None
 slot_in (e ∷ es) text = if bytes_eq text e.0.now then Some 0 else option_map suc (slot_in es text)
 
--- Each text is found by its index among the values.
+-- Each text is mapped to its index among the values.
 abbrev pub ArePlaced : {X : Type 0} → List (Bor (List ℕ) × X) → List (Bor (List ℕ) × ℕ) → Type 0
 ArePlaced es slots = (text : Bor (List ℕ)) → lookup (λ k. bytes_eq text.now k.now) slots ≡ slot_in es text.now
 
--- The values with one more: it replaces the one with its text, or comes after all others.
+-- The values with one more: it replaces the value with its text, or comes after all others.
 abbrev pub put_in : {X : Type 0} → Bor (List ℕ) × X → List (Bor (List ℕ) × X) → List (Bor (List ℕ) × X)
 put_in entry [] = entry ∷ []
 put_in entry (e ∷ es) = if bytes_eq entry.0.now e.0.now then entry ∷ es else e ∷ put_in entry es

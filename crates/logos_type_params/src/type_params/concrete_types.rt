@@ -1,5 +1,5 @@
 //! Finds the types given to the declared parameters, and the generic arguments of the enum. It runs
-//! once, for the type of the enum.
+//! once, for the enum's own type.
 
 ghost use Rattle.std.specs.Prelude.{◌≡◌, ◌++◌, ◌∷◌, [], map, IfOk, OnOk, option_map, OnErr};
 ghost use Rattle.logos_type_params.specs.Views.{type_tree, named_of, given_of, type_of, generics_of, no_concrete_type, and_type, and_fault, concrete_types, missing_types, between_brackets, CopiesName, value_of, type_at, generics};
@@ -16,13 +16,13 @@ use std::collections::HashSet;
 /// The generic arguments that follow the enum's name, in angle brackets.
 #[derive(Drop)]
 pub struct Generics<'s> {
-    /// Whether `'s` is the first of them.
+    /// Whether `'s` is the first argument.
     pub lifetime: bool,
     /// The types of the declared parameters, in order of declaration.
     pub types: Vec<TypeExpr<'s>>,
 }
 
-/// Copies the type given to a name. `None` if none is.
+/// Copies the type given to a name. Returns `None` if the name has no type.
 fn copy_given<'s>(types: &GivenTypes<'s>, text: &str) -> Result<Option<TypeExpr<'s>>, Memory>
     ensures { IfOk result (λ copy. option_map type_tree copy ≡
         type_of (map given_of types.now.entries.items) text.now) }
@@ -50,7 +50,7 @@ fn copy_concrete<'s>(
     copy_given(types, name.text)
 }
 
-/// Reports that no type is given to a declared name.
+/// Reports that a declared name has no type.
 fn report_missing(name: Ident<'_>, errors: &mut Errors) -> Result<(), Memory>
     ensures { OnOk result (errors.new ≡ errors.old ++ no_concrete_type (named_of name.entry) ∷ []) }
 {
@@ -63,7 +63,7 @@ fn report_missing(name: Ident<'_>, errors: &mut Errors) -> Result<(), Memory>
     )
 }
 
-/// Adds the type of a declared name, or reports that it has none.
+/// Adds the type of a declared name, or reports that the name has none.
 fn add_or_report<'s>(
     found: Option<TypeExpr<'s>>,
     name: Ident<'s>,
@@ -115,8 +115,8 @@ fn bracketed<'s>(lifetime: bool, types: Vec<TypeExpr<'s>>) -> Option<Generics<'s
 }
 
 impl<'s> TypeParams<'s> {
-    /// Returns a copy of the type given to the parameter that this path names. `None` if the path
-    /// is more than a name, or if no type is given to the name.
+    /// Returns a copy of the type given to the parameter that this path names. Returns `None` if
+    /// the path is more than a name, or if the name has no type.
     ///
     /// # Errors
     ///
@@ -132,9 +132,9 @@ impl<'s> TypeParams<'s> {
     }
 
     /// Returns the generic arguments that follow the enum's name: `'s` if a lifetime is declared,
-    /// and then the types given to the declared parameters, in order of declaration. `None` if
-    /// there are none. Reports a parameter without a type as `NoConcreteType` at its declaration,
-    /// and leaves it out; a name that is declared twice counts once.
+    /// and then the types given to the declared parameters, in order of declaration. Returns `None`
+    /// if there are none. Reports a parameter without a type as `NoConcreteType` at its
+    /// declaration, and leaves it out. A name that is declared twice counts once.
     ///
     /// # Errors
     ///

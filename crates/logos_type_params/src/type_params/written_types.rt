@@ -1,4 +1,4 @@
-//! Replaces parameters in written types, and finds the names that are left in place there. It runs
+//! Replaces parameters in written types, and finds the names that are not replaced in them. It runs
 //! for each field, once all types are given.
 
 ghost use Rattle.std.specs.Prelude.{◌≡◌, ◌++◌, ◌∷◌, [], map, IfOk, OnOk, OnErr};
@@ -14,7 +14,7 @@ use logos_type::TypeExpr;
 use logos_type_reader::{TYPE_NESTING, TypeFault};
 use std::collections::HashSet;
 
-/// Adds a name if it holds itself.
+/// Adds a name if its type contains it.
 fn add_held<'s>(
     chains: &Chains<'_, 's>,
     text: &'s str,
@@ -29,8 +29,8 @@ fn add_held<'s>(
     Ok(())
 }
 
-/// Copies the type as it is written, and reports at this span that it passes the limit. After an
-/// error the faults are unchanged.
+/// Copies the type as written, and reports at this span that its replacement exceeds the limit.
+/// After an error the faults are unchanged.
 fn leave_written<'s>(
     written: &TypeExpr<'s>,
     span: Span,
@@ -46,8 +46,8 @@ fn leave_written<'s>(
 }
 
 impl<'s> TypeParams<'s> {
-    /// Returns the names of the parameters whose types lead back to them. `get_type` leaves these
-    /// in place. This takes time linear in the sizes of all types.
+    /// Returns the names of the parameters whose types lead back to them. `get_type` does not
+    /// replace these names. This takes time linear in the sizes of all types.
     ///
     /// # Errors
     ///
@@ -63,9 +63,9 @@ impl<'s> TypeParams<'s> {
         Ok(held)
     }
 
-    /// Returns a written type with its declared parameters replaced by the types given to them, but
-    /// for the names in `held`, and with its lifetimes set to `'s`. If too many types stand inside
-    /// one another then, reports `LimitTypeNesting` at this span and returns the type as it is
+    /// Returns a written type with its declared parameters replaced by the types given to them,
+    /// except for the names in `held`, and with its lifetimes set to `'s`. If too many types are
+    /// nested in the result, reports `LimitTypeNesting` at this span and returns the type as
     /// written.
     ///
     /// # Errors

@@ -1,4 +1,4 @@
--- The rows of the table in terms of the tokens that are left.
+-- The rows of the table as functions of the tokens at the spot.
 use Rattle.std.specs.Prelude.{◌≡◌, ℕ, List, [], Bool, true, false, Option, Some, None, Result, Ok, Err}
 use Rattle.std.specs.Str.{bytes_eq}
 use Rattle.logos_lexeme.specs.declared.lexeme.Span.{Span}
@@ -18,7 +18,7 @@ use Rattle.logos_type_reader.specs.declared.table.stage.StepFault.TheVariants as
 use Rattle.logos_type_reader.specs.Table.{Spot, Move, ends, takes, bars, needs, keeps_type, keeps, nests, stops, First, starts, refused, first_span, unsupported, mismatch, mismatches, to, opens, closes, after_two, after_three}
 use Rattle.logos_type.specs.Parts.{Sign, word, mark, colons, arrow, value, opening, reference, lifetime, other_lifetime}
 
--- A run begins so.
+-- A run begins with this token.
 abbrev pub Looks : FrontToken → TokenList → Type 0
 Looks look.Nothing run = run ≡ none
 Looks look.Word run = (text : List ℕ) × (span : Span) × (rest : TokenList) × (run ≡ also (identifier text span) rest)
@@ -27,7 +27,7 @@ Looks look.Literal run = (text : List ℕ) × (span : Span) × (rest : TokenList
 Looks look.Doc run = (text : List ℕ) × (span : Span) × (rest : TokenList) × (run ≡ also (doc text span) rest)
 Looks (look.Group delimiter) run = (span : Span) × (inside : TokenList) × (rest : TokenList) × (run ≡ also (group delimiter span inside) rest)
 
--- Whether this name comes first.
+-- Whether the run begins with this name.
 abbrev pub begins_word : List ℕ → TokenList → Bool
 begins_word wanted (also (identifier text span) rest) = bytes_eq text wanted
 begins_word wanted run = false
@@ -52,7 +52,7 @@ lead_sign lead.Lifetime run = lifetime (first_text (rest_of run))
 lead_sign lead.OtherLifetime run = other_lifetime (first_text (rest_of run))
 lead_sign (lead.Group delimiter) run = opening delimiter
 
--- The run after that token.
+-- The run after the tokens that a lead takes.
 abbrev pub after_lead : Prefix → TokenList → TokenList
 after_lead lead.Colons run = after_two run
 after_lead lead.Arrow run = after_two run
@@ -62,12 +62,12 @@ after_lead lead.Lifetime run = rest_of (rest_of run)
 after_lead lead.OtherLifetime run = rest_of (rest_of run)
 after_lead other run = rest_of run
 
--- The group is opened; only one can be open at a time.
+-- Opens the group at the start of the run. Only one group can be open at a time.
 abbrev pub opens_first : Stage → TokenList → Option TokenList → Move
 opens_first stage (also (group delimiter span inside) rest) outside = opens delimiter span stage inside rest outside
 opens_first stage run outside = mismatches run
 
--- The next step for an action and the run that is left.
+-- The next step for an action and the tokens at the spot.
 abbrev pub acts : TableEntry → TokenList → Option TokenList → Move
 acts action.End run outside = ends
 acts (action.Take l stage) run outside = takes (lead_sign l run) (to stage (after_lead l run) outside)
@@ -110,17 +110,17 @@ IsAction (Ok action) spot next = next ≡ acts action spot.run spot.outside
 IsAction (Err (stop.Unsupported span)) spot next = next ≡ stops (unsupported span)
 IsAction (Err (stop.Mismatch span)) spot next = next ≡ stops (mismatch span)
 
--- The group with which a type begins is opened.
+-- Opens the group at the start of a type.
 abbrev pub opens_type : Stage → TokenList → First
 opens_type stage (also (group delimiter span inside) rest) = starts false (opening delimiter) (to stage inside (Some rest))
 opens_type stage run = refused (mismatch (first_span run))
 
--- The beginning of a type that begins so.
+-- The beginning of a type that begins in this way.
 abbrev pub begun : FirstEntry → TokenList → First
 begun (start.Lead barred l stage) run = starts barred (lead_sign l run) (to stage (after_lead l run) None)
 begun (start.Open stage) run = opens_type stage run
 
--- The same for the first token.
+-- The entry leads to this first token.
 abbrev pub IsStart : Result FirstEntry StepFault → TokenList → First → Type 0
 IsStart (Ok found) run first = first ≡ begun found run
 IsStart (Err (stop.Unsupported span)) run first = first ≡ refused (unsupported span)

@@ -1,4 +1,4 @@
-//! Turns an action into the next step, with the tokens that are left.
+//! Turns an action into the next step, with the tokens after it. `table` calls it for each action.
 
 ghost use Rattle.std.specs.Prelude.{◌≡◌, Ok};
 ghost use Rattle.logos_type_reader.specs.Views.{tokens_of, inside_of, sign_of, opens, closes, keeps, to, outside_of, spot_of, IsFirst, IsStep, lead_sign, after_lead, opens_first, opens_type, acts, begun};
@@ -11,7 +11,7 @@ use crate::table::tokens::{first_span, first_text};
 use logos_token::token::{Delimiter, Group, TokenTree, Tokens};
 use logos_type::TypeToken;
 
-/// Returns the token that a lead takes from the front of a run.
+/// Returns the token that `lead` takes from the front of a run.
 fn lead_leaf<'s>(lead: Prefix, run: Tokens<'_, 's>) -> TypeToken<'s>
     ensures { sign_of result ≡ lead_sign lead (tokens_of run.entry) }
 {
@@ -30,7 +30,7 @@ fn lead_leaf<'s>(lead: Prefix, run: Tokens<'_, 's>) -> TypeToken<'s>
     }
 }
 
-/// Returns the run after that token.
+/// Returns the run after the tokens that `lead` takes.
 fn after_lead<'t, 's>(lead: Prefix, run: Tokens<'t, 's>) -> Tokens<'t, 's>
     ensures { tokens_of result ≡ after_lead lead (tokens_of run.entry) }
 {
@@ -64,7 +64,7 @@ fn open<'t, 's>(
     Ok(TypeStep::Take(TypeToken::Open(group.delimiter), inner))
 }
 
-/// Returns the step that opens the group which comes first.
+/// Returns the step that opens the group at the start of the run.
 fn open_first<'t, 's>(
     stage: Stage,
     run: Tokens<'t, 's>,
@@ -79,7 +79,7 @@ fn open_first<'t, 's>(
     }
 }
 
-/// Returns the step that closes the group, and goes on at `place` after it.
+/// Returns the step that closes the group, and continues at `stage` after it.
 fn close<'t, 's>(delimiter: Delimiter, stage: Stage, outside: Outside<'t, 's>) -> TypeStep<'t, 's>
     ensures { IsStep (Ok result) (closes delimiter stage (outside_of outside.entry)) }
 {
@@ -94,8 +94,8 @@ fn close<'t, 's>(delimiter: Delimiter, stage: Stage, outside: Outside<'t, 's>) -
     TypeStep::Take(TypeToken::Close(delimiter), after)
 }
 
-/// Returns the step that takes all tokens of the run without reading types in them, and goes on at
-/// `place`.
+/// Returns the step that takes all tokens of the run without reading types in them, and continues
+/// at `stage`.
 fn keep<'t, 's>(stage: Stage, run: Tokens<'t, 's>, outside: Outside<'t, 's>) -> TypeStep<'t, 's>
     ensures { IsStep (Ok result)
         (keeps (tokens_of run.entry) (to stage none (outside_of outside.entry))) }
@@ -108,7 +108,7 @@ fn keep<'t, 's>(stage: Stage, run: Tokens<'t, 's>, outside: Outside<'t, 's>) -> 
     TypeStep::Keep(run, after)
 }
 
-/// Returns the spot after a lead.
+/// Returns the spot at `stage` after the tokens that `lead` takes.
 fn after<'t, 's>(
     lead: Prefix,
     stage: Stage,
@@ -125,7 +125,7 @@ fn after<'t, 's>(
     }
 }
 
-/// Returns the next step for an action and the run that is left.
+/// Returns the next step for an action and the tokens at the spot.
 pub(super) fn act<'t, 's>(
     action: TableEntry,
     run: Tokens<'t, 's>,
@@ -152,7 +152,7 @@ pub(super) fn act<'t, 's>(
     }
 }
 
-/// Returns the group with which a type begins, and the spot inside it.
+/// Returns the group at the start of a type, and the spot inside it.
 fn open_type<'t, 's>(stage: Stage, run: Tokens<'t, 's>) -> Result<Beginning<'t, 's>, StepFault>
     ensures { IsFirst result (opens_type stage (tokens_of run.entry)) }
 {
@@ -171,7 +171,7 @@ fn open_type<'t, 's>(stage: Stage, run: Tokens<'t, 's>) -> Result<Beginning<'t, 
     })
 }
 
-/// Returns the first token of a type that begins so.
+/// Returns the first token of a type with the beginning `start`.
 pub(super) fn begin_by<'t, 's>(
     start: FirstEntry,
     run: Tokens<'t, 's>,

@@ -1,4 +1,4 @@
-//! Bounds, and the lifetimes in `for<..>`.
+//! The steps in bounds, and at the lifetimes in `for<..>`. `table` calls one for each stage.
 
 ghost use Rattle.std.specs.Prelude.{◌≡◌};
 ghost use Rattle.logos_type_reader.specs.Views.{rest_of, tokens_of, after_bound, bound_lifetime_move, trait_move, question_move, bound_move, bound_end_move, further_move, enclosed_end_move, after_for, for_move, for_lifetime_move, for_list_move, for_end_move, path_move, OfBound, outside_of, spot_of, IsAction};
@@ -10,7 +10,7 @@ use crate::table::stage::{
 use crate::table::tokens::{begins_bound, begins_word, look, mismatch, mismatch_after};
 use logos_token::token::Delimiter;
 
-/// Returns the spot after a bound.
+/// Returns the stage after a bound.
 fn after_bound(kind: BoundKind) -> Stage
     ensures { result ≡ after_bound kind }
 {
@@ -20,7 +20,7 @@ fn after_bound(kind: BoundKind) -> Stage
     }
 }
 
-/// Returns the step at `'` where a bound stands.
+/// Returns the step at `'` where a bound is expected.
 fn bound_lifetime_step(plus: bool, at: &Spot<'_, '_>) -> Next
     ensures { IsAction result (spot_of at.now)
         (bound_lifetime_move plus (rest_of (tokens_of at.now.run)) (outside_of at.now.outside)) }
@@ -31,7 +31,7 @@ fn bound_lifetime_step(plus: bool, at: &Spot<'_, '_>) -> Next
     }
 }
 
-/// Returns the step where the path of a bound stands, perhaps after `for<..>`.
+/// Returns the step where the path of a bound is expected, with an optional `for<..>` before it.
 pub(super) fn trait_step(kind: BoundKind, at: &Spot<'_, '_>) -> Next
     ensures { IsAction result (spot_of at.now)
         (trait_move kind (tokens_of at.now.run) (outside_of at.now.outside)) }
@@ -44,7 +44,7 @@ pub(super) fn trait_step(kind: BoundKind, at: &Spot<'_, '_>) -> Next
     }
 }
 
-/// Returns the step where the path of a bound stands, after `for<..>`.
+/// Returns the step where the path of a bound is expected, after `for<..>`.
 pub(super) fn trait_path_step(kind: BoundKind, at: &Spot<'_, '_>) -> Next
     ensures { IsAction result (spot_of at.now)
         (path_move OfBound (after_bound kind) (tokens_of at.now.run)) }
@@ -52,7 +52,7 @@ pub(super) fn trait_path_step(kind: BoundKind, at: &Spot<'_, '_>) -> Next
     path_step(PathKind::OfBound, after_bound(kind), at)
 }
 
-/// Returns the step where a `?` can stand before the path of a bound.
+/// Returns the step where a `?` is allowed before the path of a bound.
 pub(super) fn question_step(kind: BoundKind, at: &Spot<'_, '_>) -> Next
     ensures { IsAction result (spot_of at.now)
         (question_move kind (tokens_of at.now.run) (outside_of at.now.outside)) }
@@ -63,7 +63,7 @@ pub(super) fn question_step(kind: BoundKind, at: &Spot<'_, '_>) -> Next
     }
 }
 
-/// Returns the step where a bound stands.
+/// Returns the step where a bound is expected.
 pub(super) fn bound_step(plus: bool, at: &Spot<'_, '_>) -> Next
     ensures { IsAction result (spot_of at.now)
         (bound_move plus (tokens_of at.now.run) (outside_of at.now.outside)) }
@@ -110,7 +110,7 @@ pub(super) fn enclosed_end_step(plus: bool, at: &Spot<'_, '_>) -> Next
     }
 }
 
-/// Returns the spot after `for<..>`.
+/// Returns the stage after `for<..>`.
 fn after_for(binder: Binder) -> Stage
     ensures { result ≡ after_for binder }
 {
@@ -144,7 +144,7 @@ fn for_lifetime_step(binder: Binder, at: &Spot<'_, '_>) -> Next
     }
 }
 
-/// Returns the step in `for<..>`, where a lifetime may stand.
+/// Returns the step in `for<..>` where a lifetime is allowed.
 pub(super) fn for_list_step(binder: Binder, at: &Spot<'_, '_>) -> Next
     ensures { IsAction result (spot_of at.now)
         (for_list_move binder (tokens_of at.now.run) (outside_of at.now.outside)) }

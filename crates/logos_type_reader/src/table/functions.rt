@@ -1,4 +1,4 @@
-//! Function types.
+//! The steps in function types. `table` calls one for each stage.
 
 ghost use Rattle.logos_type_reader.specs.Views.{tokens_of, linked_move, unsafe_move, qualified_move, extern_move, function_move, taken_value, taken_move, typed_move, one_taken_move, variadic_move, variadic_end_move, outside_of, spot_of, IsAction};
 
@@ -70,7 +70,7 @@ pub(super) fn function_step(at: &Spot<'_, '_>) -> Next
     }
 }
 
-/// Returns the step where the type of a parameter begins, or `...`.
+/// Returns the step where the type of a parameter or `...` is expected.
 pub(super) fn taken_value_step(at: &Spot<'_, '_>) -> Next
     ensures { IsAction result (spot_of at.now)
         (taken_value (tokens_of at.now.run) (outside_of at.now.outside)) }

@@ -1,4 +1,4 @@
-//! References, pointers, groups, and `<T as P>`.
+//! The steps in references, pointers, groups, and `<T as P>`. `table` calls one for each stage.
 
 ghost use Rattle.logos_type_reader.specs.Views.{tokens_of, referent_move, pointer_move, list_move, list_end_move, element_end_move, length_move, self_end_move, self_trait_end_move, self_closed_move, outside_of, spot_of, IsAction};
 
@@ -33,7 +33,7 @@ pub(super) fn pointer_step(at: &Spot<'_, '_>) -> Next
     }
 }
 
-/// Returns the step in parentheses, where a type may begin.
+/// Returns the step in parentheses where a type is allowed.
 pub(super) fn tuple_step(at: &Spot<'_, '_>) -> Next
     ensures { IsAction result (spot_of at.now)
         (list_move (tokens_of at.now.run) (outside_of at.now.outside)) }

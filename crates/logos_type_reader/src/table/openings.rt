@@ -1,4 +1,4 @@
-//! The beginnings of types.
+//! The steps at the beginnings of types. The reader of types calls `begin` for each type.
 
 ghost use Rattle.std.specs.Prelude.{◌≡◌, Some, None, MatchOption};
 ghost use Rattle.logos_type_reader.specs.Views.{rest_of, tokens_of, first_span, reference_first, reference_lifetime_first, word_stage, word_first, mark_first, begin, is_reserved, name_of, IsFirst, first_text, IsStart};
@@ -10,7 +10,7 @@ use crate::table::stage::{
 use crate::table::tokens::{begins_colons, begins_mark, first_span, first_text, goes_on, look};
 use logos_token::token::{Delimiter, Tokens};
 
-/// Returns the step at `&`, with which a type begins.
+/// Returns the step at `&` at the start of a type.
 fn reference_first(run: Tokens<'_, '_>) -> First
     ensures { IsStart result (tokens_of run.entry)
         (reference_first (rest_of (tokens_of run.entry))) }
@@ -21,7 +21,7 @@ fn reference_first(run: Tokens<'_, '_>) -> First
     }
 }
 
-/// Returns the step at `&'`, with which a type begins.
+/// Returns the step at `&'` at the start of a type.
 fn reference_lifetime(run: Tokens<'_, '_>) -> First
     ensures { IsStart result (tokens_of run.entry)
         (reference_lifetime_first (rest_of (rest_of (tokens_of run.entry)))) }
@@ -33,7 +33,7 @@ fn reference_lifetime(run: Tokens<'_, '_>) -> First
     }
 }
 
-/// Returns the spot after the word with which a type begins.
+/// Returns the stage after the word at the start of a type.
 fn word_stage(plus: bool, text: &str) -> Stage
     ensures { result ≡ word_stage plus text.now }
 {
@@ -55,7 +55,7 @@ fn word_stage(plus: bool, text: &str) -> Stage
     Stage::Named(PathKind::Plain)
 }
 
-/// Returns the step at the word with which a type begins.
+/// Returns the step at the word at the start of a type.
 fn word_first(plus: bool, run: Tokens<'_, '_>) -> First
     ensures { IsStart result (tokens_of run.entry)
         (word_first plus (first_text (tokens_of run.entry)) (first_span (tokens_of run.entry))
@@ -68,7 +68,7 @@ fn word_first(plus: bool, run: Tokens<'_, '_>) -> First
     Ok(FirstEntry::Lead(text == "impl", Prefix::Word, word_stage(plus, text)))
 }
 
-/// Returns the step at the punctuation with which a type begins.
+/// Returns the step at the punctuation at the start of a type.
 fn mark_first(mark: char, run: Tokens<'_, '_>) -> First
     ensures { IsStart result (tokens_of run.entry)
         (mark_first mark (first_span (tokens_of run.entry)) (tokens_of run.entry)
@@ -86,7 +86,7 @@ fn mark_first(mark: char, run: Tokens<'_, '_>) -> First
     }
 }
 
-/// Returns how the type begins with which the run begins.
+/// Returns the beginning of the type at the start of the run.
 #[tactic(auto, unfolding(crate::specs::Table::begin))]
 fn start_at(plus: bool, run: Tokens<'_, '_>) -> First
     ensures { IsStart result (tokens_of run.entry) (begin plus (tokens_of run.entry)) }
@@ -100,7 +100,7 @@ fn start_at(plus: bool, run: Tokens<'_, '_>) -> First
     }
 }
 
-/// Returns the first token of a type.
+/// Returns the first token of the type at the start of the run.
 pub(crate) fn begin<'t, 's>(plus: bool, run: Tokens<'t, 's>) -> Result<Beginning<'t, 's>, StepFault>
     ensures { IsFirst result (begin plus (tokens_of run.entry)) }
 {
@@ -118,7 +118,8 @@ fn is_reserved(text: &str) -> bool
         | (((text == "fn") | (text == "unsafe")) | (text == "extern"))
 }
 
-/// Returns the name and the tokens after it if the type is exactly a name.
+/// Returns the name, and the tokens after it, if the type at the start of the tokens is exactly a
+/// name.
 pub(crate) fn read_name<'t, 's>(tokens: Tokens<'t, 's>) -> Option<(&'s str, Tokens<'t, 's>)>
     ensures { MatchOption result (name_of (tokens_of tokens.entry) ≡ None)
         (λ read. (name_of (tokens_of tokens.entry) ≡ Some read.0.now)

@@ -1,4 +1,4 @@
-//! Paths, and their arguments.
+//! The steps in paths and in their arguments. `table` calls one for each stage.
 
 ghost use Rattle.std.specs.Prelude.{◌≡◌};
 ghost use Rattle.logos_type_reader.specs.Views.{rest_of, tokens_of, argued, name_end, segments_move, named_move, macro_move, output_move, inputs_move, input_end_move, colons_move, lifetime_move, argument_word, arguments_move, braced_move, equals_move, constrained_move, argument_end_move, path_move, outside_of, spot_of, first_text, IsAction};
@@ -83,7 +83,7 @@ pub(super) fn output_step(at: &Spot<'_, '_>) -> Next
     Ok(TableEntry::End)
 }
 
-/// Returns the step in the parentheses of a path, where a type may begin.
+/// Returns the step in the parentheses of a path where a type is allowed.
 pub(super) fn inputs_step(at: &Spot<'_, '_>) -> Next
     ensures { IsAction result (spot_of at.now)
         (inputs_move (tokens_of at.now.run) (outside_of at.now.outside)) }
@@ -220,7 +220,7 @@ pub(super) fn argument_end_step(kind: PathKind, at: &Spot<'_, '_>) -> Next
     }
 }
 
-/// Returns the step where a path begins. `next` is the spot after it.
+/// Returns the step where a path begins. `next` is the stage after it.
 pub(super) fn path_step(kind: PathKind, next: Stage, at: &Spot<'_, '_>) -> Next
     ensures { IsAction result (spot_of at.now) (path_move kind next (tokens_of at.now.run)) }
 {

@@ -1,4 +1,5 @@
-//! The spots inside a type, and the steps that can come next there.
+//! The stages inside a type, and the steps that can follow at each. All modules of `table` and the
+//! reader of types use them.
 
 use logos_token::token::{Delimiter, Spacing, Span, Tokens};
 use logos_type::TypeToken;
@@ -6,7 +7,7 @@ use logos_type::TypeToken;
 /// The kinds of paths.
 #[derive(Clone, Copy)]
 pub(crate) enum PathKind {
-    /// A type that has had no arguments yet: it can still be the name of a macro.
+    /// A type that has had no arguments yet, so that it can still be the name of a macro.
     Plain,
     /// A type, or the trait after `as`.
     OfType,
@@ -14,23 +15,23 @@ pub(crate) enum PathKind {
     OfBound,
 }
 
-/// The kinds of spots where a bound stands.
+/// The kinds of positions at which a bound is expected.
 #[derive(Clone, Copy)]
 pub(crate) enum BoundKind {
-    /// In a list. `+` can join another bound if the flag holds.
+    /// In a list. `+` can join another bound if the flag is `true`.
     Listed(bool),
-    /// In parentheses inside such a list.
+    /// In the parentheses of a bound in such a list.
     Enclosed(bool),
 }
 
-/// The constructs that `for<..>` can stand before.
+/// The constructs before which `for<..>` is allowed.
 #[derive(Clone, Copy)]
 pub(crate) enum Binder {
     OfFunction,
     OfTrait(BoundKind),
 }
 
-/// A spot inside a type.
+/// A stage of reading a type: the construct before the spot.
 #[derive(Clone, Copy)]
 pub(crate) enum Stage {
     /// After the last token.
@@ -39,7 +40,7 @@ pub(crate) enum Stage {
     Named(PathKind),
     /// After the arguments of a name.
     Segments(PathKind),
-    /// After `::`. Arguments can follow if the flag holds.
+    /// After `::`. Arguments can follow if the flag is `true`.
     Colons(PathKind, bool),
     /// After `<`, or `,` among arguments.
     Arguments(PathKind),
@@ -61,15 +62,15 @@ pub(crate) enum Stage {
     InputEnd,
     /// After the parentheses of a path or of a function.
     Output,
-    /// After the `<` with which a type begins.
+    /// After the `<` at the start of a type.
     SelfType,
-    /// After the type that follows that `<`.
+    /// After the type that follows the `<` at the start of a type.
     SelfEnd,
     /// After `as`.
     SelfTrait,
     /// After the path that follows `as`.
     SelfTraitEnd,
-    /// After the `>` that ends it.
+    /// After the `>` that ends `<T as P>`.
     SelfClosed,
     /// After `&` and its lifetime.
     Referent,
@@ -85,17 +86,17 @@ pub(crate) enum Stage {
     Element,
     /// After a type in brackets.
     ElementEnd,
-    /// After the `;` that follows it.
+    /// After the `;` of an array.
     Length,
-    /// After the tokens that follow the `;`.
+    /// After the tokens of an array's length.
     LengthEnd,
-    /// Where a bound stands.
+    /// Where a bound is expected.
     Bound(bool),
     /// After the `(` of a bound.
     Question(bool),
-    /// Where the path of a bound stands, perhaps with `for<..>`.
+    /// Where the path of a bound is expected, with an optional `for<..>` before it.
     Trait(BoundKind),
-    /// After that `for<..>`.
+    /// After the `for<..>` of a bound.
     TraitPath(BoundKind),
     /// After a bound.
     BoundEnd(bool),
@@ -107,7 +108,7 @@ pub(crate) enum Stage {
     For(Binder),
     /// After the `<` that follows `for`, or after `,`.
     ForList(Binder),
-    /// After a lifetime there.
+    /// After a lifetime in `for<..>`.
     ForEnd(Binder),
     /// After the `for<..>` of a function.
     Qualified,
@@ -133,10 +134,10 @@ pub(crate) enum Stage {
     VariadicEnd,
 }
 
-/// The tokens after the group that is open, if one is.
+/// The tokens after the open group, if a group is open.
 pub(crate) type Outside<'t, 's> = Option<Tokens<'t, 's>>;
 
-/// A spot inside a type, the tokens that are left there, and, if these are inside a group, the
+/// A spot inside a type: its stage, the tokens after it, and, if these are inside a group, the
 /// tokens after the group.
 #[derive(Clone, Copy)]
 pub(crate) struct Spot<'t, 's> {
@@ -148,20 +149,20 @@ pub(crate) struct Spot<'t, 's> {
 /// The next step at a spot.
 #[derive(Clone, Copy)]
 pub(crate) enum TypeStep<'t, 's> {
-    /// Ends what was begun.
+    /// Ends the construct that was begun.
     End,
     /// Takes this token.
     Take(TypeToken<'s>, Spot<'t, 's>),
-    /// Takes this token, which only types that are not supported have.
+    /// Takes this token, which occurs only in unsupported types.
     Bar(TypeToken<'s>, Spot<'t, 's>),
-    /// Reads a type and goes on at this spot. `+` can join bounds if the flag holds.
+    /// Reads a type and continues at this stage. `+` can join bounds if the flag is `true`.
     Need(bool, Stage),
-    /// Reads a type that is never replaced and goes on at this spot.
+    /// Reads a type that is never replaced and continues at this stage.
     KeepType(Stage),
     /// Takes these tokens without reading types in them.
     Keep(Tokens<'t, 's>, Spot<'t, 's>),
-    /// Takes this token, with which a path or bounds begin, reads these from the spot on, and goes
-    /// on at this spot.
+    /// Takes this token, with which a path or bounds begin, reads the path or bounds from the spot
+    /// on, and continues at the stage.
     Nest(TypeToken<'s>, Spot<'t, 's>, Stage),
 }
 
@@ -172,7 +173,7 @@ pub(crate) enum FrontToken {
     Nothing,
     /// A name.
     Word,
-    /// This character of punctuation, and what stands after it.
+    /// This character of punctuation, and its spacing.
     Mark(char, Spacing),
     /// A literal.
     Literal,
@@ -182,7 +183,7 @@ pub(crate) enum FrontToken {
     Group(Delimiter),
 }
 
-/// The tokens that are taken from the front of a run.
+/// The tokens that a step takes from the front of a run.
 #[derive(Clone, Copy)]
 pub(crate) enum Prefix {
     /// The name.
@@ -209,31 +210,32 @@ pub(crate) enum Prefix {
     Group(Delimiter),
 }
 
-/// What is to be done next. It names no tokens, so it is the same for all runs that begin alike.
+/// The next action. It refers to no tokens, so it is equal for all runs that begin alike.
 #[derive(Clone, Copy)]
 pub(crate) enum TableEntry {
-    /// End what was begun.
+    /// End the construct that was begun.
     End,
-    /// Take this and go on after it at this spot.
+    /// Take these tokens and continue after them at this stage.
     Take(Prefix, Stage),
-    /// Take this, which only types that are not supported have, and go on after it at this spot.
+    /// Take these tokens, which occur only in unsupported types, and continue after them at this
+    /// stage.
     Bar(Prefix, Stage),
-    /// Read a type and go on after it at this spot. `+` can join bounds if the flag holds.
+    /// Read a type and continue after it at this stage. `+` can join bounds if the flag is `true`.
     Need(bool, Stage),
-    /// Read a type that is never replaced and go on after it at this spot.
+    /// Read a type that is never replaced and continue after it at this stage.
     KeepType(Stage),
-    /// Take all tokens without reading types in them and go on at this spot.
+    /// Take all tokens without reading types in them and continue at this stage.
     Keep(Stage),
-    /// Take this, read what begins with it from the first spot on, and go on after it at the
-    /// second spot.
+    /// Take these tokens, read the construct that begins with them from the first stage on, and
+    /// continue after it at the second stage.
     Nest(Prefix, Stage, Stage),
-    /// Open the group and go on inside it at this spot.
+    /// Open the group and continue inside it at this stage.
     Open(Stage),
-    /// Close the group and go on after it at this spot.
+    /// Close the group and continue after it at this stage.
     Close(Delimiter, Stage),
 }
 
-/// The beginning of a type: its first token, whether only types that are not supported have that,
+/// The beginning of a type: its first token, whether that token occurs only in unsupported types,
 /// and the spot after it.
 #[derive(Clone, Copy)]
 pub(crate) struct Beginning<'t, 's> {
@@ -245,24 +247,24 @@ pub(crate) struct Beginning<'t, 's> {
 /// The beginning of a type, without its tokens.
 #[derive(Clone, Copy)]
 pub(crate) enum FirstEntry {
-    /// Begins with this and goes on at this spot. The flag says whether only types that are not
-    /// supported have it.
+    /// Begins with these tokens and continues at this stage. The flag is whether they occur only in
+    /// unsupported types.
     Lead(bool, Prefix, Stage),
-    /// Begins with a group and goes on inside it at this spot.
+    /// Begins with a group and continues inside it at this stage.
     Open(Stage),
 }
 
 /// The reasons why no step fits.
 #[derive(Clone, Copy)]
 pub(crate) enum StepFault {
-    /// A type that is not supported stands at this span.
+    /// An unsupported type is at this span.
     Unsupported(Span),
-    /// A token that does not fit stands at this span.
+    /// A token that does not fit is at this span.
     Mismatch(Span),
 }
 
-/// What is to be done at a spot, or the reason why nothing fits.
+/// The action at a spot, or the reason why none fits.
 pub(crate) type Next = Result<TableEntry, StepFault>;
 
-/// The beginning of a type, or the reason why none begins.
+/// The beginning of a type, or the reason why no type begins.
 pub(crate) type First = Result<FirstEntry, StepFault>;

@@ -1,7 +1,7 @@
 use Rattle.std.proofs.Common.{◌≡◌, ◌≢◌, ◌≤◌, ◌<◌, ℕ, slice_index}
 use Rattle.logos_answers.proofs.expectation.line_start.Given as goal
 
--- LF stands nowhere between the start and the offset
+-- LF does not occur between the start and the offset
 abbrev pub invariant-loop-start : goal.invariant-loop-start
 invariant-loop-start l = record {
   before : l.start ≤ l.at;

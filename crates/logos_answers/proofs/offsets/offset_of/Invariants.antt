@@ -2,7 +2,7 @@ use Rattle.std.proofs.Common.{◌≡◌, ◌≤◌, ◌<◌, ℕ, length}
 use Rattle.logos_answers.specs.Offsets.{IsOffsetOf}
 use Rattle.logos_answers.proofs.offsets.offset_of.Given as goal
 
--- no offset so far has the place
+-- no offset so far has the location
 abbrev pub invariant-loop-at : goal.invariant-loop-at
 invariant-loop-at l = record {
   text : l.cursor.text ≡ l.input;

@@ -1,7 +1,7 @@
 use Rattle.std.proofs.Common.{◌-◌, ◌<◌, ◌≤◌, length, vec_len, vec_capacity}
 use Rattle.logos_machine.specs.LexerValue.{answers_of}
 use Rattle.logos_scan.specs.Runs.{IsReady, with_chunk}
-use Rattle.logos_walk.specs.Cursors.{start_of}
+use Rattle.logos_scan.specs.walk.Cursors.{start_of}
 use Rattle.logos_commands.proofs.LexingLemmas.{GoesOn}
 use Rattle.logos_commands.proofs.item_lines.write_by_chunks.Given as goal
 

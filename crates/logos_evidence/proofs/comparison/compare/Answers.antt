@@ -1,5 +1,5 @@
 use Rattle.std.proofs.Common.{◌∙◌, ap}
-use Rattle.logos_search.specs.Shortest.{NoneLeads, IsShortest}
+use Rattle.logos_evidence.specs.search.Shortest.{NoneLeads, IsShortest}
 use Rattle.logos_evidence.specs.inside.Machines.{pair_next, pair_goal}
 use Rattle.logos_evidence.specs.inside.Shown.{shown}
 use Rattle.logos_evidence.proofs.CompareLemmas.{same_is_answer, difference_is_answer}

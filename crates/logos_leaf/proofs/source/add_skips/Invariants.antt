@@ -1,6 +1,6 @@
 use Rattle.std.proofs.Common.{List, map}
 use Rattle.logos_token.specs.Faults.{Fault}
-use Rattle.logos_subpattern.specs.SubpatternViews.{names_of}
+use Rattle.logos_leaf.specs.subpattern.SubpatternViews.{names_of}
 use Rattle.logos_definition.specs.DefinitionViews.{definition_view}
 use Rattle.logos_leaf.specs.Leaves.{LeafView}
 use Rattle.logos_leaf.specs.LeafViews.{leaf_view}

@@ -3,7 +3,7 @@ use Rattle.logos_token.specs.Faults.{Fault}
 use Rattle.logos_token.specs.Tokens.{count_of}
 use Rattle.logos_token.specs.Views.{tokens_of}
 use Rattle.logos_pattern.specs.Leaf.{kind_value}
-use Rattle.logos_subpattern.specs.SubpatternViews.{names_of}
+use Rattle.logos_leaf.specs.subpattern.SubpatternViews.{names_of}
 use Rattle.logos_definition.specs.ParserViews.{parser_view}
 use Rattle.logos_leaf.specs.Leaves.{LeafView}
 use Rattle.logos_leaf.specs.LeafViews.{leaf_view}

@@ -3,7 +3,7 @@ use Rattle.logos_token.specs.Faults.{Fault}
 use Rattle.logos_type_params.specs.SelfReference.{texts}
 use Rattle.logos_type_params.specs.WrittenTypes.{params_with}
 use Rattle.logos_enum.specs.EnumValues.{variant_value}
-use Rattle.logos_subpattern.specs.SubpatternViews.{names_of}
+use Rattle.logos_leaf.specs.subpattern.SubpatternViews.{names_of}
 use Rattle.logos_definition.specs.ParserViews.{parser_view}
 use Rattle.logos_leaf.specs.Leaves.{LeafView}
 use Rattle.logos_leaf.specs.LeafViews.{leaf_view}

@@ -1,5 +1,5 @@
 use Rattle.std.proofs.Common.{◌≡◌, ◌+◌, ◌-◌, ◌/◌, take, drop, length, sym, refl, subst, rules, arith}
-use Rattle.logos_walk.specs.Walk.{Walked}
+use Rattle.logos_scan.specs.walk.Walk.{Walked}
 use Rattle.logos_scan.specs.Runs.{with_chunk}
 use Rattle.logos_scan.proofs.LoadLemmas.{walked_text, walked_suffix, rest_there, rest_long, marks_beside, repaired_run}
 use Rattle.logos_scan.proofs.run.repaired_from.Goals as goal

@@ -4,7 +4,7 @@ use Rattle.logos_machine.specs.inside.Looks.{Tried}
 use Rattle.logos_scan.specs.Attempts.{SkipsTo}
 use Rattle.logos_scan.specs.Runs.{with_chunk}
 use Rattle.logos_scan.proofs.LoadLemmas.{bytes_at, calls_not, found_match, found_next, found_use, is_ended, leaf_is, ready_run, taken_after}
-use Rattle.logos_walk.specs.Cursors.{start_at, start_of}
+use Rattle.logos_scan.specs.walk.Cursors.{start_at, start_of}
 use Rattle.logos_scan.proofs.run.Run.next.Goals as goal
 
 pub returns-in_default-clause-taken : goal.returns-in_default-clause-taken

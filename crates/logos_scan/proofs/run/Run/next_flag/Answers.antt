@@ -2,7 +2,7 @@ use Rattle.std.proofs.Common.{◌≡◌, ℕ, min, subst, sym, arith}
 use Rattle.logos_scan.specs.Runs.{with_chunk}
 use Rattle.logos_scan.specs.Attempts.{SkipsTo, skips_none}
 use Rattle.logos_scan.proofs.LoadLemmas.{bytes_at, flag_found, moved, over_found, ready_run, skips_join, is_at_last}
-use Rattle.logos_walk.specs.Cursors.{start_at, start_of}
+use Rattle.logos_scan.specs.walk.Cursors.{start_at, start_of}
 use Rattle.logos_scan.proofs.run.Run.next_flag.Goals as goal
 
 pub loop-at-init : goal.loop-at-init

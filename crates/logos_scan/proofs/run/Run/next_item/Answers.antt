@@ -6,7 +6,7 @@ use Rattle.logos_machine.proofs.LexerLemmas.{GoesOn, none_of}
 use Rattle.logos_scan.specs.Items.{lexer_at}
 use Rattle.logos_scan.specs.Runs.{IsTaken}
 use Rattle.logos_scan.specs.declared.attempts.Taken.TheVariants.{Emits, CallsBack, Fails, Ends}
-use Rattle.logos_walk.specs.Cursors.{start_of}
+use Rattle.logos_scan.specs.walk.Cursors.{start_of}
 use Rattle.logos_scan.proofs.ItemLemmas.{goes_calls_back, item_calls_back, item_emits, item_fails, items_end, skips_le}
 use Rattle.logos_scan.proofs.run.Run.next_item.Goals as goal
 
