@@ -111,7 +111,7 @@ fn push_tokens(sink: &mut Sink, leaves: &[CodeLeaf<'_>], names: Names<'_>) -> Re
 
 /// Appends the match arms of the leaves that have no callback and no value.
 fn push_token_arms(sink: &mut Sink, leaves: &[CodeLeaf<'_>], name: Ident<'_>) -> Result<(), Memory>
-    ensures { OnOk result (Notes (flat_map (plain_leaf_runs name) leaves.now) sink.old sink.new) }
+    ensures { OnOk result (Notes (flat_map (plain_leaf_runs name.entry) leaves.now) sink.old sink.new) }
 {
     for n in 0..leaves.len() {
         push_token(sink, n, &leaves[n], name)?;
@@ -121,7 +121,7 @@ fn push_token_arms(sink: &mut Sink, leaves: &[CodeLeaf<'_>], name: Ident<'_>) ->
 
 /// Appends the match arm of leaf number n, if it has no callback and no value.
 fn push_token(sink: &mut Sink, n: usize, leaf: &CodeLeaf<'_>, name: Ident<'_>) -> Result<(), Memory>
-    ensures { OnOk result (Notes (plain_leaf_runs name leaf.now) sink.old sink.new) }
+    ensures { OnOk result (Notes (plain_leaf_runs name.entry leaf.now) sink.old sink.new) }
 {
     match &leaf.kind {
         VariantKind::Unit(variant) if leaf.callback.is_none() => {
@@ -138,7 +138,7 @@ fn push_token_arm(
     name: Ident<'_>,
     variant: Ident<'_>,
 ) -> Result<(), Memory>
-    ensures { OnOk result (Notes (variant_runs name variant) sink.old sink.new) }
+    ensures { OnOk result (Notes (variant_runs name.entry variant.entry) sink.old sink.new) }
 {
     write!(sink.text, "{n} => _Option :: Some ( ")?;
     push_variant(sink, name, variant)?;
