@@ -26,10 +26,10 @@ pub(crate) fn add_callbacks(
 ) -> Result<(), Memory> {
     let starts = closure_starts(alloc, leaves)?;
     let runs = runs_at(alloc, tokens, &starts)?;
-    let mut rest = runs.as_slice();
+    let mut next = 0;
     for leaf in leaves {
         let callback = leaf.callback.as_ref();
-        rest = add_callback(CallbackOwner::Leaf, callback, rest, warnings)?;
+        next = add_callback(CallbackOwner::Leaf, callback, &runs, next, warnings)?;
     }
     Ok(())
 }
@@ -46,25 +46,29 @@ pub(crate) fn add_error_callback(
         starts.push(start)?;
     }
     let runs = runs_at(alloc, tokens, &starts)?;
-    add_callback(CallbackOwner::ErrorType, callback, &runs, warnings)?;
+    add_callback(CallbackOwner::ErrorType, callback, &runs, 0, warnings)?;
     Ok(())
 }
 
-/// Adds the warnings of a callback, if there is one. A closure is the first of these runs. Returns
-/// those of the callbacks after it.
-fn add_callback<'r, 't, 's>(
+/// Adds the warnings of a callback, if there is one. A closure is the run with the next number.
+/// Returns the next number after it.
+fn add_callback(
     owner: CallbackOwner,
     callback: Option<&Callback<'_>>,
-    runs: &'r [Tokens<'t, 's>],
+    runs: &[Tokens<'_, '_>],
+    next: usize,
     warnings: &mut Vec<Warning>,
-) -> Result<&'r [Tokens<'t, 's>], Memory> {
+) -> Result<usize, Memory> {
     match callback {
         Some(Callback::Label(label)) => {
             add_label(owner, label.run(), warnings)?;
-            Ok(runs)
+            Ok(next)
         }
-        Some(Callback::Inline(closure)) => add_closure(closure, runs, warnings),
-        None => Ok(runs),
+        Some(Callback::Inline(closure)) => {
+            add_closure(closure, runs.get(next), warnings)?;
+            Ok(next.saturating_add(1))
+        }
+        None => Ok(next),
     }
 }
 
@@ -195,18 +199,17 @@ fn is_path_part(tree: TokenTree<'_, '_>) -> bool {
     }
 }
 
-/// Adds the warnings of a closure, which is the first of these runs. Returns the others.
-fn add_closure<'r, 't, 's>(
+/// Adds the warnings of a closure, which is the first part of this run.
+fn add_closure(
     closure: &InlineCallback<'_>,
-    runs: &'r [Tokens<'t, 's>],
+    run: Option<&Tokens<'_, '_>>,
     warnings: &mut Vec<Warning>,
-) -> Result<&'r [Tokens<'t, 's>], Memory> {
+) -> Result<(), Memory> {
     add_escapes(closure.body.run(), warnings)?;
-    let [run, rest @ ..] = runs else {
-        return Ok(runs);
-    };
-    add_body(closure.span.to, after_bars(*run), warnings)?;
-    Ok(rest)
+    match run {
+        Some(run) => add_body(closure.span.to, after_bars(*run), warnings),
+        None => Ok(()),
+    }
 }
 
 /// Returns the tokens after the parameter of a closure and the bars around it.
