@@ -1,7 +1,7 @@
 //! Prints what matches of a lexer by tables give, with leaves as numbers. `code` calls it once.
 
 ghost use Rattle.std.specs.Prelude.{◌≡◌, OnOk};
-ghost use Rattle.logos_text.specs.Views.{Notes, NotesLast, called_leaf_runs, flat_map, is_called, last_arm_text, plain_leaf_runs, table_runs, variant_runs};
+ghost use Rattle.logos_text.specs.Views.{Notes, NotesLast, called_leaf_runs, flat_map, is_called, last_arm_text, leaf_runs, plain_leaf_runs, table_runs, variant_runs};
 
 use crate::errors::push_make_error;
 use crate::leaves::{push_leaf, push_variant};
@@ -78,9 +78,23 @@ fn push_action_arm(
 ) -> Result<(), Memory>
     ensures { OnOk result (Notes (called_leaf_runs names.entry.name leaf.now) sink.old sink.new) }
 {
-    if !is_called(leaf) {
-        return sink.push("");
+    if is_called(leaf) {
+        return push_called_arm(alloc, sink, n, leaf, names);
     }
+    sink.push("")?;
+    Ok(())
+}
+
+/// Appends the match arm of leaf number n, which has a callback or a value.
+fn push_called_arm(
+    alloc: Global,
+    sink: &mut Sink,
+    n: usize,
+    leaf: &CodeLeaf<'_>,
+    names: Names<'_>,
+) -> Result<(), Memory>
+    ensures { OnOk result (Notes (leaf_runs names.entry.name leaf.now) sink.old sink.new) }
+{
     write!(sink.text, "{n} => {{ ")?;
     push_leaf(alloc, sink, leaf, names)?;
     sink.push("} , ")?;
