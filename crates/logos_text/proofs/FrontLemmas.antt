@@ -1,16 +1,14 @@
 -- The beginning of an implementation, part by part.
-use Rattle.std.proofs.Common.{◌≡◌, ◌==◌, ℕ, ◌+◌, List, [], ◌∷◌, ◌++◌, Bool, true, false, if◌then◌else◌, Option, Some, None, MatchOption, IsCharBoundary, append-nil, append_assoc, drop, refl, sym, ◌∙◌, ap, string_bytes, subst}
+use Rattle.std.proofs.Common.{◌≡◌, ◌==◌, ℕ, List, [], ◌++◌, Bool, true, false, if◌then◌else◌, None, IsCharBoundary, append_assoc, sym, ◌∙◌, ap, string_bytes, subst}
 use Rattle.std.proofs.lemmas.Str.Pattern.{starts_text}
 use Rattle.std.specs.List.{starts_with}
-use Rattle.std.specs.Str.{bytes_eq}
 use Rattle.std.specs.Str.Pattern.{FindsTextPrefix, StripsPrefix}
 use denote.Ref.{Bor}
 use Rattle.logos_text.specs.declared.sink.Sink.{Sink}
 use Rattle.logos_text.specs.Fronts.{AroundValue, BeginsWith, IsFront, last_arm_text, library_text, opening_text, tables_use_text, whole_core}
 use Rattle.logos_text.specs.Occurrence.{Adds}
-use Rattle.logos_text.specs.Pieces.{ArePrinted, IsEmptySink, Notes, NotesLast, Prints}
-use Rattle.logos_text.specs.Runs.{name_runs, noted_runs, this_runs}
-use Rattle.logos_text.specs.FrontRuns.{typed_runs}
+use Rattle.logos_text.specs.Pieces.{IsEmptySink, NotesLast, Prints}
+use Rattle.logos_text.specs.Runs.{name_runs, this_runs}
 use Rattle.logos_text.proofs.PieceLemmas.{prints_both, whole_text}
 use Rattle.logos_token.specs.declared.token.Ident.{Ident}
 use Rattle.logos_token.specs.Tokens.{TokenList}

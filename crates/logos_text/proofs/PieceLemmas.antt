@@ -1,5 +1,5 @@
 -- What a sink was given, step by step.
-use Rattle.std.proofs.Common.{◌≡◌, ◌==◌, ◌<◌, ◌≤◌, ℕ, suc, ◌+◌, add-one, drop, drop-cons, get_or, List, [], ◌∷◌, ◌++◌, Bool, true, false, length, if◌then◌else◌, append-nil, arith, append_assoc, length-append, refl, sym, ◌∙◌, ap, string_bytes, subst}
+use Rattle.std.proofs.Common.{◌≡◌, ◌<◌, ◌≤◌, ℕ, suc, ◌+◌, add-one, drop, drop-cons, get_or, List, [], ◌∷◌, ◌++◌, length, append-nil, arith, append_assoc, length-append, refl, sym, ◌∙◌, ap, string_bytes, subst}
 use Rattle.std.proofs.Math.ListN.{drop_of_length-le}
 use Rattle.std.specs.List.{flat_map}
 use Rattle.logos_text.specs.declared.sink.Piece.{Piece}

@@ -1,5 +1,5 @@
 -- The tokens of a source that the beginning of an implementation repeats, in the order of the text.
-use Rattle.std.specs.Prelude.{◌==◌, ℕ, List, [], ◌++◌, Option, Some, None, if◌then◌else◌}
+use Rattle.std.specs.Prelude.{ℕ, List, [], ◌++◌, Option, Some, None, if◌then◌else◌}
 use Rattle.std.specs.Str.{bytes_eq}
 use Rattle.logos_code.specs.Code.{CodeValue}
 use Rattle.logos_text.specs.Fronts.{AroundValue}

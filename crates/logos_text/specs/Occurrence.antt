@@ -1,5 +1,5 @@
 -- Texts that are parts of a text.
-use Rattle.std.specs.Prelude.{◌≡◌, ℕ, zero, suc, ◌+◌, List, [], ◌∷◌, ◌++◌}
+use Rattle.std.specs.Prelude.{◌≡◌, ℕ, List, [], ◌∷◌, ◌++◌}
 
 -- The texts are parts of the whole, one after another and without overlap.
 abbrev pub OccurInOrder : List (List ℕ) → List ℕ → Type 0

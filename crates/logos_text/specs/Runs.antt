@@ -2,7 +2,6 @@
 use Rattle.std.specs.Prelude.{◌==◌, ◌||◌, Bool, true, false, ℕ, List, [], ◌∷◌, ◌++◌, Option, Some, None, if◌then◌else◌, is_some, option_map}
 use Rattle.std.specs.List.{flat_map, starts_with}
 use Rattle.logos_code.specs.declared.code.CodeLeaf.{CodeLeaf}
-use Rattle.logos_code.specs.Code.{CodeValue}
 use Rattle.logos_pattern.specs.Leaf.{CallbackValue, named, written, callback_value, KindValue, plain, holding, skipped, kind_value}
 use Rattle.logos_pattern.specs.declared.leaf.Callback.{Callback}
 use Rattle.logos_token.specs.declared.token.Ident.{Ident}
