@@ -1,10 +1,10 @@
-//! Walks over folded rows: a chunk of bytes at once, in six blocks side by side and without a
-//! branch for each byte, and the bits that say where its tries end.
+//! Walks over folded rows: a chunk of bytes at once, in six parallel blocks and without a branch
+//! for each byte, and the bit masks of the entries at which attempts end.
 //!
-//! Folded rows are rows of 256 entries. A row is named by its offset, the index of its first entry.
-//! The entry of a byte in a row names, in its lowest twenty bits, the next row. Its two highest
-//! bits are flags: `ENDED` says that a match ends before the byte, and `TOKEN` that there is
-//! something to do there.
+//! Folded rows are rows of 256 entries. A row is identified by its row offset, the index of its
+//! first entry. The lowest twenty bits of the entry of a byte are the offset of the next row. Its
+//! two highest bits are flags: `ENDED` is set if a match ends before the byte, and `TOKEN` if the
+//! entry is pending, which means that the scan must process it.
 
 ghost use Rattle.std.specs.Prelude.{◌≡◌, ◌+◌, ◌<◌, ◌≤◌, length, slice_index, slice_set};
 ghost use Rattle.logos_scan.specs.walk.Imports.{IsClosed, IsRowStart, IsSameBeside, Walked, entry_at, row_start_of};
