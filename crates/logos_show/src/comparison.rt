@@ -3,14 +3,17 @@
 ghost use Rattle.std.specs.Prelude.{◌≡◌, [], IfErr, IfOk};
 ghost use Rattle.logos_show.specs.Views.{ComparesFiles, ComparesTo, IsGraphOf, IsNoMisuse, Reads, order_value};
 
-use crate::lexers::{ChosenLexer, chosen_lexer};
+use crate::choice::lexer_in;
+use crate::lexers::{SHAPE, part_of};
 use crate::program::{Task, is_json};
-use crate::refusals::{text_of, write_note};
+use crate::refusals::{refused, text_of, write_note};
 use crate::replies::Agreement;
 use crate::verdict::{Judgment, Pair, compare_with};
 use logos_answers::NamedLexer;
+use logos_codegen::{Generated, generate};
 use logos_host::{Failure, Files, read_text};
 use logos_report::Source;
+use logos_rust_file::FoundEnum;
 use std::io::Write;
 
 /// Writes whether the lexer of another file is equivalent, and returns that.
@@ -47,22 +50,29 @@ fn compare_files<'w, O: Write, E: Write>(
     ensures judged { IfOk result (λ judgment. ComparesFiles (order_value task.entry.order) source.now
         other.now judgment.agreement (O.contents out.old) (O.contents out.new)) }
 {
-    match chosen_lexer(task, source, err) {
-        Ok(lexer) => compare_to(task, named_lexer(source, &lexer), other, err, out),
-        Err(failure) => Err(failure),
+    let alloc = task.showing.alloc;
+    let one = lexer_in(alloc, task, source, err)?;
+    let part = part_of(source, one);
+    match generate(alloc, text_of(source, one), SHAPE) {
+        Ok(made) => compare_to(task, named_lexer(source, one, &made), other, err, out),
+        Err(refusal) => Err(refused(alloc, part, task.showing, refusal)),
     }
 }
 
 /// Returns a lexer with the path of its file and the text of its enum.
-fn named_lexer<'m, 's>(source: &'m Source<'_>, lexer: &'m ChosenLexer<'s>) -> NamedLexer<'m, 's>
+fn named_lexer<'m, 's>(
+    source: &'m Source<'_>,
+    one: FoundEnum,
+    made: &'m Generated<'s>,
+) -> NamedLexer<'m, 's>
     ensures path { result.path.now ≡ source.now.path }
-    ensures graph { result.graph.now ≡ lexer.now.made.graph }
+    ensures graph { result.graph.now ≡ made.now.graph }
 {
     NamedLexer {
         path: source.path(),
-        text: text_of(source, lexer.found),
-        graph: &lexer.made.graph,
-        code: &lexer.made.code,
+        text: text_of(source, one),
+        graph: &made.graph,
+        code: &made.code,
     }
 }
 
@@ -80,15 +90,18 @@ fn compare_to<'w, O: Write, E: Write>(
         ComparesTo (order_value task.entry.order) one.entry.graph.now one.entry.path.now source.now
         judgment.agreement (O.contents out.old) (O.contents out.new)) }
 {
-    match chosen_lexer(task, source, err) {
-        Ok(lexer) => {
+    let alloc = task.showing.alloc;
+    let other = lexer_in(alloc, task, source, err)?;
+    let part = part_of(source, other);
+    match generate(alloc, text_of(source, other), SHAPE) {
+        Ok(made) => {
             let pair = Pair {
                 one,
-                other: named_lexer(source, &lexer),
+                other: named_lexer(source, other, &made),
                 is_json: is_json(task.order),
             };
-            compare_with(task.showing.alloc, pair, out)
+            compare_with(alloc, pair, out)
         }
-        Err(failure) => Err(failure),
+        Err(refusal) => Err(refused(alloc, part, task.showing, refusal)),
     }
 }

@@ -3,10 +3,12 @@
 ghost use Rattle.std.specs.Prelude.{◌≡◌, IfErr, IfOk, OnOk};
 ghost use Rattle.logos_show.specs.Views.{IsNoMisuse, PrintsInputsAs, ShowsInputsOf, order_value};
 
-use crate::lexers::chosen_lexer;
+use crate::choice::lexer_in;
+use crate::lexers::{SHAPE, part_of};
 use crate::program::{Task, is_json};
-use crate::refusals::write_note;
+use crate::refusals::{refused, text_of, write_note};
 use crate::replies::{Agreement, write_input_records, write_inputs};
+use logos_codegen::generate;
 use logos_codegen::graph::Graph;
 use logos_host::Failure;
 use logos_report::Source;
@@ -44,12 +46,12 @@ fn inputs_by_file<'w, O: Write, E: Write>(
     ensures printed { OnOk result (ShowsInputsOf (order_value task.entry.order) source.now.text most
         (O.contents out.old) (O.contents out.new)) }
 {
-    match chosen_lexer(task, source, err) {
-        Ok(lexer) => {
-            let is_json = is_json(task.order);
-            inputs_by_graph(task.showing.alloc, &lexer.made.graph, most, is_json, out)
-        }
-        Err(failure) => Err(failure),
+    let alloc = task.showing.alloc;
+    let one = lexer_in(alloc, task, source, err)?;
+    let part = part_of(source, one);
+    match generate(alloc, text_of(source, one), SHAPE) {
+        Ok(made) => inputs_by_graph(alloc, &made.graph, most, is_json(task.order), out),
+        Err(refusal) => Err(refused(alloc, part, task.showing, refusal)),
     }
 }
 

@@ -3,11 +3,12 @@
 ghost use Rattle.std.specs.Prelude.{IfErr};
 ghost use Rattle.logos_show.specs.Imports.{IsNoMisuse};
 
-use crate::lexers::chosen_lexer;
+use crate::choice::lexer_in;
+use crate::lexers::{SHAPE, part_of};
 use crate::program::{Task, is_json};
 use crate::questions::Question;
-use crate::refusals::write_note;
-use logos_codegen::Generated;
+use crate::refusals::{refused, text_of, write_note};
+use logos_codegen::{Generated, generate};
 use logos_host::{Failure, Files, read_bytes};
 use logos_items::{ItemOrder, write_item_records, write_items};
 use logos_report::Source;
@@ -48,9 +49,12 @@ fn lex_by_file<'w, C: Clock, O: Write, E: Write>(
 ) -> Result<(), Failure<'w>>
     ensures { IfErr result IsNoMisuse }
 {
-    let lexed = match chosen_lexer(task, source, err) {
-        Ok(lexer) => items_by_lexer(task, &lexer.made, bytes, clock, out),
-        Err(failure) => Err(failure),
+    let alloc = task.showing.alloc;
+    let one = lexer_in(alloc, task, source, err)?;
+    let part = part_of(source, one);
+    let lexed = match generate(alloc, text_of(source, one), SHAPE) {
+        Ok(made) => items_by_lexer(task, &made, bytes, clock, out),
+        Err(refusal) => Err(refused(alloc, part, task.showing, refusal)),
     };
     print_note(lexed, err)
 }

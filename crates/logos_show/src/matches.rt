@@ -3,9 +3,12 @@
 ghost use Rattle.std.specs.Prelude.{◌≡◌, IfErr, IfOk, OnOk};
 ghost use Rattle.logos_show.specs.Views.{AllStart, IsBytes, IsGraphOf, IsNoMisuse, PrintsMatchesAs, Reads, ShowsMatchesOf, order_value, rules_of};
 
-use crate::lexers::chosen_lexer;
+use crate::choice::lexer_in;
+use crate::lexers::{SHAPE, part_of};
 use crate::program::{Task, is_json};
+use crate::refusals::{refused, text_of};
 use crate::replies::{Agreement, InputPoint, write_match_records, write_matches};
+use logos_codegen::generate;
 use logos_codegen::graph::Graph;
 use logos_host::{Failure, Files, read_bytes};
 use logos_lines::Location;
@@ -58,13 +61,12 @@ fn matches_by_file<'w, O: Write, E: Write>(
     ensures printed { OnOk result (ShowsMatchesOf (order_value task.entry.order) source.now.text
         point.entry.bytes.now point.entry.location (O.contents out.old) (O.contents out.new)) }
 {
-    let _ = point.bytes.len();
-    match chosen_lexer(task, source, err) {
-        Ok(lexer) => {
-            let is_json = is_json(task.order);
-            matches_by_graph(task.showing.alloc, &lexer.made.graph, point, is_json, out)
-        }
-        Err(failure) => Err(failure),
+    let alloc = task.showing.alloc;
+    let one = lexer_in(alloc, task, source, err)?;
+    let part = part_of(source, one);
+    match generate(alloc, text_of(source, one), SHAPE) {
+        Ok(made) => matches_by_graph(alloc, &made.graph, point, is_json(task.order), out),
+        Err(refusal) => Err(refused(alloc, part, task.showing, refusal)),
     }
 }
 

@@ -3,9 +3,12 @@
 ghost use Rattle.std.specs.Prelude.{IfErr};
 ghost use Rattle.logos_show.specs.Imports.{IsNoMisuse};
 
+use crate::choice::lexer_in;
 use crate::items::print_note;
-use crate::lexers::chosen_lexer;
+use crate::lexers::{SHAPE, part_of};
 use crate::program::Task;
+use crate::refusals::{refused, text_of};
+use logos_codegen::generate;
 use logos_host::Failure;
 use logos_items::{ItemOrder, write_streamed};
 use logos_report::Source;
@@ -22,13 +25,16 @@ pub(crate) fn lex_stream<'w, C: Clock + Input, O: Write, E: Write>(
 ) -> Result<(), Failure<'w>>
     ensures { IfErr result IsNoMisuse }
 {
+    let alloc = task.showing.alloc;
     let order = ItemOrder {
-        alloc: task.showing.alloc,
+        alloc,
         settings: task.order.settings,
     };
-    let lexed = match chosen_lexer(task, source, err) {
-        Ok(lexer) => write_streamed(order, &lexer.made, clock, out),
-        Err(failure) => Err(failure),
+    let one = lexer_in(alloc, task, source, err)?;
+    let part = part_of(source, one);
+    let lexed = match generate(alloc, text_of(source, one), SHAPE) {
+        Ok(made) => write_streamed(order, &made, clock, out),
+        Err(refusal) => Err(refused(alloc, part, task.showing, refusal)),
     };
     print_note(lexed, err)
 }
