@@ -26,12 +26,27 @@ pub(crate) fn add_callbacks(
 ) -> Result<(), Memory> {
     let starts = closure_starts(alloc, leaves)?;
     let runs = runs_at(alloc, tokens, &starts)?;
-    let mut rest = runs.as_slice();
+    let mut next = 0;
     for leaf in leaves {
         let callback = leaf.callback.as_ref();
-        rest = add_callback(CallbackOwner::Leaf, callback, rest, warnings)?;
+        add_callback(
+            CallbackOwner::Leaf,
+            callback,
+            runs.get(next).copied(),
+            warnings,
+        )?;
+        next = after_callback(callback, next);
     }
     Ok(())
+}
+
+/// Returns the index of the next closure after a callback, if the index of the next one before it
+/// is `next`.
+fn after_callback(callback: Option<&Callback<'_>>, next: usize) -> usize {
+    match callback {
+        Some(Callback::Inline(_)) => next.saturating_add(1),
+        _ => next,
+    }
 }
 
 /// Adds the warnings of the callback for errors of a source with these tokens, if it has one.
@@ -46,25 +61,25 @@ pub(crate) fn add_error_callback(
         starts.push(start)?;
     }
     let runs = runs_at(alloc, tokens, &starts)?;
-    add_callback(CallbackOwner::ErrorType, callback, &runs, warnings)?;
-    Ok(())
+    add_callback(
+        CallbackOwner::ErrorType,
+        callback,
+        runs.first().copied(),
+        warnings,
+    )
 }
 
-/// Adds the warnings of a callback, if there is one. A closure is the first of these runs. Returns
-/// those of the callbacks after it.
-fn add_callback<'r, 't, 's>(
+/// Adds the warnings of a callback, if there is one. `run` begins with its closure, if it is one.
+fn add_callback(
     owner: CallbackOwner,
     callback: Option<&Callback<'_>>,
-    runs: &'r [Tokens<'t, 's>],
+    run: Option<Tokens<'_, '_>>,
     warnings: &mut Vec<Warning>,
-) -> Result<&'r [Tokens<'t, 's>], Memory> {
+) -> Result<(), Memory> {
     match callback {
-        Some(Callback::Label(label)) => {
-            add_label(owner, label.run(), warnings)?;
-            Ok(runs)
-        }
-        Some(Callback::Inline(closure)) => add_closure(closure, runs, warnings),
-        None => Ok(runs),
+        Some(Callback::Label(label)) => add_label(owner, label.run(), warnings),
+        Some(Callback::Inline(closure)) => add_closure(closure, run, warnings),
+        None => Ok(()),
     }
 }
 
@@ -195,18 +210,17 @@ fn is_path_part(tree: TokenTree<'_, '_>) -> bool {
     }
 }
 
-/// Adds the warnings of a closure, which is the first of these runs. Returns the others.
-fn add_closure<'r, 't, 's>(
+/// Adds the warnings of a closure, with which `run` begins.
+fn add_closure(
     closure: &InlineCallback<'_>,
-    runs: &'r [Tokens<'t, 's>],
+    run: Option<Tokens<'_, '_>>,
     warnings: &mut Vec<Warning>,
-) -> Result<&'r [Tokens<'t, 's>], Memory> {
+) -> Result<(), Memory> {
     add_escapes(closure.body.run(), warnings)?;
-    let [run, rest @ ..] = runs else {
-        return Ok(runs);
-    };
-    add_body(closure.span.to, after_bars(*run), warnings)?;
-    Ok(rest)
+    match run {
+        Some(run) => add_body(closure.span.to, after_bars(run), warnings),
+        None => Ok(()),
+    }
 }
 
 /// Returns the tokens after the parameter of a closure and the bars around it.
