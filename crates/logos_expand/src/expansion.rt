@@ -122,7 +122,7 @@ fn with_inner(
     parts: Vec<Replacement>,
 ) -> Result<Vec<Replacement>, Memory>
     requires { AreInOrder 0 (map part_span parts.items) (length text.now) }
-    ensures { IfOk result (λ whole. AddsInner text.now parts.entry.items whole.items) }
+    ensures { IfOk result (λ whole. AddsInner text.now parts.items whole.items) }
 {
     let alloc = *parts.allocator();
     match plain_front(alloc, text, tokens)? {
@@ -147,7 +147,7 @@ fn with_front(
     front: PlainFront,
     parts: Vec<Replacement>,
 ) -> Result<Vec<Replacement>, Memory>
-    ensures { IfOk result (λ whole. HasFront front.entry parts.entry.items whole.items) }
+    ensures { IfOk result (λ whole. HasFront front parts.items whole.items) }
 {
     let PlainFront { to, text } = front;
     let span = Span { from: 0, to };

@@ -134,8 +134,8 @@ last_noted p q = record { front = p.text; prints = prints_last p.prints q }
 
 -- what completes the rest of a loop's runs completes all of them
 pub runs_more : {A : Type 0} (f : A → List TokenList) (xs : List A) (i : ℕ) (d : A) (start old new : Sink) → i < length xs → d ≡ get_or xs i d → Notes (f d) old new →
-    ((whole : Sink) → Notes (flat_map f (drop i xs)) old whole → Notes (flat_map f xs) start whole) →
-    (whole : Sink) → Notes (flat_map f (drop (i + 1) xs)) new whole → Notes (flat_map f xs) start whole
+    ((whole : Sink) → Notes (flat_map f (drop i xs)) old whole → Notes (flat_map f xs) start whole) → (whole : Sink) → Notes (flat_map f (drop (i + 1) xs)) new whole →
+    Notes (flat_map f xs) start whole
 runs_more f xs i d start old new l is step so_far whole behind =
     let next : drop i xs ≡ d ∷ drop (i + 1) xs = rw (add-one, drop-cons xs i d) (ap (λ y. y ∷ drop (suc i) xs) (sym is)) in
     so_far whole (subst (λ left. Notes (flat_map f left) old whole) (sym next) (notes_both step behind))

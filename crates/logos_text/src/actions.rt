@@ -1,7 +1,7 @@
 //! Prints what matches of a lexer by tables give, with leaves as numbers. `code` calls it once.
 
 ghost use Rattle.std.specs.Prelude.{◌≡◌, OnOk};
-ghost use Rattle.logos_text.specs.Views.{Notes, NotesLast, called_leaf_runs, flat_map, is_called, last_arm_text, plain_leaf_runs, table_runs, variant_runs};
+ghost use Rattle.logos_text.specs.Views.{Notes, NotesLast, called_leaf_runs, flat_map, is_called, last_arm_text, leaf_runs, plain_leaf_runs, table_runs, variant_runs};
 
 use crate::errors::push_make_error;
 use crate::leaves::{push_leaf, push_variant};
@@ -78,9 +78,23 @@ fn push_action_arm(
 ) -> Result<(), Memory>
     ensures { OnOk result (Notes (called_leaf_runs names.entry.name leaf.now) sink.old sink.new) }
 {
-    if !is_called(leaf) {
-        return sink.push("");
+    if is_called(leaf) {
+        return push_called_arm(alloc, sink, n, leaf, names);
     }
+    sink.push("")?;
+    Ok(())
+}
+
+/// Appends the match arm of leaf number n, which has a callback or a value.
+fn push_called_arm(
+    alloc: Global,
+    sink: &mut Sink,
+    n: usize,
+    leaf: &CodeLeaf<'_>,
+    names: Names<'_>,
+) -> Result<(), Memory>
+    ensures { OnOk result (Notes (leaf_runs names.entry.name leaf.now) sink.old sink.new) }
+{
     write!(sink.text, "{n} => {{ ")?;
     push_leaf(alloc, sink, leaf, names)?;
     sink.push("} , ")?;
@@ -111,7 +125,7 @@ fn push_tokens(sink: &mut Sink, leaves: &[CodeLeaf<'_>], names: Names<'_>) -> Re
 
 /// Appends the match arms of the leaves that have no callback and no value.
 fn push_token_arms(sink: &mut Sink, leaves: &[CodeLeaf<'_>], name: Ident<'_>) -> Result<(), Memory>
-    ensures { OnOk result (Notes (flat_map (plain_leaf_runs name) leaves.now) sink.old sink.new) }
+    ensures { OnOk result (Notes (flat_map (plain_leaf_runs name.entry) leaves.now) sink.old sink.new) }
 {
     for n in 0..leaves.len() {
         push_token(sink, n, &leaves[n], name)?;
@@ -121,7 +135,7 @@ fn push_token_arms(sink: &mut Sink, leaves: &[CodeLeaf<'_>], name: Ident<'_>) ->
 
 /// Appends the match arm of leaf number n, if it has no callback and no value.
 fn push_token(sink: &mut Sink, n: usize, leaf: &CodeLeaf<'_>, name: Ident<'_>) -> Result<(), Memory>
-    ensures { OnOk result (Notes (plain_leaf_runs name leaf.now) sink.old sink.new) }
+    ensures { OnOk result (Notes (plain_leaf_runs name.entry leaf.now) sink.old sink.new) }
 {
     match &leaf.kind {
         VariantKind::Unit(variant) if leaf.callback.is_none() => {
@@ -138,7 +152,7 @@ fn push_token_arm(
     name: Ident<'_>,
     variant: Ident<'_>,
 ) -> Result<(), Memory>
-    ensures { OnOk result (Notes (variant_runs name variant) sink.old sink.new) }
+    ensures { OnOk result (Notes (variant_runs name.entry variant.entry) sink.old sink.new) }
 {
     write!(sink.text, "{n} => _Option :: Some ( ")?;
     push_variant(sink, name, variant)?;

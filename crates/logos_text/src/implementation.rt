@@ -65,7 +65,7 @@ fn push_library(
 
 /// Appends the enum as a type, which begins with its name.
 fn push_this(sink: &mut Sink, name: Ident<'_>, this: &str) -> Result<(), Memory>
-    ensures { OnOk result (Prints this.now (this_runs name this.now) sink.old sink.new) }
+    ensures { OnOk result (Prints this.now (this_runs name.entry this.now) sink.old sink.new) }
 {
     match this.strip_prefix(name.text) {
         Some(rest) => {

@@ -140,7 +140,7 @@ fn push_plain(sink: &mut Sink, kind: &VariantKind<'_>, names: Names<'_>) -> Resu
 
 /// Appends that a match gives a variant without a field.
 fn push_unit(sink: &mut Sink, variant: Ident<'_>, names: Names<'_>) -> Result<(), Memory>
-    ensures { OnOk result (Notes (variant_runs names.entry.name variant) sink.old sink.new) }
+    ensures { OnOk result (Notes (variant_runs names.entry.name variant.entry) sink.old sink.new) }
 {
     sink.push("CallbackResult :: Emit ( ")?;
     push_variant(sink, names.name, variant)?;
@@ -150,7 +150,7 @@ fn push_unit(sink: &mut Sink, variant: Ident<'_>, names: Names<'_>) -> Result<()
 
 /// Appends that a match gives a variant whose field is the slice that was matched.
 fn push_value(sink: &mut Sink, variant: Ident<'_>, names: Names<'_>) -> Result<(), Memory>
-    ensures { OnOk result (Notes (variant_runs names.entry.name variant) sink.old sink.new) }
+    ensures { OnOk result (Notes (variant_runs names.entry.name variant.entry) sink.old sink.new) }
 {
     sink.push("let token = ")?;
     push_variant(sink, names.name, variant)?;
@@ -164,7 +164,7 @@ pub(crate) fn push_variant(
     name: Ident<'_>,
     variant: Ident<'_>,
 ) -> Result<(), Memory>
-    ensures { OnOk result (Notes (variant_runs name variant) sink.old sink.new) }
+    ensures { OnOk result (Notes (variant_runs name.entry variant.entry) sink.old sink.new) }
 {
     sink.push_name(name)?;
     sink.push(" :: ")?;
@@ -205,7 +205,7 @@ fn push_skip_result(sink: &mut Sink, names: Names<'_>) -> Result<(), Memory>
 
 /// Appends what a match gives by the callback's answer, of a variant without a field.
 fn push_unit_result(sink: &mut Sink, variant: Ident<'_>, names: Names<'_>) -> Result<(), Memory>
-    ensures { OnOk result (Notes (variant_runs names.entry.name variant) sink.old sink.new) }
+    ensures { OnOk result (Notes (variant_runs names.entry.name variant.entry) sink.old sink.new) }
 {
     let this = names.this;
     write!(
@@ -224,7 +224,7 @@ fn push_value_result(
     field: &str,
     names: Names<'_>,
 ) -> Result<(), Memory>
-    ensures { OnOk result (Notes (variant_runs names.entry.name variant) sink.old sink.new) }
+    ensures { OnOk result (Notes (variant_runs names.entry.name variant.entry) sink.old sink.new) }
 {
     let this = names.this;
     write!(

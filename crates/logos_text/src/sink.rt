@@ -62,7 +62,7 @@ impl Sink {
 
     /// Appends a name of the source.
     pub(crate) fn push_name(&mut self, name: Ident<'_>) -> Result<(), Memory>
-        ensures { OnOk result (Prints name.text.now (name_runs name) self.old self.new) }
+        ensures { OnOk result (Prints name.entry.text.now (name_runs name.entry) self.old self.new) }
     {
         self.push_piece(name.text, name.span)?;
         Ok(())

@@ -1,3 +1,4 @@
+use Rattle.std.proofs.Common.{refl}
 use Rattle.logos_report.specs.Sets.{sizes_of}
 use Rattle.logos_token.specs.Views.{tokens_of}
 use Rattle.logos_causes.specs.declared.explanation.Explained.{Explained}
@@ -9,7 +10,7 @@ explain_item-requires c = record {
   tokens = tokens_of c.args.tokens;
   spelled = c.requires.spelled;
   reads = c.in-Ok.ensures.ok;
-  whole = c.span.ensures;
+  whole = refl;
 }
 
 pub returns-in-Err : goal.returns-in-Err

@@ -4,7 +4,7 @@ use Rattle.logos_text.proofs.PieceLemmas.{runs_all, runs_more}
 use Rattle.logos_text.proofs.actions.push_action_arms.Goals as goal
 
 pub loop-n-preserved : goal.loop-n-preserved
-loop-n-preserved c = runs_more (called_leaf_runs c.args.names.name) c.args.leaves.now c.loop-n.n _ _ _ _ (omega (arith, c.len-n-end.ensures)) c.index.ensures c.in_ok-push_action_arm.ensures c.loop-n.invariant
+loop-n-preserved c = runs_more (called_leaf_runs c.args.names.name) c.args.leaves.now c.loop-n.n c.index-leaves-n.result _ _ _ c.loop-n-test.true c.index-leaves-n.is c.in_ok-push_action_arm.ensures c.loop-n.invariant
 
 pub returns : goal.returns
-returns c = runs_all (called_leaf_runs c.args.names.name) c.args.leaves.now c.loop-n.n _ _ (omega (arith, c.len-n-end.ensures)) c.loop-n.invariant
+returns c = runs_all (called_leaf_runs c.args.names.name) c.args.leaves.now c.loop-n.n _ _ (omega (arith, c.loop-n-test.false)) c.loop-n.invariant
