@@ -1,5 +1,5 @@
 //! Reads the arguments of attributes on an enum and its variants: their pieces, and the values in
-//! them.
+//! them. `logos_definition` calls it.
 
 #![tactic(auto)]
 

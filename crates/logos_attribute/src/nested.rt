@@ -75,8 +75,8 @@ fn run_at<'t, 's>(tokens: Tokens<'t, 's>) -> (Tokens<'t, 's>, Tokens<'t, 's>)
     (tokens.before(end), end.rest())
 }
 
-/// Returns the run that consists of the first tree, whatever it is, and the trees up to the next
-/// lone comma. Also returns the tokens after that comma.
+/// Returns the run that consists of the first tree of any kind and the trees up to the next lone
+/// comma. Also returns the tokens after that comma.
 fn run_from<'t, 's>(tokens: Tokens<'t, 's>) -> (Tokens<'t, 's>, Tokens<'t, 's>)
     ensures run { tokens_of result.0 ≡ first_run (tokens_of tokens.entry) }
     ensures after { tokens_of result.1 ≡ after_comma (rest_of (tokens_of tokens.entry)) }
@@ -160,7 +160,7 @@ fn unexpected_at<'t, 's>(tokens: Tokens<'t, 's>) -> (Nested<'t, 's>, AttributePa
     (Nested::Unexpected(run), begin(rest))
 }
 
-/// Reads the first tree, whatever it is, and the tokens up to the comma.
+/// Reads the first tree of any kind, and the tokens up to the comma.
 fn unnamed_at<'t, 's>(tokens: Tokens<'t, 's>) -> (Nested<'t, 's>, AttributeParser<'t, 's>)
     ensures { (first : Token) (rest : TokenList) → tokens_of tokens.entry ≡ also first rest →
         Cuts (through_comma (λ run. unnamed (also first run)) rest) (after_comma rest)

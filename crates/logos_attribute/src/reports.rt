@@ -1,4 +1,5 @@
-//! Reports faults whose messages contain texts of the source. Each function adds one fault.
+//! Reports faults whose messages contain texts of the source. Each function adds one fault. The
+//! readers of attributes and of subpatterns call it.
 
 ghost use Rattle.std.specs.Prelude.{◌≡◌, OnOk, OnErr};
 ghost use Rattle.logos_attribute.specs.Imports.{run_span, tokens_of, ident_slice, AddsFault, fault, fault_about};

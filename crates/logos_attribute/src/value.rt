@@ -1,4 +1,5 @@
-//! Reads numbers and booleans in an attribute's argument. The reader of definitions calls it.
+//! Reads numbers and booleans in an attribute's argument. The readers of definitions and options
+//! call it.
 
 ghost use Rattle.std.specs.Prelude.{◌≡◌};
 ghost use Rattle.logos_attribute.specs.Imports.{all_ascii_digits, tokens_of, decimal, number_in, boolean_named, boolean_in};
@@ -30,7 +31,7 @@ fn decimal(text: &str) -> Option<usize>
 }
 
 /// Returns the number that a run spells: one literal of decimal digits, without a suffix, whose
-/// value fits `usize`. Returns `None` if it is anything else.
+/// value fits `usize`. Returns `None` for any other run.
 pub fn number_in(tokens: Tokens<'_, '_>) -> Option<usize>
     ensures { result ≡ number_in (tokens_of tokens.entry) }
 {
@@ -40,7 +41,7 @@ pub fn number_in(tokens: Tokens<'_, '_>) -> Option<usize>
     }
 }
 
-/// Returns the boolean that a word names.
+/// Returns the boolean that a word spells.
 fn boolean_named(text: &str) -> Option<bool>
     ensures { result ≡ boolean_named text.now }
 {
@@ -53,8 +54,8 @@ fn boolean_named(text: &str) -> Option<bool>
     None
 }
 
-/// Returns the boolean that a run spells: the identifier `true` or `false` alone. Returns `None` if
-/// it is anything else.
+/// Returns the boolean that a run spells: the identifier `true` or `false` alone. Returns `None`
+/// for any other run.
 pub fn boolean_in(tokens: Tokens<'_, '_>) -> Option<bool>
     ensures { result ≡ boolean_in (tokens_of tokens.entry) }
 {

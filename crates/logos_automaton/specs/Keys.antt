@@ -1,4 +1,4 @@
--- States of the automaton, as what they remember of the bytes that were read.
+-- States of the automaton, as the information that it keeps about the bytes that were read.
 use Rattle.std.specs.Prelude.{◌≡◌, ℕ, ◌+◌, ◌<◌, ◌≤◌, Bool, true, false, IsTrue, List, [], ◌∷◌, Some, None, length, map, slice_get, slice_index, slice_index_or}
 use Rattle.logos_automaton.specs.inside.Alike.{AreFirstBytes}
 use Rattle.logos_positions.specs.Core.{Core}

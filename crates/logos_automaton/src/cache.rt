@@ -176,7 +176,7 @@ impl StepCache {
     }
 }
 
-/// The steps from a state by each byte: those of its live trees.
+/// The steps from a state for each byte: those of its live trees.
 #[derive(Clone, Copy)]
 pub struct StateSteps<'c> {
     /// The allocator of the states that the steps lead to.

@@ -1,4 +1,5 @@
-//! The automaton of rules, which lists each match one byte late.
+//! The automaton of rules, which lists each match one byte late. `logos_graph` reduces it to a
+//! graph.
 
 ghost use Rattle.std.specs.Prelude.{◌≡◌, ◌<◌, length, vec_len};
 ghost use Rattle.logos_automaton.specs.Imports.{AreReachable, AreByteRows, LeadWithin, EndWithin};

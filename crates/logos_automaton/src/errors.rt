@@ -1,4 +1,5 @@
-//! Faults of rules, and the reasons why an automaton is not built.
+//! Faults of rules, and the reasons why an automaton is not built. `faults` and `dfa::builder`
+//! return them.
 
 ghost use Rattle.std.specs.Prelude.{◌≡◌};
 ghost use Rattle.logos_automaton.specs.declared.errors.BuildError.TheVariants.{Memory};

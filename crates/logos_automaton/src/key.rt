@@ -12,7 +12,7 @@ use logos_positions::positions::step::ReadByte;
 use logos_positions::positions::trees::{Forest, exits_all, step_all};
 use std::alloc::{AllocError, Global};
 
-/// The key of a state: what an automaton remembers of the bytes that it has read.
+/// The key of a state: the information that an automaton keeps about the bytes that it has read.
 #[derive(PartialEq, Eq, Hash, Drop)]
 pub struct Key {
     /// The positions that can have read the last byte, ascending.

@@ -140,7 +140,7 @@ separated_more rs start end next some le over done small rest h none =
     go (inl x) = AreSeparatedFrom-less (end - 1 + 2) next rest (omega arith) h
     go (inr x) = let e : rest ≡ [] = none (over (omega arith)) in rw e tt
 
--- a mark tells two places apart
+-- a mark distinguishes two positions
 pub marks_differ : (test : ℕ → Bool) (a b : ℕ) → a ≤ b → (a < 256 → test a ≡ true) → (b < 256 → test b ≡ false) → a < 256 → a < b
 marks_differ test a b le x y small = go (cases a b)
   where

@@ -1,4 +1,4 @@
-//! Prints bytes and sets of bytes.
+//! Prints bytes and sets of bytes. State diagrams and generated code print them with it.
 
 ghost use Rattle.std.specs.Prelude.{◌≡◌, ◌<◌, ◌≤◌, ◌↔◌, IsTrue, IsFalse, IfSome, Some, codes, map};
 ghost use Rattle.logos_byte_class.specs.Views.{letter_of, lower_digit, byte_text, range_text, next_ranges_text, class_text, bounds, ranges_of};

@@ -27,7 +27,7 @@ some_of_power (suc (suc n)) power h p = absurd (omega (arith, h))
 pub small_power : (i : ℕ) → i < 8 → 1 * 2 ^ i % 256 ≡ 2 ^ i
 small_power i h = let p : 2 ^ i < 2 ^ 8 = pow-lt h in omega arith
 
--- a mask of one bit tells what the test of that bit tells
+-- the bit of a mask of one bit is the result of the test of that bit
 pub mask_tests : (tables : List (List ℕ)) (k : ℕ) (table : List ℕ) → k < 8 * length tables → table ≡ get_or tables (k / 8) table →
     (b : ℕ) → has_mask table (1 * 2 ^ (k % 8) % 256) b ≡ passes_test tables k b
 mask_tests tables k table h is b =

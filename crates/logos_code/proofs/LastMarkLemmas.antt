@@ -1,4 +1,4 @@
--- The last marks of a code, from what is checked of them.
+-- The last marks of a code, from the conditions that are checked of them.
 use Rattle.std.proofs.Common.{◌≡◌, ℕ, ◌+◌, ◌-◌, ◌<◌, ◌≤◌, ◌⊎◌, ⊎_elim, Bool, true, false, ◌&&◌, ◌==◌, IsTrue, IfSome, IsSomeAnd, All, List, [], length, drop, find, get_or, slice_index, Option, Some, None, option_map, slice_get, refl, sym, ap, subst, ◌∙◌, arith, if◌then◌else◌}
 use Rattle.std.proofs.lemmas.List.{length-map, get_or-map}
 use Rattle.std.proofs.lemmas.Option.{slice_get-get_or, get_or_from_slice_get}
@@ -117,7 +117,7 @@ module _ (code : CodeValue) (sound : IsSound code) (marks : List LastMark) (agre
     abbrev fresh : Bool
     fresh = at.state == code.root && stop_of at == start
 
-    -- the stand after a byte, or after the end
+    -- the status after a byte, or after the end
     abbrev after : ℕ → Status
     after t = record { state = t; offset = stop_of at + 1; context = passed_of at }
 
@@ -163,7 +163,7 @@ module _ (code : CodeValue) (sound : IsSound code) (marks : List LastMark) (agre
           go (Some b) e = by_byte b (target code state.fork b) refl e
           go None e = by_end fresh e
 
-    -- what a try passed that ends here
+    -- what a match attempt passed that ends here
     module _ (passed : Option (ℕ × ℕ)) (offset : ℕ) where
       acted : acts (passed_of at) (stop_of at) ≡ acts passed offset → Holds (last_mark_at marks at.state) passed offset
       acted e =

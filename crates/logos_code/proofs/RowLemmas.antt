@@ -1,4 +1,4 @@
--- Rows, and what a state does by its row.
+-- Rows, and the turn of a state by its row.
 use Rattle.std.proofs.Common.{◌≡◌, ℕ, zero, suc, ◌+◌, ◌*◌, ◌-◌, ◌/◌, ◌%◌, ◌<◌, ◌≤◌, ◌⊎◌, inl, inr, ⊎_elim, ◌++◌, true, false, IfSome, List, length, take, drop, get_or, slice_index, slice_get, Option, Some, None, refl, sym, ap, subst, ◌∙◌, arith, length-drop, Fits, w8}
 use Rattle.std.proofs.Math.Facts.{Fits-lt-pow}
 use Rattle.std.proofs.lemmas.List.{length-map, get_or-map, get_or-drop, get_or_append_left, get_or-append-add, take_all}
@@ -62,7 +62,7 @@ read_entry code rows s b entry all there within is =
     let same : slice_index rows (272 * s + b) ≡ entry = get_or_from_slice_get rows (272 * s + b) entry 0 got in
     rw same at (all.each s b there within)
 
--- an entry as it is read from the rest of the rows after so many
+-- an entry that is read from the rest of the rows after this number of rows
 pub read_column : (code : CodeValue) (rows : List ℕ) (row_start b : ℕ) → AreRows code rows → 272 * (row_start / 272) ≡ row_start → row_start / 272 < length code.states → b < 256 →
     IsEntry code (state_at code (row_start / 272)) b (get_or (take (length rows - b) (drop b rows)) row_start 0)
 read_column code rows row_start b all is there within =
@@ -101,7 +101,7 @@ abbrev before_byte : (used : MatchUse) (late leaf : ℕ) → Step
 before_byte used zero n = Halts (record { 0 = n }) used
 before_byte used (suc k) n = Looks (record { 0 = n }) used
 
--- the step that an entry of this kind stands for
+-- the step that an entry of this kind represents
 abbrev decoded : (kind named : ℕ) → Step
 decoded zero n = Leads (n / 272)
 decoded (suc zero) n = Stays n
@@ -158,11 +158,11 @@ decodes entry Unsaid f = past (entry / 268435456) (omega (arith, f))
         let e : k ≡ suc (suc (suc (suc (suc (suc (suc (suc (suc (k - 9))))))))) = omega (arith, h) in
         subst (λ j. Unsaid ≡ decoded j (entry % 268435456)) (sym e) refl
 
--- an entry stands for one step
+-- an entry represents one step
 pub same_step : (entry : ℕ) (a b : Step) → IsStepOf entry a → IsStepOf entry b → b ≡ a
 same_step entry a b f g = decodes entry b g ∙ sym (decodes entry a f)
 
--- what holds of one step that an entry stands for holds of each; the entry may stand for nothing
+-- a property of one step that an entry represents holds of each; the entry may represent none
 only_step : (P : Step → Type 0) (entry : ℕ) (step : Step) → (IsStepOf entry step ⊎ IsStepOf entry Unsaid) → P step → P Unsaid → (other : Step) → IsStepOf entry other → P other
 only_step P entry step (inl f) said none other g = subst P (sym (same_step entry step other f g)) said
 only_step P entry step (inr f) said none other g = subst P (sym (same_step entry Unsaid other f g)) none
@@ -262,11 +262,11 @@ module _ (code : CodeValue) (state : CodeState) where
     last = ⊎_elim (last_named entry step halts) (λ h. omega (arith, h)) is;
   }
 
-  -- where the end leads on, the entry says nothing
+  -- if the end leads on, the entry does not describe the step
   pub last_unsaid : IsLastEntry code state 2415919104
   last_unsaid = record { says = only_step (SaysAtEnd code state) 2415919104 Unsaid (inl (omega arith)) tt tt; last = omega arith }
 
-  -- the entry of a byte that does not stay leads on or ends the try
+  -- the entry of a byte that does not stay leads on or ends the attempt
   pub entry_moves : (b entry : ℕ) → IsEntry code state b entry → stays code state.fast_loop b ≡ false → (entry < 268435456) ⊎ (536870912 ≤ entry)
   entry_moves b entry is out = ⊎_elim (λ h. h) (λ h. absurd (clash h)) (either entry)
     where
@@ -279,7 +279,7 @@ module _ (code : CodeValue) (state : CodeState) where
           let e : true ≡ false = sym said.0 ∙ out in
           cc
 
-  -- what an entry that leads says of its byte
+  -- the meaning of an entry that leads for its byte
   pub entry_leads : (b entry : ℕ) → IsEntry code state b entry → entry < 268435456 → target code state.fork b ≡ Some (entry / 272)
   entry_leads b entry is h =
       let row_start = is.row_start h in

@@ -14,7 +14,7 @@ use Rattle.logos_code.specs.declared.code.uses.LeafUse.{LeafUse}
 abbrev pub use_by : LeafUse → Use
 use_by flags = record { skips = flags.skips; calls_back = flags.calls_back }
 
--- The parts are valid, and the tables beside them agree with them.
+-- The parts are valid, and the tables agree with them.
 pub record IsWhole (parts : CodeParts) (first rows : List ℕ) (masks : List (List ℕ)) (signs : List Sign) (last_marks : List LastMark) (uses : List LeafUse) : Type 0 where
   pub valid : IsValid parts
   pub first_row : IsFirstRow (code_of parts) first

@@ -1,4 +1,4 @@
-//! Code values: what a lexer does in each state, and what its runs are.
+//! Code values, which define the steps of a lexer in each state, and the definition of their runs.
 
 #![tactic(auto)]
 

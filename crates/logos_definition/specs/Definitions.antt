@@ -80,7 +80,7 @@ abbrev pub priority_report : Slice → PieceValue → DefinitionView → Report 
 priority_report name (assigned run) d = map_report (λ priority. record d { priority = priority }) (priority_set run d.priority)
 priority_report name value d = with_faults d (only (priority_form name))
 
--- The report of the argument `callback`, in place of a former callback.
+-- The report of the argument `callback`, which replaces a former callback.
 abbrev pub named_callback : Slice → PieceValue → Option CallbackView → Report (Option CallbackView)
 named_callback name (assigned run) former = callback_set name run former
 named_callback name value former = with_faults former (only (callback_form name))

@@ -1,4 +1,5 @@
-//! Reads the callbacks among the arguments of definitions and of error types.
+//! Reads the callbacks among the arguments of definitions and of error types. `definition` and
+//! `error_type` call it.
 
 ghost use Rattle.std.specs.Prelude.{◌≡◌, OnOk, OnErr, option_map};
 ghost use Rattle.logos_definition.specs.Imports.{tokens_of, callback_view, value_of, IsReport, ident_slice, named_callback, unnamed_callback};

@@ -1,4 +1,4 @@
-//! The flags of `ignore(..)`.
+//! The flags of `ignore(..)`. Users of the library read them.
 
 /// The flags that determine how the pattern of a definition is matched.
 #[derive(Clone, Copy, PartialEq, Eq)]

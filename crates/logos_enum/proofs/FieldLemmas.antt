@@ -1,4 +1,4 @@
--- Fields, and what holds them.
+-- Fields, and their groups.
 use Rattle.std.proofs.Common.{◌≡◌, inl, inr, true, false, Some, None, Err}
 use Rattle.logos_token.specs.Tokens.{TokenList, append}
 use Rattle.logos_type_reader.specs.declared.reader.TypeFault.{TypeFault}
@@ -16,7 +16,7 @@ use Rattle.logos_enum.specs.Enum.FieldType.{fails}
 use Rattle.logos_enum.specs.Enum.Holding.{in_tuple, with_names}
 use Rattle.logos_enum.specs.Enum.Body.{braced}
 
--- the error of a type that does not stand there
+-- the error of a type that does not occur there
 pub type-fails : (run front : TokenList) (fault : TypeFault) (error : ReadError) →
     IfFault (NoTypeExpr run) fault → run ≡ append front (after_extent OfField run) → error_is front fault error → Occurs (λ e. FieldType run (Err e)) error
 type-fails run front (faults.Unsupported span) error h x e = rw e (inr (fails (unsupported span) front h x))

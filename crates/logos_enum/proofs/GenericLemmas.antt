@@ -7,7 +7,7 @@ use Rattle.logos_enum.specs.Rules.{Occurs}
 use Rattle.logos_enum.specs.Generics.{parameters, Generics}
 use Rattle.logos_enum.specs.Generics.Generics.{listed}
 
--- what stands behind `<` stands of the whole
+-- the tokens after `<`, as tokens of the whole
 pub generics-occur : (run inside : TokenList) (error : ReadError) → begins_with less run ≡ true → inside ≡ rest_of run →
     Occurs (λ e. parameters inside (Err e)) error → Occurs (λ e. Generics run (Err e)) error
 generics-occur run inside error b e (inl m) = inl m

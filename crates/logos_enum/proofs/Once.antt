@@ -100,7 +100,7 @@ count-append : (front back : TokenList) → count_of (append front back) ≡ cou
 count-append none back = omega arith
 count-append (also token front) back = let h = count-append front back in omega arith
 
--- what stands in front of the same rest is the same
+-- runs before equal rests are equal
 pub one-front : (front other rest : TokenList) → append front rest ≡ append other rest → front ≡ other
 one-front none none rest e = refl
 one-front none (also token other) rest e =
@@ -135,7 +135,7 @@ no-front run (without front middle h e) attributes rest f =
     let k : ◌≡◌ {A = Option TokenList} None (Some rest) = sym e ∙ (ap announced_in m ∙ f.announced) in
     cc
 
--- a front is found where `enum` stands behind the attributes
+-- a front is found if `enum` comes after the attributes
 pub front-match : (run attributes middle : TokenList) (result : Option (Tokens × Tokens)) → Attributes run (Ok (attributes, middle)) →
     MatchOption result (announced_in middle ≡ None) (λ read. (tokens_of read.0 ≡ attributes) × (announced_in middle ≡ Some (tokens_of read.1))) →
     MatchOption result (NoFront run) (λ read. IsFront run (tokens_of read.0) (tokens_of read.1))

@@ -21,7 +21,7 @@ append_append (also token front) middle back = ap (also token) (append_append fr
 pub IsRestOf-join : (run middle rest : TokenList) → IsRestOf run middle → IsRestOf middle rest → IsRestOf run rest
 IsRestOf-join run middle rest r s = record { front = append r.front s.front; is = r.is ∙ (ap (append r.front) s.is ∙ sym (append_append r.front s.front rest)) }
 
--- behind its first token
+-- after its first token
 pub IsRestOf-token : (run : TokenList) (token : Token) (rest : TokenList) → run ≡ also token rest → IsRestOf run rest
 IsRestOf-token run token rest e = record { front = also token none; is = e }
 
@@ -34,7 +34,7 @@ pub joined-nil : {A : Type 0} (before : List A) (rest : TokenList) → joined be
 joined-nil before rest = ap (λ list. Ok (list, rest)) (append-nil before)
 
 module _ {A B : Type 0} (First : Rule A) (Next : A → Rule B) (run : TokenList) where
-  -- what stands of the first rule, and of the one behind it, stands of both
+  -- what stands of the first rule, and of the one after it, stands of both
   pub then-stops : (error : ReadError) → Occurs (λ e. First run (Err e)) error → Occurs (λ e. Then First Next run (Err e)) error
   then-stops error (inl e) = inl e
   then-stops error (inr h) = inr (stops h)

@@ -35,7 +35,7 @@ pub record VariantValue : Type 0 where
   pub name : Slice
   pub fields : FieldsValue
 
--- An enum by its names, its types and the runs of tokens that are returned.
+-- An enum as its names, its types and the runs of tokens that are returned.
 pub record EnumValue : Type 0 where
   pub attributes : TokenList
   pub name : Slice

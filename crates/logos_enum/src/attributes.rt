@@ -1,4 +1,5 @@
-//! Reads attributes and visibilities.
+//! Reads attributes and visibilities. The readers of enums, variants, fields and parameters call
+//! it.
 
 ghost use Rattle.std.specs.Prelude.{◌≡◌, ◌<◌, ◌≤◌, List, Ok, Err, Some, None, MatchOption, MatchResult, IfSome, IfOk, IfErr};
 ghost use Rattle.logos_enum.specs.Views.{none, also, punctuation, count_of, IsRestOf, tokens_of, tree_of, Grammar, end_mismatch, value_mismatch, path_mismatch, colon_mismatch, segment_mismatch, attribute_mismatch, IsPathStep, after_attributes, after_hash, Attributes, after_parenthesis, after_visibility, after_keyword};

@@ -1,4 +1,4 @@
-//! The reasons why a run of tokens is not an enum.
+//! The reasons why a run of tokens is not an enum. All readers of this crate return them.
 
 ghost use Rattle.std.specs.Prelude.{◌≡◌};
 ghost use Rattle.logos_enum.specs.Views.{Memory};

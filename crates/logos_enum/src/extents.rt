@@ -112,7 +112,7 @@ pub(crate) fn skip_extent<'t, 's>(end: End, tokens: Tokens<'t, 's>) -> Tokens<'t
     ensures shorter { count_of (tokens_of result) ≤ count_of (tokens_of tokens.entry) }
     ensures front { IsRestOf (tokens_of tokens.entry) (tokens_of result) }
 {
-    // At most this many angle brackets can be open, so a `usize` counts them.
+    // At most this many angle brackets can be open, so that a `usize` can count them.
     if tokens.count() == 0 {
         return tokens;
     }

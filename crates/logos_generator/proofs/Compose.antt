@@ -29,13 +29,13 @@ uses_of_rules : (leaves : List Leaf) → map (λ leaf. (rule_of leaf).use_of) le
 uses_of_rules [] = refl
 uses_of_rules (leaf ∷ leaves) = ap (λ uses. (rule_of leaf).use_of ∷ uses) (uses_of_rules leaves)
 
--- the same of a graph with its leaves
+-- the lemma above for a graph with its leaves
 pub is_lexer_of : (graph : GraphValue) (code : CodeValue) →
     FindsTheLongest (rules_of graph.leaves) graph.utf8 graph.states → RunsAs graph.states graph.utf8 code → code.utf8 ≡ graph.utf8 →
     code.leaves ≡ map (λ leaf. (rule_of leaf).use_of) graph.leaves → IsLexer (rules_of graph.leaves) graph.utf8 code
 is_lexer_of graph code longest runs mode uses = is_lexer (rules_of graph.leaves) graph.utf8 graph.states code longest runs mode (uses ∙ uses_of_rules graph.leaves)
 
--- the same items, where a search finds no more
+-- the same items, if a search finds no more
 pub lexes_by : (uses : List Use) (callback : Callback) (bytes : List ℕ) (search other : Search) →
     ((from : ℕ) (found : Found) → search from found → other from found) →
     {from : ℕ} {items : List Item} → Lexes uses callback bytes search from items → Lexes uses callback bytes other from items
@@ -45,8 +45,8 @@ lexes_by uses callback bytes search other h (match from to leaf answer rest s a 
 lexes_by uses callback bytes search other h (fault from to rest s l) =
     fault from to rest (h from (failed to) s) (lexes_by uses callback bytes search other h l)
 
--- each run of such a code gives the items of maximal munch, and each such list of items is a run of
--- it
+-- each run of such a code is a list of items of maximal munch, and each such list of items is a run
+-- of it
 pub runs_iff : (rules : List Rule) (utf8 : Bool) (code : CodeValue) (callback : Callback) (bytes : List ℕ) (from : ℕ) (items : List Item) →
     IsLexer rules utf8 code → IsInput utf8 bytes →
     Runs code callback bytes from items ↔ Items rules callback utf8 bytes from items

@@ -20,7 +20,7 @@ both : (a b : Bool) → (a && b) ≡ true → (a ≡ true) × (b ≡ true)
 both true b e = (refl, e)
 both false b e = absurd (cc)
 
--- what the test says of all ranges it says of one
+-- the result of the test for all ranges holds for one
 one_of : (ranges : List (ℕ × ℕ)) (k : ℕ) (r : ℕ × ℕ) → list_all (λ r. nat_lt r.1 128) ranges ≡ true → k < length ranges → slice_index_or ranges k r ≡ r → r.1 < 128
 one_of [] k r all lt e = absurd (omega (arith, lt))
 one_of (s ∷ ranges) zero r all lt e = let same : s ≡ r = e in subst (λ (x : ℕ × ℕ). x.1 < 128) same (ltb-true s.1 128 (both (nat_lt s.1 128) (list_all (λ r. nat_lt r.1 128) ranges) all).0)
@@ -34,7 +34,7 @@ ascii_text b h = IsUtf8-from_ascii (b ∷ []) small
     small (suc i) = omega arith
 
 module _ (bytes : List ℕ) (valid : IsUtf8 bytes) where
-  -- a text that stands between characters at its start does so at its end
+  -- a text that begins at a character boundary ends at one
   is_at_cut : (text : List ℕ) (from to : ℕ) → IsUtf8 text → OccursAt text bytes from to → IsCharBoundary bytes from → IsCharBoundary bytes to
   is_at_cut text from to is_text is_at cut = IsCharBoundary-from_take bytes to valid within (rw whole (IsUtf8-append (take from bytes) text (IsUtf8-take bytes from valid cut) is_text))
     where

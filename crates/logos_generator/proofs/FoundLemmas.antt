@@ -1,4 +1,4 @@
--- What a graph finds, by the one walk of ScanLemmas.
+-- The result of a graph, by the one walk of `ScanLemmas`.
 use Rattle.std.proofs.Common.{◌≡◌, ℕ, zero, suc, ◌+◌, ◌-◌, ◌<◌, ◌≤◌, ◌↔◌, ◌⊎◌, ⊎_elim, max, Bool, false, List, length, take, drop, Option, Some, None, IsTrue, IsCharBoundary, option_map, option_and_then, slice_get, nat_lt, refl, sym, ap, ◌∙◌, subst, arith, rules}
 use Rattle.logos_automaton.specs.Munch.{Found, ended, matched, failed}
 use Rattle.logos_code.specs.Code.{CodeValue}

@@ -51,7 +51,7 @@ module _ (rules : List Rule) (callback : Callback) (utf8 : Bool) (bytes : List �
   abbrev PartsHere : ℕ → List Item → Type 0
   PartsHere = Parts (IsLeftOut rules callback bytes) (length bytes)
 
-  -- a match that gives these items
+  -- a match with these items
   module _ (from to leaf : ℕ) (rest : List Item) (best : IsBest rules bytes from to leaf) (after : PartsHere to rest) where
     emitted_parts : MayAnswer (uses_of rules) callback bytes leaf (slice_range bytes from to) Emit → (b : Bool) → skips (uses_of rules) callback bytes leaf ≡ b →
         PartsHere from ((if b then [] else token leaf from to (slice_range bytes from to) ∷ []) ++ rest)

@@ -32,7 +32,7 @@ skips_alike (UnitVariant name) = refl
 skips_alike (Value name type) = refl
 skips_alike Skip = refl
 
--- what a leaf's value says of its use
+-- the meaning of a leaf's value for its use
 abbrev use_by : LeafValue → Use
 use_by leaf = record { skips = skips_by leaf.kind; calls_back = is_some leaf.callback }
 

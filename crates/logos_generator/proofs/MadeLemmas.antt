@@ -55,7 +55,7 @@ not_found {A = A} p (y ∷ xs) (suc i) x e is h = go (p y) (λ f. not_found p xs
     go true later e = some_none (sym e)
     go false later e = later e
 
--- two edges with one target stand at one place
+-- two edges with the same target have the same index
 same_row_start : (edges : List Edge) → AllPairs (λ edge other. edge.1 ≢ other.1) edges → (i j : ℕ) (edge other : Edge) → slice_get edges i ≡ Some edge → slice_get edges j ≡ Some other → edge.1 ≡ other.1 → edge ≡ other
 same_row_start edges apart i j edge other a b same = ⊎_elim (λ h. absurd (clash i j edge other a b h same)) (λ o. ⊎_elim (λ h. absurd (clash j i other edge b a h (sym same))) equal o) (order i j)
   where
@@ -175,7 +175,7 @@ module _ (code : CodeValue) (tests : List (List Bool)) (realised : (k b : ℕ) �
     finished_at : (s : ℕ) (state : GraphState) → slice_get graph s ≡ Some state → IsFinishedState graph (length code.leaves) state
     finished_at s state is = All-slice_get (IsFinishedState graph (length code.leaves)) graph s state finished.states is
 
-    -- the same states are late
+    -- the late states are equal
     late_in : (t : ℕ) → IsLate code t → IsSomeAnd (slice_get graph t) (λ state. IsLateType state.state_type)
     late_in t late = go (slice_get code.states t) refl late
       where

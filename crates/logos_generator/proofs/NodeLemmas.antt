@@ -1,4 +1,4 @@
--- What is made of a state, with the tests and the jump tables that come later.
+-- The nodes that are made from a state, with the tests and the jump tables that are added later.
 use Rattle.std.proofs.Common.{◌≡◌, ◌≢◌, ℕ, zero, suc, ◌+◌, ◌*◌, ◌<◌, ◌≤◌, ◌↔◌, Bool, true, false, not, ◌&&◌, ◌==◌, cond, if◌then◌else◌, MatchBool, MatchOption, IsSomeAnd, IfSome, List, [], ◌∷◌, ◌++◌, length, find, All, Option, Some, None, option_map, slice_get, slice_index_or, get_or, refl, sym, ap, ◌∙◌, subst, arith, ⊎_elim, inl, inr, ◌⊎◌}
 use Rattle.std.specs.Option.{option_map_or}
 use Rattle.std.proofs.lemmas.Option.{slice_get-get_or, get_or_from_slice_get, slice_get_within}

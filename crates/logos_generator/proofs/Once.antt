@@ -19,7 +19,7 @@ module _ (rules : List Rule) (callback : Callback) (once : AnswersOnce callback)
       go true m n = once leaf slice answer reply m n
       go false m n = m ∙ sym n
 
-  -- equal matches give equal items
+  -- equal matches have equal items
   same_items : (from leaf to other end : ℕ) (answer reply : Action) → leaf ≡ other → to ≡ end →
       MayAnswer (uses_of rules) callback text leaf (slice_range text from to) answer → MayAnswer (uses_of rules) callback text other (slice_range text from end) reply →
       items_of (uses_of rules) callback text answer leaf from to ≡ items_of (uses_of rules) callback text reply other from end

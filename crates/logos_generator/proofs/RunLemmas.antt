@@ -40,7 +40,7 @@ acts_same c d o p e = (cc, cc)
 
 module _ (graph : List GraphState) (utf8 : Bool) (code : CodeValue) (is_made : IsMade graph utf8 code) (bytes : List ℕ) (are : IsBytes bytes) where
   module _ (start : ℕ) (starts : start < length bytes) where
-    -- what is found from a stand on
+    -- the result from a status on
     abbrev Finds : Status → Found → Type 0
     Finds at found = Acts code bytes start (last_of graph at.state (drop at.offset bytes) at.offset at.context) (at.offset + reach graph at.state (drop at.offset bytes)) found
 

@@ -15,7 +15,7 @@ module _ (graph : List GraphState) where
   abbrev pub passed : ℕ → ℕ → Option (ℕ × ℕ) → Option (ℕ × ℕ)
   passed s at context = marked (mark_at s) at context
 
-  -- the context behind the whole way: state s is entered at the place `at`, with this rest and this
+  -- the context after the whole way: state s is entered at the place `at`, with this rest and this
   -- context
   abbrev pub last_of : ℕ → List ℕ → ℕ → Option (ℕ × ℕ) → Option (ℕ × ℕ)
   last_of s [] at context = option_map_or (λ t. passed t (at + 1) (passed s at context)) (next_at_end graph s) (passed s at context)

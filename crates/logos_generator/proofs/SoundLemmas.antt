@@ -1,4 +1,4 @@
--- What holds of each element of a list.
+-- Properties of each element of a list.
 use Rattle.std.proofs.Common.{◌≡◌, ℕ, zero, suc, ◌<◌, ◌↔◌, ◌⊎◌, ⊎_elim, List, [], ◌∷◌, map, length, All, slice_get, get_or, sym, arith}
 use Rattle.std.proofs.lemmas.List.{get_or-map, length-map}
 use Rattle.logos_code.specs.CodeView.{AreDifferent}

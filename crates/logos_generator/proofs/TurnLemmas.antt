@@ -1,4 +1,4 @@
--- What a state of the code does, by the walk of ScanLemmas.
+-- The turn of a state of the code, by the walk of `ScanLemmas`.
 use Rattle.std.proofs.Common.{◌≡◌, ℕ, suc, ◌+◌, ◌-◌, ◌<◌, ◌≤◌, ◌⊎◌, inl, inr, ⊎_elim, Bool, true, false, ◌&&◌, ◌==◌, if◌then◌else◌, cond, List, [], ◌∷◌, length, drop, Option, Some, None, slice_get, refl, sym, ap, ◌∙◌, subst, arith, length-drop, drop-drop}
 use Rattle.std.proofs.lemmas.List.{drop_more, drop_all}
 use Rattle.std.proofs.lemmas.Option.{slice_get_cases}
@@ -22,7 +22,7 @@ and_false true = refl
 and_false false = refl
 
 module _ (code : CodeValue) (graph : List GraphState) where
-  -- what stays true of the rest of the input behind the bytes that the fast loop takes
+  -- what stays true of the rest of the input after the bytes that the fast loop takes
   pub record Skips (p : ℕ → Bool) (s : ℕ) (rest : List ℕ) (at : ℕ) (context : Option (ℕ × ℕ)) (k : ℕ) : Type 0 where
     pub last : last_of graph s rest at context ≡ last_of graph s (drop k rest) (at + k) context
     pub reached : at + reach graph s rest ≡ at + k + reach graph s (drop k rest)
@@ -101,11 +101,11 @@ module _ (code : CodeValue) (graph : List GraphState) where
     are_rest : (at : ℕ) → IsBytes (drop at bytes)
     are_rest at = All-drop (λ b. b < 256) at bytes are
 
-    -- a place that a try can stand at, in this state
+    -- a status that is possible in this state
     abbrev pub Bound : GraphState → ℕ → Type 0
     Bound state at = (at ≤ length bytes) ⊎ ((at ≡ length bytes + 1) × (state.eoi ≡ None))
 
-    -- the try goes on, and finds the same there
+    -- the attempt continues, and finds the same there
     pub record GoesOn (at : Status) (what : Turn) : Type 0 where
       pub next : Status
       pub is : what ≡ enters next
@@ -117,7 +117,7 @@ module _ (code : CodeValue) (graph : List GraphState) where
       pub reached : last_of graph next.state (drop next.offset bytes) next.offset next.context ≡ None →
           at.offset + reach graph at.state (drop at.offset bytes) ≡ next.offset + reach graph next.state (drop next.offset bytes)
 
-    -- the try is over, and acts on what is found
+    -- the attempt is over, and acts on what is found
     pub record IsDone (at : Status) (what : Turn) : Type 0 where
       pub offset : ℕ
       pub is : what ≡ acts (last_of graph at.state (drop at.offset bytes) at.offset at.context) offset
@@ -139,7 +139,7 @@ module _ (code : CodeValue) (graph : List GraphState) where
         (λ u. inr (u.0, u.1, drop_all at bytes u.0))
         (slice_get_cases bytes at).1
 
-    -- behind the fast loop
+    -- after the fast loop
     after : (s : ℕ) (state : GraphState) (made : CodeState) → slice_get graph s ≡ Some state → Makes code s state made → IsClosed graph state →
         (at : ℕ) (context : Option (ℕ × ℕ)) → Bound state at →
         ((b : ℕ) (later : List ℕ) → drop at bytes ≡ b ∷ later → stays code made.fast_loop b ≡ false) →

@@ -28,7 +28,7 @@ item_added f g xs i x whole old new l is e all = next_added f g xs i x whole old
 pub all_added : {A B : Type 0} (f : A → B) (g : B → List ℕ) (xs : List A) (i : ℕ) (whole text : List ℕ) → length xs ≤ i → text ++ flat_map g (map f (drop i xs)) ≡ whole → text ≡ whole
 all_added f g xs i whole text l all = sym (append-nil text) ∙ ap (λ rest. text ++ flat_map g (map f rest)) (sym (drop_of_length-le xs l)) ∙ all
 
--- the same of the states of a chart
+-- the lemma above for the states of a diagram
 pub state_added : (states : List StateData) (s : ℕ) (state : StateData) (whole old new : List ℕ) → s < length states → state ≡ get_or states s state →
     new ≡ old ++ state_lines s (graph_state_of state) → old ++ lines_from s (map graph_state_of (drop s states)) ≡ whole →
     new ++ lines_from (s + 1) (map graph_state_of (drop (s + 1) states)) ≡ whole

@@ -89,7 +89,7 @@ slot_new (edge ∷ edges) (suc i) range t first d =
     rw (not_lt_test t edge.1 (omega arith), other_test t edge.1 (λ e. omega arith))
     (ap (λ rest. edge ∷ rest) (slot_new edges i range t (first_tail edge edges t i first) (λ l. d (omega arith))))
 
--- the same of the edges of the program
+-- the lemma above for the edges of the program
 pub pushed_at : (edges : List (ByteClass × State)) (i : ℕ) (old new : ByteClass × State) (range : ℕ × ℕ) (t : ℕ) → IsFirstFrom (targets (map edge_of edges)) t i →
     i < length edges → slice_index (targets (map edge_of edges)) i ≡ t → old ≡ get_or edges i old → edge_of new ≡ ((edge_of old).0 ++ range ∷ [], (edge_of old).1) →
     map edge_of (slice_set edges i new) ≡ with_range (map edge_of edges) range t
@@ -392,7 +392,7 @@ edges_neat leads edges are = record {
 pub edges_increase : (leads : ℕ → Option ℕ) (edges : List Edge) → AreEdgesOf leads 256 edges → IsStrictlyIncreasing (map (λ edge. edge.1) edges)
 edges_increase leads edges are = λ k l. are.rising.rise k (k + 1) (omega arith) l
 
--- different entries stand for different targets
+-- different entries have different targets
 pub targets_differ : (a b : ℕ) → target_of a ≡ target_of b → a ≡ b
 targets_differ zero zero e = refl
 targets_differ zero (suc b) e = absurd (cc)

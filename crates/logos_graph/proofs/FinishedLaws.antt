@@ -1,4 +1,4 @@
--- What holds of a graph that shows the reduced table of an automaton, beside what it finds.
+-- Properties of a graph that represents the reduced table of an automaton, besides its results.
 use Rattle.std.proofs.Common.{◌≡◌, ◌≢◌, ◌↔◌, ℕ, zero, suc, ◌<◌, ◌≤◌, ◌⊎◌, inl, inr, Bool, true, false, nat_eq, slice_get, List, [], ◌∷◌, length, Option, Some, None, option_map, option_and_then, IfSome, IsSomeAnd, refl, sym, ◌∙◌, ap, subst, arith}
 use Rattle.std.proofs.lemmas.Bool.{cases_lt}
 use Rattle.std.proofs.lemmas.Bool.Decides.{eqb_tells}

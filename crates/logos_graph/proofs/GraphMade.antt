@@ -1,4 +1,4 @@
--- A graph that is made from leaves keeps what it promises of them.
+-- A graph that is made from leaves fulfills its contract with them.
 use Rattle.std.proofs.Common.{◌≡◌, ◌≢◌, ℕ, ◌==◌, Bool, true, List, [], ◌∷◌, length, map, refl, sym, ◌∙◌, subst, arith}
 use Rattle.std.proofs.lemmas.Bool.{eqb-true}
 use Rattle.logos_automaton.specs.Faults.{Fault, AreFaults}

@@ -1,5 +1,5 @@
--- A word of symbols that distinguishes two states of a table gives bytes, with the end after them
--- or not, that distinguish the states of the graph.
+-- A word of symbols that distinguishes two states of a table yields bytes, with or without the end
+-- after them, that distinguish the states of the graph.
 use Rattle.std.proofs.Common.{◌≡◌, ◌≢◌, ℕ, ◌<◌, ◌≤◌, ◌⊎◌, inl, inr, Bool, true, false, List, [], ◌∷◌, length, Option, Some, None, option_map, refl, sym, ◌∙◌, ap, arith}
 use Rattle.std.proofs.lemmas.Bool.{cases_lt}
 use Rattle.std.proofs.lemmas.List.Elements.{All-cons, All-nil}
@@ -31,7 +31,7 @@ module _ (table : Table) (graph : List GraphState) (shows : Shows table graph) w
   pub type_no_end : (s : ℕ) → s < size table → to table s 256 ≡ None → type_after graph s [] true ≡ None
   type_no_end s l e = let q = shows.ends s l ∙ e in rw q refl
 
-  -- bytes, and the end after them or not, that tell two states apart
+  -- bytes, with or without the end after them, that distinguish two states
   abbrev pub Evidence : ℕ → ℕ → ℕ → Type 0
   Evidence n s t = (bytes : List ℕ) × (ends : Bool) × IsBytes bytes × (length bytes ≤ n) × Distinguishes graph s t bytes ends
 

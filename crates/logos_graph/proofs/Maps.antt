@@ -1,4 +1,4 @@
--- A map of states that keeps types and edges keeps what a graph finds.
+-- A map of states that preserves types and edges preserves the results of a graph.
 use Rattle.std.proofs.Common.{◌≡◌, ℕ, ◌+◌, ◌<◌, List, [], ◌∷◌, Option, Some, None, refl, ◌∙◌, ap, option_map}
 use Rattle.logos_graph.proofs.Steps.{first_byte, other_bytes}
 use Rattle.std.specs.Option.{option_map_or}

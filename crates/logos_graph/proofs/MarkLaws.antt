@@ -1,4 +1,4 @@
--- What an early mark of a reduced graph promises.
+-- The meaning of an early mark of a reduced graph.
 use Rattle.std.proofs.Common.{◌≡◌, ◌↔◌, ℕ, ◌<◌, Bool, false, List, length, Option, Some, None, IsSomeAnd, slice_get, arith}
 use Rattle.logos_hir.specs.Text.{IsBytes}
 use Rattle.logos_automaton.specs.Munch.{Rule, Finds, matched}

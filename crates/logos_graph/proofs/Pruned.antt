@@ -1,5 +1,5 @@
--- Leaving out the states that have no mark and lead to none keeps the last mark; and then an error
--- covers just what can be followed.
+-- Removing the states that have no mark and do not lead to one preserves the last mark. An error
+-- then covers exactly the bytes that can be followed.
 use Rattle.std.proofs.Common.{◌≡◌, ◌↔◌, ℕ, ◌+◌, ◌<◌, ◌≤◌, ◌⊎◌, inl, inr, List, [], ◌∷◌, Option, Some, None, refl, sym, ◌∙◌, ap, subst, arith}
 use Rattle.std.specs.Option.{option_map_or}
 use Rattle.logos_hir.specs.Text.{IsBytes}

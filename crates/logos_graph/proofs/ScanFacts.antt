@@ -1,4 +1,4 @@
--- What a graph finds, by its marks after each number of bytes, and by one walk over the rest.
+-- The result of a graph, by its marks after each number of bytes, and by one walk over the rest.
 use Rattle.std.proofs.Common.{◌≡◌, ◌↔◌, ℕ, zero, suc, ◌+◌, ◌-◌, ◌<◌, ◌≤◌, ◌⊎◌, inl, inr, Bool, false, List, [], ◌∷◌, length, take, drop, Option, Some, None, IsSome, option_map, option_and_then, slice_get, nat_lt, refl, sym, ◌∙◌, ap, arith, rules}
 use Rattle.std.specs.Option.{option_map_or}
 use Rattle.logos_graph.specs.Found as found

@@ -7,7 +7,8 @@ use Rattle.logos_automaton.specs.Munch.{Rule, IsFirst}
 use Rattle.logos_graph.specs.Graph.{GraphState, walk, next_by, next_at_end, type_after}
 use Rattle.logos_reduce.specs.Edges.{StateType, IsMarked}
 
--- The leaf is the one that matches all the bytes, whatever byte follows and also at the end.
+-- The leaf is the one that matches all the bytes, regardless of the byte that follows and also at
+-- the end.
 pub record IsSettled (rules : List Rule) (bytes : List ℕ) (leaf : ℕ) : Type 0 where
   pub before : (b : ℕ) → b < 256 → IsFirst rules (bytes ++ b ∷ []) 0 (length bytes) leaf
   pub at_end : IsFirst rules bytes 0 (length bytes) leaf

@@ -1,4 +1,4 @@
-//! The types of graphs: options, states and their edges.
+//! The types of graphs: options, states and their edges. Every crate that reads a graph uses them.
 
 ghost use Rattle.std.specs.Prelude.{◌≡◌};
 ghost use Rattle.logos_graph.specs.StateEquality.{same_state, same_state_laws};

@@ -19,7 +19,7 @@ pub fn one_list_of_faults()
 
 /// If bytes lead to a state of a reduced graph with an early mark, maximal munch finds the leaf of
 /// the mark in these bytes. A late mark promises no such input: another match may end after it,
-/// whatever follows.
+/// regardless of the bytes that follow.
 pub fn early_marks_are_found()
     ensures { (rules : List Rule) (utf8 : Bool) (graph : List GraphState) (bytes : List ℕ)
         (s leaf : ℕ) → IsReduced rules graph → IsBytes bytes → 0 < length bytes →

@@ -57,7 +57,7 @@ abbrev mutual
   all_byteless none = true
   all_byteless (also t rest) = is_byteless t && all_byteless rest
 
--- The greatest count is this one.
+-- The greatest count is this number.
 abbrev pub is_most : ℕ → Option ℕ → Bool
 is_most n None = false
 is_most n (Some most) = most == n

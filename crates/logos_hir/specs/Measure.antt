@@ -37,7 +37,7 @@ is_all last ranges =
     || pointwise is_same ranges ((0, 9) ∷ (11, last) ∷ [])
     || pointwise is_same ranges ((0, 9) ∷ (11, 12) ∷ (14, last) ∷ [])
 
--- A class that a dot can be.
+-- A class that a dot can denote.
 abbrev pub is_dot : Tree → Bool
 is_dot (char_class ranges) = is_all 0x10_FFFF ranges
 is_dot (byte_class ranges) = is_all 255 ranges

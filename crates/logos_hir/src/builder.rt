@@ -92,7 +92,7 @@ pub fn is_byteless(hir: &Hir) -> bool
     }
 }
 
-/// Returns whether the greatest count is this one.
+/// Returns whether the greatest count is `n`.
 fn is_most(n: u32, max: Option<u32>) -> bool
     ensures { result ≡ is_most n max }
 {

@@ -1,4 +1,5 @@
-//! The tree of a pattern. Names are those of regex-syntax.
+//! The tree of a pattern. The names are those of regex-syntax. `builder` makes trees, and
+//! `logos_positions` and `logos_automaton` read them.
 
 ghost use Rattle.std.specs.Prelude.{◌≡◌};
 
@@ -59,7 +60,7 @@ pub enum Hir {
     Class(Class),
     /// A condition on the position.
     Look(Look),
-    /// At least `min` times the body, and at most `max` times if there is such a count.
+    /// At least `min` times the body, and at most `max` times if `max` is not `None`.
     Repetition {
         min: u32,
         max: Option<u32>,

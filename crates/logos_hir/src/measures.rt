@@ -159,7 +159,7 @@ fn is_all(last: u32, ranges: &[Range]) -> bool
     same(ranges, &all) | same(ranges, &but_lf) | same(ranges, &but_line_ends)
 }
 
-/// Returns whether the tree is a class that a dot can be.
+/// Returns whether the tree is a class that a dot can denote.
 fn is_dot(hir: &Hir) -> bool
     ensures { result ≡ is_dot (tree_of hir.now) }
 {

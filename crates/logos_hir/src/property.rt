@@ -153,7 +153,7 @@ pub fn perl_set(alloc: Global, kind: PerlKind, unicode: bool) -> Result<RangeSet
     }
 }
 
-/// Returns the set of a property by its name, which is compared loosely.
+/// Returns the set of the property with this name. Names are compared loosely.
 pub fn property_named(alloc: Global, name: &[char]) -> Result<Option<Set>, AllocError>
     ensures { IfOk result (λ set. set ≡ property_named name.now) }
 {
@@ -161,7 +161,7 @@ pub fn property_named(alloc: Global, name: &[char]) -> Result<Option<Set>, Alloc
     Ok(property_normalized(&name))
 }
 
-/// Returns the set of a property by its normalized name.
+/// Returns the set of the property with this normalized name.
 fn property_normalized(name: &[u8]) -> Option<Set>
     ensures { result ≡ property_normalized name.now }
 {

@@ -1,4 +1,5 @@
-//! Sets of characters and of bytes, as ranges.
+//! Sets of characters and of bytes, as ranges. The builders of trees and the readers of brackets
+//! combine them.
 
 ghost use Rattle.std.specs.Prelude.{◌≡◌, ℕ, ◌+◌, ◌<◌, ◌≤◌, true, ◌||◌, ◌&&◌, not, nat_le, [], IfOk, OnOk, MatchOption};
 ghost use Rattle.logos_hir.specs.Imports.{IsNonDecreasingBy, scalar, AreCanonical, in_range, in_ranges, is_range, next, IsLimit, AreRanges, free_from, in_gap, AddsCharacters, HasCharacters};

@@ -1,4 +1,4 @@
--- What a definition makes, by what its text is.
+-- The leaf of a definition, by the result of reading its text.
 use Rattle.std.proofs.Common.{◌≡◌, ◌∙◌, ℕ, List, [], ◌++◌, Option, Some, None, refl, sym, ap, append-nil}
 use Rattle.std.specs.Str.{chars}
 use Rattle.logos_token.specs.Faults.{Fault}
@@ -93,7 +93,7 @@ module _ (d : DefinitionView) (kind : KindValue) where
               (sym (append-nil new) ∙ ap (λ t. new ++ (text_report d kind too_deep t).faults) e),
         )
 
--- faults that are found alone, and then stand after others
+-- faults that are found alone, and are then appended to others
 pub regex_alone : {d : DefinitionView} {kind : KindValue} {names : List Stored} {leaf : Option LeafView} (ahead none found all : List Fault) → none ≡ [] → IsRegexLeaf d kind names leaf none found →
     all ≡ ahead ++ found → IsRegexLeaf d kind names leaf ahead all
 regex_alone ahead none found all n h e = record { reading = h.reading; reads = h.reads; reports = report_alone _ _ ahead none found all n h.reports e }

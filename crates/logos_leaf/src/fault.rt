@@ -1,4 +1,4 @@
-//! Reports the faults of leaves. Each function adds one fault.
+//! Reports the faults of leaves. Each function adds one fault. `leaf` calls it.
 
 ghost use Rattle.std.specs.Prelude.{OnOk};
 ghost use Rattle.logos_leaf.specs.Imports.{AddsFault, greedy_dot, priority_overflow};

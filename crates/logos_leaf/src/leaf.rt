@@ -254,7 +254,7 @@ fn whole_pattern<'s>(
     match read_pattern(text, written, mode, errors) {
         Ok(Some(pattern)) => fitted_pattern(definition, pattern, errors),
         Ok(None) => {
-            // It is reported already why the text is not a pattern.
+            // The reason why the text is not a pattern has already been reported.
             Ok(None)
         }
         Err(Memory) => Err(Memory),

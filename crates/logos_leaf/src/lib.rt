@@ -1,4 +1,5 @@
-//! Makes the leaves of an enum from its definitions.
+//! Makes the leaves of an enum from its definitions. `logos_parser` calls `read_leaves` for each
+//! source.
 
 #![tactic(auto)]
 

@@ -125,8 +125,8 @@ module _ (content : Content) (bytes : List ℕ) (at : ℕ) where
   character-one m n (escaped {held} e) (unescaped f b w) = absurd (f (escape-backslash bytes at content m held e))
   character-one m n (escaped {held = xs} e) (escaped {held = ys} f) = (IsEscape-one bytes at content m n xs ys e f).0
 
-  -- a piece of a string is an escape behind a backslash that no line break follows, and else stands
-  -- for itself
+  -- a piece of a string is an escape after a backslash that no line break follows, and represents
+  -- itself otherwise
 
   module _ (escapes : Bool) where
     pub says-escape : escapes ≡ true → get_or bytes at 0 ≡ 92 → (BreaksLine bytes (at + 1) → ⊥) → (next : ℕ) (held : List ℕ) → Represents escapes content bytes at next held → IsEscape content bytes at next held

@@ -1,4 +1,4 @@
--- What opens at a place, by cases.
+-- The lexemes and gaps that open at an offset, by cases.
 use Rattle.std.proofs.Common.{◌≡◌, ◌≢◌, ℕ, ◌+◌, ◌<◌, ◌≤◌, ◌==◌, ◌&&◌, nat_le, not, min, inl, inr, Option, Some, None, unwrap_or, option_map, is_some, MatchOption, List, length, get_or, drop, get_or-drop, length-drop, sym, ◌∙◌, ap, arith, add-zero}
 use Rattle.std.specs.List.{prefix_len}
 use Rattle.std.proofs.lemmas.Bool.{cases_lt, eqb-true, eq-eqb, false≢true, cond_both, and_parts}
@@ -14,7 +14,7 @@ use Rattle.logos_lexeme.specs.declared.lexeme.openings.Opening.TheVariants.{Spac
 use Rattle.logos_lexeme.proofs.CharacterLaws.{inside_from_byte}
 
 module _ (bytes : List ℕ) (from : ℕ) where
-  -- places that hold `#` are counted
+  -- offsets that hold `#` are counted
   pub at_least : (n : ℕ) → ((k : ℕ) → k < n → get_or bytes (from + k) 0 ≡ 35) → n ≤ hashes bytes from
   unfolding hashes
   at_least n all =
@@ -55,7 +55,7 @@ single-or : (P : Opening → Type 0) → ((kind : LexemeKind) → P (Single kind
 single-or P single nothing None = nothing
 single-or P single nothing (Some kind) = single kind
 
--- a property that holds of each opening, where it opens, holds of what opens at a place
+-- a property that holds of each opening, where it opens, holds of what opens at an offset
 module _ (P : Opening → Type 0) (bytes : List ℕ) where
   raw-yields : (content : Content) (at : ℕ) → ((count : ℕ) → get_or bytes (at + count) 0 ≡ 34 → P (Raw content count)) → Yields P (raw_opening content bytes at)
   unfolding raw_opening

@@ -46,8 +46,8 @@ pub data GoesOn (based : Bool) (bytes : List ℕ) (at next : ℕ) : Type 0 where
   point : based ≡ false → slice_index bytes at ≡ 46 → IsTrue (is_ascii_digit (slice_index bytes (at + 1))) → next ≡ at + 1 → GoesOn based bytes at next
   sign : based ≡ false → (slice_index bytes (at - 1) ≡ 101) ⊎ (slice_index bytes (at - 1) ≡ 69) → (slice_index bytes at ≡ 43) ⊎ (slice_index bytes at ≡ 45) → IsTrue (is_ascii_digit (slice_index bytes (at + 1))) → next ≡ at + 1 → GoesOn based bytes at next
 
--- One step inside quotes: over `\` and what it escapes, or over a byte that is neither `\` nor the
--- quote.
+-- One step inside quotes: over `\` and the byte after it, or over a byte that is neither `\` nor
+-- the quote.
 pub data InQuotes (quote : ℕ) (bytes : List ℕ) (at next : ℕ) : Type 0 where
   escaped : slice_index bytes at ≡ 92 → next ≡ at + 2 → InQuotes quote bytes at next
   plain : at < length bytes → slice_index bytes at ≢ 92 → slice_index bytes at ≢ quote → next ≡ at + 1 → InQuotes quote bytes at next
@@ -86,7 +86,7 @@ body_of (Raw content count) from = from + prefix_of content + 1 + count + 1
 body_of (Apostrophes content) from = from + prefix_of content + 1
 body_of _ from = from
 
--- What opens at `from` ends at `to`, without the suffix of a literal.
+-- The lexeme or gap that opens at `from` ends at `to`, without the suffix of a literal.
 abbrev pub Ends : List ℕ → ℕ → Opening → ℕ → Type 0
 Ends bytes from Space to = Run (Passes is_space bytes) (past bytes from) to
 Ends bytes from (Line kind) to = IsFirst (IsLineEnd bytes) (from + 2) to

@@ -127,7 +127,7 @@ is_lifetime_name bytes at = follows_apostrophe bytes at && is_start (character b
 unfoldable pub literal_at : List ℕ → ℕ → Option Opening
 literal_at bytes at = if is_lifetime_name bytes at then None else literal_opening bytes at
 
--- What opens at a byte offset: a literal if one opens there, otherwise a comment, otherwise the
+-- The opening at a byte offset: a literal if one opens there, otherwise a comment, otherwise the
 -- lexeme that its character can begin.
 unfoldable pub opening_at : List ℕ → ℕ → Opening
 opening_at bytes at = unwrap_or (literal_at bytes at) (unwrap_or (comment_opening bytes at) (other_opening bytes at))

@@ -11,12 +11,12 @@ use Rattle.logos_lexeme.specs.declared.lexeme.LexicalKind.{LexicalKind}
 use Rattle.logos_lexeme.specs.declared.lexeme.LexicalKind.TheVariants.{BadCharacter, BadLiteral, Unterminated, Unbalanced}
 use Rattle.logos_lexeme.specs.declared.lexeme.openings.Opening.TheVariants.{Nothing}
 
--- A literal reaches to the end of its suffix; anything else has no suffix.
+-- A literal reaches to the end of its suffix. Any other lexeme has no suffix.
 abbrev pub IsSuffixed : List ℕ → LexemeKind → ℕ → ℕ → Type 0
 IsSuffixed bytes Literal end to = IsSuffix bytes end to
 IsSuffixed bytes _ end to = to ≡ end
 
--- The next lexeme or gap: what opens at `from` ends, is well-formed, and is of this kind.
+-- The next lexeme or gap: it opens at `from` and ends, is well-formed, and is of this kind.
 pub record IsNext (bytes : List ℕ) (from : ℕ) (kind : LexemeKind) (to : ℕ) : Type 0 where
   pub end : ℕ
   pub ends : Ends bytes from (opening_at bytes from) end

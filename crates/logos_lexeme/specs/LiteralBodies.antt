@@ -23,7 +23,7 @@ is_hex c = is_digit c 16
 abbrev pub hex_value : List ℕ → ℕ
 hex_value digits = fold (λ value digit. value * 16 + digit_value digit) 0 digits
 
--- The greatest byte that `\xNN` can stand for.
+-- The greatest byte that `\xNN` can denote.
 abbrev pub greatest_of : Content → ℕ
 greatest_of Text = 0x7F
 greatest_of Bytes = 0xFF
@@ -54,7 +54,7 @@ pub record IsUnicodeEscape (bytes : List ℕ) (at brace : ℕ) : Type 0 where
   pub few : length (digits_between bytes (at + 3) brace) ≤ 6
   pub scalar : IsScalar (hex_value (digits_between bytes (at + 3) brace))
 
--- The byte that a letter after a backslash stands for.
+-- The byte that a letter after a backslash denotes.
 unfoldable pub simple_value : ℕ → ℕ
 simple_value letter =
     if letter == 110 then 10
@@ -63,7 +63,7 @@ simple_value letter =
     else (if letter == 48 then 0
     else letter)))
 
--- An escape from `at` to `next`, and the bytes that it stands for.
+-- An escape from `at` to `next`, and the bytes that it denotes.
 pub data IsEscape (content : Content) (bytes : List ℕ) (at next : ℕ) : List ℕ → Type 0 where
   simple : slice_index bytes at ≡ 92 → IsTrue (is_simple (slice_index bytes (at + 1))) → next ≡ at + 2 → IsEscape content bytes at next (simple_value (slice_index bytes (at + 1)) ∷ [])
   hex : IsHexEscape content bytes at → next ≡ at + 4 → IsEscape content bytes at next (hex_value (slice_range bytes (at + 2) (at + 4)) ∷ [])
@@ -83,7 +83,7 @@ pub record IsContinuation (bytes : List ℕ) (at next : ℕ) : Type 0 where
   pub breaks : BreaksLine bytes (at + 1)
   pub blanks : IsFirst (λ i. IsFalse (is_blank (slice_index bytes i))) (at + 1) next
 
--- A byte that can stand for itselfor is part of a character that does: not CR, and only ASCII in
+-- A byte that can represent itself or is part of a character that can: not CR, and only ASCII in
 -- bytes.
 pub record IsAllowed (content : Content) (byte : ℕ) : Type 0 where
   pub no_return : byte ≢ 13
@@ -93,8 +93,8 @@ pub record IsAllowed (content : Content) (byte : ℕ) : Type 0 where
 abbrev pub IsReturn : List ℕ → ℕ → ℕ → Type 0
 IsReturn bytes at next = (slice_index bytes at ≡ 13) × (slice_index bytes (at + 1) ≡ 10) × (next ≡ at + 2)
 
--- A piece of a string from `at` to `next`, and the bytes that it stands for. `escapes` is whether
--- the string has escapes.
+-- A piece of a string from `at` to `next`, and the bytes that it denotes. `escapes` is whether the
+-- string has escapes.
 pub data Represents (escapes : Bool) (content : Content) (bytes : List ℕ) (at next : ℕ) : List ℕ → Type 0 where
   plain : (escapes ≡ true → slice_index bytes at ≢ 92) → IsAllowed content (slice_index bytes at) → next ≡ at + 1 → Represents escapes content bytes at next (slice_index bytes at ∷ [])
   return : IsReturn bytes at next → Represents escapes content bytes at next (10 ∷ [])
@@ -111,7 +111,7 @@ bytes_of (piece.Character character) = encode_utf8 character
 abbrev pub IsPiece : Bool → Content → List ℕ → ℕ → ℕ → Type 0
 IsPiece escapes content bytes at next = (held : List ℕ) × Represents escapes content bytes at next held
 
--- The span consists of pieces one after another, which stand for these bytes.
+-- The span consists of pieces one after another, which denote these bytes.
 pub data Holds (escapes : Bool) (content : Content) (bytes : List ℕ) : (at to : ℕ) → List ℕ → Type 0 where
   none : {at : ℕ} → Holds escapes content bytes at at []
   more : {at mid to : ℕ} {first rest held : List ℕ} → Represents escapes content bytes at mid first → Holds escapes content bytes mid to rest → held ≡ first ++ rest → Holds escapes content bytes at to held

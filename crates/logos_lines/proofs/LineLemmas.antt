@@ -8,7 +8,7 @@ pub ended : (text : List ℕ) → ends_line text ≡ true → line_length text �
 ended [] e = refl
 ended (b ∷ rest) e = cond-true _ _ _ e
 
--- a line goes on by one byte
+-- a line continues by one byte
 pub goes_on : (text : List ℕ) (j : ℕ) → j < length text → ends_line (drop j text) ≡ false → line_length (drop j text) ≡ 1 + line_length (drop (j + 1) text)
 goes_on text j l e =
     let k : suc j ≡ j + 1 = omega arith in

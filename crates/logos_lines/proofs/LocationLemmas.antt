@@ -171,7 +171,7 @@ bool_false false true z h e = absurd cc
 bool_false false false true h e = absurd cc
 bool_false false false false h e = (refl, refl)
 
--- what the end of the search for a column tells
+-- the meaning of the end of the search for a column
 pub search_ended : (b r c : ℕ) → ends_search b r c ≡ true → (continues b ≡ false) × (((r == c) ≡ true) ⊎ ((b == 10) ≡ true))
 search_ended b r c h = bool_true (continues b) (r == c) (b == 10) h
 
@@ -256,7 +256,7 @@ starts_more text u starts new at l s e = go (get_or text at 0 == 10) refl
           each = s.each;
         })
 
--- a boundary of the column is after a place at which the search goes on
+-- a boundary of the column is after an offset at which the search continues
 pub further : (text : List ℕ) (at line reached column o : ℕ) → at < length text → ends_search (get_or text at 0) reached column ≡ false →
     location_at text at ≡ record { line = line; column = reached } → at ≤ o → IsCharBoundary text o → location_at text o ≡ record { line = line; column = column } → at + 1 ≤ o
 further text at line reached column o l h p le b q = go (grind arith)
@@ -265,7 +265,7 @@ further text at line reached column o l h p le b q = go (grind arith)
     go (inl i) = omega arith
     go (inr i) = absurd (not_here text at line reached column l h (rw i b) p (rw i q))
 
--- where the search ended in its column, the place is the only one
+-- where the search ended in its column, the offset is the only one
 pub found_once : (text : List ℕ) (at line column o : ℕ) → IsCharBoundary text at → location_at text at ≡ record { line = line; column = column } → IsCharBoundary text o →
     location_at text o ≡ record { line = line; column = column } → Some at ≡ Some o
 found_once text at line column o a p b q = ap (λ n. Some n) (one_location text at o a b (p ∙ sym q))

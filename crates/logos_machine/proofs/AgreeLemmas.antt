@@ -1,4 +1,5 @@
--- A try that looks at none but the first bytes finds the same in each input that has them.
+-- A match attempt that examines only the first bytes has the same result in each input that begins
+-- with them.
 use Rattle.std.proofs.Common.{◌≡◌, ◌∙◌, ℕ, zero, suc, ◌+◌, ◌<◌, ◌≤◌, ◌⊎◌, inl, inr, ⊎_elim, Bool, true, false, cond, eqb, ◌&&◌, ◌==◌, IsSome, IsTrue, IsCharBoundary, List, [], ◌∷◌, ◌++◌, length, take, drop, Option, Some, None, slice_get, refl, sym, ap, subst, arith}
 use Rattle.std.proofs.lemmas.List.{append-nil, take-append-drop, drop-append-le, length-append, length-take-le, length-drop, get_or_append_left}
 use Rattle.std.proofs.lemmas.List.Folds.{length-prefix_len, prefix_len-append}
@@ -124,7 +125,7 @@ module _ (code : CodeValue) (front one other : List ℕ) (start : ℕ) where
   goes_agree seen fits whole (acts_within at context offset found s d a w) =
       acts_within at context offset found (stops_agree seen at fits s) (does_agrees seen at (acts context offset) fits s d) (acts_agree seen context offset found fits whole w a) (ends_within seen found w)
 
--- such a try is a try
+-- such a match attempt is a match attempt
 pub goes_within : (code : CodeValue) (bytes : List ℕ) (start seen : ℕ) {at : Status} {found : Found} {n : ℕ} → GoesWithin code bytes start seen at found n → Goes code bytes start at found n
 goes_within code bytes start seen (leads_within at next found n s d g) = goes_on at next found n d (goes_within code bytes start seen g)
 goes_within code bytes start seen (acts_within at context offset found s d a w) = acts_on at context offset found d a

@@ -39,7 +39,7 @@ pub lanes_fit : (v : List ℕ) → ((i : ℕ) → get_or v i 0 < 256) → Each1 
 lanes_fit [] h = tt
 lanes_fit (x ∷ xs) h = (record { fits = h 0 }, lanes_fit xs (λ i. h (suc i)))
 
--- the entries of a table at places g x below 16, which are those that f tells
+-- the entries of a table at the indexes g x below 16, which are the values of f
 pub looked_up : (t : List ℕ) (f g : ℕ → ℕ) (v js : List ℕ) → IsBlock v → js ≡ map g v → ((x : ℕ) → x < 256 → g x < 16) → ((x : ℕ) → x < 256 → get_or t (g x) 0 ≡ f x) →
     swz_l w8 16 t 0 js ≡ map f v
 looked_up t f g v js fits e small says =
@@ -98,7 +98,7 @@ far_byte (suc (suc (suc (suc (suc (suc (suc (suc k)))))))) l = absurd (omega (ar
 abbrev pub found : List ℕ → ℕ → ℕ
 found mask b = bit_or (bit_and (slice_index mask (0 + b % 16)) (slice_index NEAR (b / 16))) (bit_and (slice_index mask (16 + b % 16)) (slice_index FAR (b / 16)))
 
--- a digit that stands somewhere is 0 or not
+-- a digit at an index is 0 or not
 bare : (bit n : ℕ) → bit < 2 → 0 < n → eqb (bit * n) 0 ≡ not (bit == 1)
 bare zero n lt pos = eq-eqb (0 * n) 0 (omega arith)
 bare (suc zero) n lt pos = ne_eqb (1 * n) 0 (λ e. omega (arith, e, pos))

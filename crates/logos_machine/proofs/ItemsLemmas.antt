@@ -1,4 +1,4 @@
--- From item to item: what completes the run after the items so far completes the whole run.
+-- From item to item: the items so far, followed by the rest of a run, are a whole run.
 use Rattle.std.proofs.Common.{◌≡◌, ℕ, Bool, true, false, List, [], ◌∷◌, ◌++◌, append_assoc, append-nil, MatchBool}
 use Rattle.logos_automaton.specs.Munch.{Use}
 use Rattle.logos_code.specs.Code.{CodeValue}
@@ -12,7 +12,7 @@ use Rattle.logos_hir.specs.declared.leaf.LeafId.{LeafId}
 use Rattle.logos_machine.specs.LexerValue.{LexerValue, Yields, Ends, answers_of}
 use Rattle.logos_machine.specs.Loops.{EndIsRun, NextAddsItem}
 
--- the same items by a callback that answers no less
+-- the same items with a callback that has no fewer actions
 pub may_by : (uses : List Use) (bytes : List ℕ) (callback other : Callback) → ((leaf : ℕ) (slice : List ℕ) (answer : Action) → callback leaf slice answer → other leaf slice answer) →
     (leaf : ℕ) (slice : List ℕ) (answer : Action) → MayAnswer uses callback bytes leaf slice answer → MayAnswer uses other bytes leaf slice answer
 may_by uses bytes callback other h leaf slice answer m = go (calls_back uses callback bytes leaf) m

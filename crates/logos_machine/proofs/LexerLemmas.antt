@@ -56,7 +56,7 @@ module _ (code : CodeValue) (callback : Callback) (bytes : List ℕ) (from : ℕ
   pub may_emit : (leaf : ℕ) (slice : List ℕ) (b : Bool) → slice_get code.leaves leaf ≡ Some (record { skips = b; calls_back = false }) → MayAnswer code.leaves callback bytes leaf slice Emit
   may_emit leaf slice b is = rw is refl
 
-  -- those of a skip give no item
+  -- the matches of a skip have no item
   pub skipped_items : (to leaf : ℕ) → slice_get code.leaves leaf ≡ Some (record { skips = true; calls_back = false }) → items_of code.leaves callback bytes Emit leaf from to ≡ []
   skipped_items to leaf is = rw is refl
 
@@ -70,7 +70,7 @@ module _ (code : CodeValue) (callback : Callback) (bytes : List ℕ) (from : ℕ
       items_of code.leaves callback bytes answer leaf from to ≡ item ∷ [] → RunsOn code callback bytes from item to
   match_next to leaf n answer item attempts may is = let finds : CodeFinds code bytes from (matched leaf to) = (n, attempts) in yields from to leaf answer item finds may is
 
-  -- it stands after a match that gives none
+  -- the lexer is after a match without an item
   pub pass_next : (to leaf n : ℕ) (answer : Action) (item : Item) (end : ℕ) → Attempts code bytes from (matched leaf to) n → MayAnswer code.leaves callback bytes leaf (slice_range bytes from to) answer →
       items_of code.leaves callback bytes answer leaf from to ≡ [] → RunsOn code callback bytes to item end → RunsOn code callback bytes from item end
   pass_next to leaf n answer item end attempts may is next =
@@ -85,14 +85,14 @@ abbrev pub moved : {C : Type 0} → LexerValue C → (from to steps : ℕ) → L
 moved lexer from to steps = record { code = lexer.code; input = lexer.input; callback = lexer.callback; from = from; to = to; steps = steps }
 
 module _ {C : Type 0} (callback : Callback) (old : LexerValue C) where
-  -- what goes on from here, after skipped matches, goes on after the last item
+  -- what continues from here, after skipped matches, continues after the last item
   pub record GoesOn (from : ℕ) : Type 0 where
     pub after : old.to ≤ from
     pub within : from ≤ length old.input
     pub goes_on : (items : List Item) → Runs old.code callback old.input from items → Runs old.code callback old.input old.to items
     pub passed : (item : Item) (end : ℕ) → RunsOn old.code callback old.input from item end → RunsOn old.code callback old.input old.to item end
 
-  -- past a match that gives no item
+  -- past a match without an item
   pub goes_past : (from to leaf steps : ℕ) (answer : Action) → GoesOn from → Tried old.code old.input from (matched leaf to) steps →
       MayAnswer old.code.leaves callback old.input leaf (slice_range old.input from to) answer → items_of old.code.leaves callback old.input answer leaf from to ≡ [] → GoesOn to
   goes_past from to leaf steps answer i t may is =

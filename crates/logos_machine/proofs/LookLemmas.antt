@@ -1,4 +1,4 @@
--- What a state does, by the step that is seen.
+-- The turn of a state, by the step of its entry.
 use Rattle.std.proofs.Common.{◌≡◌, ◌≢◌, ℕ, ◌+◌, ◌-◌, ◌<◌, ◌≤◌, Bool, true, false, ◌&&◌, ◌==◌, List, length, drop, get_or, Option, Some, None, slice_get, refl, sym, ap, subst, ◌∙◌, arith}
 use Rattle.std.proofs.lemmas.Bool.{ne_eqb}
 use Rattle.std.proofs.lemmas.List.Folds.{length-prefix_len}
@@ -99,7 +99,7 @@ module _ (code : CodeValue) (bytes : List ℕ) (start : ℕ) (s : ℕ) (there : 
   sees_end sound Stuck is at says = λ inside. absurd (let e : None ≡ Some (get_or bytes stop 0) = sym at ∙ slice_get-get_or bytes stop 0 inside in cc)
   sees_end sound Unsaid is at says = tt
 
--- what the entry of a byte says, where the byte does not stay: no bytes are looped over
+-- the meaning of the entry of a byte on which the state changes: no bytes are looped over
 pub sees_entry : (code : CodeValue) (bytes : List ℕ) (start s : ℕ) → s < length code.states → (at entry : ℕ) → start ≤ at → at < length bytes →
     IsEntry code (state_at code s) (get_or bytes at 0) entry → (step : Step) → IsStepOf entry step → Sees code bytes start s at at step
 sees_entry code bytes start s there at entry h within is step f = go step (is.says step f)

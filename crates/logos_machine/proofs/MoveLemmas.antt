@@ -1,4 +1,4 @@
--- One state of a try on a part of an input.
+-- One state of a match attempt on a part of an input.
 use Rattle.std.proofs.Common.{◌≡◌, ◌∙◌, ℕ, ◌+◌, ◌<◌, ◌≤◌, inl, inr, ⊎_elim, IfSome, IsTrue, List, length, drop, Option, Some, None, option_map, slice_get, get_or, refl, sym, ap, subst, arith}
 use Rattle.std.proofs.lemmas.List.{get_or-map, length-map}
 use Rattle.std.proofs.lemmas.Option.{slice_get_within, slice_get_cases}
@@ -37,7 +37,7 @@ module _ (code : CodeValue) (part : List ℕ) (start : ℕ) (at : Status) (state
       let within = byte_within to (slice_get part offset) refl (sym sees ∙ found) in
       ((state, is, inl (omega (arith, within, stops))), does_lead code part start at state is offset seen to context stops sees (inl found) kept)
 
--- a mark is after the first byte of the try
+-- a mark is after the first byte of the attempt
 pub past_mark : (mark : Option Mark) (offset : ℕ) → 0 < offset → IfSome mark (λ m. IsTrue m.late → 0 < offset)
 past_mark None offset past = tt
 past_mark (Some mark) offset past = λ late. past

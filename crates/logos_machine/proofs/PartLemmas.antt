@@ -17,7 +17,7 @@ module _ (uses : List Use) (callback : Callback) (bytes : List ℕ) (search : Se
   matched_first from to leaf answer items rest s m e l =
       subst (λ (all : List Item). Lexes uses callback bytes search from (all ++ rest)) e (match from to leaf answer rest s m l)
 
-  -- after the next item a run goes on where it ends
+  -- after the next item a run continues where it ends
   pub next_first : {from end : ℕ} {item : Item} → NextItem uses callback bytes search from item end → (rest : List Item) → Lexes uses callback bytes search end rest → Lexes uses callback bytes search from (item ∷ rest)
   next_first (passes from to leaf answer item end s m e x) rest l = matched_first from to leaf answer [] (item ∷ rest) s m e (next_first x rest l)
   next_first (yields from to leaf answer item s m e) rest l = matched_first from to leaf answer (item ∷ []) rest s m e l

@@ -1,4 +1,4 @@
--- In a sound code each step of a try leads to a place where it can stand.
+-- In a sound code each step of a match attempt leads to a status that is possible there.
 use Rattle.std.proofs.Common.{◌≡◌, ◌≢◌, ℕ, ◌+◌, ◌-◌, ◌<◌, ◌≤◌, ◌⊎◌, inl, inr, ⊎_elim, Bool, true, false, ◌&&◌, ◌==◌, IsTrue, IfSome, IsSomeAnd, List, length, drop, Option, Some, None, slice_get, refl, sym, ◌∙◌, subst, arith, length-drop, if◌then◌else◌}
 use Rattle.std.specs.Option.{option_map_or}
 use Rattle.std.proofs.lemmas.List.Folds.{length-prefix_len}
@@ -86,7 +86,7 @@ module _ (code : CodeValue) (sound : IsSound code) (bytes : List ℕ) (start : �
     in_bytes : at.offset ≤ length bytes → offset ≤ length bytes
     in_bytes h = omega (arith, loop_fits)
 
-    -- a byte stands there, or the end
+    -- there is a byte, or the end
     byte_in : (b : ℕ) → slice_get bytes offset ≡ Some b → offset < length bytes
     byte_in b e = slice_get_within bytes offset b e
 
@@ -122,7 +122,7 @@ module _ (code : CodeValue) (sound : IsSound code) (bytes : List ℕ) (start : �
                     clash : mark.late ≡ true → ⊥
                     clash f = let g : false ≡ true = sym l ∙ f in cc
 
-    -- behind the root's place no late state is one step on
+    -- after the root's place no late state is one step on
     second_at : (t : ℕ) → (at.state ≡ code.root → ¬ IsLate code t) → IsLate code t → start + 1 < offset + 1
     second_at t early late = let b = s.begun in ⊎_elim (λ h. omega (arith, h)) (λ e. absurd (early (s.first (omega (arith, e, b))).0 late)) (order start offset (omega (arith, b)))
       where
@@ -201,7 +201,8 @@ module _ (code : CodeValue) (sound : IsSound code) (bytes : List ℕ) (start : �
             begun true e = absurd (cc)
             begun false e = on state.at_end refl e
 
-    -- what a try can act on: a match, or nothing, and then there is a byte after the start
+    -- what a match attempt can act on: a match, or nothing, and then there is a byte after the
+    -- start
     record ActsWithin (context : Option (ℕ × ℕ)) (end : ℕ) : Type 0 where
       pub match : IsContext code bytes start context
       pub rest : context ≡ None → (start < length bytes) × (end ≤ length bytes)

@@ -1,4 +1,4 @@
--- What a state does, by what is known of the place where its fast loop ends.
+-- The turn of a state, by the byte at which its fast loop ends.
 use Rattle.std.proofs.Common.{◌≡◌, ◌≢◌, ℕ, ◌+◌, ◌<◌, ◌⊎◌, [], ◌∷◌, inl, inr, ⊎_elim, Bool, true, false, ◌&&◌, ◌==◌, IsTrue, IfSome, List, drop, Option, Some, None, option_map, slice_get, refl, sym, ap, ◌∙◌, arith}
 use Rattle.std.proofs.lemmas.Bool.Decides.{eqb_tells}
 use Rattle.logos_code.specs.Code.{CodeValue, CodeState, Fork, Mark, by_conditions, by_table}
@@ -34,7 +34,7 @@ module _ (code : CodeValue) (bytes : List ℕ) (start : ℕ) (at : Status) (stat
   does : (offset : ℕ) (what : Turn) → Stops offset → turn_at offset ≡ what → Does code bytes start at what
   does offset what stops e = (state, is, ap turn_at (sym stops) ∙ e)
 
-  -- the try has read nothing, and the input is over
+  -- the attempt has read nothing, and the input is over
   pub does_return : (offset : ℕ) (seen : Option (Option ℕ)) → Stops offset → Sees offset seen → seen ≡ None → at.state ≡ code.root → offset ≡ start → Does code bytes start at returns
   does_return offset seen stops sees none root begun =
       does offset returns stops (go (slice_get bytes offset) (at.state == code.root) (offset == start) (sym sees ∙ none) (agrees at.state code.root root) (agrees offset start begun))
@@ -73,7 +73,7 @@ module _ (code : CodeValue) (bytes : List ℕ) (start : ℕ) (at : Status) (stat
       by_way (inl h) = by_byte offset to (slice_get bytes offset) (at.state == code.root && offset == start) (sym sees ∙ h)
       by_way (inr h) = by_end offset to (slice_get bytes offset) (at.state == code.root && offset == start) (sym sees ∙ h.0) (later offset h.1) h.2
 
-  -- a late mark is behind a byte
+  -- a late mark is after a byte
   pub late_behind : (IsLate code at.state → start + 1 < at.offset) → (offset : ℕ) → Stops offset → (mark : Option Mark) → state.mark ≡ mark → IfSome mark (λ m. IsTrue m.late → 0 < offset)
   late_behind second offset stops None marks = tt
   late_behind second offset stops (Some mark) marks = λ late.

@@ -71,7 +71,7 @@ module _ (code : CodeValue) (sound : IsSound code) (bytes : List ℕ) (s : ℕ) 
       }
 
 module _ (code : CodeValue) (sound : IsSound code) (bytes : List ℕ) (start : ℕ) (starts : start ≤ length bytes) where
-  -- a try begins in the root
+  -- a match attempt begins in the root
   pub comes_first : Comes code bytes start code.root start 0
   comes_first = record {
     context = None;
@@ -218,7 +218,7 @@ module _ (code : CodeValue) (sound : IsSound code) (bytes : List ℕ) (start : �
       stuck : (passed : Option (ℕ × ℕ)) × Does code bytes start at (acts passed stop)
       stuck = let sees : Sees code bytes start state r.offset stop Stuck = r.sees Stuck (low, high) in sees inside r.comes.context
 
-      -- the last mark passed is so many bytes back
+      -- the last mark passed is this number of bytes back
       pub goes_back : (leaf : LeafId) (n : ℕ) → IsLastMark code state (Back leaf n) → Tried code bytes start (matched leaf.0 (stop - n)) (before + 1)
       goes_back leaf n last =
           let e : stuck.0 ≡ Some (leaf.0, stop - n) = last bytes start at stuck.0 stop are r.comes.stood refl stuck.1 in

@@ -34,8 +34,8 @@ module _ (uses : List Use) (callback : Callback) (part rest : List ℕ) (from to
   may_front leaf answer m = subst (λ (l : List ℕ). MayAnswer uses callback part leaf l answer) (sym (range_front part rest from to order fits)) m
 
 module _ {C : Type 0} (callback : Callback) (old : LexerValue C) where
-  -- what goes on from here, after matches without an item, goes on after the last item, whatever
-  -- follows the part
+  -- what continues from here, after matches without an item, continues after the last item,
+  -- whatever follows the part
   pub record GoesOnWithin (from : ℕ) : Type 0 where
     pub after : old.to ≤ from
     pub within : from ≤ length old.input
@@ -46,7 +46,7 @@ module _ {C : Type 0} (callback : Callback) (old : LexerValue C) where
     finds_within : (rest : List ℕ) → MayFollow old.code rest → CodeFinds old.code (old.input ++ rest) from found
     finds_within rest follows = (steps, attempts_whatever_follows old.code old.input rest from steps found follows t.attempts)
 
-  -- past a match that gives no item
+  -- past a match without an item
   pub passes_within : (from to leaf steps : ℕ) (answer : Action) → GoesOnWithin from → TriedWithin old.code old.input from (matched leaf to) steps →
       MayAnswer old.code.leaves callback old.input leaf (slice_range old.input from to) answer → items_of old.code.leaves callback old.input answer leaf from to ≡ [] → GoesOnWithin to
   passes_within from to leaf steps answer i t may is =

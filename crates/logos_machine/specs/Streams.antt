@@ -7,11 +7,11 @@ use Rattle.logos_code.specs.Items.{Callback, Search, Item, token, error, MayAnsw
 use Rattle.logos_code.specs.Runs.{Status, enters, acts, looped, Does, Acts, Attempts, CodeFinds, Runs, RunsOn}
 use Rattle.logos_code.specs.declared.action.Action.{Action}
 
--- Where a match attempt begins.
+-- The status at the start of an attempt.
 abbrev pub first_status : CodeValue → ℕ → Status
 first_status code start = record { state = code.root; offset = start; context = None }
 
--- Where the fast loop ends of a state that is entered at the offset.
+-- The end of the fast loop of a state that is entered at the offset.
 abbrev pub stop_at : CodeValue → List ℕ → CodeState → ℕ → ℕ
 stop_at code bytes state offset = offset + looped code state.fast_loop (drop offset bytes)
 
@@ -27,50 +27,51 @@ HasBranches (by_conditions []) = ⊥
 HasBranches (by_conditions (branch ∷ branches)) = Unit {0}
 HasBranches (by_table entries) = Unit {0}
 
--- No byte leads on from the state or stays in it, and the end of the input does not lead on either:
--- what the state does is the same whatever follows.
+-- The state has no transition on a byte or on the end of the input, and no fast loop. Its turn is
+-- the same regardless of the bytes that follow.
 pub record IsClosed (state : CodeState) : Type 0 where
   pub fast_loop : state.fast_loop ≡ None
   pub fork : NoBranches state.fork
   pub at_end : state.at_end ≡ None
 
--- A byte leads on from the state or stays in it, or the end of the input leads on.
+-- The state has a transition on a byte or on the end of the input, or a fast loop.
 abbrev pub IsOpen : CodeState → Type 0
 IsOpen state = IsSome state.fast_loop ⊎ (HasBranches state.fork ⊎ IsSome state.at_end)
 
 module _ (code : CodeValue) (bytes : List ℕ) (start seen : ℕ) where
-  -- What the state does depends on none but the first `seen` bytes: its fast loop ends before one
-  -- of them, or the state is closed, after the first byte of the match attempt.
+  -- The turn of the state depends only on the first `seen` bytes: its fast loop ends before one of
+  -- them, or the state is closed, after the first byte of the attempt.
   abbrev pub StopsWithin : Status → Type 0
   StopsWithin at = (state : CodeState) × (slice_get code.states at.state ≡ Some state) × ((stop_at code bytes state at.offset < seen) ⊎ (IsClosed state × (start < at.offset)))
 
-  -- In UTF-8 mode an error ends with them, or before.
+  -- In UTF-8 mode an error ends at the end of these bytes or before it.
   abbrev pub EndsWithin : Found → Type 0
   EndsWithin ended = Unit {0}
   EndsWithin (matched leaf to) = Unit {0}
   EndsWithin (failed to) = IsTrue code.utf8 → to ≤ seen
 
-  -- From a stand on, the match attempt finds this in that many states, and depends on none but the
-  -- first `seen` bytes.
+  -- From this status on, the attempt has this result in this number of states, and depends only on
+  -- the first `seen` bytes.
   pub data GoesWithin : Status → Found → ℕ → Type 0 where
     leads_within : (at next : Status) (found : Found) (n : ℕ) → StopsWithin at →
         Does code bytes start at (enters next) → GoesWithin next found n → GoesWithin at found (suc n)
     acts_within : (at : Status) (context : Option (ℕ × ℕ)) (offset : ℕ) (found : Found) → StopsWithin at →
         Does code bytes start at (acts context offset) → Acts code bytes start context offset found → EndsWithin found → GoesWithin at found 1
 
-  -- So does a match attempt from the start.
+  -- An attempt from the start has this result in this number of states, and depends only on the
+  -- first `seen` bytes.
   abbrev pub AttemptsWithin : Found → ℕ → Type 0
   AttemptsWithin = GoesWithin (first_status code start)
 
--- What the match attempt finds is open at the end of the bytes: it comes there before its first
--- byte, or in a state that more bytes, or the end of the input, lead on from.
+-- The result of the attempt is open at the end of the bytes: it reaches the end before its first
+-- byte, or in a state with a transition on more bytes or on the end of the input.
 pub data LooksPast (code : CodeValue) (bytes : List ℕ) (start : ℕ) : Status → Type 0 where
   looks_here : (at : Status) (state : CodeState) → slice_get code.states at.state ≡ Some state →
       length bytes ≤ stop_at code bytes state at.offset → (at.offset ≤ start) ⊎ IsOpen state → LooksPast code bytes start at
   looks_later : (at next : Status) → Does code bytes start at (enters next) → LooksPast code bytes start next → LooksPast code bytes start at
 
--- What a match attempt that depends on none but the first bytes finds is what a match attempt finds
--- in each input that has these bytes; in UTF-8 mode, where no character goes over their end.
+-- The result of an attempt that depends only on the first bytes is the result of an attempt in each
+-- input that begins with these bytes. In UTF-8 mode, no character extends over their end.
 abbrev pub AttemptsAgree : Type 0
 AttemptsAgree = (code : CodeValue) (bytes others : List ℕ) (start seen n : ℕ) (found : Found) → seen ≤ length bytes →
     take seen bytes ≡ take seen others → (IsTrue code.utf8 → IsCharBoundary others seen) → AttemptsWithin code bytes start seen found n →
@@ -80,30 +81,31 @@ AttemptsAgree = (code : CodeValue) (bytes others : List ℕ) (start seen n : ℕ
 abbrev pub MayFollow : CodeValue → List ℕ → Type 0
 MayFollow code rest = IsTrue code.utf8 → IsUtf8 rest
 
--- The same, so many bytes later in the input.
+-- The result, moved by this number of bytes.
 abbrev pub found_later : ℕ → Found → Found
 found_later far ended = ended
 found_later far (matched leaf to) = matched leaf (far + to)
 found_later far (failed to) = failed (far + to)
 
--- An item as it stands so many bytes later.
+-- An item, moved by this number of bytes.
 abbrev pub item_later : ℕ → Item → Item
 item_later far (token leaf from to slice) = token leaf (far + from) (far + to) slice
 item_later far (error leaf from to slice) = error leaf (far + from) (far + to) slice
 
--- What is passed without an item: matches that a skip or an answer leaves out.
+-- Matches without an item lead from one point to the other: their leaves skip, or the actions of
+-- their callbacks do.
 pub data PassesOver (uses : List Use) (callback : Callback) (bytes : List ℕ) (search : Search) : ℕ → ℕ → Type 0 where
   passes_none : (at : ℕ) → PassesOver uses callback bytes search at at
   passes_match : (from to leaf : ℕ) (answer : Action) (end : ℕ) → search from (matched leaf to) →
       MayAnswer uses callback bytes leaf (slice_range bytes from to) answer → items_of uses callback bytes answer leaf from to ≡ [] →
       PassesOver uses callback bytes search to end → PassesOver uses callback bytes search from end
 
--- A run of the code passes from one point to the other without an item.
+-- A run of the code leads from one point to the other without an item.
 abbrev pub RunsOver : CodeValue → Callback → List ℕ → ℕ → ℕ → Type 0
 RunsOver code callback bytes = PassesOver code.leaves callback bytes (CodeFinds code bytes)
 
--- Runs do not depend on what is before them: with other bytes in front, each gives the same items,
--- so many bytes later.
+-- Runs do not depend on the bytes before them: with other bytes in front, each yields the same
+-- items, moved by the number of these bytes.
 pub record RunsGoLater (callback : Callback) : Type 0 where
   pub attempts : (code : CodeValue) (front bytes : List ℕ) (start n : ℕ) (found : Found) → IsSound code → Attempts code bytes start found n →
       Attempts code (front ++ bytes) (length front + start) (found_later (length front) found) n
@@ -114,14 +116,14 @@ pub record RunsGoLater (callback : Callback) : Type 0 where
   pub over : (code : CodeValue) (front bytes : List ℕ) (from end : ℕ) → IsSound code → RunsOver code callback bytes from end →
       RunsOver code callback (front ++ bytes) (length front + from) (length front + end)
 
--- These items were found in the beginning of an input, up to a point: what completes a run from
--- there on completes, after them, the whole run, whatever follows the beginning.
+-- These items were found in a prefix of an input, up to a point: they, followed by the rest of a
+-- run from that point on, are a whole run, regardless of the bytes after the prefix.
 abbrev pub AreBegun : CodeValue → Callback → List ℕ → List Item → ℕ → Type 0
 AreBegun code callback begun items to = (rest : List ℕ) → MayFollow code rest → (later : List Item) → Runs code callback (begun ++ rest) to later →
     Runs code callback (begun ++ rest) 0 (items ++ later)
 
--- The items of parts are items of the whole. A part stands after so many bytes of the beginning,
--- and what is found in the part, whatever follows it, is found there in the whole.
+-- The items of parts are items of the whole. A part is at an offset of the prefix, and the items
+-- that are found in it, regardless of the bytes that follow, are found there in the whole.
 pub record PartsAreOfTheWhole (callback : Callback) : Type 0 where
   pub none : (code : CodeValue) (begun : List ℕ) → AreBegun code callback begun [] 0
   pub grown : (code : CodeValue) (begun added : List ℕ) (items : List Item) (to : ℕ) → MayFollow code added → AreBegun code callback begun items to →

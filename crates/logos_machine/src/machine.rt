@@ -1,4 +1,5 @@
-//! Lexers: runs of a code value on an input.
+//! Lexers: runs of a code value on an input. Users of the library, `logos_scan`, `logos_stream` and
+//! `logos_relex` run code with them.
 
 ghost use Rattle.std.specs.Prelude.{◌≡◌, ◌<◌, ◌≤◌, length, option_map, slice_range, MatchBool, MatchOption, IfOk, IfErr, IsTrue, IsUtf8, drop, None};
 ghost use Rattle.logos_machine.specs.Views.{IsValidUpTo, calls_back_for, token, error, answers_of, begun, item_of, Yields, Ends, Keeps, MatchYields, Takes, TakesMatches};
@@ -37,11 +38,11 @@ pub enum Item<'i> {
 /// The error of an input that is not UTF-8, for a lexer in UTF-8 mode.
 #[derive(Clone, Copy, Debug, PartialEq, Eq)]
 pub struct NotUtf8 {
-    /// The length in bytes of the longest beginning of the input that is UTF-8.
+    /// The length in bytes of the longest prefix of the input that is UTF-8.
     pub valid_up_to: usize,
 }
 
-/// A run of a code value on an input. Items borrow the input alone, so they outlive the lexer.
+/// A run of a code value on an input. Items borrow only the input, so they can outlive the lexer.
 #[derive(Drop)]
 pub struct Lexer<'c, 's, 'i, C> {
     code: &'c Code<'s>,
@@ -104,7 +105,7 @@ impl<'c, 's, 'i, C: Fn(LeafId, &[u8]) -> Action> Lexer<'c, 's, 'i, C> {
     }
 
     /// Makes a lexer at the start of some bytes that are known to be UTF-8 if the code is in UTF-8
-    /// mode. `logos_stream` calls it: it tests bytes once, when it reads them.
+    /// mode. `logos_stream` calls it, since it validates bytes once, when it reads them.
     pub fn new_checked(code: &'c Code<'s>, input: &'i [u8], callback: C) -> Lexer<'c, 's, 'i, C>
         requires { IsTrue code.now.utf8 → IsUtf8 input.now }
         ensures { result ≡ begun code.now input.now callback }
@@ -112,7 +113,7 @@ impl<'c, 's, 'i, C: Fn(LeafId, &[u8]) -> Action> Lexer<'c, 's, 'i, C> {
         Lexer::start(code, input, callback)
     }
 
-    /// Makes a lexer before the first byte, which has made no step yet.
+    /// Makes a lexer before the first byte.
     fn start(code: &'c Code<'s>, input: &'i [u8], callback: C) -> Lexer<'c, 's, 'i, C>
         ensures { result ≡ begun code.now input.now callback }
     {
@@ -126,8 +127,8 @@ impl<'c, 's, 'i, C: Fn(LeafId, &[u8]) -> Action> Lexer<'c, 's, 'i, C> {
         }
     }
 
-    /// Returns the next item, or `None` at the end of the input, and on every later call. It calls
-    /// the callback for matches of leaves that have one, and for no others.
+    /// Returns the next item, or `None` at the end of the input, and on every later call. Calls the
+    /// callback only for matches of leaves that have one.
     #[inline(always)]
     pub fn next(&mut self) -> Option<Item<'i>>
         requires { TakesMatches C.Fn self.old.code self.old.callback }
@@ -166,7 +167,7 @@ impl<'c, 's, 'i, C: Fn(LeafId, &[u8]) -> Action> Lexer<'c, 's, 'i, C> {
         }
     }
 
-    /// Moves after the item at the span, whose try entered so many states.
+    /// Moves to the point after the item at this span, whose attempt entered `steps` states.
     #[inline(always)]
     fn status_after(&mut self, from: usize, to: usize, steps: usize)
         requires order { from ≤ to }
@@ -231,7 +232,7 @@ impl<'c, 's, 'i, C: Fn(LeafId, &[u8]) -> Action> Lexer<'c, 's, 'i, C> {
         &self.callback
     }
 
-    /// Returns how many states the last attempt entered, 0 before the first.
+    /// Returns the number of states that the last attempt entered, or 0 before the first attempt.
     pub fn steps(&self) -> usize
         ensures { result ≡ self.now.steps }
     {
@@ -243,7 +244,7 @@ impl<'c, 's, 'i, C: Fn(LeafId, &[u8]) -> Action> Lexer<'c, 's, 'i, C> {
 ///
 /// # Errors
 ///
-/// Returns the length of the longest beginning that is UTF-8.
+/// Returns the length of the longest prefix that is UTF-8.
 fn check_utf8(input: &[u8]) -> Result<(), NotUtf8>
     ensures accepted { IfOk result (λ _. IsUtf8 input.now) }
     ensures refused { IfErr result
@@ -315,8 +316,8 @@ pub fn matched_item<'i, C: Fn(LeafId, &[u8]) -> Action>(
     }
 }
 
-/// Returns the answer to a match. A leaf without a callback answers `Emit`, and the callback is not
-/// called: it may be called for a leaf that has one, and for no other.
+/// Returns the action for a match. The action of a leaf without a callback is `Emit`, and the
+/// callback is called only for leaves that have one.
 #[inline(always)]
 fn answer<C: Fn(LeafId, &[u8]) -> Action>(
     code: &Code,

@@ -1,4 +1,4 @@
-//! Definitions, options, subpatterns and type parameters. Re-exports.
+//! Re-exports definitions, options, subpatterns and type parameters.
 
 pub use crate::item::{ItemEnum, ReadError, read_enum};
 pub use crate::nested::{AttributeParser, Nested, NestedValue};

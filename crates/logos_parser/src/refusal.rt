@@ -1,4 +1,4 @@
-//! The refusal of a source.
+//! The refusal of a source. All calls that read a whole source return it.
 
 ghost use Rattle.std.specs.Prelude.{◌≡◌};
 ghost use Rattle.logos_parser.specs.Views.{Memory as OutOfMemory};

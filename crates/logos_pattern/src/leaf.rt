@@ -123,7 +123,7 @@ pub struct LeafOptions {
     pub allows_greedy: bool,
 }
 
-/// A pattern with its priority, and what the lexer does with its matches.
+/// A pattern with its priority, and the use of its matches.
 #[derive(Drop)]
 pub struct Leaf<'s> {
     pub pattern: Pattern<'s>,

@@ -165,7 +165,7 @@ impl fmt::Display for Pattern<'_> {
     }
 }
 
-/// Returns the tree that matches these bytes alone.
+/// Returns the tree that matches exactly these bytes.
 fn literal_hir(alloc: Global, bytes: &[u8]) -> Result<Hir, AllocError>
     ensures { IfOk result (λ hir. tree_of hir ≡ literal_tree bytes.now) }
 {

@@ -1,4 +1,5 @@
--- Tokens inside brackets: what is read is written there, and what is written is read.
+-- Tokens inside brackets: tokens that are read are written there, and tokens that are written are
+-- read.
 use Rattle.std.proofs.Common.{◌≡◌, ◌≢◌, ℕ, zero, suc, ◌+◌, ◌≤◌, Bool, true, false, not, ◌&&◌, ◌||◌, cond, eqb, leb, [], ◌∷◌, ◌++◌, drop, replicate, Option, Some, None, option_map, unwrap_or, refl, sym, ap, subst, ◌∙◌, arith, append_assoc, leb-true, le-leb, ne_eqb}
 use Rattle.std.proofs.lemmas.Bool.{eqb-true, eqb-false, cond-false}
 use Rattle.unicode.specs.declared.sets.Set.{Set}
@@ -215,7 +216,7 @@ name_front : (t : Text) (kind : AsciiKind) → ascii_named t ≡ Some kind → (
 name_front [] kind e tail = absurd cc
 name_front (c ∷ t) kind e tail = (c, t ++ tail, refl, apart (λ k. ascii_named (k ∷ t)) c 94 kind e refl)
 
--- the text, which stands behind a bracket, makes it the front of a class
+-- the text after a bracket makes it the front of a class
 record ClassAt (token : BracketToken) (text rest : Text) : Type 0 where
   name : Text
   kind : AsciiKind

@@ -1,4 +1,4 @@
--- Operators: what is read is written there, and what is written is read.
+-- Operators: operators that are read are written there, and operators that are written are read.
 use Rattle.std.proofs.Common.{◌≡◌, ℕ, ◌+◌, ◌*◌, ◌-◌, ◌<◌, ◌≤◌, Bool, true, false, cond, eqb, ltb, leb, [], ◌∷◌, ◌++◌, length, Option, Some, None, refl, sym, ap, subst, ◌∙◌, arith, append_assoc, length-append, IfSome, leb-true, le-leb, ne_eqb}
 use Rattle.std.proofs.lemmas.Bool.{eqb-true, eqb-false, ltb-true, lt-ltb, cond-true}
 use Rattle.logos_pattern_tokens.specs.Token.{Text, Token, repeats, is_digit, lazy_at, number_from, fits, number_at, count_end, order_at, most_at, bounds_at, count_at}

@@ -1,4 +1,4 @@
--- Flag settings: what is read is written there, and what is written is read.
+-- Flag settings: settings that are read are written there, and settings that are written are read.
 use Rattle.std.proofs.Common.{◌≡◌, ℕ, ◌<◌, ◌⊎◌, inl, inr, Bool, true, false, cond, eqb, [], ◌∷◌, ◌++◌, length, Option, Some, None, option_map, refl, sym, ap, subst, ◌∙◌, arith, append-nil}
 use Rattle.std.proofs.lemmas.Bool.{eqb-true}
 use Rattle.logos_pattern_tokens.specs.declared.token.Change.{Change}
@@ -129,7 +129,7 @@ step_of s t c is = from (eqb c 45) refl is
     from true e h = at_dash (eqb-true c 45 e) s.on refl h
     from false e h = at_letter (with_letter s.change s.on c) refl h
 
--- letters behind the dash
+-- letters after the dash
 record Off (s : Letters) (letters : Text) (change : Change) : Type 0 where
   turns : Turns s.change false letters change
   some : s.pending ≡ true → 0 < length letters

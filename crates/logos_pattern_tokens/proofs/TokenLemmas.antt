@@ -1,4 +1,4 @@
--- Tokens: what is read is written there, and what is written is read.
+-- Tokens: tokens that are read are written there, and tokens that are written are read.
 use Rattle.std.proofs.Common.{◌≡◌, ℕ, Bool, true, false, cond, eqb, [], ◌∷◌, ◌++◌, Option, Some, None, option_map, refl, sym, ap, subst, ◌∙◌, ne_eqb}
 use Rattle.std.proofs.lemmas.Bool.{eqb-true, eqb-false, cond-false}
 use Rattle.logos_pattern_tokens.specs.declared.token.Atom.{Atom}

@@ -1,4 +1,5 @@
-//! The errors of reading a pattern, and the reasons why its readers stop.
+//! The errors of reading a pattern, and the reasons why its readers stop. All readers of this crate
+//! and of `logos_syntax` return them.
 
 ghost use Rattle.std.specs.Prelude.{◌≡◌};
 ghost use Rattle.logos_pattern_tokens.specs.declared.error.Fault.TheVariants as faults;
@@ -32,7 +33,7 @@ pub enum Kind {
     EscapeUnknown,
     /// An escape by number has no digits, too few, or characters that are not digits.
     HexSyntax,
-    /// The number of an escape is not that of a Unicode scalar value.
+    /// The number of an escape is not the number of a Unicode scalar value.
     HexNotScalar,
     /// A range begins after its end, or a class is one of its ends.
     ClassRange,
@@ -40,9 +41,9 @@ pub enum Kind {
     UnknownProperty,
     /// A property has a value, or is negated by `^`.
     PropertyForm,
-    /// A property, or a character outside ASCII in a bracket, where the pattern matches bytes.
+    /// A property, or a character outside ASCII in a bracket, in a pattern that matches bytes.
     NotInBytes,
-    /// A word boundary where the pattern matches characters.
+    /// A word boundary in a pattern that matches characters.
     UnicodeWordBoundary,
     /// A word boundary is written as `\b{..}`, `\<` or `\>`.
     WordBoundaryForm,

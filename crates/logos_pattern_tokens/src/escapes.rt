@@ -128,7 +128,7 @@ fn property_at(alloc: Global, negated: bool, text: &[char]) -> Result<(Atom, &[c
 /// # Errors
 ///
 /// Returns `Unclosed` if only digits follow and no brace closes, `HexSyntax` if there is no digit
-/// or another character, and `HexNotScalar` if the number is not that of a scalar value.
+/// or another character, and `HexNotScalar` if the number is not the number of a scalar value.
 #[tactic(auto, unfolding(crate::specs::Escapes::braces_at))]
 fn braces_at(text: &[char]) -> Result<(Atom, &[char]), Fault>
     ensures { Yields (λ x. (x.0, x.1.now)) result (braces_at text.now) }
@@ -156,8 +156,8 @@ fn digits_fault(digits: &[char]) -> Kind {
 ///
 /// # Errors
 ///
-/// Returns `HexSyntax` if there are fewer digits, and `HexNotScalar` if the number is not that of a
-/// scalar value.
+/// Returns `HexSyntax` if there are fewer digits, and `HexNotScalar` if the number is not the
+/// number of a scalar value.
 #[tactic(auto, unfolding(crate::specs::Escapes::fixed_at))]
 fn fixed_at(width: usize, text: &[char]) -> Result<(Atom, &[char]), Fault>
     ensures { Yields (λ x. (x.0, x.1.now)) result (fixed_at width text.now) }
@@ -170,7 +170,7 @@ fn fixed_at(width: usize, text: &[char]) -> Result<(Atom, &[char]), Fault>
     Ok((Atom::Character(c), rest))
 }
 
-/// Reads two hexadecimal digitsas the value of a byte.
+/// Reads two hexadecimal digits as the value of a byte.
 ///
 /// # Errors
 ///

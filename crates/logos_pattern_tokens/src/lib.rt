@@ -1,4 +1,5 @@
 //! The tokens of a pattern's text, and the readers that take one token from the front.
+//! `logos_syntax` calls them.
 
 #![tactic(auto)]
 

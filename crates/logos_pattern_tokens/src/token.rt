@@ -1,4 +1,4 @@
-//! The tokens of a pattern outside brackets.
+//! The tokens of a pattern outside brackets. `reader` returns them.
 
 use logos_hir::property::PerlKind;
 use unicode::sets::Set;

@@ -12,8 +12,8 @@ use Rattle.logos_positions.specs.Size.{size, sizes}
 abbrev pub ReadsAs : (Position → Option ℕ) → (ℕ → Type 0) → (Position → Type 0) → Type 0
 ReadsAs number ByNumber ByPosition = (p : ℕ) → ByNumber p ↔ ((position : Position) × ByPosition position × (number position ≡ Some p))
 
--- The core pattern matches what the tree matches, its positions are the positions of the tree, and
--- it is not much larger.
+-- The core pattern has the same matches as the tree, its positions are the positions of the tree,
+-- and it is not much larger.
 pub record IsCoreOf (tree : Tree) (c : Core) : Type 0 where
   pub matches : (bytes : List ℕ) (i j : ℕ) → core.Matches bytes c i j ↔ Matches tree bytes i j
   pub number : Position → Option ℕ

@@ -1,4 +1,5 @@
-//! Classes of characters, read byte by byte.
+//! Classes of characters, read byte by byte. `preparation` builds their tables, and
+//! `positions::step` reads them.
 
 pub(crate) mod builder;
 pub(crate) mod ranges;

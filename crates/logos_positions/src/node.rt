@@ -37,7 +37,7 @@ pub enum Node {
         first: Box<Node>,
         second: Box<Node>,
     },
-    /// The body, at least `least` times, and at most `most` times if there is such a bound.
+    /// The body, at least `least` times, and at most `most` times if `most` is not `None`.
     Repeat {
         least: usize,
         most: Option<usize>,

@@ -1,4 +1,4 @@
--- Lists of states for each state or block.
+-- For each state or block, a list of states.
 use Rattle.std.specs.Prelude.{◌≡◌, ◌<◌, ◌==◌, All, ℕ, zero, suc, Bool, true, false, List, [], ◌∷◌, Vec, Option, Some}
 use Rattle.std.specs.List.{list_any}
 use Rattle.std.specs.List.Sorted.{IsStrictlyIncreasing}

@@ -1,5 +1,5 @@
-//! A list of rows of targets, which stores equal rows once if it can. The table of an automaton has
-//! one, and so does each table that the reduction makes from it.
+//! A list of rows of targets, which stores equal rows once if it finds them. The table of an
+//! automaton has such a list, and so does each table that the reduction makes from it.
 
 ghost use Rattle.std.specs.Prelude.{◌≡◌, ◌≢◌, ℕ, ◌<◌, ◌≤◌, ◌+◌, ◌++◌, ◌∷◌, [], IfOk, IfSome, IsTrue, OnOk, length, vec_len, slice_index, slice_index_or};
 ghost use Rattle.logos_reduce.specs.Rows.{AreSame, AreWide, HasOnly, target_by};

@@ -1,4 +1,4 @@
--- Items by what a run takes.
+-- Items by the results that a scan takes.
 use Rattle.std.proofs.Common.{◌≡◌, ℕ, ◌<◌, ◌≤◌, List, [], ◌∷◌, length, None, refl, slice_range, arith}
 use Rattle.logos_automaton.specs.Munch.{matched, failed, ended}
 use Rattle.logos_code.specs.declared.action.Action.{Action}
@@ -16,12 +16,12 @@ use Rattle.logos_scan.specs.declared.attempts.Taken.{Taken}
 use Rattle.logos_scan.specs.declared.attempts.Taken.TheVariants.{Emits as TakenEmits, CallsBack as TakenCallsBack, Fails as TakenFails, Ends as TakenEnds}
 
 module _ {C : Type 0} (callback : Callback) (old : LexerValue C) where
-  -- what goes on goes on after what is skipped
+  -- what continues continues after what is skipped
   pub goes_skips : (from to : ℕ) → GoesOn callback old from → SkipsTo old.code old.input from to → GoesOn callback old to
   goes_skips from to g (skips_none at) = g
   goes_skips from to g (skips_then first mid end leaf steps s tried is) = goes_past_skip callback old mid end leaf steps (goes_skips first mid g s) tried is
 
-  -- it goes on from where it begins
+  -- it continues from where it begins
   pub goes_first : old.to ≤ length old.input → GoesOn callback old old.to
   goes_first within = record {
     after = omega arith;
@@ -30,7 +30,7 @@ module _ {C : Type 0} (callback : Callback) (old : LexerValue C) where
     passed = λ item end r. r;
   }
 
-  -- how many states a try entered does not matter
+  -- how many states a match attempt entered does not matter
   same_span : (from to n : ℕ) (item : Item) → HasSpan (moved old from to n) item → HasSpan (moved old from to 0) item
   same_span from to n (token leaf a b slice) h = h
   same_span from to n (error leaf a b slice) h = h
@@ -59,7 +59,7 @@ module _ {C : Type 0} (callback : Callback) (old : LexerValue C) where
     item_calls_back leaf answer item t may is =
         uncounted from to n item (yields_item callback old from to n (moved old from to n) refl leaf answer item (goes_skips start from on skips) t may is)
 
-    -- it gives none
+    -- it has none
     pub goes_calls_back : (leaf : ℕ) (answer : Action) → Tried old.code old.input from (matched leaf to) n →
         MayAnswer old.code.leaves callback old.input leaf (slice_range old.input from to) answer → items_of old.code.leaves callback old.input answer leaf from to ≡ [] → GoesOn callback old to
     goes_calls_back leaf answer t may is = goes_past callback old from to leaf n answer (goes_skips start from on skips) t may is

@@ -1,4 +1,4 @@
--- A run by the entries of a chunk: from one entry to a later one, and past what is there.
+-- A scan by the entries of a chunk: from one entry to a later one, and past the pending ones.
 use Rattle.std.proofs.Common.{◌≡◌, ℕ, zero, suc, ◌+◌, ◌-◌, ◌*◌, ◌<◌, ◌≤◌, inl, inr, List, length, drop, get_or, slice_index, refl, sym, ap, subst, ◌∙◌, arith, get_or-drop}
 use Rattle.std.specs.Int.{bit_at}
 use Rattle.std.proofs.lemmas.Nat.Bits.{bit_at-lt, bit_at-zero}
@@ -18,7 +18,7 @@ use Rattle.logos_scan.proofs.walk.WalkLemmas.{walked_rest}
 
 module _ (code : CodeValue) (rows : List ℕ) (folded : AreFolded code rows) (input : List ℕ) (are : (k : ℕ) → get_or input k 0 < 256) (base count last : ℕ) (entries : List ℕ)
     (fits : base + count ≤ length input) where
-  -- a try stands before an entry, and the entries from there on are those of a walk
+  -- a match attempt is active before an entry, and the entries from there on are those of a walk
   pub record Holds (start at row_start : ℕ) : Type 0 where
     pub is_at : ComesTo code input start (base + at) row_start
     pub walked : Walked rows (drop base input) row_start entries at count last
@@ -69,7 +69,7 @@ module _ (code : CodeValue) (rows : List ℕ) (folded : AreFolded code rows) (in
     pub tried : (e : end_bit entries at ≡ 1) → ((n : ℕ) × Tried code input start (matched (leaf_of entry) (base + at)) n) × IsUse code (leaf_of entry) (ends_as e).used
     tried e = tried_ends code folded.sound input start h.starts (base + at) row_start h.is_at within entry (ends_as e)
 
-    -- the next try begins there
+    -- the next attempt begins there
     pub holds_next : end_bit entries at ≡ 1 → Holds (base + at) (at + 1) (row_start_of entry)
     holds_next e =
         let f = is_folded in
@@ -90,8 +90,8 @@ module _ (code : CodeValue) (rows : List ℕ) (folded : AreFolded code rows) (in
         by_use Emits has is = absurd (let o = has.0 in omega (arith, o, t))
         by_use CallsBack has is = absurd (let o = has.0 in omega (arith, o, t))
 
-  -- from the entry on, where the one try stands, this try stands before a later entry, and those
-  -- between are skipped
+  -- from the entry before which the one attempt is active, this attempt is active before a later
+  -- entry, and those between are skipped
   pub record Later (from first at : ℕ) : Type 0 where
     pub start : ℕ
     pub row_start : ℕ
@@ -151,14 +151,14 @@ module _ (code : CodeValue) (rows : List ℕ) (folded : AreFolded code rows) (in
       let before = later_up n from start row_start (omega (arith, le)) (λ k f l. none k f (omega (arith, l))) h in
       subst (λ (k : ℕ). Later from start k) e (later_more from start (from + n) (omega arith) (omega (arith, le)) (none (from + n) (omega arith) (omega arith)) before)
 
-  -- the try that stands before a later entry
+  -- the attempt that is active before a later entry
   pub later_at : (from to start row_start : ℕ) → from ≤ to → to ≤ count → NoToken entries from to → Holds start from row_start → Later from start to
   later_at from to start row_start le inside none h =
       let n = to - from in
       let e : from + n ≡ to = omega (arith, le) in
       subst (λ (k : ℕ). Later from start k) e (later_up n from start row_start (omega (arith, e, inside)) (λ k f l. none k f (omega (arith, l, e))) h)
 
-  -- the end of the bytes, where no flag stands after them
+  -- the end of the bytes, after which no flag is set
   pub starts_short : (from start now : ℕ) → count ≤ 4608 → ((k : ℕ) → count ≤ k → k < 4608 → slice_index entries k ≡ 0) → StartsAt base entries from start 4608 now →
       StartsAt base entries from start count now
   starts_short from start now few none s = elim s [

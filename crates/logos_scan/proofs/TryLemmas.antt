@@ -1,4 +1,4 @@
--- A try by folded entries.
+-- A match attempt by folded entries.
 use Rattle.std.proofs.Common.{◌≡◌, ℕ, suc, ◌+◌, ◌*◌, ◌<◌, ◌≤◌, inl, inr, true, false, List, length, drop, get_or, Option, Some, None, refl, sym, subst, arith}
 use Rattle.std.proofs.lemmas.Option.{slice_get-get_or}
 use Rattle.logos_automaton.specs.Munch.{matched}
@@ -25,7 +25,7 @@ loop_more code None bytes at within on = absurd (let e : false ≡ true = on in 
 loop_more code (Some test) bytes at within on = omega (arith, loops_on code test bytes at within on)
 
 module _ (code : CodeValue) (sound : IsSound code) (bytes : List ℕ) (start : ℕ) (starts : start ≤ length bytes) where
-  -- a try begins in the root
+  -- a match attempt begins in the root
   abbrev pub is_at_begun : ComesTo code bytes start start (272 * code.root)
   is_at_begun = record {
     state = code.root;
@@ -103,7 +103,7 @@ module _ (code : CodeValue) (sound : IsSound code) (bytes : List ℕ) (start : �
           loops = refl;
         }
 
-    -- one that keeps the try going
+    -- one that keeps the attempt going
     pub is_at_goes : (now : ℕ) → Goes code s.state byte now → ComesTo code bytes start (at + 1) now
     is_at_goes now g = subst (λ (p : ℕ). ComesTo code bytes start (at + 1) p) (sym g.is) (elim g.takes [
       | inl h ↦ subst (λ (q : ℕ). ComesTo code bytes start (at + 1) (272 * q)) (sym h.1) (is_at_stays h.0)

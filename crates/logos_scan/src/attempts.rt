@@ -1,4 +1,4 @@
-//! Tries, one after the other, by themselves.
+//! Single match attempts. The scan falls back to it where an entry does not determine the match.
 
 ghost use Rattle.std.specs.Prelude.{◌≤◌, length};
 ghost use Rattle.logos_scan.specs.Views.{IsTaken};
@@ -8,12 +8,12 @@ use logos_hir::leaf::LeafId;
 use logos_machine::machine::walk::{Outcome, attempt};
 use logos_token::token::Span;
 
-/// What is found after matches that are skipped without a callback.
+/// The result after matches that are skipped without a callback.
 #[derive(Clone, Copy)]
 pub enum Taken {
     /// A match that is a token.
     Emits(LeafId, Span),
-    /// A match that may be skipped, or up to a callback.
+    /// A match that may be skipped, or may have a callback.
     CallsBack(LeafId, Span),
     /// Bytes that no leaf matches.
     Fails(Span),
@@ -21,8 +21,8 @@ pub enum Taken {
     Ends,
 }
 
-/// Returns what a match attempt finds that begins at a point of the input, after matches that are
-/// skipped without a callback, and where the next one begins.
+/// Returns the result of a match attempt from a point of the input on, after matches that are
+/// skipped without a callback, and the start of the next attempt.
 pub(crate) fn tried(code: &Code, input: &[u8], start: usize) -> (Taken, usize)
     requires { start ≤ length input.now }
     ensures { IsTaken code.now input.now start result.0 result.1 }

@@ -1,4 +1,4 @@
-//! All items of an input at once.
+//! All items of an input at once, from a scan or from a lexer. `logos_codegen` calls it.
 
 ghost use Rattle.std.specs.Prelude.{◌≡◌, map, IfOk};
 ghost use Rattle.logos_scan.specs.Imports.{answers_of, item_of, Runs, TakesMatches};
@@ -12,8 +12,8 @@ use logos_hir::leaf::LeafId;
 use logos_machine::machine::{Item, Lexer};
 use std::alloc::{AllocError, Global};
 
-/// Returns all items of the input of a lexer that stands at its start, in order: by chunks where
-/// that likely takes less time.
+/// Returns all items of the input of a lexer that is at its start, in order. The input is scanned
+/// by chunks if that likely takes less time.
 ///
 /// # Errors
 ///
@@ -33,7 +33,7 @@ pub fn items<'i, C: Fn(LeafId, &[u8]) -> Action + Drop>(
     }
 }
 
-/// Returns all items of an input, in order, by chunks.
+/// Returns all items of an input, in order, by scanning chunks.
 ///
 /// # Errors
 ///

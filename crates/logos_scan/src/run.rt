@@ -1,4 +1,5 @@
-//! Tries of an input, one after the other, by the entries of a chunk.
+//! The match attempts of an input, one after another, from the entries of a chunk. `items` and the
+//! programs call it.
 
 ghost use Rattle.std.specs.Prelude.{◌≡◌, ◌+◌, ◌<◌, ◌≤◌, length, MatchOption};
 ghost use Rattle.logos_scan.specs.Views.{IsBytes, IsRowStart, ComesTo, answers_of, item_of, EndsItems, YieldsItem, IsChunk, IsFlagged, IsHeld, IsLoaded, IsMarked, IsOver, IsReading, IsReady, IsRun, IsTaken, TakesMatches, start_of, with_chunk};
@@ -26,7 +27,7 @@ pub struct Reading<'r, 'c, 's, 'i> {
 }
 
 impl<'r, 'c, 's, 'i> Reading<'r, 'c, 's, 'i> {
-    /// Returns a reading of an input by the folded rows of a code.
+    /// Returns a reading of an input with the folded rows of a code.
     pub fn new(folded: &'r Folded<'c, 's>, input: &'i [u8]) -> Reading<'r, 'c, 's, 'i>
         ensures folded { IsReading result }
         ensures code { result.code.now ≡ folded.now.code }
@@ -40,33 +41,33 @@ impl<'r, 'c, 's, 'i> Reading<'r, 'c, 's, 'i> {
     }
 }
 
-/// How many bytes of the input a chunk has, and the row after them.
+/// The number of bytes of the input in a chunk, and the row after them.
 #[derive(Clone, Copy, Drop)]
 pub struct Loaded {
     pub count: usize,
     pub row_start: usize,
 }
 
-/// A run over an input: what is known of its chunk, and where the next attempt begins. Its chunk
-/// stands apart, so that the compiler can hold the run in registers.
+/// A scan of an input: the state of its chunk, and the start of the next attempt. Its chunk is
+/// stored separately, so that the compiler can keep the scan in registers.
 #[derive(Clone, Copy, Drop)]
 pub struct Run {
     pub cursor: ChunkCursor,
-    /// How many bytes the chunk has.
+    /// The number of bytes in the chunk.
     pub count: usize,
-    /// The row after them.
+    /// The row after these bytes.
     pub row_start: usize,
-    /// The first entry of those that one walk wrote.
+    /// The first entry that the last walk wrote.
     pub low: usize,
 }
 
-/// Does nothing. A call says that what stands in a slice of bytes are bytes.
+/// Does nothing. Calling it brings into the proof that the elements of a slice of bytes are bytes.
 #[inline(always)]
 fn are_bytes(input: &[u8])
     ensures { IsBytes input.now }
 {}
 
-/// Steps over the next bytes of the input, a chunk if there are as many, from a row on.
+/// Steps over the next bytes of the input, up to one chunk, from a row on.
 fn step_over(reading: &Reading, base: usize, row_start: usize, entries: &mut [u32; 4608]) -> Loaded
     requires reading { IsReading reading.now }
     requires base { base ≤ length reading.now.input.now }
@@ -88,7 +89,7 @@ fn step_over(reading: &Reading, base: usize, row_start: usize, entries: &mut [u3
     }
 }
 
-/// Steps over the next bytes of the input, and marks what there is to do.
+/// Steps over the next bytes of the input, and computes the flags of the entries.
 #[inline(never)]
 fn load(reading: &Reading, base: usize, row_start: usize, chunk: &mut ChunkEntries) -> Loaded
     requires reading { IsReading reading.now }
@@ -103,7 +104,8 @@ fn load(reading: &Reading, base: usize, row_start: usize, chunk: &mut ChunkEntri
     loaded
 }
 
-/// Makes the attempt that begins at `start` again, by itself: it notes the marks that it passes.
+/// Repeats the attempt that begins at `start` as a single attempt, which records the marks that it
+/// passes.
 #[cold]
 #[inline(never)]
 fn try_again(reading: &Reading, run: Run, chunk: &mut ChunkEntries, start: usize) -> (Taken, Run)
@@ -134,8 +136,8 @@ fn restarted(reading: &Reading, run: Run, chunk: &mut ChunkEntries, to: usize) -
     }
 }
 
-/// Begins a match attempt at an entry of the chunk that is not passed, and steps again over the
-/// bytes from there on until the entries are those that stand.
+/// Begins a match attempt at an entry of the chunk that has not been passed, and steps again over
+/// the bytes from there on until a byte leads to the same row as before.
 fn repaired_from(reading: &Reading, run: Run, chunk: &mut ChunkEntries, from: usize) -> Run
     requires reading { IsReading reading.now }
     requires chunk { IsChunk reading.now.rows.now reading.now.input.now (with_chunk chunk.old run) }
@@ -166,8 +168,8 @@ fn repaired_from(reading: &Reading, run: Run, chunk: &mut ChunkEntries, from: us
     }
 }
 
-/// Goes on to the bytes from `base` on, where a match attempt that begins at `start` stands in a
-/// row.
+/// Continues with the bytes from `base` on, where the attempt that begins at `start` is in the
+/// state of the row.
 #[inline(always)]
 fn filled(
     reading: &Reading,
@@ -197,7 +199,7 @@ fn filled(
 }
 
 impl Run {
-    /// Begins a run at the start of an input.
+    /// Begins a scan at the start of an input.
     #[inline(always)]
     pub fn new(reading: &Reading, chunk: &mut ChunkEntries) -> Run
         requires reading { IsReading reading.now }
@@ -207,8 +209,7 @@ impl Run {
         filled(reading, chunk, 0, 0, reading.code.root_row_start())
     }
 
-    /// Goes on to the next entry at which there is something to do, and returns its index, or
-    /// `None` at the end of the input.
+    /// Moves to the next pending entry and returns its index, or `None` at the end of the input.
     #[inline(always)]
     fn next_flag(&mut self, reading: &Reading, chunk: &mut ChunkEntries) -> Option<usize>
         requires reading { IsReading reading.now }
@@ -232,7 +233,7 @@ impl Run {
         }
     }
 
-    /// Takes what the next attempt finds, after those that are skipped.
+    /// Returns the result of the next attempt, after those that are skipped.
     #[inline(always)]
     pub fn next(&mut self, reading: &Reading, chunk: &mut ChunkEntries) -> Taken
         requires reading { IsReading reading.now }
@@ -253,8 +254,8 @@ impl Run {
         let leaf = LeafId((entry >> 20 & 511) as usize);
         let to = self.cursor.base + at;
         let calls = entry & CALLS;
-        // Where the match begins is asked for in each branch: a caller that only counts tokens then
-        // never looks for it.
+        // The start of the match is computed in each branch, so that a caller that only counts
+        // tokens never computes it.
         if calls == 0 {
             let from = self.cursor.start_before(at);
             Taken::Emits(leaf, Span { from, to })
@@ -264,9 +265,9 @@ impl Run {
         }
     }
 
-    /// Takes what the attempt finds that begins at `start`, by itself. Only that attempt is called
-    /// out of line, and it is given a copy of the run, so that the compiler can hold this one in
-    /// registers.
+    /// Returns the result of the attempt that begins at `start`, as a single attempt. Only that
+    /// attempt is called out of line, with a copy of the scan, so that the compiler can keep the
+    /// original in registers.
     #[inline(always)]
     fn next_again(&mut self, reading: &Reading, chunk: &mut ChunkEntries, start: usize) -> Taken
         requires reading { IsReading reading.now }
@@ -280,8 +281,9 @@ impl Run {
         taken
     }
 
-    /// Returns the next item, or `None` at the end of the input, and on every later call: what a
-    /// lexer returns with this callback, which is called for each match of a leaf that has one.
+    /// Returns the next item, or `None` at the end of the input, and on every later call. The items
+    /// are those of a lexer with this callback, which is called for each match of a leaf that has
+    /// one.
     #[inline(always)]
     pub fn next_item<'i, C: Fn(LeafId, &[u8]) -> Action>(
         &mut self,

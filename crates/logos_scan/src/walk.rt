@@ -1,10 +1,10 @@
 //! Walks over folded rows: a chunk of bytes at once, in six blocks side by side and without a
-//! branch for each byte, and the bits that say where its tries end.
+//! branch for each byte, and the flags of the entries as bits.
 //!
-//! Folded rows are rows of 256 entries. A row is named by its offset, the index of its first entry.
-//! The entry of a byte in a row names, in its lowest twenty bits, the next row. Its two highest
-//! bits are flags: `ENDED` says that a match ends before the byte, and `TOKEN` that there is
-//! something to do there.
+//! Folded rows are rows of 256 entries. A row is identified by its row offset, the index of its
+//! first entry. The lowest twenty bits of the entry of a byte are the offset of the next row. Its
+//! two highest bits are flags: `ENDED` is set if a match ends before the byte, and `TOKEN` if the
+//! entry is pending, which means that the scan must process it.
 
 ghost use Rattle.std.specs.Prelude.{◌≡◌, ◌+◌, ◌<◌, ◌≤◌, length, slice_index, slice_set};
 ghost use Rattle.logos_scan.specs.walk.Imports.{IsClosed, IsRowStart, IsSameBeside, Walked, entry_at, row_start_of};
@@ -15,17 +15,17 @@ pub mod guess;
 pub mod masks;
 pub mod repair;
 
-/// The bits of an entry that name the next row, by its offset.
+/// The bits of an entry that are the offset of the next row.
 pub const PLACE: u32 = 0xF_FFFF;
 
 /// The flag of an entry before whose byte a match ends.
 pub const ENDED: u32 = 1 << 31;
 
-/// The flag of an entry at whose byte there is something to do.
+/// The flag of a pending entry.
 pub const TOKEN: u32 = 1 << 30;
 
-/// Returns the entry of a byte in a row. The byte is added first: the offset of the row, which
-/// comes from the entry before, is known last.
+/// Returns the entry of a byte in a row. The byte is added first, since the offset of the row,
+/// which comes from the entry before, is known last.
 #[inline(always)]
 pub(crate) fn entry_of(rows: &[u32], byte: u8, row_start: usize) -> u32
     requires { IsRowStart rows.now row_start }
@@ -35,7 +35,7 @@ pub(crate) fn entry_of(rows: &[u32], byte: u8, row_start: usize) -> u32
     column[row_start]
 }
 
-/// Steps over the byte at `at`: writes its entry, and returns the row that it names.
+/// Steps over the byte at `at`: writes its entry, and returns the next row.
 #[inline(always)]
 pub fn step(rows: &[u32], text: &[u8], row_start: usize, trace: &mut [u32], at: usize) -> usize
     requires closed { IsClosed rows.now }

@@ -1,5 +1,5 @@
 //! The parts of an enum that belong to the derive macro: its helper attributes, and the entries of
-//! `derive` that name it.
+//! `derive` that name it. `spots` and `logos_rust_file` recognize them with it.
 
 ghost use Rattle.std.specs.Prelude.{◌≡◌};
 ghost use Rattle.logos_strip.specs.Imports.{tokens_of, tree_of, is_comma, is_helper_name, is_helper_path, holds_helper, begins_helper, ends_entry, is_macro_name, is_macro_segment, is_macro_path, is_global_path, is_macro_entry};

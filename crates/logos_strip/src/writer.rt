@@ -1,4 +1,4 @@
-//! A writer of the tokens that remain, tree by tree.
+//! A writer of the tokens that remain, tree by tree. `groups` writes to it.
 
 ghost use Rattle.std.specs.Prelude.{◌≡◌, [], ◌∷◌, List, Option, Some, None, IfOk};
 ghost use Rattle.logos_strip.specs.Views.{Token, stream_tokens, tree_of, left, completed};

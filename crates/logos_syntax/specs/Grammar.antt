@@ -24,7 +24,8 @@ use Rattle.logos_syntax.specs.Written.{Branches, first, next, Items, nothing, pi
 abbrev pub one_of : Flags → Set → Tree
 one_of flags set = if flags.unicode then one_char_of set else one_byte_of set
 
--- The number alone. If `i` is on, also the numbers that differ from it only in case.
+-- The set that contains only the number. If `i` is on, it also contains the numbers that differ
+-- from it only in case.
 abbrev pub same_as : Flags → ℕ → Set
 same_as flags c = case_closure flags (only_chars (λ d. d == c))
 
@@ -119,7 +120,7 @@ abbrev mutual
 abbrev pub written_tree : Flags → Branches → Tree
 written_tree flags bs = alternation_of (branch_list flags bs)
 
--- ---- what the flags allow.
+-- ---- the tokens that the flags allow.
 
 abbrev mutual
   pub BranchesFit : Flags → Branches → Type 0
@@ -137,7 +138,7 @@ abbrev mutual
   PieceFits flags (group opening bs) = BranchesFit (inner_flags opening flags) bs
   PieceFits flags (repeated p op) = PieceFits flags p
 
--- ---- how many groups, brackets and repetitions are around one point, at most.
+-- ---- the greatest number of groups, brackets and repetitions around one point.
 
 abbrev mutual
   pub branches_depth : Branches → ℕ

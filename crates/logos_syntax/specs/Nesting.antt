@@ -14,8 +14,8 @@ use Rattle.logos_syntax.specs.Grammar.{BranchesFit, branches_depth}
 
 -- ---- groups.
 
--- The groups that are open, with the whole pattern as the outermost one: the contents of each so
--- far, and the opening of the next one.
+-- The groups that are open, with the whole pattern as the outermost one: the contents of each, and
+-- the opening of the next one.
 pub data Around : Type 0 where
   outermost : Around
   within : (around : Around) (inside : Branches) (opening : Opening) → Around

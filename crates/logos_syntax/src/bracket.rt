@@ -1,4 +1,4 @@
-//! Reads brackets into the sets that they denote.
+//! Reads brackets into the sets that they denote. The parser and the stack of groups call it.
 
 pub(crate) mod parser;
 pub(crate) mod stack;

@@ -110,8 +110,8 @@ fn group_tree(alloc: Global, captured: bool, tree: Hir) -> Result<Hir, AllocErro
 impl OpenedGroup {
     ghost use Rattle.logos_syntax.specs.Views.{pattern_nesting, Group, fresh, all_parts, put, set, next_branch, all_branches, whole_tree, repeat, part_view, group_view, Repeats};
 
-    /// Returns a group whose opening alone has been read. `level` is the number of groups around
-    /// its inside.
+    /// Returns a group of which only the opening has been read. `level` is the number of groups
+    /// around its inside.
     fn new(alloc: Global, flags: Flags, captured: bool, level: usize, left: usize) -> OpenedGroup
         requires { level ≤ pattern_nesting }
         ensures { group_view result ≡ fresh flags captured level }
@@ -271,7 +271,7 @@ impl Groups {
         Ok(())
     }
 
-    /// Adds a bracket by its set.
+    /// Adds a bracket with the set `found`.
     pub(crate) fn class(
         &mut self,
         alloc: Global,

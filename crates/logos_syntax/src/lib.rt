@@ -1,4 +1,5 @@
-//! Reads the text of a pattern into the tree that it spells by the grammar.
+//! Reads the text of a pattern into the tree that it spells by the grammar. `logos_pattern` calls
+//! `parse` for each pattern.
 
 #![tactic(auto)]
 

@@ -21,8 +21,8 @@ pub(crate) fn one_of(alloc: Global, flags: Flags, set: RangeSet) -> Result<Hir, 
     builder::byte_class(alloc, set)
 }
 
-/// Returns the set of the number alone. If `i` is on, it also contains the numbers that differ from
-/// it only in case.
+/// Returns the set that contains only the number. If `i` is on, it also contains the numbers that
+/// differ from it only in case.
 fn same_as(alloc: Global, flags: Flags, code: u32) -> Result<RangeSet, AllocError>
     ensures { IfOk result (λ set. set_of set ≡ same_as flags code) }
 {

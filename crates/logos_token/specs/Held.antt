@@ -16,8 +16,8 @@ pub data Held : Type 0 where
   of_text : List ℕ → Held
   of_bytes : List ℕ → Held
 
--- The bytes that the pieces of a string represent, from an offset up to the offset at which the
--- string closes, if the pieces end there. The last number bounds the number of pieces.
+-- The bytes that the pieces of a string denote, from an offset up to the offset at which the string
+-- closes, if the pieces end there. The last number bounds the number of pieces.
 abbrev pub held_from : Bool → Content → (ℕ → Bool) → List ℕ → ℕ → ℕ → Option (List ℕ)
 held_from escapes content closes bytes zero at = None
 held_from escapes content closes bytes (suc most) at =

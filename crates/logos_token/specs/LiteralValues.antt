@@ -11,13 +11,13 @@ use Rattle.logos_token.specs.declared.token.value.LiteralValue.{LiteralValue}
 use Rattle.logos_token.specs.declared.token.value.LiteralValue.TheVariants.{Text, Bytes}
 
 -- The string at the start of a text that opens in this way and ends at `end` has this content, and
--- its pieces represent these bytes.
+-- its pieces denote these bytes.
 abbrev pub HoldsIn : List ℕ → Opening → ℕ → Content → List ℕ → Type 0
 HoldsIn text (Quotes content) end other held = (content ≡ other) × Holds true content text (body_of (Quotes content) 0) (end - 1) held
 HoldsIn text (Raw content count) end other held = (content ≡ other) × Holds false content text (body_of (Raw content count) 0) (end - 1 - count) held
 HoldsIn text _ end other held = ⊥
 
--- A text begins with a string with this content, whose pieces represent these bytes.
+-- A text begins with a string with this content, whose pieces denote these bytes.
 pub record BeginsWithString (text : List ℕ) (content : Content) (held : List ℕ) : Type 0 where
   pub end : ℕ
   pub ends : Ends text 0 (opening_at text 0) end

@@ -36,7 +36,7 @@ pub data IsRunOf (run : TokenList) : TokenList → Type 0 where
   here : {tokens : TokenList} (front back : TokenList) → tokens ≡ append front (append run back) → IsRunOf run tokens
   within : {tokens : TokenList} (front : TokenList) (delimiter : Delimiter) (span : Span) (inside back : TokenList) → tokens ≡ append front (also (group delimiter span inside) back) → IsRunOf run inside → IsRunOf run tokens
 
--- The last token of the run is punctuation that is joint to what follows it.
+-- The last token of the run is punctuation that is joint to the token after it.
 pub record EndsJoint (run : TokenList) : Type 0 where
   pub front : TokenList
   pub character : ℕ

@@ -45,7 +45,7 @@ pub struct SpannedError {
     pub span: Span,
     /// A second span that the fault is about.
     pub also: Option<Span>,
-    /// Typed details of the fault.
+    /// The detail of the fault.
     pub detail: Detail,
 }
 

@@ -1,4 +1,4 @@
-//! The tokens of a source text.
+//! The tokens of a source text. `reader` makes them, and `views` provides access to them.
 
 mod entry;
 mod laws;

@@ -23,7 +23,7 @@ pub data Sign : Type 0 where
   reference : (lifetime : Option (List ℕ)) → Sign
   -- A lifetime among the angle arguments of a path that is a type.
   lifetime : (text : List ℕ) → Sign
-  -- A lifetime anywhere else.
+  -- Any other lifetime.
   other_lifetime : (text : List ℕ) → Sign
   -- Punctuation in the length of an array or in braces.
   spaced_mark : (character : ℕ) (spacing : Spacing) → Sign

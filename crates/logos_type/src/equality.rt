@@ -1,4 +1,4 @@
-//! Compares types by their parts, regardless of their spans.
+//! Compares types by their parts, regardless of their spans. Users of the library call it.
 
 ghost use Rattle.std.specs.Prelude.{◌≡◌, ◌↔◌, IsTrue, map};
 ghost use Rattle.logos_type.specs.Views.{sign_of, tree_of, type_tree};

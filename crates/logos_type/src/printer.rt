@@ -1,4 +1,5 @@
-//! Prints types. The generated code and messages show types with it.
+//! Prints types. `logos_text` and `logos_tables` print the types of generated code with it, and
+//! `logos_definition` the error type.
 
 ghost use Rattle.std.specs.Prelude.{◌≡◌, IfOk, OnOk, fold, string_bytes};
 ghost use Rattle.logos_type.specs.Views.{print_part, printed_of, sign_of, tree_of, lifetime_parts, sign_parts, type_parts, printed_type, type_tree};

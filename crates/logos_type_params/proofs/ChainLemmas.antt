@@ -1,4 +1,4 @@
--- Chains of types, by the names and by the places of the types.
+-- Chains of types, by the names and by the indexes of the types.
 use Rattle.std.proofs.Common.{◌≡◌, ℕ, zero, suc, ◌+◌, ◌<◌, ◌⊎◌, inl, inr, ⊎_elim, ◌↔◌, List, [], ◌∷◌, ◌++◌, ◌||◌, map, length, drop, get_or, Bool, true, false, cond, IsTrue, slice_index_or, Contains, Bor, refl, sym, ap, ◌∙◌, arith, subst, append_assoc, true≢false}
 use Rattle.std.proofs.lemmas.List.{map_push, at_drop_more, length-map}
 use Rattle.std.proofs.lemmas.List.Elements.{Contains-push, Contains-push_cases, Contains-append_left}

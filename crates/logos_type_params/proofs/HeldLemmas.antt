@@ -1,4 +1,4 @@
--- DeclaredNames that are asked one by one whether they hold themselves.
+-- Declared names that are tested one by one for whether their types contain them.
 use Rattle.std.proofs.Common.{◌≡◌, ℕ, ◌+◌, ◌⊎◌, inl, inr, ⊎_elim, List, [], ◌∷◌, map, drop, length, get_or, ◌<◌, Bor, subst, sym, ap, ◌∙◌}
 use Rattle.std.proofs.lemmas.List.{at_drop_more}
 use Rattle.logos_type_params.specs.declared.substitution.TypeParam.{TypeParam}

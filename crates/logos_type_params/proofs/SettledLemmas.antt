@@ -1,4 +1,4 @@
--- DeclaredNames in front of others, and what follows for those that are checked, copied and asked.
+-- Declared names before others, and the consequences for those that are checked and copied.
 use Rattle.std.proofs.Common.{◌≡◌, ℕ, ◌⊎◌, ◌↔◌, inl, List, [], ◌∷◌, ◌++◌, ◌||◌, Bool, true, false, not, Option, Some, None, Bor, refl, sym, ap, ◌∙◌, subst, append_assoc, append-nil, true≢false, IsTrue, if◌then◌else◌, cond, inr, Result, Ok, Err}
 use Rattle.std.specs.Prelude.{OnOk, IsOk}
 use Rattle.std.specs.Str.{bytes_eq}
@@ -65,7 +65,7 @@ fronts_on t named keys keys' front is put are x =
     any_put t keys keys' put x ∙ ap (λ (b : Bool). cond (bytes_eq t.now x) true b) (are x) ∙ or_first (bytes_eq t.now x) (is_declared front x)
     ∙ ap (λ (y : Text). is_declared front x || bytes_eq y x) (sym is) ∙ sym (in_front front named x)
 
--- the same texts in another order
+-- equal texts in another order
 pub fronts_same : (front : List Named) (keys keys' : List (Bor Text)) → AreInFront front keys →
     ((q : Bor Text) → list_any (λ (k : Bor Text). bytes_eq q.now k.now) keys' ≡ list_any (λ (k : Bor Text). bytes_eq q.now k.now) keys) → AreInFront front keys'
 fronts_same front keys keys' are same x = sym (any_texts x keys') ∙ same (record { ref_ptr = (0, 0); now = x }) ∙ any_texts x keys ∙ are x
@@ -83,7 +83,7 @@ module _ (t : Bor Text) (named : Named) (is : named.text ≡ t.now) (keys keys' 
   declared_as : (front : List Named) → AreInFront front keys → (b : Bool) → list_any (bytes_eq t.now) (texts keys) ≡ b → is_declared front named.text ≡ b
   declared_as front are b e = rw is (sym (are t.now) ∙ e)
 
-  -- a name that stands in front already
+  -- a name that is already in the front
   pub checked_again : list_any (bytes_eq t.now) (texts keys) ≡ true → after ≡ before → ChecksName params marks keys named before keys' after
   checked_again e none = record {
     checked = λ are_marked front are. declared_again (declared_as front are true e) none;
@@ -110,14 +110,14 @@ module _ (types : List Given) (t : Bor Text) (named : Named) (is : named.text �
   chosen : (front : List Named) → AreInFront front keys → (b : Bool) → list_any (bytes_eq t.now) (texts keys) ≡ b → is_declared front named.text ≡ b
   chosen front are b e = rw is (sym (are t.now) ∙ e)
 
-  -- a name that stands in front already
+  -- a name that is already in the front
   pub copies_none : list_any (bytes_eq t.now) (texts keys) ≡ true → CopiesName types keys named None keys'
   copies_none e = record {
     copied = λ front are. sym (ap (λ (b : Bool). if b then None else type_of types named.text) (chosen front are true e));
     fronts = λ front are. fronts_on t named keys keys' front is put are;
   }
 
-  -- a name that stands there for the first time
+  -- a name that occurs for the first time
   pub copies_type : (copy : Option Tree) → list_any (bytes_eq t.now) (texts keys) ≡ false → copy ≡ type_of types named.text → CopiesName types keys named copy keys'
   copies_type copy e same = record {
     copied = λ front are. same ∙ sym (ap (λ (b : Bool). if b then None else type_of types named.text) (chosen front are false e));
@@ -161,7 +161,7 @@ pub on_ok_one : {T E P Q : Type 0} (r : Result T E) → (P → Q) → OnOk r P �
 on_ok_one (Ok x) f p = f p
 on_ok_one (Err e) f p = tt
 
--- a name that is asked is held or not
+-- a tested name is held or not
 pub needs_held : (params : List ParamValue) (marks : List Bool) (t : Bor Text) (leads : Bool) (keys keys' : List (Bor Text)) → leads ≡ true → (AreMarked params marks → IsTrue leads ↔ Leads params t.now t.now) → PutsText t keys keys' →
     NeedsName params marks t.now (texts keys) (texts keys')
 needs_held params marks t leads keys keys' l needed put are =
@@ -194,7 +194,7 @@ pub all_checked_after : {params : List ParamValue} {front names : List Named} {o
 all_checked_after ahead no_name = no_name
 all_checked_after ahead (one_more first rest) = one_more (checked_after ahead first) (all_checked_after ahead rest)
 
--- faults that are found alone, and then stand behind others
+-- faults that are found alone, and are then appended to others
 pub checked_listed : {params : List ParamValue} {front names : List Named} (ahead none found all : List Fault) → none ≡ [] → AreChecked params front names none found → all ≡ ahead ++ found →
     AreChecked params front names ahead all
 checked_listed {params = params} {front = front} {names = names} ahead none found all n checked e =

@@ -1,4 +1,4 @@
--- Values that are found by their texts, and what changes where one is added or replaced.
+-- Values that are found by their texts, and the changes when one is added or replaced.
 use Rattle.std.proofs.Common.{◌≡◌, ℕ, zero, suc, ◌<◌, List, [], ◌∷◌, ◌++◌, length, get_or, slice_set, Bool, true, false, if◌then◌else◌, cond, Option, Some, None, option_map, IfSome, Bor, refl, sym, ap, ◌∙◌, arith, subst, map, true≢false}
 use Rattle.std.specs.Map.{lookup}
 use Rattle.std.specs.Str.{bytes_eq}
@@ -56,7 +56,7 @@ module _ {X : Type 0} where
   slot_within t (e ∷ es) zero h = omega arith
   slot_within t (e ∷ es) (suc i) h = let r = slot_within t es i (slot_later t e es i h).1 in omega (arith, r)
 
-  -- what stands at the place, and that nothing is found without one
+  -- the value at the index, and no value without one
   pub found_at : (t : Text) (es : Rows X) (i : ℕ) (d : Bor Text × X) → slot_in es t ≡ Some i → lookup (λ (k : Bor Text). bytes_eq t k.now) es ≡ Some (get_or es i d).1
   found_at t [] i d h = absurd cc
   found_at t (e ∷ es) zero d h = rw (slot_first t e es h) refl
@@ -85,7 +85,7 @@ module _ {X : Type 0} where
   pub placed_set : (entry : Bor Text × X) (es : Rows X) (slots : List (Bor Text × ℕ)) (i : ℕ) → ArePlaced es slots → slot_in es entry.0.now ≡ Some i → ArePlaced (slice_set es i entry) slots
   placed_set entry es slots i are h q = are q ∙ same_slots entry es i h q.now
 
-  -- a new one has the place behind all others
+  -- a new one has the place after all others
   slot_last : (entry : Bor Text × X) (es : Rows X) (q : Text) → slot_in es q ≡ None → bytes_eq q entry.0.now ≡ true → slot_in (es ++ entry ∷ []) q ≡ Some (length es)
   slot_last entry [] q h e = rw e refl
   slot_last entry (x ∷ es) q h e = let l = slot_none q x es h in rw l.0 (ap (λ (r : Option ℕ). option_map suc r) (slot_last entry es q l.1 e))
@@ -107,7 +107,7 @@ module _ {X : Type 0} where
   within_by t es None h = tt
   within_by t es (Some i) h = slot_within t es i (sym h)
 
--- the types stand at the places of their names
+-- the types are at the indexes of their names
 pub placed : (t : Text) (es : Entries) (i : ℕ) → slot_in es t ≡ Some i → OccursAt (map param_value es) t i
 placed t [] i h = absurd cc
 placed t (e ∷ es) zero h = eq_sym e.0.now t ∙ slot_first t e es h

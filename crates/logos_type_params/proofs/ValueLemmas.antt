@@ -1,4 +1,4 @@
--- Values that go on behind a type, and types with their lifetimes set.
+-- Values that continue after a type, and types with their lifetimes set.
 use Rattle.std.proofs.Common.{◌≡◌, List, [], ◌∷◌, ◌++◌, Some, None, true, false, Result, Ok, Err, OnOk, OnErr, refl, sym, ap, ◌∙◌, map, Vec, Global}
 use Rattle.logos_token.specs.Tokens.{TokenList, none, also, run_span}
 use Rattle.logos_token.specs.Faults.{Fault}

@@ -10,9 +10,9 @@ mod reference;
 
 use std::alloc::{AllocError, Global};
 
-/// Returns for each node whether it lies on a cycle. `lists` has for each node, indexed by its
-/// number, the numbers of the nodes to which its edges lead. Numbers for which there is no node are
-/// ignored.
+/// Returns for each node whether it lies on a cycle. `lists` contains, for each node at the index
+/// of its number, the numbers of the nodes to which its edges lead. Numbers for which there is no
+/// node are ignored.
 ///
 /// Two traversals find the components of the graph, and the components are checked before the
 /// answer is read from them. This takes time linear in the numbers of nodes and edges. The check

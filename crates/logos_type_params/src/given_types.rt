@@ -1,4 +1,5 @@
-//! Stores the types given to the parameters, and finds them by name.
+//! Stores the types given to the parameters, and finds them by name. `type_params` fills it, and
+//! substitution reads it.
 
 ghost use Rattle.std.specs.Prelude.{◌≡◌, ◌++◌, ◌∷◌, [], ◌<◌, None, Some, length, option_copied, IfSome, OnOk, OnErr};
 ghost use Rattle.std.specs.Map.{lookup};

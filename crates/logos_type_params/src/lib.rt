@@ -1,5 +1,5 @@
 //! The declared type parameters of an enum, the types given to them, and the replacement of
-//! parameters and lifetimes in types.
+//! parameters and lifetimes in types. `logos_definition` calls it.
 
 #![tactic(auto)]
 

@@ -55,8 +55,8 @@ fn set_each<'s>(alloc: Global, parts: &[TypePart<'s>]) -> Result<TypePart<'s>, A
 
 /// Returns the type with its lifetimes and those of all types inside it set to `'s`: the lifetime
 /// of a reference, which is added if there is none, and the lifetimes among the angle arguments of
-/// a path that is a type. Other lifetimes are unchanged, such as those of `dyn` and `for<..>`, and
-/// so are parts that are never replaced, such as the type before `as`.
+/// a path that is a type. Other lifetimes are unchanged, such as those of `dyn` and `for<..>`.
+/// Parts that are never replaced are also unchanged, such as the type before `as`.
 ///
 /// # Errors
 ///

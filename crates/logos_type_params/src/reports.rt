@@ -1,5 +1,5 @@
-//! Reports faults of names and types. Each function adds one fault. The readers of attributes call
-//! it, here and in the crates above.
+//! Reports faults of names and types. Each function adds one fault. `logos_definition` and this
+//! crate call it.
 
 ghost use Rattle.std.specs.Prelude.{◌≡◌, ◌++◌, ◌∷◌, [], IfOk, OnOk, OnErr, string_bytes};
 ghost use Rattle.logos_type_params.specs.Views.{named_of, about, about_with, previous, type_nesting_text, limit_type_nesting};

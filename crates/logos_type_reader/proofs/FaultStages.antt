@@ -1,5 +1,5 @@
--- A run has the same fault as another one with the same tokens in front of it and the same sign at
--- it.
+-- A run has the same fault as another one with the same tokens before the fault and the same sign
+-- at it.
 use Rattle.std.proofs.Common.{◌≡◌, ℕ, ◌-◌, ◌<◌, ◌||◌, ◌⊎◌, inl, inr, List, Bool, true, false, Option, Some, None, refl, sym, ap, ◌∙◌, subst}
 use Rattle.logos_lexeme.specs.declared.lexeme.Span.{Span}
 use Rattle.logos_lexeme.specs.declared.lexeme.Delimiter.{Delimiter}

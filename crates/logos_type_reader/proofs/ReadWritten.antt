@@ -1,4 +1,4 @@
--- What is read as a type is written.
+-- A run that is read as a type is a written type.
 use Rattle.std.proofs.Common.{◌≡◌, ℕ, ◌-◌, ◌<◌, List, [], ◌∷◌, ◌++◌, Bool, true, false, not, ◌||◌, ◌&&◌, ◌==◌, bytes_eq, codes, if◌then◌else◌, Option, Some, None, refl, sym, ◌∙◌, subst, append_assoc, ◌≢◌, ◌⊎◌, inl, inr}
 use Rattle.std.proofs.lemmas.Bool.Decides.{eqb_tells}
 use Rattle.std.proofs.lemmas.Slice.Eq.{bytes_eq-Decides}
@@ -22,8 +22,7 @@ use Rattle.logos_type_reader.specs.Reading.{IsType, just_name, formed, IsMove, a
 use Rattle.logos_type_reader.specs.Written.{Ending, plain_named, may_follow, name_ending, begins_mut, begins_parameter, begins_for, Lifetimes, in_angles, LifetimeList, no_lifetime, last_lifetime, lifetimes, Written, a_name, a_form, Form, path, rooted, qualified, borrowed, borrowed_for, slice, array, tuple, trait_object, bound_function, function, pointer_const, pointer_mut, Referent, shared, mutable, Listed as ListedTypes, nothing, single, several, Qualified, of_type, of_trait, AnyPath, from_name, from_root, Path, last, longer, Longer, member, angled, angled_member, called, giving, Angled, plain, turbofish, Arguments, finished, final, further, Argument, a_lifetime, a_literal, empty_braces, braces, a_type, a_binding, Bounds, one_bound, last_bound, plus_after, bounds, Bound, lifetime_bound, trait_bound, enclosed, Questioned, unquestioned, questioned, Trait, unbound, for_all, Function, not_safe, safe, Linked, linked, linked_as, unlinked, Taking, takes_only, takes_and_yields, Parameters, no_parameter, last_parameter, parameters, Parameter, unnamed, with_name}
 use Rattle.logos_type_reader.proofs.WrittenReads.{name_is}
 
--- What stands at each place, up to the end of what was begun: parts that are read from a run, and
--- the rest.
+-- The construct at each stage, up to its end: parts that are read from a run, and the rest.
 abbrev Parts : Type 1
 Parts = TokenList → List Tree → TokenList → Type 0
 
@@ -38,7 +37,7 @@ data Done : TokenList → List Tree → TokenList → Type 0 where
 data Last (F : Forms) : TokenList → List Tree → TokenList → Type 0 where
   ending : {run rest : TokenList} {parts : List Tree} {e : Ending} → F run parts rest e → may_follow e rest ≡ true → Last F run parts rest
 
--- a written form, and others behind it
+-- a written form, and others after it
 data Then (F : Forms) (After : Parts) : TokenList → List Tree → TokenList → Type 0 where
   then_after : {run middle rest : TokenList} {front back : List Tree} {e : Ending} → F run front middle e → may_follow e middle ≡ true → After middle back rest → Then F After run (front ++ back) rest
 
@@ -46,7 +45,7 @@ data Then (F : Forms) (After : Parts) : TokenList → List Tree → TokenList �
 data LastType (levels : ℕ) (plus : Bool) : TokenList → List Tree → TokenList → Type 0 where
   ending_type : {run rest : TokenList} {t : Tree} {e : Ending} → Written levels plus run t rest e → may_follow e rest ≡ true → LastType levels plus run (t ∷ []) rest
 
--- behind a name of a path
+-- after a name of a path
 data AfterName (levels : ℕ) (kind : PathKind) : TokenList → List Tree → TokenList → Type 0 where
   name_last : {rest : TokenList} → may_follow (name_ending kind) rest ≡ true → AfterName levels kind rest [] rest
   name_longer : {run rest : TokenList} {parts : List Tree} {e : Ending} → Longer levels kind run parts rest e → may_follow e rest ≡ true → AfterName levels kind run parts rest
@@ -67,7 +66,7 @@ data AfterColons (levels : ℕ) (kind : PathKind) (may : Bool) : TokenList → L
   to_angle : {s : Span} {p : Spacing} {run rest : TokenList} {parts : List Tree} → may ≡ true → InArguments levels (argued kind) run parts rest →
       AfterColons levels kind may (also (punctuation 60 p s) run) (sign (mark 60) ∷ parts) rest
 
--- behind an angle argument
+-- after an angle argument
 data AfterArgument (levels : ℕ) (kind : PathKind) : TokenList → List Tree → TokenList → Type 0 where
   comma : {s : Span} {p : Spacing} {run rest : TokenList} {parts : List Tree} → InArguments levels kind run parts rest → AfterArgument levels kind (also (punctuation 44 p s) run) (sign (mark 44) ∷ parts) rest
   angle : {s : Span} {p : Spacing} {run rest : TokenList} {parts : List Tree} → Onward levels kind run parts rest → AfterArgument levels kind (also (punctuation 62 p s) run) (sign (mark 62) ∷ parts) rest
@@ -84,23 +83,23 @@ data InBraces (levels : ℕ) (kind : PathKind) (after : TokenList) : TokenList �
   tokens : {first : Token} {run rest : TokenList} {back : List Tree} → AfterArgument levels kind after back rest →
       InBraces levels kind after (also first run) (still (trees (still_run (also first run))) ∷ sign (closing Brace) ∷ back) rest
 
--- behind the parentheses of a path or of a function
+-- after the parentheses of a path or of a function
 data AfterOutput (levels : ℕ) : TokenList → List Tree → TokenList → Type 0 where
   no_output : {rest : TokenList} → begins_arrow rest ≡ false → AfterOutput levels rest [] rest
   output : {s t : Span} {p : Spacing} {run rest : TokenList} {r : Tree} {e : Ending} → Written levels false run r rest e → may_follow e rest ≡ true →
       AfterOutput levels (also (punctuation 45 Joint s) (also (punctuation 62 p t) run)) (sign arrow ∷ r ∷ []) rest
 
--- in parentheses, with what stands behind them
+-- in parentheses, and the tokens after them
 data Among (levels : ℕ) (After : Parts) (after : TokenList) : TokenList → List Tree → TokenList → Type 0 where
   among : {run rest : TokenList} {front back : List Tree} → ListedTypes levels run front → After after back rest → Among levels After after run (front ++ (sign (closing Parenthesis) ∷ back)) rest
 
--- behind a type in parentheses
+-- after a type in parentheses
 data AfterOne (levels : ℕ) (After : Parts) (after : TokenList) : TokenList → List Tree → TokenList → Type 0 where
   comma_one : {s : Span} {p : Spacing} {run rest : TokenList} {parts : List Tree} → Among levels After after run parts rest →
       AfterOne levels After after (also (punctuation 44 p s) run) (sign (mark 44) ∷ parts) rest
   close_one : {rest : TokenList} {back : List Tree} → After after back rest → AfterOne levels After after none (sign (closing Parenthesis) ∷ back) rest
 
--- behind the length of an array
+-- after the length of an array
 data AfterLength (after : TokenList) : TokenList → List Tree → TokenList → Type 0 where
   close_length : {run rest : TokenList} {back : List Tree} → Done after back rest → AfterLength after run (sign (closing Bracket) ∷ back) rest
 
@@ -120,7 +119,7 @@ data AtPointer (levels : ℕ) : TokenList → List Tree → TokenList → Type 0
   at_const : {s : Span} {run rest : TokenList} {parts : List Tree} → LastType levels false run parts rest → AtPointer levels (also (identifier (codes "const") s) run) (sign (word (codes "const")) ∷ parts) rest
   at_mut : {s : Span} {run rest : TokenList} {parts : List Tree} → LastType levels false run parts rest → AtPointer levels (also (identifier (codes "mut") s) run) (sign (word (codes "mut")) ∷ parts) rest
 
--- behind the `>` of a qualified path, and behind what stands in front of it
+-- after the `>` of a qualified path, and after the tokens before it
 data AtSelfClosed (levels : ℕ) : TokenList → List Tree → TokenList → Type 0 where
   self_closed : {s t : Span} {p : Spacing} {run rest : TokenList} {parts : List Tree} {e : Ending} → Path levels OfType run parts rest e → may_follow e rest ≡ true →
       AtSelfClosed levels (also (punctuation 58 Joint s) (also (punctuation 58 p t) run)) (sign colons ∷ parts) rest
@@ -133,7 +132,7 @@ data AfterSelf (levels : ℕ) : TokenList → List Tree → TokenList → Type 0
   self_as : {s : Span} {run rest : TokenList} {parts : List Tree} → Then (AnyPath levels OfType) (AfterSelfTrait levels) run parts rest →
       AfterSelf levels (also (identifier (codes "as") s) run) (sign (word (codes "as")) ∷ parts) rest
 
--- behind a bound
+-- after a bound
 data AfterBound (levels : ℕ) : Bool → TokenList → List Tree → TokenList → Type 0 where
   only_bound : {rest : TokenList} → AfterBound levels false rest [] rest
   bound_last : {rest : TokenList} → begins_mark 43 rest ≡ false → AfterBound levels true rest [] rest
@@ -146,11 +145,11 @@ data AtFurther (levels : ℕ) : TokenList → List Tree → TokenList → Type 0
   no_further : {rest : TokenList} → begins_bound rest ≡ false → AtFurther levels rest [] rest
   some_further : {run rest : TokenList} {parts : List Tree} {e : Ending} → Bounds levels true run parts rest e → may_follow e rest ≡ true → AtFurther levels run parts rest
 
--- behind a path in parentheses
+-- after a path in parentheses
 data AfterEnclosed (levels : ℕ) (plus : Bool) (after : TokenList) : TokenList → List Tree → TokenList → Type 0 where
   close_enclosed : {rest : TokenList} {back : List Tree} → AfterBound levels plus after back rest → AfterEnclosed levels plus after none (sign (closing Parenthesis) ∷ back) rest
 
--- behind `for`, behind its `<`, and behind one of its lifetimes
+-- behind `for`, after its `<`, and behind one of its lifetimes
 data AtFor (After : Parts) : TokenList → List Tree → TokenList → Type 0 where
   at_for : {run middle rest : TokenList} {front back : List Tree} → Lifetimes run front middle → After middle back rest → AtFor After run (front ++ back) rest
 
@@ -316,7 +315,7 @@ not_not true e = cc
 or_false : (a b : Bool) → a ≡ false → b ≡ false → (a || b) ≡ false
 or_false a b e f = rw (e, f) refl
 
--- what ends in a name where nothing goes on
+-- what ends in a name where nothing continues
 free_name : (kind : PathKind) (run : TokenList) → goes_on run ≡ false → begins_mark 33 run ≡ false → may_follow (name_ending kind) run ≡ true
 free_name Plain run e f = not_false (goes_on run || begins_mark 33 run) (or_false (goes_on run) (begins_mark 33 run) e f)
 free_name OfType run e f = not_false (goes_on run) e
@@ -450,7 +449,7 @@ unquestioned_then (then_after w f a) = then_after (unquestioned w) f a
 questioned_then : {levels : ℕ} {After : Parts} {s : Span} {p : Spacing} {run rest : TokenList} {parts : List Tree} → Then (Trait levels) After run parts rest → Then (Questioned levels) After (also (punctuation 63 p s) run) (sign (mark 63) ∷ parts) rest
 questioned_then (then_after w f a) = then_after (questioned w) f a
 
--- a bound, and what stands behind it
+-- a bound, and the tokens after it
 bound_then : {levels : ℕ} {plus : Bool} {run middle rest : TokenList} {front back : List Tree} {e : Ending} → Bound levels run front middle e → may_follow e middle ≡ true → AfterBound levels plus middle back rest → Last (Bounds levels plus) run (front ++ back) rest
 bound_then {levels} {run = run} {rest = rest} {front = front} w f only_bound = subst (λ (ts : List Tree). Last (Bounds levels false) run ts rest) (sym (append-nil front)) (ending (one_bound w) f)
 bound_then {levels} {run = run} {rest = rest} {front = front} {e = e} w f (bound_last n) =
@@ -1284,7 +1283,7 @@ dyn_form (ending v f) = ending (trait_object v) f
 none_reserved : (a b c d f g h : Bool) → a ≡ false → b ≡ false → c ≡ false → d ≡ false → f ≡ false → g ≡ false → h ≡ false → (((a || b) || (c || d)) || ((f || g) || h)) ≡ false
 none_reserved a b c d f g h p q r s t u v = rw (p, q, r, s, t, u, v) refl
 
--- behind a word, by what the word is
+-- after a word, by what the word is
 abbrev WordForm : ℕ → Bool → List ℕ → Span → TokenList → Type 0
 WordForm levels plus text s rest = (parts : List Tree) (r : TokenList) → Good levels (table.word_stage plus text) rest None parts r → Last (Form levels plus) (also (identifier text s) rest) (sign (word text) ∷ parts) r
 
@@ -1310,7 +1309,7 @@ stage_is plus text a b c d f g = rw (a, b, c, d, f, g) refl
 path_word : (levels : ℕ) (plus : Bool) (text : List ℕ) (s : Span) (rest : TokenList) → table.word_stage plus text ≡ stage.Named Plain → is_reserved text ≡ false → name_of (also (identifier text s) rest) ≡ None → WordForm levels plus text s rest
 path_word levels plus text s rest e r n parts q h = named_form r n (let k : Good levels (stage.Named Plain) rest None parts q = subst (λ (x : Stage). Good levels x rest None parts q) e h in k)
 
--- a test of words, with what it says
+-- a test of words, and the meaning of its result
 reported : (P : Type 0) (b : Bool) → (b ≡ true → P) → (b ≡ false → P) → P
 reported P true f g = f refl
 reported P false f g = g refl

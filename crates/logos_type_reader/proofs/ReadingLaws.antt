@@ -1,4 +1,4 @@
--- A run begins with one type at most, what refuses it excludes one, and it has a type or a fault.
+-- A run begins with at most one type, a fault excludes a type, and there is a type or a fault.
 use Rattle.std.proofs.Common.{◌≡◌, ℕ, ◌-◌, ◌+◌, ◌<◌, ◌||◌, List, [], ◌∷◌, ◌++◌, Bool, true, false, Option, Some, None, refl, sym, ap, ◌∙◌, subst, arith}
 use Rattle.logos_token.specs.Tokens.{TokenList, none as no_token_left, also as and_token, append, count_of, rest_of, run_span}
 use Rattle.logos_type_reader.specs.declared.table.stage.Stage.{Stage}
@@ -75,7 +75,7 @@ or_same {a} {b} {c} {d} e f = ap (λ (x : Bool). x || b) e ∙ ap (λ (x : Bool)
 append_same : {xs ys zs ws : List Tree} → xs ≡ zs → ys ≡ ws → xs ++ ys ≡ zs ++ ws
 append_same {xs} {ys} {zs} {ws} e f = ap (λ (x : List Tree). x ++ ys) e ∙ ap (λ (x : List Tree). zs ++ x) f
 
--- what the parts of a type are the same as
+-- the parts of a type equal these
 abbrev SameParts : Bool → Spot → List Tree → TokenList → Type 0
 SameParts b spot ps rest = (m : ℕ) (c : Bool) (qs : List Tree) (other : TokenList) → AreParts m c spot qs other → (b ≡ c) × (ps ≡ qs) × (rest ≡ other)
 

@@ -29,7 +29,7 @@ pub record Later (spot behind : Spot) : Type 0 where
   pub rest : IsRestOf (outer spot.run spot.outside) (outer behind.run behind.outside)
   pub less : spot_left behind < spot_left spot
 
--- a run is behind a spot
+-- a run is after a spot
 pub record Left (spot : Spot) (run : TokenList) : Type 0 where
   pub rest : IsRestOf (outer spot.run spot.outside) run
   pub less : 2 * count_of run ≤ spot_left spot
@@ -45,7 +45,7 @@ onward o = record { rest = o.rest; less = o.less }
 moved : (spot : Spot) {m : Move} → next_of spot ≡ m → Moves spot.run spot.outside m
 moved spot e = subst (Moves spot.run spot.outside) e (steps spot.stage spot.run spot.outside)
 
--- behind a type or a path
+-- after a type or a path
 after_rest : (run rest : TokenList) (behind : Option TokenList) → Rest run rest → IsRestOf (outer run behind) (outer rest behind) × (left rest behind < left run behind)
 after_rest run rest None r = (r.is, let h = r.less in omega arith)
 after_rest run rest (Some after) r = (rest_self after, let h = r.less in omega arith)
@@ -69,7 +69,7 @@ rest_name no_token text e = cc
 rest_name (and_token t rest) text e = record { is = record { front = and_token t no_token; is = refl }; less = omega (arith, Rattle.logos_type_reader.proofs.TableSteps.one_token t) }
 
 mutual
-  -- a type leaves less behind it
+  -- a type leaves less after it
   pub type_rest : {levels : ℕ} {plus : Bool} {run : TokenList} {t : Tree} {rest : TokenList} → IsType levels plus run t rest → Rest run rest
   type_rest {run = run} (just_name {text = text} a e) = rest_name run text e
   type_rest {plus = plus} {run = run} {rest = rest} (formed {spot = spot} a n b h) =
@@ -150,7 +150,7 @@ still_fault levels spot stage fault e h = if_fault-map (NoType levels true spot.
 pub nest_fault : (levels : ℕ) (spot : Spot) (s : Sign) (inner : Spot) (stage : Stage) (fault : TypeFault) → next_of spot ≡ nests s inner stage → IfFault (NoParts levels inner) fault → IfFault (NoMove levels spot) fault
 nest_fault levels spot s inner stage fault e h = if_fault-map (NoParts levels inner) (NoMove levels spot) (λ f n. no_nest e n) fault h
 
--- less is left behind the first token
+-- less is left after the first token
 pub begun_falls : (plus : Bool) (run : TokenList) (barred : Bool) (s : Sign) (spot : Spot) → begin plus run ≡ starts barred s spot → spot_left spot < 2 * count_of run
 begun_falls plus run barred s spot e = let f : Begins run spot = first_steps plus run e in f.less
 
@@ -169,7 +169,7 @@ formed_type levels plus run b c s spot ps rest ts a e f h n is =
     let h' : AreParts (levels - 1) false spot ps rest = subst (λ (x : Bool). AreParts (levels - 1) x spot ps rest) k.1 h in
     subst (λ (x : List Tree). IsType levels plus run (whole (trees x)) rest) (sym is) (formed a e f' h')
 
--- less is left where a path or bounds go on inside
+-- less is left where a path or bounds continue inside
 inner_less_than : (run within : TokenList) (behind other : Option TokenList) → count_of within < count_of run → other ≡ None → left within other < left run behind
 inner_less_than run within None None h n = omega (arith, h)
 inner_less_than run within (Some after) None h n = omega (arith, h)

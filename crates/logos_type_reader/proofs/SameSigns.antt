@@ -1,4 +1,4 @@
--- Runs that begin with the same sign, and what the tests of the table say of them.
+-- Runs that begin with the same sign, and the results of the tests of the table for them.
 use Rattle.std.proofs.Common.{◌≡◌, ℕ, ◌+◌, Bool, true, false, refl, sym, ap, ◌∙◌, arith}
 use Rattle.logos_lexeme.specs.declared.lexeme.Span.{Span}
 use Rattle.logos_lexeme.specs.declared.lexeme.Spacing.{Spacing}
@@ -233,7 +233,7 @@ append_none (also t rest) = ap (λ (x : TokenList). also t x) (append_none rest)
 pub at_start_is : {run left : TokenList} → IsAt start run left → run ≡ left
 at_start_is at_start = refl
 
--- what the first of a front says of a run
+-- the meaning of the first token of a front for a run
 pub record FirstToken (t : Token) (front : Front) (run left : TokenList) : Type 0 where
   pub rest : TokenList
   pub is : run ≡ also t rest

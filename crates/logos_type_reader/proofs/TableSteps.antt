@@ -1,4 +1,4 @@
--- Each move of the table goes on behind where it was, with less left.
+-- Each move of the table continues behind where it was, with less left.
 use Rattle.std.proofs.Common.{◌≡◌, ℕ, ◌<◌, ◌*◌, ◌==◌, ◌&&◌, ◌||◌, Bool, true, false, bytes_eq, codes, if◌then◌else◌, Option, Some, None, List, refl, ap, subst, ◌≤◌, arith}
 use Rattle.logos_lexeme.specs.declared.lexeme.Span.{Span}
 use Rattle.logos_lexeme.specs.declared.lexeme.Spacing.{Spacing}
@@ -19,12 +19,12 @@ use Rattle.logos_type_reader.specs.Table as table
 use Rattle.logos_type_reader.specs.Table.{Spot, outer, Move, takes, bars, keeps, nests, First, starts, refused, to, next_at, begin, begins_colons, begins_arrow, begins_dots, after_two, after_three, closes, opens}
 use Rattle.logos_type_reader.specs.ReadingViews.{left}
 
--- a spot is behind the run
+-- a spot is after the run
 pub record Onward (run : TokenList) (outside : Option TokenList) (spot : Spot) : Type 0 where
   pub rest : IsRestOf (outer run outside) (outer spot.run spot.outside)
   pub less : left spot.run spot.outside < left run outside
 
--- what a path or bounds inside are read from is behind the run
+-- what a path or bounds inside are read from is after the run
 pub record Inward (run : TokenList) (spot : Spot) : Type 0 where
   pub rest : IsRestOf run spot.run
   pub less : count_of spot.run < count_of run
@@ -55,7 +55,7 @@ self_rest run = record { front = none; is = refl }
 first_rest : (t : Token) (rest : TokenList) → IsRestOf (also t rest) rest
 first_rest t rest = record { front = also t none; is = refl }
 
--- behind the first token
+-- after the first token
 after_one : (t : Token) (rest : TokenList) (outside : Option TokenList) (p : Stage) → Onward (also t rest) outside (to p rest outside)
 after_one t rest None p = record { rest = first_rest t rest; less = omega (arith, one_token t) }
 after_one t rest (Some after) p = record { rest = self_rest after; less = omega (arith, one_token t) }

@@ -1,4 +1,4 @@
--- What is written as a type is read.
+-- A written type is read.
 use Rattle.std.proofs.Common.{◌≡◌, ℕ, ◌-◌, ◌<◌, List, [], ◌∷◌, ◌++◌, Bool, true, false, not, ◌||◌, ◌&&◌, ◌==◌, bytes_eq, codes, if◌then◌else◌, Option, Some, None, refl, sym, ap, ◌∙◌, subst, append_assoc}
 use Rattle.std.proofs.lemmas.List.{append-nil}
 use Rattle.logos_lexeme.specs.declared.lexeme.Span.{Span}
@@ -36,7 +36,7 @@ dots_no : (c : ℕ) (p : Spacing) (s : Span) (rest : TokenList) → (c == 46) �
 dots_no c Joint s (also (punctuation d Joint t) (also (punctuation f q u) rest)) e = rw e refl
 dots_no c p s rest e = refl
 
--- a punctuation with which nothing goes on: a comma, `>` or `;` lengthens no type
+-- a punctuation with which nothing continues: a comma, `>` or `;` lengthens no type
 record Idle (c : ℕ) : Type 0 where
   angle : (c == 60) ≡ false
   colon : (c == 58) ≡ false
@@ -120,7 +120,7 @@ type_begins : {levels : ℕ} {plus : Bool} {run rest : TokenList} {t : Tree} {e 
 type_begins (a_name a r) = with_word
 type_begins (a_form a f) = form_begins f
 
--- what is asked for where a type begins
+-- the first step where a type begins
 list_needs : (outside : TokenList) → {run : TokenList} → Begins run → next_at stage.List run (Some outside) ≡ needs true stage.ListEnd
 unfolding next_at
 list_needs outside with_word = refl
@@ -217,7 +217,7 @@ path_begins plus text s run e = go (bytes_eq text (codes "dyn")) (bytes_eq text 
     go false false false false false true h e = cc
     go false false false false false false true e = cc
 
--- the path goes on there
+-- the path continues there
 angled_on : {levels : ℕ} {kind : PathKind} {run rest : TokenList} {parts : List Tree} → Angled levels kind run parts rest → goes_on run ≡ true
 angled_on (plain a) = refl
 angled_on (turbofish a) = refl
@@ -293,7 +293,7 @@ further_is : (run : TokenList) → begins_bound run ≡ true → next_at stage.F
 unfolding next_at
 further_is run e = rw e refl
 
--- what the table says at each of these places
+-- the entries of the table at each of these stages
 rooted_begins : (plus : Bool) (s t : Span) (p : Spacing) (run : TokenList) → begin plus (also (punctuation 58 Joint s) (also (punctuation 58 p t) run)) ≡ starts false colons (at (stage.Colons Plain false) run None)
 unfolding begin
 rooted_begins plus s t p run = refl
@@ -636,7 +636,7 @@ same_next k (part (a_still_type e h) a f) = part (a_still_type (k ∙ e) h) a f
 same_next k (part (still_tokens e) a f) = part (still_tokens (k ∙ e)) a f
 same_next k (part (a_nest e h) a f) = part (a_nest (k ∙ e) h) a f
 
--- a type of parts has a first token, and the parts behind it
+-- a type of parts has a first token, and the parts after it
 pub data Begun : ℕ → Bool → TokenList → List Tree → TokenList → Type 0 where
   begun : {levels : ℕ} {plus : Bool} {run rest : TokenList} {s : Sign} {spot : Spot} {parts : List Tree} → name_of run ≡ None → begin plus run ≡ starts false s spot → AreParts levels false spot parts rest →
       Begun levels plus run (sign s ∷ parts) rest

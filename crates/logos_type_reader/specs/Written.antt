@@ -18,7 +18,7 @@ pub data Ending : Type 0 where
   closed : Ending
   -- With a name of a path: `<`, `::` or parentheses would lengthen it.
   named : Ending
-  -- With such a name, where `!` would also lengthen it, to a macro.
+  -- With a name where `!` would also lengthen it, to a macro.
   plain_named : Ending
   -- With the angle arguments of a path: `::` would lengthen it.
   applied : Ending

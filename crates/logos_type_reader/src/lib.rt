@@ -1,4 +1,5 @@
-//! Reads Rust types in an enum's fields and in attributes.
+//! Reads Rust types in an enum's fields and in attributes. `logos_enum` and `logos_type_params`
+//! call `read_type`.
 
 #![tactic(auto)]
 

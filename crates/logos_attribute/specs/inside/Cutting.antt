@@ -5,7 +5,7 @@ use Rattle.logos_token.specs.Punctuation.{is_alone}
 use Rattle.logos_attribute.specs.Slices.{Slice}
 use Rattle.logos_attribute.specs.Pieces.{comma, equals, assigned, Piece, unnamed, named, name_token, pieces, up_to_comma, through_comma}
 
--- The first token, whatever it is, and the tokens after it up to the next lone comma.
+-- The first token of any kind, and the tokens after it up to the next lone comma.
 abbrev pub first_run : TokenList → TokenList
 first_run none = none
 first_run (also token rest) = also token (up_to_comma rest)

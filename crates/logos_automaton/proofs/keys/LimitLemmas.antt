@@ -55,7 +55,7 @@ kind_is b = go (is_word_byte b) (b == 13) (b == 10)
     go false false true = refl
     go false false false = refl
 
--- a state without places, not at the start
+-- a state without positions, not at the start
 module _ (ts : List Core) (looks : Bool) (s : State) (none : s.positions ≡ []) (later : is_start s.kind ≡ false) where
   no_position : (q : ℕ) → Has s.positions q → ⊥
   no_position q h = none_there q (subst (λ xs. Has xs q) none h)
@@ -166,7 +166,7 @@ module _ (rules : List Rule) (ts : List Core) (are : AreRuleCores rules ts) (loo
           )
       go (inr (whole u, ok, is)) = inl (dead_by_end ts looks s is.positions (ap is_start is.kind) next last)
 
--- the places of patterns, by those of the trees
+-- the positions of patterns, by those of the trees
 same_marked : (rules : List Rule) (ts : List Core) → AreRuleCores rules ts → (u v : List ℕ) (b c q : ℕ) →
     ((leaf : ℕ) (position : Position) → HasRead rules leaf position u b → HasRead rules leaf position v c) →
     MarkedIn ts (u ++ b ∷ []) (suc (length u)) q → MarkedIn ts (v ++ c ∷ []) (suc (length v)) q

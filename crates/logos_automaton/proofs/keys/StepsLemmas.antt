@@ -1,4 +1,4 @@
--- What states make of bytes, by the steps of their live trees.
+-- The transitions of states on bytes, by the steps of their live trees.
 use Rattle.std.proofs.Common.{Bor, zero, suc, ◌≡◌, ℕ, ◌+◌, ◌<◌, ◌≤◌, ◌↔◌, Bool, true, false, IsTrue, List, [], ◌∷◌, ◌++◌, None, Some, append_assoc, add-one, drop, drop-cons, get_or, length, map, slice_get, slice_index, if◌then◌else◌, refl, sym, ap, ap₂, ◌∙◌, subst, true≢false, arith}
 use Rattle.std.proofs.Math.ListN.{drop_of_length-le}
 use Rattle.std.proofs.lemmas.Option.{slice_get_read, slice_get_past}
@@ -39,7 +39,7 @@ module _ (nodes : List Node) (starts : List ℕ) (are : AreStarts nodes starts) 
     abbrev ts : List Core
     ts = map core_of nodes
 
-    -- the trees from the number i on are still to be asked
+    -- the trees from the number i on have not been processed
     from_tree : (lives : List LiveTree) (i : ℕ) (read left : List ℕ) →
         OwesPositions ts (map core_of (drop i nodes)) test x (Has positions) (IsTrue false) (slice_index starts i) read →
         OwesNumbers ts (map core_of (drop i nodes)) test (Has positions) (IsTrue false) (slice_index starts i) i left →
@@ -72,7 +72,7 @@ module _ (nodes : List Node) (starts : List ℕ) (are : AreStarts nodes starts) 
           subst (LeftBy ts test (Has positions) (IsTrue false)) (noted_before step.left left (left_by all lives x) live.tree) rest.1,
         )
 
-  -- the byte x leads to the state that the live trees say
+  -- the byte x leads to the state that the live trees determine
   pub next_is : (looks : Bool) (lives : List LiveTree) (matches : List ℕ) → AreLive nodes starts positions before all 0 lives (length nodes) → is_start before ≡ false →
       (x : ℕ) → x < 256 → IsNext (map core_of nodes) looks (record { positions = positions; kind = before; matches = matches }) x (state_after looks all lives x)
   next_is looks lives matches live entered x byte =
@@ -165,7 +165,7 @@ module _ (all : List TreeSteps) (lives : List LiveTree) (n : ℕ) (live : LiveTr
   pub next_same : (x y : ℕ) {W : Type 0} → step_of all live x ≡ step_of all live y → (AreSameBy all (drop n lives) x y → W) → AreSameBy all (drop (n + 1) lives) x y → W
   next_same x y same so_far rest = so_far (subst (λ ls. AreSameBy all ls x y) (sym next_live) (same, rest))
 
--- an item at an index is the item at it, whatever stands for one that is not there
+-- an element at an index is the element there, whatever the default is
 pub item_is : (lives : List LiveTree) (n : ℕ) (d : LiveTree) → n < length lives → get_or lives n d ≡ get_or lives n (get_or lives n d)
 item_is [] n d lt = absurd (omega (arith, lt))
 item_is (live ∷ lives) zero d lt = refl
@@ -196,7 +196,7 @@ step_missing all live x s found at same none =
     ap (λ o. step_from o x) (read_at all live.steps s at)
     ∙ ap viewed (ap (λ fs. slice_get fs (slice_index s.now.by_byte x)) (sym same) ∙ slice_get_past found (slice_index s.now.by_byte x) (read_past found (slice_index s.now.by_byte x) none))
 
--- the places of a live tree's step are added, or there is no such step
+-- the positions of a live tree's step are added, or there is no such step
 pub push_some : (all : List TreeSteps) (live : LiveTree) (x : ℕ) (s : Bor TreeSteps) (found : List TreeStep) (t : Bor TreeStep) (old new added : List ℕ) → IsItemAt all live.steps (Some s) → found ≡ s.now.found.items →
     IsItemAt found (slice_index s.now.by_byte x) (Some t) → added ≡ t.now.positions.items → new ≡ old ++ added → new ≡ old ++ (step_of all live x).positions
 push_some all live x s found t old new added at same here is made =

@@ -123,7 +123,7 @@ module _ (ts : List Core) (looks : Bool) where
         next = next_alike free h.from h.to x y (subst (λ (r : State). AreReadAlike ts (Has r.positions) (IsTrue (is_start r.kind)) x y) same alike) e h.next;
       }
 
--- a number stands for one state
+-- a number represents one state
 pub same_state_at : (ks : List Key) (i : ℕ) (s r : State) → IsAt ks i s → IsAt ks i r → s ≡ r
 same_state_at ks i s r a b = sym a.same ∙ ap state_of (some_same (sym a.is ∙ b.is)) ∙ b.same
   where

@@ -1,4 +1,5 @@
--- At the end of the bytes and after it only the empty span matches, and only of what can be passed.
+-- At the end of the bytes and after it only the empty span matches, and only patterns that match
+-- the empty string.
 use Rattle.std.proofs.Common.{◌≡◌, ℕ, zero, suc, ◌-◌, ◌<◌, ◌≤◌, ◌⊎◌, inl, inr, Bool, true, false, ◌||◌, List, [], ◌∷◌, length, drop, min, slice_range, IsTrue, IsFalse, ◌==◌, encode_utf8, refl, sym, ◌∙◌, ap, subst, arith}
 use Rattle.std.proofs.lemmas.Bool.{cases_lt}
 use Rattle.std.proofs.lemmas.List.{length-take, length-drop}

@@ -14,7 +14,8 @@ use Rattle.logos_hir.proofs.tree.Laws.{passes}
 use Rattle.logos_automaton.specs.Munch.{Rule, RuleMatches}
 use Rattle.std.specs.List.{list_any}
 
--- From the place d of a and the place e of b on, k bytes are the same, and the byte after them too.
+-- From the position d of a and the position e of b on, k bytes are the same, and the byte after
+-- them too.
 pub record AreAlike (a b : List ℕ) (d e k : ℕ) : Type 0 where
   pub spans : (i j : ℕ) → i ≤ j → j ≤ k → slice_range a (d + i) (d + j) ≡ slice_range b (e + i) (e + j)
   pub bytes : (i : ℕ) → i ≤ k → slice_get a (d + i) ≡ slice_get b (e + i)
@@ -43,7 +44,7 @@ and_rest : (a b : Bool) → IsTrue a → (a && b) ≡ false → b ≡ false
 and_rest true b t e = e
 and_rest false b t e = absurd (cc)
 
--- the place is not the first one, or nothing leads
+-- the position is not the first one, or nothing leads
 abbrev Free : ℕ → Bool → Type 0
 Free i leading = (0 < i) ⊎ (leading ≡ false)
 
@@ -171,7 +172,7 @@ alike_within pre w post k f = record {
         let y : 0 + j - i ≡ j - i = omega arith in
         rw (p, r, z, y) (take-append-le (j - i) (drop i w) post (omega arith))
 
--- the same of a rule's match from the start of a text within another
+-- the match of a rule from the start of a text, within another text
 rules_shift : (rules : List Rule) (leaf : ℕ) (a b : List ℕ) (d e k : ℕ) → AreAlike a b d e k → IsFalse (list_any (λ rule. leads rule.tree) rules) →
     RuleMatches rules leaf a (d + 0) (d + k) → RuleMatches rules leaf b (e + 0) (e + k)
 rules_shift [] leaf a b d e k h f m = m

@@ -1,4 +1,4 @@
--- Each state of the automaton is reached, and what is reached is a state of it.
+-- Each state of the automaton is reached, and each reached state is a state of it.
 use Rattle.std.proofs.Common.{◌≡◌, ℕ, ◌<◌, ◌≤◌, ◌⊎◌, inl, inr, Bool, List, [], length, Some, option_and_then, slice_get, slice_index, slice_index_or, sym, ap, ◌∙◌, subst, arith}
 use lib.ListN.{length-map}
 use mathlib.Core.Logic.{∥∥₁_elim}

@@ -35,14 +35,14 @@ tree_size [] i d lt = absurd (omega arith)
 tree_size (h ∷ views) zero d lt = let e = size_of-cons (rule_of h) (rules_of views) in omega (arith, e)
 tree_size (h ∷ views) (suc i) d lt = let k = tree_size views i d (omega arith) in let e = size_of-cons (rule_of h) (rules_of views) in omega (arith, e, k)
 
--- the places are not many more than the size
+-- the positions are not many more than the size
 pub rules_width : (rules : List Rule) (ts : List Core) → AreRuleCores rules ts → width_of ts ≤ 2 ^ 16 * size_of rules
 rules_width [] [] h = omega arith
 rules_width [] (t ∷ ts) h = absurd h
 rules_width (rule ∷ rules) [] h = absurd h
 rules_width (rule ∷ rules) (t ∷ ts) h = let k = rules_width rules ts h.1 in let s = h.0.small in let e = size_of-cons rule rules in omega (arith, e, k, s)
 
--- where no tree has a look, no pattern asks one
+-- if no tree has a look-around assertion, no pattern has one
 pub rules_free : (rules : List Rule) (ts : List Core) → AreRuleCores rules ts → some_look rules ≡ false → AreFree ts
 rules_free [] [] h e = tt
 rules_free [] (t ∷ ts) h e = absurd h

@@ -1,4 +1,4 @@
--- What the states of the automaton tell of the bytes read.
+-- The meaning of the states of the automaton for the bytes that were read.
 use Rattle.std.proofs.Common.{◌≡◌, ℕ, zero, suc, ◌+◌, ◌-◌, ◌<◌, ◌↔◌, ◌⊎◌, ◌==◌, Bool, true, false, IsTrue, List, [], ◌∷◌, Option, Some, None, slice_get, if◌then◌else◌, refl, sym, ap, ◌∙◌, subst, inl, inr, ⊎_elim, true≢false, arith}
 use Rattle.std.proofs.lemmas.Option.{same_Some}
 use Rattle.logos_hir.specs.Text.{byte_before, byte_after}
@@ -19,7 +19,7 @@ use Rattle.logos_positions.proofs.steps.StepLemmas.{iff_trans, iff_sym}
 use Rattle.logos_positions.proofs.steps.SteppedLemmas.{Exits-void, Steps-void}
 use Rattle.logos_automaton.proofs.munch.Window.{before_at}
 
--- a pattern without a look does not ask which ones hold
+-- a pattern without look-around assertions does not depend on which of them hold
 pub Exits-free : (t : Core) → IsFree t → (f g : Look → Bool) (M : ℕ → Type 0) (d : Type 0) → Exits t f M d → Exits t g M d
 Exits-free void h f g M d x = x
 Exits-free empty h f g M d x = x
@@ -63,7 +63,7 @@ ExitsIn-free [] k h f g M d x = x
 ExitsIn-free (t ∷ ts) zero h f g M d x = Exits-free t h.0 f g M d x
 ExitsIn-free (t ∷ ts) (suc k) h f g M d x = ExitsIn-free ts k h.1 f g (λ q. M (width t + q)) d x
 
--- without places and not begun, there is nothing
+-- without positions and not begun, there is nothing
 pub StepsIn-void : (ts : List Core) (test : Look → Bool) (x : ℕ) (M : ℕ → Type 0) (d : Type 0) (p : ℕ) → ((q : ℕ) → M q → ⊥) → (d → ⊥) → StepsIn ts test x M d p → ⊥
 StepsIn-void [] test x M d p none out s = s
 StepsIn-void (t ∷ ts) test x M d p none out s =
@@ -135,7 +135,7 @@ module _ (w : List ℕ) where
   none_marked [] q h = h
   none_marked (t ∷ ts) q h = ⊎_elim (λ u. u.1) (λ u. none_marked ts (q - width t) u.1) h
 
-  -- The state tells which places have read the byte before m, and what looks see of that byte.
+  -- The state determines which positions have read the byte before m, and the kind of that byte.
   pub record IsAfter (ts : List Core) (m : ℕ) (s : State) : Type 0 where
     pub set : IsSet s.positions (width_of ts)
     pub has : (q : ℕ) → Has s.positions q ↔ MarkedIn ts w m q

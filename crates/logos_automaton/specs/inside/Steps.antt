@@ -135,7 +135,7 @@ state_after looks all lives x = record {
   matches = left_by all lives x;
 }
 
--- By the steps of the live trees, each byte leads from state `i` to its `state_after`.
+-- According to the steps of the live trees, each byte leads from state `i` to its `state_after`.
 pub record Foresees (ts : List Core) (looks : Bool) (ks : List Key) (i : ℕ) (all : List TreeSteps) (lives : List LiveTree) : Type 0 where
   pub from : State
   pub from_is : IsAt ks i from

@@ -7,7 +7,7 @@ use super::parts::leaves_at;
 use crate::row::SYMBOLS;
 use logos_hir::leaf::LeafId;
 
-/// A state of an automaton, by its number.
+/// A state of an automaton, identified by its number.
 #[derive(Clone, Copy, Debug, PartialEq, Eq)]
 pub struct StateId(pub(crate) usize);
 

@@ -1,7 +1,7 @@
-//! Bytes side by side that do the same in a state. `rows` writes their entries at once.
+//! Runs of neighboring bytes with the same step in a state. `rows` writes their entries at once.
 //!
-//! A run is a byte with those after it that are like it, up to an end. It need not be as long as it
-//! could be.
+//! A run consists of a byte and the bytes after it that are like it, up to an end. It need not be
+//! maximal.
 
 ghost use Rattle.std.specs.Prelude.{◌≡◌, ◌<◌, ◌≤◌, ◌==◌, IfSome, None, map, slice_index_or};
 ghost use Rattle.logos_code.specs.Views.{EndsRun, comparison_of, compares, some_compares, is_among, passes_test, by_conditions, NamesTest, NamesCondition, NamesFork, NamesWhatIsThere, stays, target, passes, condition_of, branch_of, fork_of, jumps_of, state_of, code_of};
@@ -10,7 +10,7 @@ use super::{CodeParts, CodeState, Condition, Fork};
 use logos_byte_class::byte_class::Comparisons;
 
 impl CodeParts<'_> {
-    /// Returns the end of a run of bytes that do in the state what the first byte does.
+    /// Returns the end of a run of bytes with the same step in the state as the first byte.
     pub(super) fn run_end(&self, state: &CodeState, byte: usize) -> usize
         requires there { NamesWhatIsThere (code_of self.now)
             (state_of self.now.jump_tables.items state.now) }
@@ -23,7 +23,7 @@ impl CodeParts<'_> {
         self.fork_end(&state.fork, byte, end)
     }
 
-    /// Returns the end of a run of bytes that the fast loop takes, or does not take.
+    /// Returns the end of a run of bytes that all pass the test of the fast loop, or all do not.
     fn loop_end(&self, fast_loop: Option<usize>, byte: usize) -> usize
         requires there { IfSome fast_loop (NamesTest (code_of self.now)) }
         requires byte { byte < 256 }
@@ -35,7 +35,7 @@ impl CodeParts<'_> {
         }
     }
 
-    /// Returns the end of a run of bytes that lead to the same state, or nowhere.
+    /// Returns the end of a run of bytes that all lead to the same state, or all lead nowhere.
     fn fork_end(&self, fork: &Fork, byte: usize, end: usize) -> usize
         requires there { NamesFork (code_of self.now)
             (fork_of self.now.jump_tables.items fork.now) }
@@ -135,7 +135,7 @@ fn comparison_end(comparison: &Comparisons, byte: usize, end: usize) -> usize
     exceptions_end(&comparison.except, byte, until)
 }
 
-/// Returns the end of a run of bytes that are among these, or of bytes that are not.
+/// Returns the end of a run of bytes that are all in `except`, or are all not in it.
 fn exceptions_end(except: &[u8], byte: usize, end: usize) -> usize
     requires { byte < end }
     ensures { EndsRun (is_among except.now) byte end result }
@@ -148,7 +148,7 @@ fn exceptions_end(except: &[u8], byte: usize, end: usize) -> usize
     until
 }
 
-/// Returns `at` if it lies inside the run, otherwise its end.
+/// Returns `at` if it lies inside the run, and the end of the run otherwise.
 fn cut(byte: usize, end: usize, at: usize) -> usize
     requires { byte < end }
     ensures after { byte < result }

@@ -1,5 +1,5 @@
-//! Makes code values. This module is for the generator of codes alone, so `code` does not export
-//! it.
+//! Constructs code values. Only the generator of codes uses this module, so `code` does not
+//! re-export it.
 
 ghost use Rattle.std.specs.Prelude.{◌≡◌, IfOk};
 ghost use Rattle.logos_code.specs.Views.{code_of, IsValid, IsWhole};
@@ -12,10 +12,10 @@ use super::uses::{LeafUse, uses_of};
 use super::{Code, CodeParts};
 use std::alloc::{AllocError, Global};
 
-/// The tables of a code, which are made of its parts.
+/// The tables of a code, which are computed from its parts.
 #[derive(Drop)]
 struct CodeTables {
-    /// What each byte does at the start of a match attempt.
+    /// The step for each byte at the start of a match attempt.
     first: [u32; 256],
     rows: Vec<u32>,
     masks: Vec<[u8; 32]>,
@@ -24,7 +24,7 @@ struct CodeTables {
     uses: Vec<LeafUse>,
 }
 
-/// Makes the tables of these parts.
+/// Computes the tables of these parts.
 fn tables_of(alloc: Global, parts: &CodeParts<'_>) -> Result<CodeTables, AllocError>
     requires { IsValid parts.now }
     ensures { IfOk result (λ tables. IsWhole parts.now tables.first tables.rows.items
@@ -46,8 +46,8 @@ fn tables_of(alloc: Global, parts: &CodeParts<'_>) -> Result<CodeTables, AllocEr
     })
 }
 
-/// Makes the code of these parts. Everything that they name must exist, and no two of their jump
-/// tables may be equal.
+/// Makes the code of these parts. Everything that they refer to must exist, and no two of their
+/// jump tables may be equal.
 ///
 /// # Errors
 ///

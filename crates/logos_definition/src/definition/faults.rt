@@ -1,4 +1,5 @@
-//! Reports faults of definitions. Each function adds one fault.
+//! Reports faults of definitions. Each function adds one fault. The readers of definitions and of
+//! error types call it.
 
 ghost use Rattle.std.specs.Prelude.{OnOk};
 ghost use Rattle.logos_definition.specs.Imports.{tokens_of, ident_slice, AddsFault, priority_value, priority_twice, priority_form, greedy_value, greedy_twice, greedy_form, callback_form, ignore_form, unknown_nested, named_expected, unexpected_token};

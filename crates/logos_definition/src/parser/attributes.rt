@@ -1,4 +1,4 @@
-//! Reads whole attributes of an enum and its variants.
+//! Reads whole attributes of an enum and its variants. `logos_leaf` calls it for each attribute.
 
 ghost use Rattle.std.specs.Prelude.{OnOk, ◌≡◌, OnErr, IfOk, option_map, true};
 ghost use Rattle.logos_definition.specs.Views.{AddsFault, attribute_value, IsReport, logos_form, meta_report, ReadsMeta, ReadsAttribute, definition_view, meta_of, meta_view, parser_view, HasNotFailed};
@@ -80,7 +80,8 @@ impl<'s> Parser<'s> {
         unless_failed!(self, self.definition_in(attribute))
     }
 
-    /// Like `parse_definition_attr`, but does not check whether the parser has failed.
+    /// Reads the definition as `parse_definition_attr` does, without checking whether the parser
+    /// has failed.
     fn definition_in(
         &mut self,
         attribute: Attribute<'_, 's>,

@@ -1,4 +1,5 @@
-//! Declares the generic parameters of an enum, and replaces them in types.
+//! Declares the generic parameters of an enum, and replaces them in types. `logos_leaf` calls
+//! `parse_generic` for each parameter.
 
 ghost use Rattle.std.specs.Prelude.{OnOk, ◌≡◌, ◌++◌, [], IfOk, OnErr, option_map, true};
 ghost use Rattle.logos_definition.specs.Views.{AddsFault, run_span, tokens_of, type_tree, IsReport, ident_slice, generics, generics_of, missing_types, GetsUnheld, const_generic, parameter_report, parser_view, HasNotFailed};
@@ -74,7 +75,7 @@ impl<'s> Parser<'s> {
         unless_failed!(self, self.types.generics(&mut self.errors))
     }
 
-    /// Like `get_type`, but does not check whether the parser has failed.
+    /// Returns the type that `get_type` returns, without checking whether the parser has failed.
     fn written_type(&mut self, written: &TypeExpr<'s>, span: Span) -> Result<TypeExpr<'s>, Memory>
         ensures got { IfOk result (λ got. GetsUnheld self.old.types (type_tree written.now) span
             self.old.errors self.new.errors (type_tree got)) }

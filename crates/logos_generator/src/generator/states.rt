@@ -142,7 +142,7 @@ fn number_of(state: Option<State>) -> Option<usize>
     }
 }
 
-/// Returns the mark of a state: an early match wins over a late one.
+/// Returns the mark of a state. An early mark takes precedence over a late one.
 fn mark_made(state_type: &StateType) -> Option<Mark>
     ensures { option_map mark_of result ≡ mark_made (state_type_of state_type.now) }
 {

@@ -1,4 +1,4 @@
-//! Prints states and graphs.
+//! Prints states and graphs. `value` and users of the library print with it.
 
 ghost use Rattle.std.specs.Prelude.{◌≡◌, ◌++◌, Some, IfOk, codes, string_bytes};
 ghost use Rattle.logos_graph.specs.Imports.{decimal};

@@ -1,4 +1,4 @@
--- Operands of a bracket: what they make of each character.
+-- Operands of a bracket: their effect on each character.
 use Rattle.std.proofs.Common.{◌≡◌, ℕ, Bool, true, false, cond, not, ◌&&◌, ◌||◌, List, [], ◌∷◌, ◌++◌, Option, Some, None, refl, sym, ap, ap₂, ◌∙◌}
 use Rattle.std.proofs.lemmas.Bool.{le-leb}
 use Rattle.std.proofs.Math.Path.{fun_ext}
@@ -61,7 +61,7 @@ by_symmetric_difference set before c h = at (before c) (complement_at set c h)
     at true e = sym e
     at false e = refl
 
--- the same sets, and a function that does the same
+-- the sets are equal, and the functions have equal values
 pub same_made : (outside outside2 inside inside2 : Set) (f f2 : Set → Set) → outside ≡ outside2 → inside ≡ inside2 → ((before : Set) → f before ≡ f2 before) →
     IsMade outside2 inside2 f2 → IsMade outside inside f
 same_made outside outside2 inside inside2 f f2 eo ei ef h before c char =
@@ -91,7 +91,7 @@ outside_operand (Some Intersection) before xs c h e = rw e refl
 outside_operand (Some Difference) before xs c h e = rw e refl
 outside_operand (Some SymmetricDifference) before xs c h e = rw (e, h) refl
 
--- the same of what effects make of no member at all
+-- effects on the empty set, in the same way
 outside_effects : (es : List Effect) (before : Set) (c : ℕ) → scalar c ≡ false → before c ≡ false → effects_on es before c ≡ false
 outside_effects [] before c h e = e
 outside_effects (x ∷ es) before c h e =

@@ -1,4 +1,4 @@
--- Ranges of characters: pushing one, and what lies between two.
+-- Ranges of characters: appending one, and the characters between two.
 use Rattle.std.proofs.Common.{◌≡◌, ℕ, zero, suc, ◌+◌, ◌<◌, ◌≤◌, max, min, Bool, true, false, cond, not, ◌&&◌, ◌||◌, ◌==◌, ◌⊎◌, nat_le, nat_lt, List, [], ◌∷◌, ◌++◌, length, get_or, drop, refl, sym, ap, ap₂, ◌∙◌, arith, inl, inr, ⊎_elim}
 use Rattle.std.proofs.lemmas.Bool.{and_from, and_parts, both_ways, cases_lt, leb-true, lt-ltb, le-leb, or_cases}
 use Rattle.std.proofs.lemmas.Bool.Decides.{nat_tests}
@@ -80,7 +80,7 @@ in_ranges-push xs r c = in_ranges-append xs (r ∷ []) c ∙ ap (λ b. in_ranges
 
 -- ---- gaps
 
--- the end of a gap is the character before the place, or the last one that is asked for
+-- the end of a gap is the character before the limit, or the last character
 pub gap_range : (first end last to c : ℕ) → next to ≡ end → scalar to ≡ true → scalar c ≡ true →
     in_range (first, min to last) c ≡ in_gap first end last c
 gap_range first end last to c e ht hc =
@@ -260,7 +260,7 @@ in_ranges-permutation xs ys c p =
 
 -- ---- members
 
--- a set and the characters of another are the same if they are the same at each character
+-- a set and the characters of another are equal if they are equal at each character
 pub same_chars : (p q : Set) → ((c : ℕ) → scalar c ≡ true → p c ≡ q c) → only_chars p ≡ only_chars q
 same_chars p q h = fun_ext (λ c. at c (scalar c) refl)
   where
@@ -268,7 +268,7 @@ same_chars p q h = fun_ext (λ c. at c (scalar c) refl)
     at c true e = ap (λ b. scalar c && b) (h c e)
     at c false e = ap (λ b. b && p c) e ∙ ap (λ b. b && q c) (sym e)
 
--- ranges that hold what the test says are the set of the test
+-- ranges with the members of the test are the set of the test
 pub members_are : (xs : List (ℕ × ℕ)) (p : Set) → ((c : ℕ) → scalar c ≡ true → in_ranges xs c ≡ p c) → members xs ≡ only_chars p
 members_are xs p h = same_chars (in_ranges xs) p h
 

@@ -1,4 +1,4 @@
--- What branches fit, and alternations put together from branches.
+-- The classes that branches fit, and alternations that are combined from branches.
 use Rattle.std.proofs.Common.{◌≡◌, Bool, true, false, ◌&&◌, ◌||◌, is_some, length, ℕ, List, [], ◌∷◌, ◌++◌, map, Option, Some, None, unwrap_or, option_map, flat_map, encode_utf8, refl, sym, ap, ap₂, ◌∙◌, subst, true≢false, arith, ◌+◌, ◌-◌, ◌==◌, ◌≤◌, take, drop}
 use Rattle.std.proofs.lemmas.Bool.Decides.{nat_tests}
 use Rattle.std.proofs.lemmas.List.Concat.{flat_map-cons}

@@ -47,7 +47,7 @@ after_there bytes rest b =
     slice_get-get_or (bytes ++ b ∷ rest) (length bytes) 0 (let e = length-append bytes (b ∷ rest) in omega (arith, e))
     ∙ ap Some (get_or-append_seam bytes b rest 0)
 
--- the same between bytes and a byte after them
+-- bytes, and a byte after them, in the same way
 pub held_at_end : (l : Look) (bytes rest : List ℕ) (b : ℕ) → is_word (Some b) ≡ false → b ≢ 10 → b ≢ 13 →
     Holds l (bytes ++ b ∷ rest) (length bytes) → Holds l bytes (length bytes)
 held_at_end l bytes rest b w lf cr h =
@@ -58,7 +58,7 @@ held_at_end l bytes rest b w lf cr h =
     subst (λ (after : Option ℕ). IsTrue (holds_between l (byte_before bytes (length bytes)) after)) (sym (slice_get_past bytes (length bytes) (omega arith)))
     (holds_at_end l (byte_before bytes (length bytes)) b w lf cr there)
 
--- no byte stands on an empty span
+-- an empty span has no byte
 pub no_text : (text bytes : List ℕ) (at : ℕ) → 0 < length text → OccursAt text bytes at at → ⊥
 no_text text bytes at some s = let e : at ≡ at + length text = s.end in omega (arith, e, some)
 

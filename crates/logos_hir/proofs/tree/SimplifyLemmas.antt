@@ -1,4 +1,4 @@
--- Trees as the builders make them, and what is made of them again.
+-- Trees that the builders make, and the trees that they make from these.
 use Rattle.std.proofs.Common.{◌≡◌, ℕ, ◌≤◌, length, arith, Bool, true, false, cond, ◌&&◌, ◌==◌, min, List, [], ◌∷◌, ◌++◌, map, Option, Some, None, unwrap_or, option_map, flat_map, encode_utf8, refl, sym, ap, ◌∙◌, subst, append_assoc, append-nil}
 use Rattle.std.proofs.lemmas.List.Concat.{flat_map-cons}
 use Rattle.std.proofs.lemmas.Grind.{flat_map-append}

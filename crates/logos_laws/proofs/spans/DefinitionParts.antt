@@ -1,4 +1,4 @@
--- The literals and the callbacks of definitions stand in the tokens of their attributes.
+-- The literals and the callbacks of definitions occur in the tokens of their attributes.
 use Rattle.std.proofs.Common.{◌≡◌, ◌==◌, Bool, true, false, List, [], ◌∷◌, ◌++◌, Option, Some, None, if◌then◌else◌, codes, sym, subst, option_map}
 use Rattle.std.specs.Str.{bytes_eq}
 use Rattle.logos_token.specs.Faults.{Fault}
@@ -23,7 +23,7 @@ use Rattle.logos_laws.proofs.spans.TokenParts.{Part, part_rest, part_inside}
 use Rattle.logos_laws.proofs.spans.HeadParts.{IfRun}
 use Rattle.logos_laws.proofs.spans.PieceParts.{up_to_comma_part, after_comma_part, ValueParts, PieceParts, pieces_parts, CallbackParts, callback_report_parts, callback_set_parts, LiteralParts, IfLiteral, text_report_parts, literal_report_parts}
 
--- the literal of a definition, and its callback if it has one, stand in these tokens
+-- the literal of a definition, and its callback if it has one, occur in these tokens
 pub record DefinitionParts (tokens : TokenList) (d : DefinitionView) : Type 0 where
   pub literal : LiteralParts tokens d.literal
   pub callback : CallbackParts tokens d.callback
@@ -140,7 +140,7 @@ attribute_definition tokens attribute r = meta_report_parts tokens (meta_of attr
 
 -- ---- Options.
 
--- the skips of options stand in these tokens
+-- the skips of options occur in these tokens
 abbrev pub SkipParts : TokenList → OptionsView → Type 0
 SkipParts tokens o = Each (DefinitionParts tokens) o.skips
 
@@ -246,7 +246,7 @@ option_parts tokens name value o v p =
 
 -- ---- The arguments of `#[logos(..)]`, and the attributes of an enum.
 
--- the options that a report gives
+-- the options of a report
 same_options : (tokens : TokenList) (o new : OptionsView) → new ≡ o → SkipParts tokens o → SkipParts tokens new
 same_options tokens o new e p = subst (SkipParts tokens) (sym e) p
 

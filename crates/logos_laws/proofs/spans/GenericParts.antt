@@ -1,5 +1,5 @@
--- What attributes and generic parameters leave of a run of tokens, for any property of runs that
--- each rest of one has.
+-- The rests of a run of tokens after attributes and generic parameters, for any property of runs
+-- that each rest of one has.
 use Rattle.std.proofs.Common.{◌==◌, false, Ok, codes, subst}
 use Rattle.std.specs.Str.{bytes_eq}
 use Rattle.logos_token.specs.Tokens.{TokenList, identifier, punctuation, literal, doc, group, none, also, rest_of}

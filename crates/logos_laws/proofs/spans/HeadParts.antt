@@ -1,4 +1,4 @@
--- What stands in an enum around its generic parameters, for any property of runs that each rest of
+-- The tokens of an enum around its generic parameters, for any property of runs that each rest of
 -- one has.
 use Rattle.std.proofs.Common.{◌≡◌, Bool, true, false, Option, Some, None, Ok, if◌then◌else◌, codes, subst}
 use Rattle.std.specs.Str.{bytes_eq}

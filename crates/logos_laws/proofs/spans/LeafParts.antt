@@ -1,4 +1,4 @@
--- The literals and the callbacks of leaves stand in the tokens of their enum.
+-- The literals and the callbacks of leaves occur in the tokens of their enum.
 use Rattle.std.proofs.Common.{◌≡◌, Bool, true, false, ℕ, List, [], ◌∷◌, ◌++◌, IsUtf8, Option, Some, None, Ok, if◌then◌else◌, sym, subst}
 use Rattle.std.specs.Prelude.{All, IfSome}
 use Rattle.std.specs.Option.{option_to_list}
@@ -37,7 +37,7 @@ use Rattle.logos_laws.proofs.spans.EnumParts.{VariantParts, EnumParts, enum_part
 use Rattle.logos_laws.proofs.spans.HeadParts.{IfRun}
 use Rattle.logos_laws.proofs.spans.DefinitionParts.{DefinitionParts, IfDefinition, attribute_definition, SkipParts, reads_attribute}
 
--- the leaf, if there is one, stands in these tokens
+-- the leaf, if there is one, occurs in these tokens
 abbrev IfLeaf : TokenList → Option LeafView → Type 0
 IfLeaf tokens None = Unit {0}
 IfLeaf tokens (Some leaf) = OccursIn tokens leaf

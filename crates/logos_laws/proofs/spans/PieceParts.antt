@@ -27,7 +27,7 @@ after_comma_part tokens none r = r
 after_comma_part tokens (also token rest) r =
     let p = part_rest token rest r in if_run tokens (is_alone comma token) rest (after_comma rest) p (after_comma_part tokens rest p)
 
--- a run is its front and what is behind that
+-- a run is its front and what is after that
 record Fronts (run front : TokenList) : Type 0 where
   back : TokenList
   is : run ≡ append front back

@@ -1,5 +1,5 @@
--- What rules in turn read of a run of tokens, and what they leave of it, for any property of runs
--- that each rest of one has.
+-- The rests of a run of tokens after rules that are applied in turn, for any property of runs that
+-- each rest of one has.
 use Rattle.std.proofs.Common.{◌==◌, Bool, true, false, List, Ok, Err, if◌then◌else◌, subst}
 use Rattle.logos_token.specs.Tokens.{Token, TokenList, identifier, punctuation, literal, doc, group, none, also, append, IsRestOf}
 use Rattle.logos_token.proofs.reading.SpanLemmas.{Each}
@@ -19,7 +19,7 @@ back_has In rests (also token front) rest h = back_has In rests front rest (rest
 pub left_has : (In : TokenList → Type 0) → Rests In → (run rest : TokenList) → IsRestOf run rest → In run → In rest
 left_has In rests run rest r h = back_has In rests r.front rest (subst In r.is h)
 
--- nothing is asked of a value
+-- nothing is required of a value
 abbrev pub Anything : {A : Type 0} → A → Type 0
 Anything value = Unit {0}
 

@@ -15,7 +15,7 @@ use Rattle.logos_leaf.specs.Leaves.{LeafView, bytes_of, is_string, escaped_of, l
 use Rattle.logos_leaf.proofs.agreement.Report.{Agree, none_added, report_once, no_front, no_after}
 use Rattle.logos_leaf.proofs.agreement.Subpatterns.{reading_once}
 
--- what a match gives: the name of a variant by its text and place, and its type
+-- the result of a match: the name of a variant by its text and span, and its type
 abbrev pub ShownKind : Type 0
 ShownKind = Option (Slice × Option TypeTree)
 

@@ -1,4 +1,4 @@
--- An enum without a fault says one thing.
+-- An enum without a fault has one meaning.
 use Rattle.std.proofs.Common.{◌≡◌, List, [], map, ◌∙◌, ap, sym, refl, subst}
 use Rattle.logos_token.specs.Faults.{Fault}
 use Rattle.logos_token.specs.Tokens.{TokenList, run_span}

@@ -156,7 +156,7 @@ pub found_there : (s : Subpattern) (subpatterns : List Subpattern) (i : ℕ) →
     slot_in (map stored_of subpatterns) q ≡ slot_in (map stored_of (set subpatterns i s)) q
 found_there s subpatterns i e q = sym (ap (λ (names : List Stored). slot_in names q) (map-set stored_of subpatterns i s) ∙ slots_kept (stored_of s) (map stored_of subpatterns) i e q)
 
--- a list after a call that cannot fail, as the choice by its result tells it
+-- a list after a call that cannot fail, as the choice by its result determines it
 pub if_ok_is : {X E : Type 0} {Y : Type 0} (result : Result X E) (now more old : Y) → IsOk result → now ≡ (if is_ok result then more else old) → now ≡ more
 if_ok_is (Ok x) now more old ok e = e
 if_ok_is (Err x) now more old ok e = let f : false ≡ true = ok in cc

@@ -16,7 +16,7 @@ use std::alloc::{AllocError, Global};
 /// The flags with which a text is read as a pattern.
 #[derive(Clone, Copy)]
 pub struct ReadingMode {
-    /// The pattern is that of a `token`, not of a `regex`.
+    /// The pattern belongs to a `token`, not to a `regex`.
     pub is_literal: bool,
     /// The pattern matches characters, not bytes.
     pub unicode: bool,

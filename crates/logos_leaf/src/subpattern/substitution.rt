@@ -29,7 +29,7 @@ struct Lookup<'p, 's> {
 #[derive(Drop)]
 struct Text {
     text: String,
-    /// Whether each name so far was found.
+    /// Whether each name that was read was found.
     complete: bool,
 }
 

@@ -1,4 +1,5 @@
 //! Reports the faults of variants and of the attributes on them. Each function adds one fault.
+//! `variant` calls it.
 
 ghost use Rattle.std.specs.Prelude.{◌≡◌, ◌++◌, IfOk, OnOk, string_bytes};
 ghost use Rattle.logos_leaf.specs.Imports.{AddsFault, fields_text, variant_fields, count_faults, named_fields, error_variant, token_form, regex_form};

@@ -1,4 +1,4 @@
--- What literals hold in a window they hold in the second text too.
+-- Literals with contents in a window have the same contents in the second text.
 use Rattle.std.proofs.Common.{◌≡◌, ℕ, ◌+◌, ◌-◌, ◌<◌, ◌≤◌, ◌==◌, ◌&&◌, ◌||◌, nat_le, inl, inr, Bool, true, false, List, length, get_or, filter, Option, MatchOption, refl, sym, ◌∙◌, ap, subst, arith}
 use Rattle.std.proofs.lemmas.Bool.{cases_lt, cases_Bool, false≢true, and_parts, eqb-true, leb-true, or_cases}
 use Rattle.std.specs.Char.{is_ascii_digit}
@@ -147,7 +147,7 @@ continuing-114 : is_continuing 114 ≡ true
 unfolding is_continuing
 continuing-114 = rw (is_xid_continue-ascii 114 (omega arith)) refl
 
--- behind a number there is no suffix
+-- after a number there is no suffix
 no_suffix_by : (based : Bool) (bytes : List ℕ) (at to : ℕ) (o : Option ℕ) → IsLast (GoesOn based bytes) at → Names bytes at o → MatchOption o (to ≡ at) (λ n. Run (Passes is_continuing bytes) (past bytes n) to) → to ≡ at
 no_suffix_by based bytes at to o last (raw t) r = absurd (let l = (raw_parts bytes at t).0 in last (past bytes at) (letter_at based bytes at (ap is_continuing (character-ascii bytes at (omega arith) ∙ l) ∙ continuing-114)))
 no_suffix_by based bytes at to o last (plain_name t) r = absurd (last (past bytes at) (letter_at based bytes at (start-continuing (character bytes at) t)))
@@ -194,7 +194,7 @@ module _ (a b : List ℕ) (p q k : ℕ) (w : Window a b p q k) where
     stop = blank_stops based;
   }
 
-  -- the letter of a base stands in the window
+  -- the letter of a base is in the window
 
   base_letter : (c : ℕ) → (((c == 120) || (c == 111)) || (c == 98)) ≡ true → is_continuing c ≡ true
   unfolding is_continuing

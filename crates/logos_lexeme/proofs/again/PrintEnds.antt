@@ -1,4 +1,4 @@
--- What ends in a window ends there in the second text too.
+-- Lexemes and gaps that end in a window end there in the second text.
 use Rattle.std.proofs.Common.{◌≡◌, ◌≢◌, ℕ, ◌+◌, ◌-◌, ◌<◌, ◌≤◌, ◌⊎◌, inl, inr, Bool, false, List, length, get_or, refl, sym, ◌∙◌, ap, subst, arith}
 use Rattle.std.proofs.lemmas.Bool.{cases_lt, false≢true}
 use Rattle.std.specs.Char.{is_ascii_digit}
@@ -12,7 +12,7 @@ use Rattle.logos_lexeme.proofs.EndLaws.{InQuotes-moves, Passes-moves, Closes-le}
 use Rattle.logos_lexeme.proofs.again.PrintWindows.{Window, blank_character, same_character, same_past}
 
 module _ (a b : List ℕ) (p q k : ℕ) (w : Window a b p q k) where
-  -- places in the two texts
+  -- offsets in the two texts
   abbrev At : ℕ → ℕ → Type 0
   At x y = (x + q ≡ y + p) × (p ≤ x)
 
@@ -126,7 +126,7 @@ module _ (a b : List ℕ) (p q k : ℕ) (w : Window a b p q k) where
   pub passes_kept : (test : ℕ → Bool) (x z : ℕ) → IsCharBoundary a x → Passes test a x z → IsCharBoundary a z
   passes_kept test x z bound r = rw r.moves (past-boundary a x w.utf8 bound r.inside)
 
-  -- nothing goes on behind the window
+  -- nothing continues after the window
   blank_last : (test : ℕ → Bool) → test 32 ≡ false → test 10 ≡ false → test 0 ≡ false → (v : ℕ) → v ≡ q + k → IsLast (Passes test b) v
   blank_last test s l n v e next r = false≢true (sym (blank_character a b p q k w test s l n v e) ∙ r.passes)
 

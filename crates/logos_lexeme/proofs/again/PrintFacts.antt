@@ -1,4 +1,4 @@
--- What is known of the lexemes of a source: their first characters.
+-- Facts about the lexemes of a source: their first characters.
 use Rattle.std.proofs.Common.{◌≡◌, ℕ, ◌+◌, ◌<◌, ◌≤◌, ◌⊎◌, ◌==◌, ◌&&◌, ◌||◌, inl, inr, nat_le, true, false, List, [], ◌∷◌, codes, length, get_or, drop, Option, Some, None, MatchOption, IsUtf8, refl, sym, ◌∙◌, ap, subst, arith, length-drop, get_or-drop}
 use Rattle.std.proofs.lemmas.Bool.{cases_lt, cases_Bool, and_parts, or_cases, eqb-true, false≢true, leb-true, cond_both}
 use Rattle.std.proofs.lemmas.Str.{chars_past_char, byte_from_char, IsUtf8-drop}

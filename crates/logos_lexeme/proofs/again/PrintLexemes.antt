@@ -85,7 +85,7 @@ module _ (bytes : List ℕ) (at : ℕ) where
   long o end (apostrophes content) r f = omega (arith, IsQuoted-after 39 bytes (at + prefix_of content + 1) end r)
   long o end (character_between e) r f = let g = r.after in let m = past-moves bytes (at + 1) in omega arith
 
--- how what stands at a place opens
+-- the opening of the lexeme or gap at an offset
 pub data Opens (bytes : List ℕ) (at : ℕ) : Opening → Type 0 where
   by_literal : (o : Opening) → literal_at bytes at ≡ Some o → Opens bytes at o
   by_comment : (o : Opening) → literal_at bytes at ≡ None → comment_opening bytes at ≡ Some o → Opens bytes at o
@@ -138,7 +138,7 @@ module _ (a b : List ℕ) (p q k : ℕ) (w : Window a b p q k) (bound : IsCharBo
   slash_start : get_or a p 0 ≡ 47 → is_start (character a p) ≡ false
   slash_start e = ap is_start (character-ascii a p (omega arith) ∙ e) ∙ start-47
 
-  -- where no `'` stands directly before the window, or one does in the first text too
+  -- there is no `'` directly before the window, or there is one in the first text too
   abbrev Before : Type 0
   Before = follows_apostrophe b q ≡ true → follows_apostrophe a p ≡ true
 
@@ -264,7 +264,7 @@ module _ (a b : List ℕ) (p q k : ℕ) (w : Window a b p q k) (bound : IsCharBo
   unfolding comment_opening
   block_there e f l is = rw (w.same p q (omega arith) (omega arith) (omega arith) ∙ e, w.same (p + 1) (q + 1) (omega arith) (omega arith) (omega arith) ∙ f, block_doc a b p q k w (p + 2) (q + 2) (omega arith) (omega arith) (omega arith) ∙ is) refl
 
-  -- what stands behind a line is its end
+  -- after a line comes its end
   abbrev LineEnds : Type 0
   LineEnds = (get_or b (q + k) 0 ≡ 10) ⊎ (q + k ≡ length b)
 
@@ -329,7 +329,7 @@ module _ (a b : List ℕ) (p q k : ℕ) (w : Window a b p q k) (bound : IsCharBo
     | inr t ↦ t
   ]
 
-  -- joint punctuation stands in front of another byte of the window, and any other fills it
+  -- joint punctuation is before another byte of the window, and any other punctuation fills it
   abbrev IsPlaced : LexemeKind → Type 0
   IsPlaced kind = (kind ≡ Punctuation Joint → past a p < p + k) × ((kind ≡ Punctuation Joint → ⊥) → past a p ≡ p + k)
 
@@ -541,7 +541,7 @@ module _ (a b : List ℕ) (p q k : ℕ) (w : Window a b p q k) (bound : IsCharBo
             block_result (kind_of o) to end none r.0 s.0 (sym k_is) no_gap (subst (λ x. Ends a p x end) o_is ends) suffixed at
       ]
 
-  -- a lexeme that ends in the window stands in the second text
+  -- a lexeme that ends in the window occurs in the second text
   pub next_same : (follows_apostrophe b q ≡ true → follows_apostrophe a p ≡ true) → (kind : LexemeKind) (to : ℕ) → IsNext a p kind to → kind ≢ Gap → IsAt kind to → (get_or a (p + 1) 0 ≡ 47 → kind ≡ Doc → LineEnds) → IsNext b q kind (to + q - p)
   next_same before kind to n no_gap at last =
       let o = opening_at a p in

@@ -17,7 +17,7 @@ ReadsByte byte count value next_count next_value =
     (IsFalse (is_hex byte) × (next_count ≡ count) × (next_value ≡ value))
     ⊎ (IsTrue (is_hex byte) × (count < 6) × (next_count ≡ count + 1) × (next_value ≡ value * 16 + digit_value byte))
 
--- A byte that stands for itself, or a line break of CR and LF.
+-- A byte that represents itself, or a line break of CR and LF.
 pub data IsPlain (content : Content) (bytes : List ℕ) (at next : ℕ) : List ℕ → Type 0 where
   itself : IsAllowed content (slice_index bytes at) → next ≡ at + 1 → IsPlain content bytes at next (slice_index bytes at ∷ [])
   break : IsReturn bytes at next → IsPlain content bytes at next (10 ∷ [])

@@ -32,7 +32,7 @@ fn is_simple(letter: u8) -> bool
     b"nrt\\0'\"".contains(&letter)
 }
 
-/// Returns the byte that `letter` after a backslash stands for.
+/// Returns the byte that `letter` after a backslash denotes.
 #[tactic(auto, unfolding(crate::specs::LiteralBodies::simple_value))]
 fn simple_value(letter: u8) -> u8
     ensures { result ≡ simple_value letter }
@@ -69,7 +69,7 @@ fn digit_of(byte: u8) -> Option<u32>
     char::from(byte).to_digit(16)
 }
 
-/// Returns the greatest byte that `\xNN` can stand for in a literal of this content.
+/// Returns the greatest byte that `\xNN` can denote in a literal of this content.
 fn greatest_of(content: Content) -> u32
     ensures { result ≡ greatest_of content }
 {
@@ -79,7 +79,7 @@ fn greatest_of(content: Content) -> u32
     }
 }
 
-/// Returns the byte that `\xNN` at the byte offset `at` stands for. Returns `None` if a digit is
+/// Returns the byte that `\xNN` at the byte offset `at` denotes. Returns `None` if a digit is
 /// missing or the byte is too great.
 fn hex_escape(source: &str, content: Content, at: usize) -> Option<u8>
     requires within { at ≤ length source.now }
@@ -124,7 +124,7 @@ fn digits_end(source: &str, from: usize) -> usize
     end
 }
 
-/// The digits read so far: their count and the number that they write.
+/// The digits that have been read: their number and the number that they spell.
 #[derive(Clone, Copy)]
 struct Digits {
     count: u32,
@@ -169,8 +169,8 @@ fn number_between(source: &str, from: usize, to: usize) -> Option<u32>
     Some(digits.value)
 }
 
-/// Returns the character that `\u{..}` at the byte offset `at` stands for, and the byte offset of
-/// its closing brace.
+/// Returns the character that `\u{..}` at the byte offset `at` denotes, and the byte offset of its
+/// closing brace.
 fn unicode_escape(source: &str, at: usize) -> Option<(char, usize)>
     requires within { at ≤ length source.now }
     requires backslash { slice_index source.now at ≡ 92 }
@@ -245,7 +245,7 @@ fn blanks_end(source: &str, from: usize) -> usize
     end
 }
 
-/// Returns whether `byte` can stand for itselfor is part of a character that does.
+/// Returns whether `byte` can represent itself or is part of a character that can.
 fn is_allowed(content: Content, byte: u8) -> bool
     ensures { IsTrue result ↔ IsAllowed content byte }
 {
@@ -258,7 +258,7 @@ fn is_allowed(content: Content, byte: u8) -> bool
     }
 }
 
-/// Returns the value of the byte at `at` that stands for itself, or of the line break CR LF, and
+/// Returns the value of the byte at `at` that represents itself, or of the line break CR LF, and
 /// the byte offset after it.
 fn plain_at(source: &str, content: Content, at: usize) -> Option<(Piece, usize)>
     requires { at ≤ length source.now }

@@ -1,4 +1,5 @@
-//! Reads bytes and characters at byte offsets of a source text, and classifies characters.
+//! Reads bytes and characters at byte offsets of a source text, and classifies characters. All
+//! modules of this crate and `logos_token` call it.
 
 ghost use Rattle.std.specs.Prelude.{◌≡◌, ◌<◌, ◌≤◌, length, slice_index};
 ghost use Rattle.logos_lexeme.specs.Imports.{IsCharBoundary, character, past, is_space, is_start, is_continuing, is_mark};

@@ -1,4 +1,5 @@
-//! Classifies what opens at a byte offset of a source text. `lexeme_at` calls it first.
+//! Classifies the lexeme or gap that opens at a byte offset of a source text. `lexeme_at` calls it
+//! first.
 
 ghost use Rattle.std.specs.Prelude.{◌≡◌, ◌+◌, ◌<◌, ◌≤◌, min, length, slice_index};
 ghost use Rattle.logos_lexeme.specs.Views.{is_ascii_digit, IsCharBoundary, hashes, raw_opening, string_opening, character_opening, bytes_opening, literal_opening, line_kind, block_kind, comment_opening, name_at, spacing, delimiter_kind, single_kind, other_opening, follows_apostrophe, is_lifetime_name, literal_at, opening_at, kind_of};
@@ -72,7 +73,7 @@ fn raw_opening(content: Content, source: &str, at: usize) -> Option<Opening>
     Some(Opening::Raw(content, count as u8))
 }
 
-/// Returns the string that opens after a `b` or `c`or directly at `at`.
+/// Returns the string that opens after a `b` or `c`, or directly at `at`.
 #[tactic(auto, unfolding(crate::specs::LexemeOpenings::string_opening))]
 fn string_opening(content: Content, source: &str, at: usize) -> Option<Opening>
     requires { at ≤ length source.now + 1 }
@@ -270,7 +271,7 @@ fn single_kind(source: &str, at: usize) -> Option<LexemeKind>
     delimiter_kind(c)
 }
 
-/// Returns what opens at a byte offset at which neither a literal nor a comment opens.
+/// Returns the opening at a byte offset at which neither a literal nor a comment opens.
 #[tactic(auto, unfolding(crate::specs::LexemeOpenings::other_opening))]
 fn other_opening(source: &str, at: usize) -> Opening
     requires inside { at < length source.now }
@@ -327,7 +328,7 @@ fn literal_at(source: &str, at: usize) -> Option<Opening>
     literal_opening(source, at)
 }
 
-/// Returns what opens at a byte offset: a literal if one opens there, otherwise a comment,
+/// Returns the opening at a byte offset: a literal if one opens there, otherwise a comment,
 /// otherwise the lexeme that the character can begin.
 #[tactic(auto, unfolding(crate::specs::LexemeOpenings::opening_at))]
 pub fn opening_at(source: &str, at: usize) -> Opening

@@ -1,4 +1,4 @@
--- The views of a match attempt in contracts.
+-- The views of an attempt in contracts.
 use Rattle.std.specs.Prelude.{ℕ, Option, option_map}
 use Rattle.logos_hir.specs.declared.leaf.LeafId.{LeafId}
 use Rattle.logos_automaton.specs.Munch.{Found, ended, matched, failed}

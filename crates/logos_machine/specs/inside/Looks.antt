@@ -1,4 +1,4 @@
--- The views of the fast way of a match attempt in contracts.
+-- The views of the fast path of an attempt in contracts.
 use Rattle.std.specs.Prelude.{◌≡◌, ℕ, ◌+◌, ◌-◌, ◌<◌, ◌≤◌, ◌⊎◌, List, length, drop, Option, Some}
 use Rattle.std.specs.List.{prefix_len}
 use Rattle.logos_automaton.specs.Munch.{Found, ended, matched, failed}
@@ -14,12 +14,12 @@ use Rattle.logos_code.specs.declared.code.rows.Step.TheVariants.{Leads, Stays, H
 use Rattle.logos_machine.specs.declared.machine.walk.Outcome.{Outcome}
 use Rattle.logos_machine.specs.declared.machine.walk.Outcome.TheVariants.{Skips as SkipsTo, Emits as EmitsTo, CallsBack as CallsBackTo, Fails, Ends}
 
--- Where the bytes end that pass a test.
+-- The end of the bytes that pass a test.
 abbrev pub StopsAt : CodeValue → ℕ → List ℕ → ℕ → ℕ → Type 0
 StopsAt code test bytes from stop = stop ≡ from + prefix_len (passes_test code.bit_tables test) (drop from bytes)
 
 module _ (code : CodeValue) (bytes : List ℕ) (start : ℕ) where
-  -- The state leads to another one, whatever was passed before.
+  -- The state leads to another one, regardless of the mark passed before.
   abbrev pub LeadsOn : (state offset stop next : ℕ) → Type 0
   LeadsOn state offset stop next = (context : Option (ℕ × ℕ)) → (passed : Option (ℕ × ℕ)) ×
       Does code bytes start (record { state = state; offset = offset; context = context }) (enters (record { state = next; offset = stop + 1; context = passed }))
@@ -29,18 +29,18 @@ module _ (code : CodeValue) (bytes : List ℕ) (start : ℕ) where
   EndsHere state offset stop leaf = (context : Option (ℕ × ℕ)) →
       Does code bytes start (record { state = state; offset = offset; context = context }) (acts (Some (leaf, stop)) stop)
 
-  -- Or in the next one, one byte later, with a match up to the end.
+  -- The attempt ends in the next state, one byte later, with a match of the leaf up to `end`.
   abbrev pub EndsNext : (state offset stop leaf end : ℕ) → Type 0
   EndsNext state offset stop leaf end = (context : Option (ℕ × ℕ)) → (next : ℕ) × (passed : Option (ℕ × ℕ)) ×
       Does code bytes start (record { state = state; offset = offset; context = context }) (enters (record { state = next; offset = stop + 1; context = passed })) ×
       Does code bytes start (record { state = next; offset = stop + 1; context = passed }) (acts (Some (leaf, end)) (stop + 1))
 
-  -- Or in the state itself, with what was passed.
+  -- The attempt ends in the state itself, with the last mark passed.
   abbrev pub EndsStuck : (state offset stop : ℕ) → Type 0
   EndsStuck state offset stop = (context : Option (ℕ × ℕ)) → (passed : Option (ℕ × ℕ)) ×
       Does code bytes start (record { state = state; offset = offset; context = context }) (acts passed stop)
 
-  -- A step that is seen from a state on is what the state does. Its fast loop ends at the stop.
+  -- The step in the state is the turn of the state. Its fast loop ends at the stop.
   abbrev pub Sees : (state offset stop : ℕ) → Step → Type 0
   Sees state offset stop (Leads next) = LeadsOn state offset stop next
   Sees state offset stop (Stays test) = Unit {0}
@@ -50,8 +50,8 @@ module _ (code : CodeValue) (bytes : List ℕ) (start : ℕ) where
   Sees state offset stop Stuck = stop < length bytes → EndsStuck state offset stop
   Sees state offset stop Unsaid = Unit {0}
 
-  -- The attempt enters the state after so many others, and what continues from there is the whole
-  -- attempt.
+  -- The attempt enters the state after `before` others, and its continuation from there is the
+  -- whole attempt.
   pub record Comes (state offset before : ℕ) : Type 0 where
     pub context : Option (ℕ × ℕ)
     pub is_at : IsStatus code bytes start (record { state = state; offset = offset; context = context })
@@ -59,8 +59,8 @@ module _ (code : CodeValue) (bytes : List ℕ) (start : ℕ) where
     pub few : before + start ≤ offset
     pub goes_on : (found : Found) (n : ℕ) → Goes code bytes start (record { state = state; offset = offset; context = context }) found n → Attempts code bytes start found (before + n)
 
-  -- The attempt comes to the state after so many others, its fast loop ends at the stop, and the
-  -- entry says what the state does there.
+  -- The attempt enters the state after `before` others, its fast loop ends at the stop, and the
+  -- entry represents the step of the state there.
   pub record Reaches (state entry stop before : ℕ) : Type 0 where
     pub offset : ℕ
     pub comes : Comes state offset before
@@ -69,13 +69,13 @@ module _ (code : CodeValue) (bytes : List ℕ) (start : ℕ) where
     pub sees : (step : Step) → IsStepOf entry step → Sees state offset stop step
     pub row_start : LeadsToRowStart entry
 
-  -- A match attempt finds this in so many states.
+  -- An attempt has this result in this number of states.
   pub record Tried (found : Found) (steps : ℕ) : Type 0 where
     pub attempts : Attempts code bytes start found steps
     pub within : StaysWithin code bytes start found
     pub few : steps ≤ (length bytes - start) + 2
 
-  -- What a match attempt finds.
+  -- The meaning of an outcome.
   abbrev pub IsOutcome : Outcome → Type 0
   IsOutcome (SkipsTo to) = (leaf : ℕ) × (steps : ℕ) × Tried (matched leaf to) steps × IsUse code leaf Skips
   IsOutcome (EmitsTo leaf to steps) = Tried (matched leaf.0 to) steps × IsUse code leaf.0 Emits
@@ -83,11 +83,12 @@ module _ (code : CodeValue) (bytes : List ℕ) (start : ℕ) where
   IsOutcome (Fails to steps) = Tried (failed to) steps
   IsOutcome (Ends steps) = Tried ended steps
 
--- An entry that comes after those that lead and stay, or that leads at a byte.
+-- An entry whose kind comes after those that continue an attempt, or one that continues it on a
+-- byte.
 abbrev pub GoesOnOrEnds : List ℕ → (entry stop : ℕ) → Type 0
 GoesOnOrEnds bytes entry stop = ((entry < 268435456) × (stop < length bytes)) ⊎ (536870912 ≤ entry)
 
--- What the entry at the stop says of the state that is entered at the offset.
+-- The meaning of the entry at the stop for the state that is entered at the offset.
 pub record LooksAhead (code : CodeValue) (bytes : List ℕ) (state offset entry stop : ℕ) : Type 0 where
   pub past : offset ≤ stop
   pub within : stop ≤ length bytes

@@ -1,4 +1,4 @@
--- The views of a match attempt on a part of an input in contracts.
+-- The views of an attempt on a part of an input in contracts.
 use Rattle.std.specs.Prelude.{ℕ, ◌+◌, ◌-◌, ◌≤◌, List, length}
 use Rattle.logos_automaton.specs.Munch.{Found, matched, failed}
 use Rattle.logos_code.specs.Code.{CodeValue}
@@ -12,19 +12,19 @@ use Rattle.logos_machine.specs.declared.machine.part.Settled.{Settled}
 use Rattle.logos_machine.specs.declared.machine.part.Settled.TheVariants.{Matched, Failed, Open}
 
 module _ (code : CodeValue) (part : List ℕ) (start : ℕ) where
-  -- What the entered state does, if no byte after the part can change it.
+  -- This is the turn of the entered state, if no byte after the part can change it.
   abbrev pub Moves : Status → Move → Type 0
   Moves at (Enters next) = StopsWithin code part start (length part) at × Does code part start at (enters (status_of next))
   Moves at (Acts context offset) = StopsWithin code part start (length part) at × Does code part start at (acts (context_of context) offset)
   Moves at Waits = LooksPast code part start at
 
-  -- A match attempt finds this in that many states, and depends on the part alone.
+  -- An attempt has this result in this number of states, and depends only on the part.
   pub record TriedWithin (found : Found) (steps : ℕ) : Type 0 where
     pub attempts : AttemptsWithin code part start (length part) found steps
     pub within : StaysWithin code part start found
     pub few : steps ≤ (length part - start) + 2
 
-  -- What a match attempt finds in the part.
+  -- The meaning of the result of an attempt in the part.
   abbrev pub IsSettled : Settled → Type 0
   IsSettled (Matched leaf to steps) = TriedWithin (matched leaf.0 to) steps
   IsSettled (Failed to steps) = TriedWithin (failed to) steps

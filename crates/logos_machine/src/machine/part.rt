@@ -10,27 +10,26 @@ use logos_code::code::{Code, Fork};
 use logos_hir::leaf::LeafId;
 use logos_token::token::Span;
 
-/// What a lexer finds in a part of an input.
+/// The result of a lexer in a part of an input.
 #[derive(Clone, Copy, Debug)]
 pub enum Within<'i> {
-    /// An item. It is the next one whatever follows the part.
+    /// An item. It is the next item regardless of the bytes after the part.
     Item(Item<'i>),
-    /// The next match attempt has come to the end of the part in a state from which more bytes, or
-    /// the end of the input, lead on.
+    /// The next match attempt has reached the end of the part, in a state from which more bytes, or
+    /// the end of the input, can continue it.
     More,
     /// The end of the input.
     End,
 }
 
 impl<'c, 's, 'i, C: Fn(LeafId, &[u8]) -> Action> Lexer<'c, 's, 'i, C> {
-    /// Returns the next item of an input of which the lexer has a part. On the last part, this
-    /// does the same as `next`. If more bytes may follow, it returns an item only if that is the
-    /// next one whatever follows the part.
+    /// Returns the next item of an input of which the lexer has a part. On the last part, this is
+    /// equivalent to `next`. If more bytes may follow, it returns an item only if it is the next
+    /// one regardless of the bytes after the part.
     ///
-    /// After `More`, the lexer is after the matches that yield no item, with an empty span. The
-    /// next match attempt has come to the end of the part, and more bytes or the end of the input
-    /// lead on from there. To continue, put more bytes after `remainder`, and make a lexer of
-    /// these.
+    /// After `More`, the lexer is after the matches without an item, with an empty span. The next
+    /// match attempt has reached the end of the part, and more bytes or the end of the input can
+    /// continue it. To continue, append more bytes to `remainder`, and make a lexer for these.
     pub fn next_within(&mut self, last: bool) -> Within<'i>
         requires { TakesMatches C.Fn self.old.code self.old.callback }
         ensures keeps { KeepsGiven self.old self.new }
@@ -46,7 +45,7 @@ impl<'c, 's, 'i, C: Fn(LeafId, &[u8]) -> Action> Lexer<'c, 's, 'i, C> {
         }
     }
 
-    /// Returns the next item, if it is the same whatever follows the part.
+    /// Returns the next item, if it is the same regardless of the bytes after the part.
     fn next_in_part(&mut self) -> Within<'i>
         requires { TakesMatches C.Fn self.old.code self.old.callback }
         ensures keeps { KeepsGiven self.old self.new }
@@ -80,28 +79,29 @@ impl<'c, 's, 'i, C: Fn(LeafId, &[u8]) -> Action> Lexer<'c, 's, 'i, C> {
     }
 }
 
-/// What a state does in a part.
+/// The turn of a state in a part.
 #[derive(Clone, Copy)]
 enum Move {
     Enters(Status),
-    /// The attempt is over at this offset, with this last mark.
+    /// The attempt ends at this offset, with this last mark.
     Acts(Option<(LeafId, usize)>, usize),
-    /// The match attempt comes to the end of the part, and can continue from there.
+    /// The attempt has reached the end of the part, and can continue from there.
     Waits,
 }
 
-/// What a match attempt finds in a part. The last numbers are how many states were entered.
+/// The result of an attempt in a part. The last numbers are the numbers of states that were
+/// entered.
 #[derive(Clone, Copy)]
 enum Settled {
     /// A match of this leaf up to this offset.
     Matched(LeafId, usize, usize),
     /// No match. The error ends at this offset.
     Failed(usize, usize),
-    /// The match attempt comes to the end of the part, and what it finds is open.
+    /// The attempt has reached the end of the part, and its result is open.
     Open,
 }
 
-/// Does what the entered state does, if no byte after the part can change it.
+/// Returns the turn of the entered state, if no byte after the part can change it.
 fn move_in_part(code: &Code, part: &[u8], start: usize, at: Status) -> Move
     requires { IsStatus code.now part.now start (status_of at) }
     ensures { Moves code.now part.now start (status_of at) result }
@@ -121,8 +121,8 @@ fn move_in_part(code: &Code, part: &[u8], start: usize, at: Status) -> Move
     }
 }
 
-/// Does what a state does whose fast loop comes to the end of the part. A state that nothing leads
-/// on from acts at once: so the match of `;` needs no byte after it.
+/// Returns the turn of a state whose fast loop reaches the end of the part. A state without
+/// transitions ends the attempt at once, so that the match of `;` needs no byte after it.
 fn move_at_end(code: &Code, part: &[u8], start: usize, at: Status) -> Move
     requires status { IsStatus code.now part.now start (status_of at) }
     requires past { length part.now
@@ -139,8 +139,8 @@ fn move_at_end(code: &Code, part: &[u8], start: usize, at: Status) -> Move
     Move::Waits
 }
 
-/// Returns whether no byte leads on from the state or stays in it, and neither does the end of the
-/// input lead on.
+/// Returns whether the state has no transition on a byte or on the end of the input, and no fast
+/// loop.
 fn is_closed(code: &Code, state: usize) -> bool
     requires { state < length code.now.states }
     ensures { MatchBool result (IsClosed (state_at code.now state))
@@ -169,7 +169,7 @@ fn has_branches(fork: &Fork) -> bool
     }
 }
 
-/// Returns what a match attempt from a point on finds that depends on the part alone.
+/// Returns the result of an attempt from a point on, if it depends only on the part.
 fn attempt_in_part(code: &Code, part: &[u8], start: usize) -> Settled
     requires { start ≤ length part.now }
     ensures { IsSettled code.now part.now start result }

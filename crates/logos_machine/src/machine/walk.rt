@@ -1,5 +1,5 @@
-//! The fast way of a match attempt: a look at an entry for each byte. `Lexer::next` calls it for
-//! each attempt.
+//! The fast path of an attempt: one load of an entry for each byte. `Lexer::next` calls it for each
+//! attempt.
 
 ghost use Rattle.std.specs.Prelude.{◌≡◌, ◌<◌, ◌≤◌, ◌/◌, ◌%◌, length, slice_index_or};
 ghost use Rattle.logos_machine.specs.Views.{state_at, IsSound, IsEntry, IsRowStart, Reaches, LooksAhead, IsOutcome};
@@ -13,23 +13,24 @@ use logos_code::code::rows::{
 };
 use logos_hir::leaf::LeafId;
 
-/// What a match attempt finds. The numbers after leaves are the end of the match and how many
-/// states were entered.
+/// The outcome of an attempt. The numbers after leaves are the end of the match and the number of
+/// states that were entered.
 #[derive(Clone, Copy)]
 pub enum Outcome {
-    /// A match up to this offset that is skipped.
+    /// A skipped match up to this offset.
     Skips(usize),
     /// A match that is a token.
     Emits(LeafId, usize, usize),
-    /// A match that may be up to a callback.
+    /// A match whose leaf may have a callback.
     CallsBack(LeafId, usize, usize),
-    /// No match. The error ends at this offset, after so many states.
+    /// No match. The error ends at this offset, and the second number is the number of states that
+    /// were entered.
     Fails(usize, usize),
-    /// The end of the input, after so many states.
+    /// The end of the input, and the number of states that were entered.
     Ends(usize),
 }
 
-/// Returns what is found from a point of the input on.
+/// Returns the outcome of an attempt from a point of the input on.
 #[inline(always)]
 pub fn attempt(code: &Code, input: &[u8], start: usize) -> Outcome
     requires { start ≤ length input.now }
@@ -49,9 +50,9 @@ pub fn attempt(code: &Code, input: &[u8], start: usize) -> Outcome
     end_of(code, input, start, last)
 }
 
-/// Returns what is found from a point on by a match attempt that notes the marks passed. Only that
-/// attempt is called out of line: its result is in memory, and this one is made anew from it, so
-/// that the compiler can hold it in registers.
+/// Returns the outcome of an attempt from a point on that records the marks passed. Only this
+/// attempt is called out of line: its result is in memory, and the outcome is created from it, so
+/// that the compiler can keep the outcome in registers.
 #[inline(always)]
 fn attempt_slowly(code: &Code, input: &[u8], start: usize) -> Outcome
     requires { start ≤ length input.now }
@@ -64,8 +65,9 @@ fn attempt_slowly(code: &Code, input: &[u8], start: usize) -> Outcome
     }
 }
 
-/// Returns what a match attempt finds that ends with this entry, where and after so many states, in
-/// the state at a point.
+/// Returns the outcome of an attempt that ends at entry `last`. The numbers of `last` are the
+/// entry, the offset of its byte, the number of states that were entered before its state, and the
+/// row offset of the state.
 #[inline(always)]
 fn end_of(code: &Code, input: &[u8], start: usize, last: (u32, usize, usize, usize)) -> Outcome
     requires sound { IsSound code.now }
@@ -101,8 +103,8 @@ fn end_of(code: &Code, input: &[u8], start: usize, last: (u32, usize, usize, usi
     attempt_slowly(code, input, start)
 }
 
-/// Returns what a match attempt finds that ends before a byte that leads nowhere. Where the last
-/// mark passed is known of its last state, the attempt need not be made again.
+/// Returns the outcome of an attempt that ends before a byte that leads nowhere. If the last mark
+/// passed is known for its last state, the attempt need not be repeated.
 #[inline(always)]
 fn stuck(code: &Code, input: &[u8], start: usize, last: (u32, usize, usize, usize)) -> Outcome
     requires sound { IsSound code.now }
@@ -120,8 +122,8 @@ fn stuck(code: &Code, input: &[u8], start: usize, last: (u32, usize, usize, usiz
     }
 }
 
-/// Returns the leaf of a match that ends before the byte, and how many states were entered after
-/// the one that has the entry, from the entry without its kind.
+/// Returns the leaf of a match that ends before the byte, and the number of states that were
+/// entered after the state of the entry, given the entry without its kind.
 #[inline(always)]
 fn halted(entry: u32) -> (LeafId, usize)
     ensures leaf { result.0.0 ≡ entry % LATE }
@@ -130,8 +132,8 @@ fn halted(entry: u32) -> (LeafId, usize)
     (LeafId((entry % LATE) as usize), (entry / LATE) as usize)
 }
 
-/// Returns the last entry of a match attempt, where its byte is, how many states were entered
-/// before the one that has it, and the offset of this state.
+/// Returns the last entry of an attempt, the offset of its byte, the number of states that were
+/// entered before its state, and the row offset of this state.
 #[inline(always)]
 fn walk(code: &Code, input: &[u8], start: usize, first: u32) -> (u32, usize, usize, usize)
     requires sound { IsSound code.now }
@@ -166,7 +168,7 @@ fn walk(code: &Code, input: &[u8], start: usize, first: u32) -> (u32, usize, usi
     (code.last_entry(row_start), at, before, row_start)
 }
 
-/// Returns the entry after a fast loop, and where its byte is.
+/// Returns the entry after a fast loop, and the offset of its byte.
 #[inline(always)]
 fn look_far(code: &Code, input: &[u8], row_start: usize, at: usize, entry: u32) -> (u32, usize)
     requires sound { IsSound code.now }

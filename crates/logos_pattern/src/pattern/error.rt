@@ -1,3 +1,3 @@
-//! The errors of patterns, re-exported.
+//! Re-exports the errors of patterns.
 
 pub use logos_pattern_tokens::error::{Kind, PatternError};

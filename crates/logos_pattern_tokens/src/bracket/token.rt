@@ -1,4 +1,4 @@
-//! The tokens inside brackets.
+//! The tokens inside brackets. `bracket::reader` returns them.
 
 use logos_hir::property::{AsciiKind, PerlKind};
 use logos_hir::sets::operands::SetOperator;
@@ -27,7 +27,7 @@ pub enum BracketItem {
     Ascii(AsciiKind, bool),
 }
 
-/// The literals directly after `[` or `[^`, where they have no other meaning.
+/// The literals directly after `[` or `[^`, which have no other meaning there.
 #[derive(Clone, Copy)]
 pub enum Lead {
     /// This number of `-`, which may be 0.

@@ -128,8 +128,8 @@ same_three a b c x y z e f g = cc
 same_four : (a b c d x y z w : ℕ) → a ≡ x → b ≡ y → c ≡ z → d ≡ w → a ∷ b ∷ c ∷ d ∷ [] ≡ x ∷ y ∷ z ∷ w ∷ []
 same_four a b c d x y z w e f g h = cc
 
--- the character at an offset of the block that the first byte gives is spelled by that byte and
--- those that pick the offset
+-- the character at an offset of the block of the first byte is spelled by that byte and those that
+-- select the offset
 abbrev Spelled : ℕ → Lead → Type 0
 Spelled b l = (o : ℕ) → o < size l.left → l.floor ≤ l.start + o → encode_utf8 (l.start + o) ≡ b ∷ tail_of l.left o
 
@@ -308,8 +308,8 @@ left_known left has [] h = (left, h.0, (refl, h.1))
 left_known zero has (b ∷ bs) h = absurd h
 left_known (suc n) has (b ∷ bs) h = let r = left_known n (after_byte n has b) bs h.2 in (r.0, r.1, (h.0, h.1, r.2))
 
--- The bytes begin a character of the class, and more end it, exactly if the automaton stands at a
--- place with some offset after them.
+-- The bytes begin a character of the class, and more bytes complete it, exactly if the automaton is
+-- at a position with some offset after them.
 pub beginnings_are_read : (c : ℕ → Bool) → IsOfScalars c → (bs : List ℕ) → IsBeginningOf c bs ↔ Reads IsBegun c bs
 beginnings_are_read c proper bs = (
   λ w. Reads-map (IsOpenWith (length w.rest)) IsBegun (λ n f h. (omega (arith, h.0, w.unended), h.1)) c bs

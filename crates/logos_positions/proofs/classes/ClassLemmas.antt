@@ -1,4 +1,4 @@
--- Which written-out pattern stands for a class of characters.
+-- The core pattern of a class of characters.
 use Rattle.std.proofs.Common.{◌≡◌, ℕ, zero, suc, ◌+◌, ◌-◌, ◌^◌, ◌<◌, ◌≤◌, ◌↔◌, true, false, List, [], ◌∷◌, ◌++◌, length, take, drop, Option, Some, None, option_and_then, ◌⊎◌, inl, inr, ⊎_elim, refl, sym, ap, ◌∙◌, subst, arith, add-one, encode_utf8, ◌==◌, eq-eqb, slice_get, length-append}
 use Rattle.std.proofs.lemmas.List.{length-take, length-drop, take-append-drop}
 use Rattle.std.proofs.lemmas.Option.{same_Some}
@@ -22,7 +22,7 @@ use Rattle.logos_positions.proofs.classes.TextLemmas.{OccursAt-of_Spells, Spells
 pub scalars_only : (ranges : List (ℕ × ℕ)) → IsOfScalars (is_char_in ranges)
 scalars_only ranges k h = (and_parts (scalar k) (is_in ranges k) h).0
 
--- the place to which the bytes lead from the beginning of a character, and from another place
+-- the position to which the bytes lead from the beginning of a character, and from another position
 abbrev follow_all : Reader → Option ℕ → List ℕ → Option ℕ
 follow_all r o [] = o
 follow_all r o (b ∷ bytes) = follow_all r (option_and_then (λ q. r.follow q b) o) bytes
@@ -42,7 +42,7 @@ Spells-snoc : (bytes text : List ℕ) (x i m : ℕ) → Spells bytes text i m �
 Spells-snoc bytes [] x i m h is = (subst (λ k. slice_get bytes k ≡ Some x) h is, ap suc h)
 Spells-snoc bytes (b ∷ text) x i m h is = (h.0, Spells-snoc bytes text x (suc i) m h.1 is)
 
--- what stands between two places is one text
+-- the bytes between two points are one text
 Spells-one : (bytes text other : List ℕ) (i j : ℕ) → Spells bytes text i j → Spells bytes other i j → text ≡ other
 Spells-one bytes [] [] i j f g = refl
 Spells-one bytes [] (b ∷ other) i j f g = absurd (omega (arith, f, Spells-end bytes other (suc i) j g.1))
@@ -52,7 +52,7 @@ Spells-one bytes (b ∷ text) (c ∷ other) i j f g =
     let t = Spells-one bytes text other (suc i) j f.1 g.1 in
     cc
 
--- the place where the reader stands is the one to which the bytes lead
+-- the position where the reader stands is the one to which the bytes lead
 Occurs-read : (r : Reader) (bytes : List ℕ) (i m p : ℕ) → Occurs r bytes i m p → (text : List ℕ) × Spells bytes text i m × (read_all r text ≡ Some p)
 Occurs-read r bytes i zero p h = absurd h
 Occurs-read r bytes i (suc m) p (x, is, le, inl (at, first)) =
@@ -65,7 +65,7 @@ Occurs-read r bytes i (suc m) p (x, is, le, inr (q, le', before, follow)) =
     go [] e = absurd (cc)
     go (b ∷ text) e = read_snoc r b text x ∙ ap (option_and_then (λ k. r.follow k x)) e ∙ follow
 
--- the number of a place of a class
+-- the number of a position of a class
 abbrev char_number : Reader → Position → Option ℕ
 char_number r (byte_of n) = None
 char_number r (member []) = Some 0

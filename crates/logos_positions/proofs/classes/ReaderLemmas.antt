@@ -41,12 +41,12 @@ Same-after n f g b small lt ge s = λ o below. s ((b - 0x80) * size n + o) (part
 Open-same : (n : ℕ) (f g : ℕ → Bool) → Same n f g → IsOpen n f → IsOpen n g
 Open-same n f g s h = (h.0, h.1, sym (s h.0 h.1) ∙ h.2)
 
--- a place that leads on is open
+-- a position that leads on is open
 open_before : (k n : ℕ) (f : ℕ → Bool) (bs : List ℕ) → n ≤ 3 → After (IsOpenWith k) n f bs → IsOpen n f
 open_before k n f bs le h = let p = Picks-of_After k n f bs le h in (p.at, p.below, p.is)
 
 module _ (c : ℕ → Bool) (l : Reader) (is : IsReaderOf c l) (bytes : List ℕ) where
-  -- the place stands for what is left
+  -- the position represents the remainder
   abbrev For : ℕ → ℕ → (ℕ → Bool) → Type 0
   For p n f = (p ≤ l.others) × IsRest (is.rest p) n f
 
@@ -77,7 +77,7 @@ module _ (c : ℕ → Bool) (l : Reader) (is : IsReaderOf c l) (bytes : List ℕ
       (λ high. absurd (none-some p (sym (is.no_follow q x h.0 (inr high)) ∙ e)))
       (cases_lt x 0xC0)) (cases_lt x 0x80)
 
-  -- what was read leaves what the place stands for
+  -- the bytes that were read leave the remainder of the position
   pub Reads-of_Occurs : (i m p : ℕ) → Occurs l bytes i m p → (bs : List ℕ) × Spells bytes bs i m × Reads (For p) c bs
   Reads-of_Occurs i zero p h = absurd h
   Reads-of_Occurs i (suc m) p h =
@@ -90,7 +90,7 @@ module _ (c : ℕ → Bool) (l : Reader) (is : IsReaderOf c l) (bytes : List ℕ
       ))
       h.3
 
-  -- the reader stands somewhere with k bytes left
+  -- the reader is at a position with `k` bytes left
   abbrev OccursWith : ℕ → ℕ → ℕ → Type 0
   OccursWith k i j = (p : ℕ) × (p ≤ l.others) × ((is.rest p).left ≡ k) × Occurs l bytes i j p
 
@@ -142,7 +142,7 @@ module _ (c : ℕ → Bool) (l : Reader) (is : IsReaderOf c l) (bytes : List ℕ
       whole zero f u = let e : u.some.0 ≡ 0 = omega (arith, u.some.1) in (refl, ap f (sym e) ∙ u.some.2)
       whole (suc n) f u = absurd (omega (arith, u.left, is.end))
 
-  -- the reader stands at another place after what begins a character of its class
+  -- the reader is at another position after a prefix of a character of its class
   pub leaf_begins : IsOfScalars c → (i j : ℕ) → ((p : ℕ) × (0 < p) × (p ≤ l.others) × Occurs l bytes i j p) ↔ IsBegunAt c bytes i j
   leaf_begins proper i j = (
     λ h. let r = Reads-of_Occurs i j h.0 h.3 in
@@ -168,7 +168,7 @@ module _ (c : ℕ → Bool) (l : Reader) (is : IsReaderOf c l) (bytes : List ℕ
       known [] h = absurd h
       known (b ∷ bs) h = let r = left_known h.0.left (after_lead c h.0) bs h.2 in (r.0, r.1, (h.0, h.1, r.2))
 
--- no byte both begins a character and goes on with one
+-- no byte both begins a character and continues with one
 module _ (c : ℕ → Bool) (l : Reader) (is : IsReaderOf c l) where
   apart : (q x p r : ℕ) → q ≤ l.others → l.follow q x ≡ Some p → l.first x ≡ Some r → ⊥
   apart q x p r le f g =
@@ -177,7 +177,7 @@ module _ (c : ℕ → Bool) (l : Reader) (is : IsReaderOf c l) where
       (λ high. none-some p (sym (is.no_follow q x le (inr high)) ∙ f))
       (cases_lt x 0xC0)) (cases_lt x 0x80)
 
-  -- at a position the reader stands at one place, and was entered at one
+  -- at a point the reader is at one position, and was entered at one
   pub alone : (bytes : List ℕ) (m i j p q : ℕ) → Occurs l bytes i m p → Occurs l bytes j m q → (i ≡ j) × (p ≡ q)
   alone bytes zero i j p q h k = absurd h
   alone bytes (suc m) i j p q h k =

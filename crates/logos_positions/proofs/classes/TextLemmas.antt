@@ -9,7 +9,7 @@ use Rattle.logos_hir.specs.Text.{OccursAt, InRanges}
 use Rattle.logos_hir.specs.ByteRanges.{is_in}
 use Rattle.logos_positions.specs.inside.Reader.{Spells}
 
--- a byte that is there stands in front of the rest
+-- a byte before the rest
 pub drop_at : (bytes : List ℕ) (i b : ℕ) → slice_get bytes i ≡ Some b → drop i bytes ≡ b ∷ drop (suc i) bytes
 drop_at bytes i b h =
     drop-cons bytes i 0 (slice_get_within bytes i b h) ∙ ap (λ x. x ∷ drop (suc i) bytes) (get_or_from_slice_get bytes i b 0 h)

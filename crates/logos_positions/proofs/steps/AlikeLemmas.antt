@@ -90,7 +90,7 @@ index_is [] i v lt e = absurd (omega (arith, lt))
 index_is (x ∷ xs) zero v lt e = e
 index_is (x ∷ xs) (suc i) v lt e = index_is xs i v (omega (arith, lt)) e
 
--- one more place is added
+-- one more position is added
 pub has_moved : (old xs ys : List ℕ) (from i shift y : ℕ) → ys ≡ xs ++ y ∷ [] → slice_index old i + shift ≡ y → from ≤ i →
     ((q : ℕ) → Has xs q ↔ (Has old q ⊎ ((k : ℕ) × (from ≤ k) × (k < i) × (slice_index old k + shift ≡ q)))) →
     (q : ℕ) → Has ys q ↔ (Has old q ⊎ ((k : ℕ) × (from ≤ k) × (k < i + 1) × (slice_index old k + shift ≡ q)))
@@ -110,7 +110,8 @@ has_moved old xs ys from i shift y made is order h q = rw made (
     last_or_lower : (a b : ℕ) → a < b + 1 → (a ≡ b) ⊎ (a < b)
     last_or_lower a b lt = grind arith
 
--- what holds of the list while places are added: the places that are moved are all above `low`
+-- what holds of the list while positions are added: the positions that are moved are all above
+-- `low`
 abbrev pub AreMoved : List ℕ → List ℕ → ℕ → ℕ → ℕ → ℕ → Type 0
 AreMoved old xs from to i shift = (low high : ℕ) → IsSet old low → low ≤ high → ((k : ℕ) → from ≤ k → k < to → low ≤ slice_index old k + shift) →
     ((k : ℕ) → from ≤ k → k < i → slice_index old k + shift < high) → IsSet xs high
@@ -134,7 +135,7 @@ repeated_more t test x marks old mid new start left n h s = let e : n + 1 ≡ su
 
 module _ (t : Core) (test : Look → Bool) (x : ℕ) (marks before one : List ℕ) (base : ℕ) (left : Bool) (set : IsSet before base)
     (first : Stepped t test x marks before one base left left) where
-  -- the places of the first copy
+  -- the positions of the first copy
   of_first : (r : ℕ) → Has one (base + r) ↔ Steps t test x (λ p. Has marks (base + p)) (IsTrue left) r
   of_first r =
       let back : base + r - base ≡ r = omega arith in (
@@ -143,7 +144,7 @@ module _ (t : Core) (test : Look → Bool) (x : ℕ) (marks before one : List �
         λ s. (first.has (base + r)).1 (inr (omega arith, subst (Steps t test x (λ p. Has marks (base + p)) (IsTrue left)) (sym back) s)),
       )
 
-  -- a copy that is marked alike reads at its places, moved
+  -- a copy that is marked alike reads at its positions, moved
   pub stepped_moved : (mid new : List ℕ) (from to start shift : ℕ) → IsFirstFrom one base from → to ≡ length one → start ≡ base + shift →
       ((p : ℕ) → p < width t → Has marks (start + p) ↔ Has marks (base + p)) →
       IsSet new (start + width t) →
@@ -221,7 +222,7 @@ stays_any true entered left e = refl
 stays_any false true left e = refl
 stays_any false false left e = e
 
--- the steps on more copies, where the first one stands at the number `done`
+-- the steps on more copies, the first of which has the number `done`
 pub repeated_here : (test : Look → Bool) (x : ℕ) (marks : List ℕ) (a : Core) (base w done : ℕ) (before one new : List ℕ) (start each : ℕ) (entered enters left : Bool) (n : ℕ) →
     start ≡ base + w * done → each ≡ w → enters ≡ entered → w ≡ width a → IsSet before (base + w * done) →
     Stepped a test x marks before one (base + w * done) entered left →

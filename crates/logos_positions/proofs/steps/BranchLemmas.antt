@@ -1,4 +1,4 @@
--- Steps on branches of which one has all places of the set.
+-- Steps on branches of which one has all positions of the set.
 use Rattle.std.proofs.Common.{◌≡◌, ℕ, ◌+◌, ◌-◌, ◌<◌, ◌≤◌, ◌↔◌, ◌⊎◌, ◌||◌, IsTrue, Bool, true, false, List, slice_index, refl, ⊎_elim, arith}
 use Rattle.logos_positions.specs.Core.{Core, Exits, alt, width}
 use Rattle.logos_positions.specs.Marks.{Has, IsFirstFrom, IsRising, IsSet}
@@ -15,7 +15,7 @@ or_false : (a : Bool) → a || false ≡ a
 or_false true = refl
 or_false false = refl
 
--- no place between two that begin at the same index
+-- no position between two that begin at the same index
 pub none_between : (xs : List ℕ) (base w from to : ℕ) → IsFirstFrom xs base from → IsFirstFrom xs (base + w) to → to ≤ from →
     (q : ℕ) → q < w → Has xs (base + q) → ⊥
 none_between xs base w from to first last le q lt has =
@@ -25,7 +25,7 @@ none_between xs base w from to first last le q lt has =
     (λ ge. let over = last.above has.at (omega (arith, ge, le)) has.within in omega (arith, over, is, lt))
     (lt_or_ge has.at from)
 
--- a place between two of which each begins at its index
+-- a position between two of which each begins at its index
 pub some_between : (xs : List ℕ) (base w from to : ℕ) → IsFirstFrom xs base from → IsFirstFrom xs (base + w) to →
     (q : ℕ) → q < w → Has xs (base + q) → from < to
 some_between xs base w from to first last q lt has =
@@ -33,7 +33,7 @@ some_between xs base w from to first last q lt has =
     (λ le. absurd (none_between xs base w from to first last le q lt has))
     (lt_or_ge from to)
 
--- all places of a tree are below `middle`
+-- all positions of a tree are below `middle`
 pub ends_before : (xs : List ℕ) (high middle from to : ℕ) → IsRising xs → IsFirstFrom xs high to → from < to → middle ≤ high →
     slice_index xs (to - 1) < middle → IsFirstFrom xs middle to
 ends_before xs high middle from to rising last some le under = record {
@@ -46,7 +46,7 @@ ends_before xs high middle from to rising last some le under = record {
   above = λ k ge lt. let over = last.above k ge lt in omega (arith, over, le);
 }
 
--- all places of a tree are from `middle` on
+-- all positions of a tree are from `middle` on
 pub begins_after : (xs : List ℕ) (low middle from : ℕ) → IsRising xs → IsFirstFrom xs low from → low ≤ middle →
     middle ≤ slice_index xs from → IsFirstFrom xs middle from
 begins_after xs low middle from rising first le over = record {
@@ -59,7 +59,7 @@ begins_after xs low middle from rising first le over = record {
       (lt_or_ge from k);
 }
 
--- a place from `middle` on is not before the first one there
+-- a position from `middle` on is not before the first one there
 pub back_some : (xs : List ℕ) (middle from to at : ℕ) → IsFirstFrom xs middle at → from < to → middle ≤ slice_index xs (to - 1) → at < to
 back_some xs middle from to at first some over =
     ⊎_elim (λ low. low)
@@ -67,7 +67,7 @@ back_some xs middle from to at first some over =
     (lt_or_ge at to)
 
 module _ (test : Look → Bool) (x : ℕ) (marks : List ℕ) (a b : Core) (old new : List ℕ) (base w : ℕ) (is : w ≡ width a) where
-  -- the second branch has no place
+  -- the second branch has no position
   pub stepped_first : (to : ℕ) (left : Bool) → IsFirstFrom marks (base + w) to → IsFirstFrom marks (base + (width a + width b)) to →
       Stepped a test x marks old new base false left → Stepped (alt a b) test x marks old new base false left
   stepped_first to left first last s =
@@ -77,7 +77,7 @@ module _ (test : Look → Bool) (x : ℕ) (marks : List ℕ) (a b : Core) (old n
       (stepped_alt test x marks a b old new new base w false left false is s
       (stepped_nothing test x marks b new (base + w) set (none_between marks (base + w) (width b) to to first (rw end at last) (omega arith))))
 
-  -- the first branch has no place
+  -- the first branch has no position
   pub stepped_second : (from : ℕ) (left : Bool) → IsSet old base → IsFirstFrom marks base from → IsFirstFrom marks (base + w) from →
       Stepped b test x marks old new (base + w) false left → Stepped (alt a b) test x marks old new base false left
   stepped_second from left set first last s =

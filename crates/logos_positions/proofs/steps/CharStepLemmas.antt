@@ -12,12 +12,12 @@ pub record StartsFrom (xs : List ℕ) (base i : ℕ) : Type 0 where
   pub reached : from ≤ i
   pub within : i ≤ length xs
 
--- The places that are read from one of the marks from `base` on and below the index.
+-- The positions that are read from one of the marks from `base` on and below the index.
 abbrev pub FollowedFrom : Reader → ℕ → List ℕ → ℕ → ℕ → ℕ → Type 0
 FollowedFrom r x marks base i p =
     (k : ℕ) × (k < i) × (k < length marks) × (base ≤ slice_index marks k) × (slice_index marks k - base ≤ r.others) × (r.follow (slice_index marks k - base) x ≡ Some p)
 
--- New places: those that are entered, and those that are read from marks below the index.
+-- New positions: those that are entered, and those that are read from marks below the index.
 abbrev pub FollowedTo : Reader → ℕ → List ℕ → List ℕ → List ℕ → ℕ → Bool → ℕ → Type 0
 FollowedTo r x marks old new base entered i =
     (q : ℕ) → Has new q ↔ (Has old q ⊎ ((base ≤ q) × (q - base ≤ r.others) × ((IsTrue entered × (r.first x ≡ Some (q - base))) ⊎ FollowedFrom r x marks base i (q - base))))

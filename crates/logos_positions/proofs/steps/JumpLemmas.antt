@@ -21,7 +21,7 @@ pub exits_nothing : (t : Core) (test : Look → Bool) (M : ℕ → Type 0) → (
 exits_nothing t test M none = (λ e. absurd (out e), λ h. absurd (Exits-void t test (Exits-map t test M _ _ ⊥ none out h)))
 
 module _ (test : Look → Bool) (xs : List ℕ) (a : Core) (w base : ℕ) (is : w ≡ width a) where
-  -- the places of these copies hold no mark
+  -- the positions of these copies hold no mark
   abbrev pub AreUnmarked : ℕ → ℕ → Type 0
   AreUnmarked from to = (q : ℕ) → w * from ≤ q → q < w * to → Has xs (base + q) → ⊥
 
@@ -55,7 +55,7 @@ module _ (test : Look → Bool) (xs : List ℕ) (a : Core) (w base : ℕ) (is : 
       let e : next ≡ done + (next - done) = omega arith in
       rw e (front_pass b (next - done) done count (omega arith) (rw e at none))
 
-  -- copies that have the same places as one, and are entered as it is, can be left as it can
+  -- copies that have the same positions as one, and are entered as it is, can be left as it can
   pub alike_here : (done start each : ℕ) (entered enters left : Bool) (n : ℕ) → start ≡ base + w * done → each ≡ w → enters ≡ entered → (0 < n → left ≡ enters) →
       IsTrue left ↔ ExitsAt a done entered →
       ((k q : ℕ) → k < n → q < each → Has xs (start + each * (k + 1) + q) ↔ Has xs (start + q)) →
@@ -79,7 +79,7 @@ module _ (test : Look → Bool) (xs : List ℕ) (a : Core) (w base : ℕ) (is : 
       rw e (iff_trans (front_step b (done + n) count left left (omega arith) (same n (omega arith)))
       (front_more b n done count left (omega arith) (λ k lt. same k (omega (arith, lt)))))
 
-  -- the same of at most so many copies; `any` says that the whole can be left before
+  -- a repetition of at most this number of copies; `any` is whether the whole can be left before
   abbrev OrAt : ℕ → ℕ → Bool → Bool → Type 0
   OrAt n done any left = IsTrue any ⊎ ExitsAt (up_to n a) done left
 
@@ -119,7 +119,7 @@ module _ (test : Look → Bool) (xs : List ℕ) (a : Core) (w base : ℕ) (is : 
       (up_to_step (done + n) count any left left (omega arith) (same n (omega arith))))
       (up_to_more n done count any left (omega arith) (λ some. stays (omega arith)) (λ k lt. same k (omega (arith, lt)))))
 
--- a literal is left where its last place is marked
+-- a literal is left where its last position is marked
 pub exits_spelled : (test : Look → Bool) (M : ℕ → Type 0) (d : Type 0) (text : List ℕ) → 0 < length text →
     M (length text - 1) ↔ Exits (spelled text) test M d
 exits_spelled test M d [] some = absurd (omega arith)

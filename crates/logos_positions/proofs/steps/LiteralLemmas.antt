@@ -24,7 +24,8 @@ before_it : (M : ℕ → Type 0) (r j : ℕ) → suc r ≡ j + 1 → M j → ((r
 before_it M r zero e m = inl (omega (arith, e), m)
 before_it M r (suc i) e m = inr (i, omega (arith, e), subst M (omega arith) m)
 
--- the place of a literal that reads a byte: it has this byte, and stands first or after a place
+-- the position of a literal that reads a byte: it has this byte, and stands first or after a
+-- position
 steps_spelled : (test : Look → Bool) (x : ℕ) (text : List ℕ) (M : ℕ → Type 0) (d : Type 0) (p : ℕ) →
     Steps (spelled text) test x M d p
     ↔ ((slice_get text p ≡ Some x) × (((p ≡ 0) × d) ⊎ ((j : ℕ) × (p ≡ j + 1) × M j)))
@@ -47,14 +48,14 @@ steps_spelled test x (b ∷ text) M d (suc r) =
       ),
     )
 
--- The places are those of `old`, and those of a text that begins at `base` that have the byte x and
--- come after one of `marks` between two indices.
+-- The positions are those of `old`, and those of a text that begins at `base` that have the byte x
+-- and come after one of `marks` between two indices.
 pub record Comes (x : ℕ) (marks old new text : List ℕ) (base from to : ℕ) : Type 0 where
   pub has : (q : ℕ) → Has new q ↔ (Has old q
       ⊎ ((k : ℕ) × (from ≤ k) × (k < to) × (q ≡ slice_index marks k + 1) × (slice_get text (q - base) ≡ Some x)))
 
 module _ (x : ℕ) (marks old new text : List ℕ) (base from : ℕ) (first : IsFirstFrom marks base from) where
-  -- no place is after the next one of `marks`
+  -- no position is after the next one of `marks`
   pub comes_below : (i : ℕ) → IsRising marks → IsSet old base → from ≤ i → i < length marks → Comes x marks old new text base from i →
       (k : ℕ) → k < length new → slice_index new k ≤ slice_index marks i
   comes_below i rising set after within c k lt =

@@ -1,4 +1,4 @@
--- Sets of places, as rising lists.
+-- Sets of positions, as rising lists.
 use Rattle.std.proofs.Common.{[], ◌∷◌, ◌++◌, length-append, ◌≡◌, ℕ, suc, ◌+◌, ◌-◌, ◌*◌, ◌/◌, min, ◌<◌, ◌≤◌, ◌↔◌, ◌⊎◌, IsTrue, ltb, List, length, slice_index, refl, sym, ap, ◌∙◌, inl, inr, ⊎_elim, arith, ltb-true}
 use Rattle.std.specs.List.{insert}
 use Rattle.std.proofs.lemmas.List.Edits.{get_or-insert_at, get_or-insert_below, get_or-insert_above, length-insert}
@@ -14,7 +14,7 @@ lt_or_ge a b = grind arith
 eq_or_lt : (a b : ℕ) → b ≤ a → (b ≡ a) ⊎ (b < a)
 eq_or_lt a b h = grind arith
 
--- a marked place from `from` on is no lower than the first
+-- a marked position from `from` on is no lower than the first
 first_lowest : (xs : List ℕ) (from i k : ℕ) → IsRising xs → IsFirstFrom xs from i → k < length xs → from ≤ slice_index xs k →
     slice_index xs i ≤ slice_index xs k
 first_lowest xs from i k rising first within above =
@@ -100,7 +100,7 @@ unmarked_before xs start each i most rising first inside q lt has =
     let part = mul-le-mul_left each few in
     omega arith
 
--- a place that is put where it belongs
+-- a position that is put where it belongs
 module _ (xs : List ℕ) (position i : ℕ) (rising : IsRising xs) (first : IsFirstFrom xs position i) where
   inserted : List ℕ
   inserted = insert xs i position
@@ -121,7 +121,7 @@ module _ (xs : List ℕ) (position i : ℕ) (rising : IsRising xs) (first : IsFi
   unfolding inserted
   inserted_size = length-insert xs i position first.within
 
-  -- where a place of the new list was
+  -- where a position of the new list was
   inserted_cases : (k : ℕ) → k < length inserted →
       ((k < i) × (slice_index inserted k ≡ slice_index xs k)) ⊎ ((k ≡ i) × (slice_index inserted k ≡ position))
       ⊎ ((i < k) × (k - 1 < length xs) × (slice_index inserted k ≡ slice_index xs (k - 1)))
@@ -200,11 +200,11 @@ module _ (xs : List ℕ) (position i : ℕ) (rising : IsRising xs) (first : IsFi
         s,
   )
 
--- a place that is there already
+-- a position that is there already
 pub Has-there : (xs : List ℕ) (position : ℕ) → Has xs position → (q : ℕ) → Has xs q ↔ (Has xs q ⊎ (q ≡ position))
 Has-there xs position h q = (inl, λ s. ⊎_elim (λ u. u) (λ f. record { at = h.at; within = h.within; is = h.is ∙ sym f }) s)
 
--- a set with one more place
+-- a set with one more position
 pub IsSet-insert : (xs ys : List ℕ) (n position : ℕ) → IsSet xs n → position < n → IsRising ys → ((q : ℕ) → Has ys q ↔ (Has xs q ⊎ (q ≡ position))) → IsSet ys n
 IsSet-insert xs ys n position set lt rising has = record {
   rising = rising;

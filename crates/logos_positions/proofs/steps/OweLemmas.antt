@@ -1,4 +1,4 @@
--- Steps on copies and on literals, with what is still to be made.
+-- Steps on copies and on literals, with the steps that have not been made.
 use Rattle.std.proofs.Common.{◌≡◌, ℕ, zero, suc, ◌+◌, ◌-◌, ◌*◌, ◌<◌, ◌≤◌, ◌||◌, ◌==◌, Bool, true, false, IsTrue, List, length, drop, get_or, drop-cons, add-one, refl, sym, ap, ◌∙◌, subst, arith}
 use Rattle.std.proofs.Math.Nat.{mul-le-mul_left}
 use Rattle.logos_positions.specs.Core.{Core, byte_in, cat, width}
@@ -48,7 +48,7 @@ module _ (test : Look → Bool) (x : ℕ) (marks : List ℕ) (whole : Core) (old
             let g : w * next ≡ w * done + w * (next - done) = ap (λ n. w * n) f ∙ omega arith in
             omega (arith, g, lt')
 
-    -- the same of at most so many copies
+    -- a repetition of at most this number of copies
     pub owes_up_to_step : (done count : ℕ) (mid new : List ℕ) (left next any : Bool) → done < count →
         Owes whole (up_to (count - done) a) test x marks old mid base (base + w * done) entered left any →
         Stepped a test x marks mid new (base + w * done) left next →

@@ -1,10 +1,10 @@
--- The places step as the pattern reads.
+-- The positions step as the pattern reads.
 use Rattle.std.proofs.Common.{◌≡◌, ℕ, zero, suc, ◌+◌, ◌-◌, ◌<◌, ◌≤◌, Bool, true, List, Some, ◌⊎◌, inl, inr, ⊎_elim, slice_get, refl, sym, ap, ◌∙◌, subst, arith}
 use Rattle.std.proofs.lemmas.Option.{same_Some}
 use Rattle.logos_positions.specs.Core.{Core, holds_at, Reader, void, character, Occurs, empty, byte_in, look, cat, alt, plus, width, Many, none, more, Matches, Leaves, Begins, Reads, Exits, Steps}
 use Rattle.logos_hir.specs.declared.hir.Look.{Look}
 
--- a larger set of places, entered where the smaller was, is left where the smaller was
+-- a larger set of positions, entered where the smaller was, is left where the smaller was
 pub Exits-map : (t : Core) (test : Look → Bool) (M N : ℕ → Type 0) (d e : Type 0) →
     ((q : ℕ) → q < width t → M q → N q) → (d → e) → Exits t test M d → Exits t test N e
 Exits-map void test M N d e f g h = h
@@ -101,7 +101,7 @@ module _ (bytes : List ℕ) where
       (λ u. inr (u.0, Reads-map b S T (p - width a) m f u.1)) h
   Reads-map (plus a) S T p m f h = Reads-map a _ _ p m (λ k. Begins-map a S T k f) h
 
-  -- the places of the two parts of a pattern
+  -- the positions of the two parts of a pattern
   module _ (w p : ℕ) (X Y : Type 0) where
     abbrev Parts : Type 0
     Parts = ((p < w) × X) ⊎ ((w ≤ p) × Y)
@@ -137,8 +137,8 @@ module _ (bytes : List ℕ) where
       (begins_exits a ih S i l s rs))
       (before_or_at l j (Matches-forward a l j r))
 
-  -- the pattern is left at m exactly if the places that read the last byte, and entering at m, lead
-  -- out
+  -- the pattern is left at m exactly if the positions that read the last byte, and entering at m,
+  -- lead out
   pub Exits-of_Leaves : (t : Core) (S : ℕ → Type 0) (m : ℕ) →
       Leaves bytes t S m → Exits t (holds_at bytes m) (λ q. Reads bytes t S q m) (S m)
   Exits-of_Leaves void S m h = h.2
@@ -207,7 +207,7 @@ module _ (bytes : List ℕ) where
       (Exits-map a (holds_at bytes m) _ _ _ _ (λ q lt r. r) absurd x) in
       (u.1.0, u.1.1, more u.0 m u.1.2 u.2)) h
 
-  -- the byte at m is read at p exactly if a step from the places before it leads there
+  -- the byte at m is read at p exactly if a step from the positions before it leads there
   pub Steps-of_Reads : (t : Core) (S : ℕ → Type 0) (m x p : ℕ) → slice_get bytes m ≡ Some x →
       Reads bytes t S p (suc m) → Steps t (holds_at bytes m) x (λ q. Reads bytes t S q m) (S m) p
   Steps-of_Reads void S m x p is h = h

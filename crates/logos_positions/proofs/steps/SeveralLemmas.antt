@@ -106,7 +106,7 @@ module _ (test : Look → Bool) (M : ℕ → Type 0) (d : Type 0) where
     has = λ k. (λ h. (o.has k).0 (inl h), λ h. ⊎_elim (λ u. u) (λ u. absurd u.1) ((o.has k).1 h));
   }
 
-  -- one more pattern is asked
+  -- one more pattern is tested
   pub owes_numbers_step : (ts rest : List Core) (t : Core) (base n : ℕ) (numbers new : List ℕ) (left : Bool) →
       OwesNumbers ts (t ∷ rest) test M d base n numbers → IsTrue left ↔ Exits t test (λ p. M (base + p)) d →
       new ≡ (if left then numbers ++ n ∷ [] else numbers) → OwesNumbers ts rest test M d (base + width t) (n + 1) new
@@ -208,7 +208,7 @@ module _ (nodes : List Node) (i : ℕ) (node : Node) (lt : i < length nodes) (is
       go (n ∷ nodes) zero lt is h = subst (λ n. IsTrue (is_measured n)) (sym is) h.0
       go (n ∷ nodes) (suc i) lt is h = go nodes i (omega (arith, lt)) is h.1
 
--- where the places of the trees begin
+-- where the positions of the trees begin
 pub no_starts : (nodes : List Node) → AreFirstStarts nodes [] 0
 no_starts nodes = record { count = refl; begins = λ i lt. absurd (omega (arith, lt)) }
 
@@ -297,7 +297,7 @@ module _ (nodes : List Node) (starts : List ℕ) (are : AreStarts nodes starts) 
       abbrev PositionsFrom : ℕ → Bool → List ℕ → ℕ → Type 0
       PositionsFrom x entered positions i = OwesPositions ts (map core_of (drop i nodes)) test x (Has marks) (IsTrue entered) (slice_index starts i) positions
 
-      -- a tree is asked
+      -- a tree is tested
       pub numbers_after : (entered left : Bool) (numbers new : List ℕ) (i : ℕ) (node : Node) → i < length nodes → node ≡ get_or nodes i node →
           IsTrue left ↔ Exits (core_of node) test (λ p. Has marks (slice_index starts i + p)) (IsTrue entered) →
           new ≡ (if left then numbers ++ i ∷ [] else numbers) → NumbersFrom entered numbers i → NumbersFrom entered new (i + 1)

@@ -1,4 +1,4 @@
--- Steps over lists of places.
+-- Steps over lists of positions.
 use Rattle.std.proofs.Common.{◌≡◌, ℕ, zero, suc, ◌+◌, ◌-◌, ◌*◌, ◌<◌, ◌↔◌, ◌⊎◌, ◌||◌, Bool, IsTrue, List, refl, sym, ap, subst, inl, inr, ⊎_elim, arith}
 use Rattle.std.proofs.lemmas.Bool.{or_cases, or_left, or_right}
 use Rattle.logos_positions.specs.Core.{Core, empty, cat, alt, plus, width, Exits}
@@ -31,7 +31,7 @@ module _ (test : Look → Bool) (xs : List ℕ) where
   moved : (i j : ℕ) → i ≡ j → Has xs i ↔ Has xs j
   moved i j e = (subst (Has xs) e, subst (Has xs) (sym e))
 
-  -- the places of a pattern that begin at `base`
+  -- the positions of a pattern that begin at `base`
   pub Exits-from : (t : Core) (base start : ℕ) (d e : Type 0) → base ≡ start → d ↔ e →
       Exits t test (λ q. Has xs (base + q)) d ↔ Exits t test (λ q. Has xs (start + q)) e
   Exits-from t base start d e same g = Exits-iff t test _ _ d e (λ q lt. moved _ _ (ap (λ k. k + q) same)) g

@@ -53,7 +53,7 @@ Steps-iff t test x M N d e p r same f g = (
   λ h. Steps-map t test x N M e d p (λ q lt. (f q lt).1) g.1 (subst (Steps t test x N e) (sym same) h),
 )
 
--- a choice of nothing adds no place
+-- a choice of nothing adds no position
 Steps-optional : (t : Core) (test : Look → Bool) (x : ℕ) (M : ℕ → Type 0) (d : Type 0) (p : ℕ) →
     Steps (alt t empty) test x M d p ↔ Steps t test x M d p
 Steps-optional t test x M d p =

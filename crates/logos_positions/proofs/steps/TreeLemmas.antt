@@ -83,7 +83,7 @@ IsSet-append xs ys base top h k le above =
           (lt_or_ge i (length xs));
     }
 
--- a step that begins with no places
+-- a step that begins with no positions
 pub step_of : (t : Core) (test : Look → Bool) (x : ℕ) (marks positions : List ℕ) (base : ℕ) (left : Bool) → Stepped t test x marks [] positions base false left →
     IsStepOf t test x marks base positions left
 step_of t test x marks positions base left s = record {
@@ -92,7 +92,7 @@ step_of t test x marks positions base left s = record {
   leaves = s.leaves;
 }
 
--- a step of one tree is added to the places of the trees before it
+-- a step of one tree is added to the positions of the trees before it
 pub Stepped-append : (t : Core) (test : Look → Bool) (x : ℕ) (marks old added : List ℕ) (base : ℕ) (left : Bool) → IsSet old base →
     IsStepOf t test x marks base added left → Stepped t test x marks old (old ++ added) base false left
 Stepped-append t test x marks old added base left set s = record {
@@ -104,7 +104,7 @@ Stepped-append t test x marks old added base left set s = record {
   leaves = s.leaves;
 }
 
--- a step hangs on the marks among the tree's own places
+-- a step hangs on the marks among the tree's own positions
 pub step_by_own : (t : Core) (test : Look → Bool) (x : ℕ) (own marks positions : List ℕ) (base : ℕ) (left : Bool) →
     ((q : ℕ) → base ≤ q → q < base + width t → Has own q ↔ Has marks q) → IsStepOf t test x own base positions left → IsStepOf t test x marks base positions left
 step_by_own t test x own marks positions base left same s =

@@ -1,4 +1,4 @@
--- Classes of bytes: as literals of one byte, as ranges, and in place of a choice.
+-- Classes of bytes: as literals of one byte, as ranges, and as a choice.
 use Rattle.std.proofs.Common.{◌≡◌, ℕ, zero, suc, ◌+◌, ◌<◌, ◌≤◌, ◌⊎◌, ◌==◌, inl, inr, ⊎_elim, Bool, true, false, ◌||◌, ◌&&◌, nat_le, min, max, List, [], ◌∷◌, ◌++◌, length, drop, set, get_or, slice_get, IfSome, drop-cons, add-one, Option, Some, None, option_map, refl, sym, ap, ◌∙◌, arith}
 use Rattle.std.proofs.lemmas.Bool.Decides.{nat_tests}
 use Rattle.std.proofs.lemmas.Option.{same_Some}

@@ -1,4 +1,4 @@
--- The places of repetitions written out, by the copy that they lie in.
+-- The positions of repetitions written out, by the copy that they lie in.
 use Rattle.std.proofs.Common.{◌≡◌, ℕ, zero, suc, ◌+◌, ◌-◌, ◌*◌, min, ◌<◌, ◌≤◌, List, Option, Some, None, IfSome, ◌⊎◌, inl, inr, ⊎_elim, refl, sym, subst, arith}
 use Rattle.logos_hir.specs.Matches.{Pieces}
 use Rattle.logos_positions.specs.Core as core
@@ -8,11 +8,11 @@ use Rattle.logos_positions.proofs.trees.ReadLemmas.{Reads-start, Reads-from, Rea
 use Rattle.logos_positions.proofs.trees.RepeatLemmas.{Pieces-of_Many, Many-add, Pieces-add, Pieces-split}
 
 module _ (bytes : List ℕ) (a : Core) (m : ℕ) where
-  -- after k pieces from i on, the place q of the body reads
+  -- after k pieces from i on, the position q of the body reads
   abbrev pub CopyReads : ℕ → ℕ → ℕ → Type 0
   CopyReads i k q = (cut : ℕ) × Pieces (Matches bytes a) k i cut × Reads bytes a (At cut) q m
 
-  -- after n pieces from i on, the place q of b reads
+  -- after n pieces from i on, the position q of b reads
   abbrev RestReads : Core → ℕ → ℕ → ℕ → Type 0
   RestReads b i n q = (cut : ℕ) × Pieces (Matches bytes a) n i cut × Reads bytes b (At cut) q m
 
@@ -99,8 +99,8 @@ module _ (bytes : List ℕ) (a : Core) (m : ℕ) where
   copies-plus i q k (cut, pieces, reads) =
       Reads-from bytes a (Begins bytes a (At i)) cut q m (i, refl, Many-add (Matches bytes a) k i i cut none pieces) reads
 
-  -- the place p of a repetition reads: after some number of pieces, a place of the copy that stands
-  -- for the next one
+  -- the position p of a repetition reads: after some number of pieces, a position of the copy of
+  -- the next one
   abbrev pub TurnReads : ℕ → Option ℕ → ℕ → ℕ → Type 0
   TurnReads least most i p =
       (k q : ℕ) × IfSome most (λ n. k < n) × (p ≡ width a * min k (count_of least most - 1) + q) × CopyReads i k q

@@ -1,4 +1,4 @@
--- Which written-out pattern stands for a tree, node by node.
+-- The core pattern of a tree, node by node.
 use Rattle.std.proofs.Common.{◌≡◌, ℕ, zero, suc, ◌+◌, ◌-◌, ◌<◌, ◌↔◌, ◌==◌, List, [], ◌∷◌, length, take, slice_get, Option, Some, None, inl, inr, eq-eqb, eqb-true, refl, sym, ap, ◌∙◌, subst, arith, add-one}
 use Rattle.std.proofs.lemmas.List.{length-take}
 use Rattle.std.proofs.lemmas.Option.{same_Some}
@@ -89,7 +89,7 @@ module _ (bytes : List ℕ) where
     λ h. (suc i, (record { byte = b; is = h.0; within = eq-eqb b b refl }, refl), (spelled_matches text (suc i) j).1 h.1),
   )
 
-  -- the place p of a literal reads exactly if the text up to its byte stands there
+  -- the position p of a literal reads exactly if the text up to its byte is there
   spelled_reads : (text : List ℕ) (i p m : ℕ) → core.Reads bytes (spelled text) (At i) p m → (p < length text) × Spells bytes (take (suc p) text) i m
   spelled_reads [] i p m h = absurd h
   spelled_reads (b ∷ text) i zero m (inl (lt, (z, (k, e, (is_in, end))))) =

@@ -1,4 +1,4 @@
--- What each form of a node stands for.
+-- The core pattern of each form of a node.
 use Rattle.std.proofs.Common.{◌≡◌, ℕ, ◌+◌, ◌<◌, ◌≤◌, Bool, true, ◌&&◌, ◌==◌, nat_lt, nat_le, Option, Some, None, Vec, Box, Global, sym, ap, ◌∙◌, eqb-true, arith, suc, ◌-◌, ◌*◌, length}
 use Rattle.std.proofs.lemmas.Bool.{and_parts}
 use Rattle.std.proofs.lemmas.Bool.Decides.{nat_tests}
@@ -75,7 +75,7 @@ core-Alt whole a b = ap (λ (s : Sized). s.written) (sized-Alt whole a b)
 pub core-Repeat : (least : ℕ) (most : Option ℕ) (each : ℕ) (body : Box Node Global) → core_of (Repeat least most each body) ≡ repeated least most (core_of body.value)
 core-Repeat least most each body = ap (λ (s : Sized). s.written) (sized-Repeat least most each body)
 
--- what the number beside two children says
+-- the meaning of the number stored beside two children
 pub record ArePair (whole : ℕ) (a b : Node) : Type 0 where
   pub whole_is : whole ≡ width (core_of a) + width (core_of b)
   pub first : is_measured a ≡ true
@@ -93,7 +93,7 @@ pair-Cat whole a b h = pair_of whole a.value b.value (sym (ap (λ (s : Sized). s
 pub pair-Alt : (whole : ℕ) (a b : Box Node Global) → is_measured (Alt whole a b) ≡ true → ArePair whole a.value b.value
 pair-Alt whole a b h = pair_of whole a.value b.value (sym (ap (λ (s : Sized). s.measured) (sized-Alt whole a b)) ∙ h)
 
--- what the numbers beside a repetition say
+-- the meaning of the numbers stored beside a repetition
 pub record IsRepeat (least : ℕ) (most : Option ℕ) (each : ℕ) (body : Node) : Type 0 where
   pub ordered : IsOrdered least most
   pub each_is : each ≡ width (core_of body)

@@ -1,4 +1,4 @@
--- Which written-out pattern stands for parts and for branches.
+-- The core patterns of parts and of branches.
 use Rattle.std.proofs.Common.{◌≡◌, ℕ, suc, ◌+◌, ◌-◌, ◌<◌, ◌≤◌, Bool, true, false, ◌||◌, List, Option, Some, None, option_map, nat_lt, if◌then◌else◌, ◌⊎◌, inl, inr, ⊎_elim, lt-ltb, le-ltb, refl, sym, ap, ◌∙◌, subst, arith}
 use Rattle.std.proofs.lemmas.Option.{same_Some}
 use Rattle.logos_hir.specs.Tree as tree
@@ -12,19 +12,19 @@ use Rattle.logos_positions.specs.IsCore.{IsCoreOf, IsCoreOfParts, IsCoreOfBranch
 use Rattle.logos_positions.proofs.trees.ReadLemmas.{Reads-start, Reads-from, Reads-below}
 use Rattle.logos_positions.proofs.trees.TreesLemmas.{join_trees, count_trees}
 
--- a place of a part, without the part's number
+-- a position of a part, without the part's number
 abbrev inner_number : (Position → Option ℕ) → Position → Option ℕ
 inner_number f (byte_of n) = None
 inner_number f (member bytes) = None
 inner_number f (within n position) = f position
 
--- the places below the k-th by the one function, the others by the other one, w higher
+-- the positions below the k-th by the one function, the others by the other one, w higher
 abbrev join_number : ℕ → ℕ → (Position → Option ℕ) → (Position → Option ℕ) → Position → Option ℕ
 join_number k w f g (byte_of n) = None
 join_number k w f g (member bytes) = None
 join_number k w f g (within j position) = if nat_lt j k then f (within j position) else option_map (λ q. w + q) (g (within j position))
 
--- the place lies in the part with this number
+-- the position lies in the part with this number
 record LiesIn (low high : ℕ) (position : Position) : Type 0 where
   pub part : ℕ
   pub inner : Position

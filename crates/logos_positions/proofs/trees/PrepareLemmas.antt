@@ -1,4 +1,4 @@
--- Patterns made ready: what each form of a tree is, and trees in lists.
+-- Prepared patterns: the forms of trees, and trees in lists.
 use Rattle.std.proofs.Common.{◌≡◌, ℕ, zero, suc, ◌+◌, ◌*◌, ◌^◌, ◌<◌, ◌≤◌, Bool, true, false, IsTrue, List, [], ◌∷◌, ◌++◌, map, length, take, drop, get_or, drop-cons, add-one, append_assoc, Option, Vec, Box, Global, refl, sym, ap, ◌∙◌, subst, true≢false, arith}
 use Rattle.std.proofs.lemmas.List.{map-append, take-append-drop}
 use Rattle.logos_hir.specs.Tree as tree

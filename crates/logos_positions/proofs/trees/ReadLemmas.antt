@@ -1,11 +1,11 @@
--- The marked places are those that can have read the last byte, and show a match one byte late.
+-- The marked positions are those that can have read the last byte, and show a match one byte late.
 use Rattle.std.proofs.Common.{◌≡◌, ℕ, zero, suc, ◌-◌, ◌<◌, ◌↔◌, List, Some, inl, inr, ⊎_elim, slice_get, refl, sym, ap, ◌∙◌, subst, arith}
 use Rattle.logos_positions.specs.Core.{Core, At, holds_at, void, character, Occurs, empty, byte_in, look, cat, alt, plus, width, Many, Matches, Leaves, Begins, Reads, Exits, Steps}
 use Rattle.logos_positions.specs.Run.{Marked}
 use Rattle.logos_positions.proofs.steps.PositionLemmas.{Exits-map, Steps-map, Matches-forward, Occurs-after, Many-forward, Reads-map, Exits-of_Leaves, Leaves-of_Exits, Steps-of_Reads, Reads-of_Steps}
 
 module _ (bytes : List ℕ) where
-  -- a place that was read was entered before
+  -- a position that was read was entered before
   Reads-after : (t : Core) (S : ℕ → Type 0) (p m : ℕ) → Reads bytes t S p m → (k : ℕ) × S k × (k < m)
   Reads-after void S p m h = absurd h
   Reads-after empty S p m h = absurd h
@@ -25,7 +25,7 @@ module _ (bytes : List ℕ) where
   Leaves-at : (t : Core) (i m : ℕ) → Matches bytes t i m ↔ Leaves bytes t (At i) m
   Leaves-at t i m = (λ r. (i, refl, r), λ u. subst (λ k. Matches bytes t k m) u.1 u.2)
 
-  -- a match that reads a byte, by the places alone
+  -- a match that reads a byte, by the positions alone
   pub matches_by_positions : (t : Core) (i j : ℕ) → i < j →
       Matches bytes t i j ↔ Exits t (holds_at bytes j) (λ q. Reads bytes t (At i) q j) ⊥
   matches_by_positions t i j lt = (
@@ -35,7 +35,7 @@ module _ (bytes : List ℕ) where
         (Exits-map t (holds_at bytes j) _ _ _ _ (λ q below u. u) absurd x)),
   )
 
-  -- an empty match, with no place
+  -- an empty match, with no position
   pub matches_empty : (t : Core) (i : ℕ) →
       Matches bytes t i i ↔ Exits t (holds_at bytes i) (λ q. ⊥) (Unit {0})
   matches_empty t i = (
@@ -86,7 +86,7 @@ module _ (bytes : List ℕ) where
         (Exits-map t (holds_at bytes m) _ _ _ _ (λ p below. (Marked-iff t m p).0) (λ e. e) x)),
   )
 
-  -- a read begins at one of the positions
+  -- a read begins at one of the points
   pub Reads-start : (t : Core) (S : ℕ → Type 0) (p m : ℕ) → Reads bytes t S p m → (i : ℕ) × S i × Reads bytes t (At i) p m
   Reads-start void S p m h = absurd h
   Reads-start empty S p m h = absurd h

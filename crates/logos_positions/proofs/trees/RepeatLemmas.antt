@@ -1,4 +1,4 @@
--- Repetitions and literals written out: what they match.
+-- The matches of repetitions and literals as core patterns.
 use Rattle.std.proofs.Common.{◌≡◌, ℕ, zero, suc, ◌+◌, ◌-◌, ◌≤◌, List, Option, Some, None, inl, inr, ⊎_elim, refl, sym, subst, arith}
 use Rattle.logos_hir.specs.Matches.{Pieces, IsCount}
 use Rattle.logos_positions.specs.Core as core

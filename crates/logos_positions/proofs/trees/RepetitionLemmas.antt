@@ -1,4 +1,4 @@
--- Which written-out pattern stands for a repetition.
+-- The core pattern of a repetition.
 use Rattle.std.proofs.Common.{◌≡◌, ℕ, zero, suc, ◌+◌, ◌-◌, ◌*◌, ◌^◌, min, ◌<◌, ◌≤◌, Bool, List, Option, Some, None, option_map, IfSome, refl, sym, ap, ◌∙◌, arith}
 use Rattle.std.proofs.Math.Nat.{mul-le-mul_left}
 use Rattle.std.proofs.lemmas.Option.{same_Some}
@@ -15,7 +15,7 @@ use Rattle.logos_positions.proofs.trees.CopyLemmas.{TurnReads, repeated-turns, t
 use Rattle.logos_positions.proofs.trees.RepeatLemmas.{Pieces-map, repeated-of_Pieces, Pieces-of_repeated}
 use Rattle.logos_positions.proofs.trees.WidthLemmas.{width-repeated}
 
--- a place in a copy, without the copy's number
+-- a position in a copy, without the copy's number
 abbrev copy_number : ℕ → ℕ → (Position → Option ℕ) → Position → Option ℕ
 copy_number w count f (byte_of n) = None
 copy_number w count f (member bytes) = None

@@ -1,5 +1,5 @@
 //! Determines whether a tree can be left: whether a match of it ends at a point. Steps call it for
-//! each part that is followed by another one, and `all` calls it for each tree.
+//! each part that is followed by another one, and `trees` calls it for each tree.
 
 ghost use Rattle.std.specs.Prelude.{max, ◌≡◌, ℕ, ◌+◌, ◌*◌, ◌-◌, ◌^◌, ◌<◌, ◌⊎◌, ◌↔◌, IsTrue, Bool, false, List, length};
 ghost use Rattle.logos_positions.specs.Views.{Core, Exits, IsFirstFrom, IsRising, Has, spelled, in_front, up_to, at_least, repeated, count_of, IsOrdered, Look, test_at, core_of, is_measured};
@@ -117,7 +117,7 @@ fn exits_literal(text: &[u8], marks: &[usize], spot: TreeSpot) -> bool
 }
 
 /// Returns whether a repetition can be left, given at least these copies of its body, and at most
-/// `most` if there is such a bound.
+/// `most` if it is not `None`.
 #[cycle(exits)]
 fn exits_repeat(
     body: &Node,

@@ -1,4 +1,4 @@
-//! Steps from the positions that read one byte to those that read the next byte. `all` and `tree`
+//! Steps from the positions that read one byte to those that read the next byte. `tree` and `trees`
 //! call it for each tree.
 
 ghost use Rattle.std.specs.Prelude.{max, ◌≡◌, ℕ, ◌+◌, ◌-◌, ◌*◌, ◌^◌, ◌<◌, ◌≤◌, ◌⊎◌, IsTrue, IfOk, OnOk, IfSome, ◌↔◌, Bool, false, Option, Some, List, length, slice_get, slice_index};
@@ -380,8 +380,8 @@ fn step_node(
     }
 }
 
-/// Steps on a repetition: at least these copies of its body, and at most `most` if there is such a
-/// bound.
+/// Steps on a repetition: at least these copies of its body, and at most `most` if it is not
+/// `None`.
 ///
 /// # Errors
 ///

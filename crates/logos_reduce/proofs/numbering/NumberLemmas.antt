@@ -290,7 +290,7 @@ module _ (table : Table) (block : ℕ → ℕ) (s k : ℕ) (numbers states state
           let t = led_target table block s k x.0 (sym goes ∙ x.1) in
           inr (t.0, t.2, x.3 ∙ ap (λ (b : ℕ). states ++ b ∷ []) (sym t.3))
 
--- the block that a number stands for
+-- the block of a number
 pub target_numbered : (numbers states : List ℕ) → IsOrder numbers states → (o : Option ℕ) (t : ℕ) → option_and_then (λ b. target_of (slice_index numbers b)) o ≡ Some t →
     (b : ℕ) × (o ≡ Some b) × (t < length states) × (slice_index states t ≡ b)
 target_numbered numbers states h None t e = absurd (cc)

@@ -36,7 +36,7 @@ module _ (raw : Table) (root : ℕ) (reduction : Reduction) (made : IsReductionO
   abbrev pub number : ℕ → ℕ
   number = num.number pruned final reduction.splits.items made.block made.leader root states made.merged made.numbered
 
-  -- the state that stands for one of the new table
+  -- the state of the old table for one of the new table
   abbrev pub leader_of : ℕ → ℕ
   leader_of i = made.leader (slice_index states i)
 

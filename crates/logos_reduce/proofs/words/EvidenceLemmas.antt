@@ -58,7 +58,7 @@ pub record IsStage (r : Reduction) (h : HistoryOf r) (s t : ℕ) (bytes : List �
   pub apart : h.at time left ≢ h.at time right
   pub short : length bytes + count_blocks (size r.table) (h.at time) ≤ size r.table
 
--- the same with another history
+-- the lemma above with another history
 abbrev pub with_history : (r : Reduction) → YieldsEvidence r → HistoryOf r → YieldsEvidence r
 with_history r x h = record { history = h; some = x.some; states = x.states; different = x.different; ends = x.ends }
 
@@ -299,7 +299,7 @@ module _ (r : Reduction) (h : HistoryOf r) where
       go (inl y) = one s hs y.0
       go (inr y) = one t ht y.1
 
-  -- the climb goes on
+  -- the climb continues
   pub climbed : (s t low high a b : ℕ) → s < size r.table → t < size r.table → ArePlaced r h s t low high → a < b →
       ((a ≡ (split_at r.splits.items high).parent) × (b ≡ low)) ⊎ ((a ≡ low) × (b ≡ (split_at r.splits.items high).parent)) → ArePlaced r h s t a b
   climbed s t low high a b hs ht x o same = go x.placed same

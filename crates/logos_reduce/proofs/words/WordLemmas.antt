@@ -15,7 +15,7 @@ use Rattle.logos_reduce.proofs.numbering.NumberLemmas.{used_leader}
 use Rattle.logos_reduce.proofs.numbering.StateLemmas as num
 
 module _ (table : Table) (splits : List Split) (block : ℕ → ℕ) (h : IsHistory table splits block) where
-  -- a word that distinguishes two states, and is shorter than so many
+  -- a word that distinguishes two states, and is shorter than this number
   abbrev pub DistinguishedWithin : ℕ → ℕ → ℕ → Type 0
   DistinguishedWithin n s t = (word : List ℕ) × (length word < n) × WordDistinguishes table s t word
 

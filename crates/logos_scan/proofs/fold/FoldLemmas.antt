@@ -1,4 +1,4 @@
--- Where a try goes, and the entries that say it.
+-- The state of a match attempt after a byte, and the entries that represent it.
 use Rattle.std.proofs.Common.{◌≡◌, ◌≢◌, ℕ, ◌+◌, ◌-◌, ◌*◌, ◌%◌, ◌<◌, ◌≤◌, ◌⊎◌, inl, inr, ⊎_elim, true, false, List, ◌++◌, length, length-append, set, get_or-set_same, get_or-set_other, get_or-append-add, replicate, Some, refl, sym, ap, subst, ◌∙◌, arith, slice_index}
 use Rattle.std.proofs.lemmas.List.{get_or_append_left, get_or-replicate}
 use Rattle.std.proofs.lemmas.Nat.{and_mask}
@@ -57,7 +57,7 @@ folded_goes code s b row_start few g =
       omega (arith, same, there, is),
     )
 
--- an entry that says nothing
+-- an entry that does not describe its step
 pub folded_token : (code : CodeValue) (s b row_start : ℕ) → row_start < 1048576 → row_start + 255 < 272 * length code.states →
     IsFolded code s b (1073741824 + row_start) × IsWithin code (row_start_of (1073741824 + row_start))
 folded_token code s b row_start small within =

@@ -1,5 +1,5 @@
--- The blocks of a chunk: no byte of each, one byte more of one after the other, and those that are
--- mended.
+-- The blocks of a chunk: no byte of each, one byte more of one after another, and those that are
+-- repaired.
 use Rattle.std.proofs.Common.{◌≡◌, ℕ, ◌+◌, ◌*◌, ◌<◌, ◌≤◌, ◌⊎◌, inl, inr, List, length, slice_index, set, get_or-set_same, get_or-set_other, replicate, sym, ◌∙◌, ap, subst, arith}
 use Rattle.std.proofs.lemmas.Simd.{get_or-replicate}
 use Rattle.logos_scan.specs.walk.Walk.{IsRowStart, IsSameBeside, Walked, entry_at, row_start_of}

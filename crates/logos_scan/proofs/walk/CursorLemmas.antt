@@ -166,7 +166,7 @@ pub by_some : (here start bits : ℕ) → 0 < bits → start_by here start bits 
 by_some here start zero h = absurd (omega (arith, h))
 by_some here start (suc bits) h = refl
 
--- the try that stands before an entry begins at one point
+-- the attempt that is active before an entry begins at one point
 pub starts_same : (base : ℕ) (trace : List ℕ) (from start at a b : ℕ) → StartsAt base trace from start at a → StartsAt base trace from start at b → a ≡ b
 starts_same base trace from start at a b one other = elim one [
   | inl m ↦ elim other [
@@ -210,7 +210,7 @@ low_fits bits k small =
     let most : 2 ^ k ≤ 2 ^ 64 = pow-le-pow_right (omega arith) small in
     omega (arith, and_le_r bits (2 ^ k - 1), most)
 
--- where the try of a cursor begins, at each entry of its word
+-- where the attempt of a cursor begins, at each entry of its word
 pub starts_at : (trace : List ℕ) (cursor : ChunkCursor) → (s : IsAt trace cursor) → (at : ℕ) → 64 * cursor.word ≤ at → at ≤ 64 * cursor.word + 64
     → StartsAt cursor.base trace s.first cursor.word_start at (start_at cursor at)
 starts_at trace cursor s at low far =
@@ -234,7 +234,7 @@ starts_whole trace cursor s fits =
 pub starts_eq : (base : ℕ) (trace : List ℕ) (from start at now at' now' : ℕ) → at ≡ at' → now ≡ now' → StartsAt base trace from start at now → StartsAt base trace from start at' now'
 starts_eq base trace from start at now at' now' e e' s = subst (λ (k : ℕ). StartsAt base trace from start at' k) e' (subst (λ (k : ℕ). StartsAt base trace from start k now) e s)
 
--- before the first end of a word, no end of it begins the try
+-- before the first end of a word, no end of it begins the attempt
 pub by_first : (trace : List ℕ) (word from bits here start : ℕ) → bits < 2 ^ 64 → IsUnder trace word from from bits → start_by here start bits ≡ start
 by_first trace word from bits here start fits u = by_none here start bits (empty bits fits u)
   where
@@ -323,7 +323,7 @@ next_later trace from mid at le none n = record {
   first = none_later trace from mid at none n.first;
 }
 
--- the same base
+-- the bases are equal
 pub starts_from : (base other : ℕ) (trace : List ℕ) (from start at now : ℕ) → base ≡ other → StartsAt base trace from start at now → StartsAt other trace from start at now
 starts_from base other trace from start at now e s = subst (λ b. StartsAt b trace from start at now) e s
 
@@ -334,7 +334,7 @@ start_first trace cursor s e =
     by_first trace cursor.word cursor.from _ (cursor.base + 64 * cursor.word) cursor.word_start (low_fits cursor.ends (cursor.from - 64 * cursor.word) (omega (arith, s.far)))
     (under_at trace cursor.word cursor.ends cursor.from cursor.from near near s.far (subst (λ (k : ℕ). IsLeft 31 trace cursor.word cursor.ends k) (sym e) s.ends_left))
 
--- after a match that ends at the entry that it has passed, the try begins there
+-- after a match that ends at the entry that it has passed, the attempt begins there
 pub start_ended : (trace : List ℕ) (cursor : ChunkCursor) → (s : IsAt trace cursor) → (at : ℕ) → s.first ≤ at → 64 * cursor.word ≤ at → cursor.from ≡ at + 1 → end_bit trace at ≡ 1
     → start_of cursor ≡ cursor.base + at
 start_ended trace cursor s at le low e ended =

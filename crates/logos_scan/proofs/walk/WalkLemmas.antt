@@ -16,7 +16,7 @@ walked_none rows text p trace from = record {
   last = λ j h e. absurd (omega (arith, h, e));
 }
 
--- the walk stands where the trace is the same
+-- the walk is where the trace is unchanged
 pub walked_beside : (rows text : List ℕ) (p : ℕ) (old new : List ℕ) (from to q : ℕ)
     → ((j : ℕ) → from ≤ j → j < to → slice_index new j ≡ slice_index old j)
     → Walked rows text p old from to q → Walked rows text p new from to q
@@ -86,7 +86,7 @@ walked_set rows text p trace from to q at entry out w =
     walked_beside rows text p trace (set trace at entry) from to q
     (λ j h k. get_or-set_other trace at j entry 0 (elim out [ inl l ↦ omega (arith, l, h) | inr g ↦ omega (arith, g, k) ])) w
 
--- the same, by equations, as a step leaves them
+-- the lemma above, by equations, as a step leaves them
 pub walked_step : (rows text : List ℕ) (p : ℕ) (trace new : List ℕ) (from at next q r : ℕ) → from ≤ at → at < length trace → next ≡ at + 1
     → new ≡ set trace at (entry_at rows text at q) → r ≡ row_start_of (entry_at rows text at q)
     → Walked rows text p trace from at q → Walked rows text p new from next r
@@ -105,7 +105,7 @@ walked_apart rows text p trace new from to q at entry out e w =
 pub walked_at : (rows text : List ℕ) (p : ℕ) (trace : List ℕ) (from to : ℕ) → to ≡ from → Walked rows text p trace from to p
 walked_at rows text p trace from to e = subst (λ k. Walked rows text p trace from k p) (sym e) (walked_none rows text p trace from)
 
--- what another walk left stands behind a step that comes to the place that it names
+-- the entries that another walk wrote remain after a step that reaches the row that it names
 pub walked_again : (rows text : List ℕ) (p guess : ℕ) (trace new : List ℕ) (from at to q r end : ℕ) → from ≤ at → at < to → at < length trace
     → new ≡ set trace at (entry_at rows text at q) → r ≡ row_start_of (entry_at rows text at q)
     → row_start_of (slice_index trace at) ≡ r

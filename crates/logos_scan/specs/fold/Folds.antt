@@ -1,4 +1,4 @@
--- What folded rows say of a code.
+-- The meaning of folded rows for a code.
 use Rattle.std.specs.Prelude.{◌≡◌, ℕ, ◌+◌, ◌*◌, ◌/◌, ◌%◌, ◌<◌, ◌≤◌, ◌⊎◌, true, false, List, length, Some, slice_index}
 use Rattle.logos_scan.specs.walk.Walk.{IsClosed, row_start_of}
 use Rattle.std.specs.Int.{bit_at}
@@ -16,22 +16,22 @@ pub record FoldedValue : Type 0 where
   pub code : CodeValue
   pub rows : List ℕ
 
--- Folded entries can name all states of the code.
+-- Folded entries can represent all states of the code.
 abbrev pub IsFew : CodeValue → Type 0
 IsFew code = 272 * length code.states ≤ 1048576
 
--- They cannot.
+-- Folded entries cannot represent all states of the code.
 abbrev pub IsMany : CodeValue → Type 0
 IsMany code = 3855 < length code.states
 
--- A match attempt that stands in the state before the byte stands after it in this one: the fast
--- loop takes the byte, or it leads there.
+-- An attempt that is in the first state before the byte is in the second state after it: the byte
+-- passes the test of the fast loop, or it leads there.
 abbrev pub TakesTo : CodeValue → ℕ → ℕ → ℕ → Type 0
 TakesTo code s b next =
     let loop = (state_at code s).fast_loop in
     ((stays code loop b ≡ true) × (next ≡ s)) ⊎ ((stays code loop b ≡ false) × (target code (state_at code s).fork b ≡ Some next))
 
--- The offset is that of the state in which a match attempt stands after the byte.
+-- This is the row offset of the state of an attempt after the byte.
 pub record Goes (code : CodeValue) (s b row_start : ℕ) : Type 0 where
   pub next : ℕ
   pub there : next < length code.states
@@ -48,14 +48,14 @@ flags_of Emits = 3221225472
 flags_of Skips = 2147483648
 flags_of CallsBack = 3758096384
 
--- The bits of the flags say what becomes of the match.
+-- The bits of the flags represent the use of the match.
 abbrev pub HasUse : ℕ → MatchUse → Type 0
 HasUse entry Emits = (bit_at entry 30 ≡ 1) × (bit_at entry 29 ≡ 0)
 HasUse entry Skips = bit_at entry 30 ≡ 0
 HasUse entry CallsBack = (bit_at entry 30 ≡ 1) × (bit_at entry 29 ≡ 1)
 
--- The entry of a byte before which a match of the leaf ends, and after which the next attempt
--- stands at the offset.
+-- The entry of a byte before which a match of the leaf ends, where the next attempt is in the state
+-- at this row offset after the byte.
 pub record IsEnded (entry leaf : ℕ) (used : MatchUse) (row_start : ℕ) : Type 0 where
   pub ended : bit_at entry 31 ≡ 1
   pub has_use : HasUse entry used
@@ -68,15 +68,15 @@ pub record EndsAs (code : CodeValue) (s b entry : ℕ) : Type 0 where
   pub has_use : HasUse entry used
   pub says : Says code (state_at code s) b (Halts (record { 0 = leaf_of entry }) used) ⊎ Says code (state_at code s) b (Looks (record { 0 = leaf_of entry }) used)
 
--- The folded entry of a byte in a state. Without flags it names the offset of the state after the
--- byte. With the flag of an end, a match of its leaf ends before the byte, and it names the offset
--- of the state after the byte in the attempt that begins there. With the other flag alone it says
--- nothing.
+-- The folded entry of a byte in a state. Without flags it has the row offset of the state after the
+-- byte. With the flag of an end, a match of its leaf ends before the byte, and it has the row
+-- offset of the state after the byte in the attempt that begins there. With only the other flag it
+-- does not describe the step.
 pub record IsFolded (code : CodeValue) (s b entry : ℕ) : Type 0 where
   pub goes : bit_at entry 31 ≡ 0 → bit_at entry 30 ≡ 0 → Goes code s b (row_start_of entry)
   pub ends : bit_at entry 31 ≡ 1 → EndsAs code s b entry × Goes code code.root b (row_start_of entry)
 
--- A row begins at the offset.
+-- A row begins at this row offset.
 abbrev pub IsWithin : CodeValue → ℕ → Type 0
 IsWithin code row_start = row_start + 255 < 272 * length code.states
 

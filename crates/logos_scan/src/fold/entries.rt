@@ -1,4 +1,4 @@
-//! Entries of folded rows.
+//! Entries of folded rows. `folded` computes them.
 
 ghost use Rattle.std.specs.Prelude.{◌≡◌, ◌+◌, ◌<◌, false, length, IfSome};
 ghost use Rattle.logos_scan.specs.fold.Imports.{first_halting, flags_of, row_start_of, state_at, stays, Goes, IsEnded, IsFew, IsFolded, IsFoldedRow, IsSound, IsStepOf, IsWithin, LeadsToRowStart, Says};
@@ -11,22 +11,22 @@ use logos_code::code::rows::{
 };
 use logos_hir::leaf::LeafId;
 
-/// The flag of an entry before whose byte a match ends that may be up to a callback.
+/// The flag of an entry before whose byte a match ends whose leaf may have a callback.
 pub const CALLS: u32 = 1 << 29;
 
-/// How many entries a kind of the rows of a code has.
+/// The number of entries of one kind in the rows of a code.
 const NAMED: u32 = 1 << 28;
 
-/// How many entries folded rows can have.
+/// The number of entries that folded rows can have.
 pub(crate) const ENTRIES: usize = 1 << 20;
 
-/// How many leaves entries can name.
+/// The number of leaves that entries can represent.
 const LEAVES_NAMED: usize = 512;
 
-/// What the number of a leaf is multiplied by in an entry.
+/// The factor of the number of a leaf in an entry.
 const LEAF: u32 = 1 << 20;
 
-/// Returns the step for which the entry of a code stands.
+/// Returns the step that an entry of a code represents.
 fn step_of(entry: u32) -> Step
     requires { LeadsToRowStart entry }
     ensures { IsStepOf entry result }
@@ -48,7 +48,7 @@ fn step_of(entry: u32) -> Step
     }
 }
 
-/// Returns the step of a match that ends before its byte, from the entry without its kind.
+/// Returns the step of a match that ends before its byte, given the entry without its kind.
 fn before(named: u32, used: MatchUse) -> Step
     requires { named < NAMED }
     ensures { IsStepOf (first_halting used + named) result }
@@ -60,7 +60,7 @@ fn before(named: u32, used: MatchUse) -> Step
     }
 }
 
-/// Returns what the byte does in the state.
+/// Returns the step for the byte in the state.
 fn step_at(code: &Code, state: usize, byte: u8) -> Step
     requires few { IsFew code.now }
     requires state { state < length code.now.states }
@@ -69,8 +69,8 @@ fn step_at(code: &Code, state: usize, byte: u8) -> Step
     step_of(code.entry(WIDTH * state, byte))
 }
 
-/// Returns the offset of the state in which a match attempt stands after the byte, if it is known
-/// that the byte keeps the attempt going.
+/// Returns the row offset of the state of an attempt after the byte, if it is known that the byte
+/// continues the attempt.
 fn row_start_after(code: &Code, state: usize, byte: u8) -> Option<usize>
     requires few { IsFew code.now }
     requires sound { IsSound code.now }
@@ -85,7 +85,7 @@ fn row_start_after(code: &Code, state: usize, byte: u8) -> Option<usize>
     }
 }
 
-/// Returns the offset of the state to which the byte leads.
+/// Returns the row offset of the state to which the byte leads.
 fn row_start_of_target(code: &Code, state: usize, byte: u8) -> Option<usize>
     requires few { IsFew code.now }
     requires sound { IsSound code.now }
@@ -110,8 +110,8 @@ fn flags(used: MatchUse) -> u32
     }
 }
 
-/// Returns the entry of a byte before which a match ends, and after which the next attempt stands
-/// at the offset.
+/// Returns the entry of a byte before which a match ends, where the next attempt is in the state at
+/// this row offset after the byte.
 fn ended(leaf: LeafId, used: MatchUse, row_start: usize) -> u32
     requires leaf { leaf.0 < LEAVES_NAMED }
     requires row_start { row_start < ENTRIES }
@@ -120,8 +120,8 @@ fn ended(leaf: LeafId, used: MatchUse, row_start: usize) -> u32
     flags(used) + LEAF * leaf.0 as u32 + row_start as u32
 }
 
-/// Returns the entry of a byte that does not keep the attempt going, from the offset after the byte
-/// in a new try.
+/// Returns the entry of a byte that does not continue the attempt, given the row offset after the
+/// byte in a new attempt.
 fn fold_end(code: &Code, state: usize, byte: u8, row_start: usize) -> u32
     requires few { IsFew code.now }
     requires state { state < length code.now.states }

@@ -1,4 +1,4 @@
-//! The folded rows of a code.
+//! The folded rows of a code. `logos_scan` makes them if it scans an input.
 
 ghost use Rattle.std.specs.Prelude.{◌≡◌, IfOk, IfSome, None, length};
 ghost use Rattle.logos_scan.specs.fold.Imports.{AreFolded, IsFew, IsMany};
@@ -31,8 +31,8 @@ impl<'c, 's> Model for Folded<'c, 's> {
 }
 
 impl<'c, 's> Folded<'c, 's> {
-    /// Folds the rows of a code. Returns `None` only if it has more states than folded entries can
-    /// name: more than 3,855.
+    /// Folds the rows of a code. Returns `None` only if the code has more states than folded
+    /// entries can represent: more than 3,855.
     ///
     /// # Errors
     ///
@@ -56,8 +56,8 @@ impl<'c, 's> Folded<'c, 's> {
         self.code
     }
 
-    /// Returns the rows of all states, one after another, `WIDTH` entries each. What byte `b` does
-    /// in state `s` is entry `WIDTH * s + b`.
+    /// Returns the rows of all states, one after another, with `WIDTH` entries each. The entry for
+    /// byte `b` in state `s` is entry `WIDTH * s + b`.
     pub fn rows(&self) -> &[u32]
         ensures rows { result.now ≡ self.now.rows }
         ensures folded { AreFolded self.now.code self.now.rows }
@@ -66,7 +66,7 @@ impl<'c, 's> Folded<'c, 's> {
     }
 }
 
-/// Makes the folded rows of all states.
+/// Computes the folded rows of all states.
 ///
 /// # Errors
 ///
@@ -76,7 +76,7 @@ fn fold_rows(alloc: Global, code: &Code, states: usize) -> Result<Vec<u32>, Allo
     requires states { states ≡ length code.now.states }
     ensures { IfOk result (λ rows. AreFolded code.now rows.items) }
 {
-    // A call of `root` says that the code is sound.
+    // A call of `root` brings the soundness of the code into the proof.
     let _ = code.root();
     let mut rows = Vec::new(alloc);
     for state in 0..states {

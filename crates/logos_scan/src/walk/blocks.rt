@@ -1,4 +1,5 @@
-//! The blocks of a chunk at once.
+//! Steps over the blocks of a chunk in parallel. The scan of `logos_scan` calls `walk_chunk` for
+//! each chunk.
 
 ghost use Rattle.std.specs.Prelude.{◌≡◌, ◌<◌, ◌+◌, List, ℕ, length, slice_index};
 ghost use Rattle.logos_scan.specs.walk.Views.{IsClosed, IsRowStart, IsSameBeside, Walked, AreRowStarts, AreWalked, HoldsStretch};
@@ -7,17 +8,18 @@ use crate::walk::guess::guess_row_starts;
 use crate::walk::repair::{Stretch, repair};
 use crate::walk::step;
 
-/// The blocks of a chunk. Each is walked beside the others: a step waits for the one before it, so
-/// that one walk alone would leave a processor idle.
+/// The number of blocks of a chunk. They are walked in parallel: each step depends on the one
+/// before it, so that a single walk would leave a processor idle.
 pub const BLOCKS: usize = 6;
 
-/// The bytes of a block.
+/// The number of bytes of a block.
 pub const BLOCK: usize = 768;
 
-/// The bytes of a chunk.
+/// The number of bytes of a chunk.
 pub const CHUNK: usize = 4608;
 
-/// Steps over one byte of each block, from its row on: that at `at` in the first.
+/// Steps over one byte of each block, from its row on. `at` is the index of the byte in the first
+/// block.
 #[inline(always)]
 fn column(rows: &[u32], text: &[u8], row_starts: &mut [usize; 6], trace: &mut [u32], at: usize)
     requires closed { IsClosed rows.now }
@@ -25,7 +27,7 @@ fn column(rows: &[u32], text: &[u8], row_starts: &mut [usize; 6], trace: &mut [u
     requires text { length text.now ≡ CHUNK }
     requires trace { length trace.old ≡ CHUNK }
     requires at { at < BLOCK }
-    // Walks of the blocks up to here are walks of one byte more.
+    // Walks of the blocks become walks that are one byte longer.
     ensures walked { (origin : List ℕ)
         → AreWalked rows.now text.now origin trace.old at row_starts.old
         → AreWalked rows.now text.now origin trace.new (at + 1) row_starts.new }
@@ -36,8 +38,8 @@ fn column(rows: &[u32], text: &[u8], row_starts: &mut [usize; 6], trace: &mut [u
     }
 }
 
-/// Steps over the blocks in turns, each from its own row on, up to the rows after them. It is
-/// called out of line, so that it has the registers for itself.
+/// Steps over the blocks in turns, each from its own row on, and stores the rows after them. It is
+/// called out of line, so that all registers are available to it.
 #[inline(never)]
 fn walk_blocks(rows: &[u32], text: &[u8], row_starts: &mut [usize; 6], trace: &mut [u32])
     requires closed { IsClosed rows.now }
@@ -54,8 +56,8 @@ fn walk_blocks(rows: &[u32], text: &[u8], row_starts: &mut [usize; 6], trace: &m
     *row_starts = now;
 }
 
-/// Steps over a chunk from a row on, and returns the row after it. The blocks but the first begin
-/// in rows that are guessed. Where a guess was wrong, the block is repaired.
+/// Steps over a chunk from a row on, and returns the row after it. All blocks but the first begin
+/// in guessed rows. A block whose guess was wrong is repaired.
 pub fn walk_chunk(
     rows: &[u32],
     text: &[u8],
@@ -88,7 +90,7 @@ pub fn walk_chunk(
     now
 }
 
-/// Steps again over a block that began in a guess, if that was not its row. Returns the row
+/// Steps again over a block that began in a guessed row, if the guess was wrong. Returns the row
 /// after the block.
 #[inline(always)]
 fn mended(rows: &[u32], text: &[u8], row_start: usize, trace: &mut [u32], stretch: Stretch) -> usize

@@ -1,4 +1,5 @@
-//! What there is to do in a chunk, taken from the flags of its entries.
+//! The pending entries of a chunk, found by the flags of its entries. The scan of `logos_scan`
+//! iterates over them.
 
 ghost use Rattle.std.specs.Prelude.{◌≡◌, ◌<◌, ◌+◌, ◌*◌, MatchOption};
 ghost use Rattle.logos_scan.specs.walk.Views.{HasRoom, Finds, Finishes, IsInWord, IsMarked, Passes, IsAt, start_at, start_by, start_of};
@@ -6,16 +7,16 @@ ghost use Rattle.logos_scan.specs.walk.Views.{HasRoom, Finds, Finishes, IsInWord
 use crate::walk::blocks::CHUNK;
 use crate::walk::masks::ChunkEntries;
 
-/// Where a scan stands in a chunk: before the entry `from`, in a word of flags. Of the word it has
-/// the tokens that are left, and all ends: which of them is the last one before an entry is found
-/// when it is asked for, so that `next` changes nothing but what it passes.
+/// The state of a scan in a chunk: before the entry `from`, in a word of flags. It has the tokens
+/// of the word that are left, and all ends of the word. The last end before an entry is computed
+/// only when it is requested, so that `next` changes only the flags that it passes.
 #[derive(Clone, Copy, Drop)]
 pub struct ChunkCursor {
-    /// Where the chunk begins in the input.
+    /// The offset of the chunk in the input.
     pub base: usize,
-    /// The first entry that is not passed.
+    /// The first entry that has not been passed.
     pub from: usize,
-    /// Where the attempt begins in the input that stands before the first end of the word.
+    /// The start, in the input, of the attempt that is active before the first end of the word.
     pub word_start: usize,
     word: usize,
     tokens: u64,
@@ -23,8 +24,8 @@ pub struct ChunkCursor {
 }
 
 impl ChunkCursor {
-    /// Returns the cursor before the entry `from` of a chunk, where a match attempt stands that
-    /// begins at `start`.
+    /// Returns the cursor before the entry `from` of a chunk, where the active attempt began at
+    /// `start`.
     #[inline(always)]
     pub fn new(chunk: &ChunkEntries, base: usize, start: usize, from: usize) -> ChunkCursor
         requires marked { IsMarked chunk.now }
@@ -46,7 +47,7 @@ impl ChunkCursor {
         }
     }
 
-    /// Returns where the attempt begins that stands after ends of the word, by their bits.
+    /// Returns the start of the attempt that is active after ends of the word, given their bits.
     #[inline(always)]
     fn start_after(self, bits: u64) -> usize
         requires room { HasRoom self.base }
@@ -59,7 +60,7 @@ impl ChunkCursor {
         self.base + 64 * self.word + (63 - bits.leading_zeros() as usize)
     }
 
-    /// Returns where the attempt begins that stands before an entry of the word.
+    /// Returns the start of the attempt that is active before an entry of the word.
     #[inline(always)]
     pub fn start_before(self, at: usize) -> usize
         requires room { HasRoom self.base }
@@ -71,7 +72,7 @@ impl ChunkCursor {
         self.start_after(self.ends & before)
     }
 
-    /// Returns the cursor before the next word, where nothing is left to do in this one.
+    /// Returns the cursor before the next word, if no pending entry is left in this one.
     #[inline(always)]
     fn moved(self, chunk: &ChunkEntries) -> ChunkCursor
         requires marked { IsMarked chunk.now }
@@ -94,7 +95,7 @@ impl ChunkCursor {
         }
     }
 
-    /// Returns the cursor in the next word in which something is left to do, or in the last word.
+    /// Returns the cursor in the next word with a pending entry, or in the last word.
     #[inline(always)]
     fn filled(self, chunk: &ChunkEntries) -> ChunkCursor
         requires marked { IsMarked chunk.now }
@@ -114,8 +115,8 @@ impl ChunkCursor {
         cursor
     }
 
-    /// Returns the next entry at which there is something to do, and passes it. If there is none,
-    /// all entries are passed, and the attempt that stands at the end begins at `word_start`.
+    /// Returns the next pending entry, and passes it. If there is none, all entries are passed, and
+    /// the attempt that is active at the end began at `word_start`.
     #[inline(always)]
     pub fn next(&mut self, chunk: &ChunkEntries) -> Option<usize>
         requires marked { IsMarked chunk.now }

@@ -1,4 +1,4 @@
-//! Guesses at the rows in which blocks begin.
+//! Guesses the rows in which blocks begin. `blocks` calls it for each chunk.
 
 ghost use Rattle.std.specs.Prelude.{◌≡◌, ◌<◌, length};
 ghost use Rattle.logos_scan.specs.walk.Views.{IsClosed, IsRowStart, AreRowStarts};
@@ -6,10 +6,10 @@ ghost use Rattle.logos_scan.specs.walk.Views.{IsClosed, IsRowStart, AreRowStarts
 use crate::walk::blocks::{BLOCK, BLOCKS, CHUNK};
 use crate::walk::{PLACE, entry_of};
 
-/// How many bytes before a block a guess looks at.
+/// The number of bytes before a block that a guess examines.
 const WINDOW: usize = 48;
 
-/// Returns the row after a byte: the root after a line end.
+/// Returns the row after a byte, which is the root after a line end.
 #[inline(always)]
 fn after(rows: &[u32], byte: u8, row_start: usize, root: usize) -> usize
     requires closed { IsClosed rows.now }
@@ -21,7 +21,8 @@ fn after(rows: &[u32], byte: u8, row_start: usize, root: usize) -> usize
     if byte == b'\n' { root } else { next }
 }
 
-/// Steps over one byte before each block but the first: that at `at` of those that are looked at.
+/// Steps over one byte before each block but the first. `at` is the index of the byte among those
+/// that are examined.
 #[inline(always)]
 fn step_before(rows: &[u32], text: &[u8], root: usize, row_starts: &mut [usize; 6], at: usize)
     requires closed { IsClosed rows.now }
@@ -37,9 +38,9 @@ fn step_before(rows: &[u32], text: &[u8], root: usize, row_starts: &mut [usize; 
     }
 }
 
-/// Returns guesses at the rows in which blocks begin: those to which the bytes after the last line
-/// end lead from the root, of few bytes before each block. Any row is right, a good guess is fast.
-/// All are made at once, as blocks are walked.
+/// Returns guesses of the rows in which blocks begin: the rows to which the bytes after the last
+/// line end lead from the root, among a few bytes before each block. Any row is correct, and a good
+/// guess is fast. All guesses are made in parallel, as blocks are walked.
 #[inline(always)]
 pub fn guess_row_starts(rows: &[u32], text: &[u8], root: usize) -> [usize; 6]
     requires closed { IsClosed rows.now }

@@ -1,4 +1,4 @@
-//! Bit masks of the flags of entries.
+//! Bit masks of the flags of entries. The scan of `logos_scan` computes them for each chunk.
 
 ghost use Rattle.std.specs.Prelude.{◌≡◌, ◌≤◌, ◌+◌, length};
 ghost use Rattle.logos_scan.specs.walk.Views.{HoldTops, MarksFrom, IsMarked, IsMarkedBeside};
@@ -14,13 +14,13 @@ pub struct ChunkEntries {
     pub tokens: [u64; 72],
 }
 
-/// The flags as the highest byte of an entry has them.
+/// The flags in the highest byte of an entry.
 const ENDED_TOP: u8 = (ENDED >> 24) as u8;
 
 const TOKEN_TOP: u8 = (TOKEN >> 24) as u8;
 
-/// Returns the highest bytes of the 16 entries from `at` on. They are picked from all bytes: of a
-/// shift the compiler makes more instructions.
+/// Returns the highest bytes of the 16 entries from `at` on. They are selected from all bytes,
+/// since the compiler needs more instructions for a shift.
 #[inline(always)]
 fn tops_of_16(trace: &[u32], at: usize) -> u8x16
     requires { at + 16 ≤ length trace.now }
@@ -95,7 +95,7 @@ impl ChunkEntries {
     pub fn mark(&mut self, from: usize, to: usize)
         requires order { from ≤ to }
         requires within { to ≤ 72 }
-        // The other words are right.
+        // The other words are correct.
         requires others { IsMarkedBeside from to self.old }
         ensures marked { IsMarked self.new }
         ensures entries { self.new.entries ≡ self.old.entries }

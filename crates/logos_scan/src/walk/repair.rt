@@ -1,12 +1,13 @@
-//! Steps again over bytes where a walk began in another row.
+//! Steps again over bytes where a walk began in another row. `blocks` and the scan of `logos_scan`
+//! call it.
 
 ghost use Rattle.std.specs.Prelude.{◌≡◌, ◌<◌, ◌≤◌, length};
 ghost use Rattle.logos_scan.specs.walk.Views.{IsClosed, IsRowStart, IsSameBeside, Walked, HoldsStretch, IsRepaired};
 
 use crate::walk::{PLACE, step};
 
-/// A walk that a trace holds: over the bytes from `from` up to `to`, from the row `begin` to the
-/// row `end`.
+/// A walk that is stored in a trace: over the bytes from `from` up to `to`, from the row `begin` to
+/// the row `end`.
 #[derive(Clone, Copy, Drop)]
 pub struct Stretch {
     pub from: usize,
@@ -15,7 +16,7 @@ pub struct Stretch {
     pub end: usize,
 }
 
-/// What a repair leaves.
+/// The result of a repair.
 #[derive(Clone, Copy, Drop)]
 pub struct Repaired {
     /// The row after the last byte of the stretch.
@@ -24,8 +25,8 @@ pub struct Repaired {
     pub stop: usize,
 }
 
-/// Steps again over the bytes of a stretch from another row on, until the trace holds what is
-/// written.
+/// Steps again over the bytes of a stretch from another row on, until a byte leads to the same row
+/// as in the trace.
 pub fn repair(
     rows: &[u32],
     text: &[u8],

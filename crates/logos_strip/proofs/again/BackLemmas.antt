@@ -1,4 +1,4 @@
--- What is printed of what is left of a source spells it again.
+-- The printed text of a stripped source spells the remaining tokens again.
 use Rattle.std.proofs.Common.{◌≡◌, ◌≢◌, ℕ, ◌⊎◌, inl, inr, Bool, true, List, [], ◌∷◌, ◌++◌, map, length, drop, slice_index, slice_range, IsUtf8, encode_utf8, refl, sym, ◌∙◌, ap, subst, arith}
 use Rattle.std.proofs.lemmas.Bool.{false≢true}
 use Rattle.std.proofs.lemmas.Str.{IsCharBoundary-start, encode_ascii}

@@ -227,13 +227,13 @@ module _ (a : List ℕ) (utf8 : IsUtf8 a) (text : HasText a) (docs : HasDocs a) 
             ∙ sym (map-append bare_lexeme (site_lexemes a s) (sites_lexemes a ss));
       }
 
-  -- where a `'` stands directly before a spot of the printed text, one stands directly before the
+  -- if there is a `'` directly before a spot of the printed text, there is one directly before the
   -- site in the source
   abbrev pub IsAfter : ℕ → List Site → Type 0
   IsAfter q [] = Unit {0}
   IsAfter q (s ∷ ss) = follows_apostrophe b q ≡ true → follows_apostrophe a (site_from s) ≡ true
 
-  -- none stands before the text
+  -- there is none before the text
   pub first_after : (ss : List Site) → IsAfter 0 ss
   first_after [] = tt
   first_after (s ∷ ss) = λ found. absurd (false≢true (sym (follows-none b) ∙ found))

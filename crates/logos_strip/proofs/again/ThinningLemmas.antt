@@ -1,5 +1,5 @@
--- The lexemes of what is left are those of the whole, where some are left out, and commas in front
--- of these are alone.
+-- The lexemes of the remaining tokens are those of the whole, where some are left out, and commas
+-- before these are alone.
 use Rattle.std.proofs.Common.{◌≡◌, ◌==◌, ℕ, not, Bool, true, false, List, [], ◌∷◌, ◌++◌, Option, Some, None, refl, sym, ◌∙◌, subst, append_assoc, if◌then◌else◌}
 use Rattle.std.proofs.lemmas.Bool.{false≢true, true≢false, eqb-true}
 use Rattle.logos_lexeme.specs.declared.lexeme.Span.{Span}
@@ -65,7 +65,7 @@ abbrev pub first_stays : Scope → TokenSpot → TokenList → Bool
 first_stays scope spot none = true
 first_stays scope spot (also token rest) = not (goes scope spot (also token rest))
 
--- only a comma stands in front of what goes
+-- only a comma is before the removed tokens
 
 if_goes : (scope : Scope) (rest : TokenList) (found : Bool) (other : TokenSpot) → goes scope other rest ≡ false → goes scope (if found then Open else other) rest ≡ true → found ≡ true
 if_goes scope rest true other e f = refl

@@ -77,7 +77,7 @@ path_same one other s = word_same is_macro_segment segment_same (codes "logos") 
 global_same : (one other : TokenList) → SameEntry one other → is_global_path one ≡ is_global_path other
 global_same one other s = colons_same is_macro_path path_same one other s
 
--- the same entry names the derive macro or does not
+-- an entry names the derive macro in both runs or in neither
 pub entry_same : (one other : TokenList) → SameEntry one other → is_macro_entry one ≡ is_macro_entry other
 entry_same one other s =
     ap (λ t. t || (is_macro_path one || is_global_path one)) (name_same one other s)

@@ -1,4 +1,4 @@
--- Nothing more goes from what is left.
+-- Nothing more is removed from the remaining tokens.
 use Rattle.std.proofs.Common.{◌≡◌, ◌==◌, ◌&&◌, not, Bool, true, false, ℕ, List, [], ◌∷◌, Option, Some, None, codes, refl, sym, ◌∙◌, ap, subst, if◌then◌else◌}
 use Rattle.std.proofs.lemmas.Bool.{false≢true, true≢false, eqb-true}
 use Rattle.std.specs.Str.{bytes_eq}
@@ -119,7 +119,7 @@ settled-after Derives spot token = if_settled (is_comma token) Open Within refl 
 settled-after Variants spot token = settled-attributed Named spot refl token
 settled-after Fields spot token = settled-attributed Within spot refl token
 
--- what goes stands where an attribute or an entry may begin, and so does what is after it
+-- removed tokens are where an attribute or an entry can begin, and so are the tokens after them
 abbrev GoesOpen : Scope → TokenSpot → Token → Type 0
 GoesOpen scope spot token = (settled spot ≡ Open) × (settled (spot_after scope spot true token) ≡ Open)
 

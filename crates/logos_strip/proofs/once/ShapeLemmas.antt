@@ -1,5 +1,5 @@
--- What the walk sees of a token that stays: not its spacing, not where it stands, and not what it
--- holds.
+-- The properties of a remaining token that stripping depends on: not its spacing, its span or its
+-- contents.
 use Rattle.std.proofs.Common.{◌≡◌, Bool, true, false, List, [], ◌∷◌, Option, Some, None, refl, sym, ◌∙◌, ap}
 use Rattle.logos_lexeme.specs.declared.lexeme.Spacing.TheVariants.{Alone}
 use Rattle.logos_token.specs.Tokens.{Token, identifier, punctuation, literal, doc, group, TokenList, none}

@@ -1,4 +1,4 @@
--- What the bracket reader's answers say of the text.
+-- The meaning of the bracket reader's results for the text.
 use Rattle.std.proofs.Common.{◌≡◌, ℕ, ◌+◌, ◌<◌, ◌≤◌, Bool, true, [], ◌∷◌, length, Some, None, Result, Ok, Err, eqb, refl, sym, ap, subst, ◌∙◌, arith}
 use Rattle.logos_pattern_tokens.specs.declared.error.Fault.{Fault}
 use Rattle.logos_pattern_tokens.specs.declared.error.Fault.TheVariants as faults
@@ -67,7 +67,7 @@ pub empty_text : (t : Text) → true ≡ eqb (length t) 0 → t ≡ []
 empty_text [] e = refl
 empty_text (c ∷ t) e = let h = eqb-true (length (c ∷ t)) 0 (sym e) in absurd (omega arith)
 
--- the inside behind an opening is a bracket
+-- the inside after an opening is a bracket
 whole_bracket : (flags : Flags) (base : ℕ) (text : Text) (n : Bool) (d : Lead) (rest : Text) (r : Result (BracketValue × Bor Text) Stop) → Opens n d text rest → ReadsInside flags base n d rest r → ReadsBracket flags base text r
 whole_bracket flags base text n d rest (Ok x) o h = record {
   written = bracket n d h.inside;

@@ -47,7 +47,7 @@ module _ (flags : Flags) (base : ℕ) (negated : Bool) (lead : Lead) (text here 
         leaves = walk_leaves bottom (starting negated lead bottom).level (ts ++ Open n d ∷ []) q w;
       }
 
-  -- what a step that stopped says of the text
+  -- the meaning of a stopped step for the text
   pub deep_inside : (token : BracketToken) (after : Text) (stop : Stop) (new : Frames) → bracket_token_at here ≡ Some (token, after) → BracketSteps flags base s token (Err stop) new → IfDeepInside flags base stop text
   deep_inside token after (stops.Syntax kind left) new e h = tt
   deep_inside token after stops.Memory new e h = tt

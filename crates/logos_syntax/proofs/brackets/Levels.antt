@@ -1,4 +1,4 @@
--- Brackets read so far: the frames of open brackets are those of what is written.
+-- Brackets that have been read: the frames of open brackets are those of the written ones.
 use Rattle.std.proofs.Common.{◌≡◌, ℕ, suc, ◌+◌, max, Bool, false, List, [], ◌∷◌, ◌++◌, length, Option, Some, None, refl, sym, ap, subst, ◌∙◌, arith, append_assoc, append-nil, option_map, option_and_then}
 use Rattle.logos_pattern_tokens.specs.declared.token.Flags.{Flags}
 use Rattle.logos_pattern_tokens.specs.declared.bracket.token.BracketItem.{BracketItem as ItemOf}
@@ -13,7 +13,7 @@ use Rattle.logos_syntax.specs.bracket.Meaning.{set_or_complement, item_set, lead
 use Rattle.logos_syntax.specs.inside.BracketStack.{BracketFrame, Frames, fresh_frame, value, whole, close, bracket_step}
 use Rattle.logos_syntax.specs.inside.BracketStack.{with_before}
 
--- a bracket that is open: the operands before the last one, with the operator behind them, and the
+-- a bracket that is open: the operands before the last one, with the operator after them, and the
 -- last one
 pub record Level : Type 0 where
   pub negated : Bool
@@ -82,7 +82,7 @@ close_level l (over k outer) = Some (record { level = with_members outer (nested
 abbrev pub starting : Bool → Lead → Stack → Slot
 starting negated lead k = record { level = record { negated = negated; lead = lead; before = None; members = nobody }; stack = k }
 
--- the same step on brackets
+-- the corresponding step on brackets
 abbrev pub advance : Slot → BracketToken → Option Slot
 advance p (Item item) = Some (record p { level = with_members p.level (member p.level.members item) })
 advance p (Open negated lead) = Some (starting negated lead (over p.stack p.level))

@@ -1,4 +1,5 @@
--- Whole brackets: how a text is cut into their tokens, and what the parser's answers say of it.
+-- Whole brackets: how a text is cut into their tokens, and the meaning of the parser's results for
+-- it.
 use Rattle.std.proofs.Common.{◌≡◌, ℕ, ◌+◌, ◌<◌, ◌≤◌, max, Bool, false, ◌⊎◌, inl, inr, List, [], ◌∷◌, ◌++◌, Option, Some, None, refl, sym, ap, subst, ◌∙◌, arith, append_assoc, append-nil, option_map, option_and_then, IfSome}
 use Rattle.logos_pattern_tokens.specs.declared.token.Flags.{Flags}
 use Rattle.logos_pattern_tokens.specs.declared.bracket.token.BracketItem.{BracketItem as ItemOf}
@@ -77,7 +78,7 @@ close_at_bottom : (negated : Bool) (lead : Lead) (os : Operands) (ts : List Brac
 close_at_bottom negated lead (lone ms) ts = refl
 close_at_bottom negated lead (joined os op ms) ts = refl
 
--- nothing is walked behind a whole bracket
+-- nothing is walked after a whole bracket
 ends_there : (negated : Bool) (lead : Lead) (os : Operands) (ts : List BracketToken) → walk (starting negated lead bottom) ((operands_tokens os ++ Close ∷ []) ++ ts) ≡ None
 ends_there negated lead os ts =
     ap (walk (starting negated lead bottom)) (append_assoc (operands_tokens os) (Close ∷ []) ts)
@@ -85,7 +86,7 @@ ends_there negated lead os ts =
     ∙ ap (option_and_then (λ q. walk q (Close ∷ ts))) (operands_walk os negated lead bottom)
     ∙ close_at_bottom negated lead os ts
 
--- a walk of all operands goes on from each place on it
+-- a walk of all operands continues from each place on it
 goes_on : (negated : Bool) (lead : Lead) (os : Operands) (ts front : List BracketToken) (p : Slot) → operands_tokens os ≡ ts ++ front → walk (starting negated lead bottom) ts ≡ Some p → walk p front ≡ Some (slot_of negated lead os bottom)
 goes_on negated lead os ts front p e w =
     sym (ap (option_and_then (λ q. walk q front)) w) ∙ sym (walk_more (starting negated lead bottom) ts front) ∙ ap (walk (starting negated lead bottom)) (sym e) ∙ operands_walk os negated lead bottom
@@ -97,7 +98,7 @@ pub record HasWalked (negated : Bool) (lead : Lead) (text here : Text) (p : Slot
   pub cut : BracketCuts text tokens here
   pub walks : walk (starting negated lead bottom) tokens ≡ Some p
 
--- how a whole bracket goes on there
+-- how a whole bracket continues there
 pub record Onward (inside : Operands) (here rest : Text) (ts : List BracketToken) : Type 0 where
   pub token : BracketToken
   pub after : Text
@@ -132,7 +133,7 @@ same_inside os qs e =
 same_whole : (os qs : Operands) (text rest after : Text) → BracketCuts text (operands_tokens os ++ Close ∷ []) rest → BracketCuts text (operands_tokens qs ++ Close ∷ []) after → (os ≡ qs) × (rest ≡ after)
 same_whole os qs text rest after h k = from (compare (operands_tokens os ++ Close ∷ []) (operands_tokens qs ++ Close ∷ []) text rest after h k)
   where
-    -- the one goes on behind the other's end
+    -- the one continues after the other's end
     longer : (xs ys : Operands) (t : BracketToken) (others : List BracketToken) → operands_tokens ys ++ Close ∷ [] ≡ (operands_tokens xs ++ Close ∷ []) ++ t ∷ others → ⊥
     longer xs ys t others e = of_split (snoc_split (operands_tokens ys) (operands_tokens xs ++ Close ∷ []) Close (t ∷ others) e)
       where
@@ -183,7 +184,7 @@ one_bracket (bracket n d os) (bracket m e qs) text rest after h k =
 abbrev pub Refuted : (Bracket → Type 0) → Bool → Lead → Text → Type 0
 Refuted Claim negated lead text = (inside : Operands) (rest : Text) → BracketCuts text (operands_tokens inside ++ Close ∷ []) rest → Claim (bracket negated lead inside)
 
--- behind the opening, and as a whole
+-- after the opening, and as a whole
 pub refuted : (Claim : Bracket → Type 0) (negated : Bool) (lead : Lead) (text after : Text) → Opens negated lead text after → Refuted Claim negated lead after →
     (b : Bracket) (rest : Text) → Encloses b text rest → Claim b
 refuted Claim negated lead text after o h (bracket m e os) rest k =
@@ -205,7 +206,7 @@ fits_at flags (Open n d ∷ xs) ys t f = fits_at flags xs ys t f
 fits_at flags (Operator op ∷ xs) ys t f = fits_at flags xs ys t f
 fits_at flags (Close ∷ xs) ys t f = fits_at flags xs ys t f
 
--- an item that may not stand there
+-- an element that is not allowed there
 pub no_fit : (flags : Flags) (negated : Bool) (lead : Lead) (text here after : Text) (p : Slot) (item : ItemOf) → HasWalked negated lead text here p → bracket_token_at here ≡ Some (Item item, after) → item_fits flags item ≡ false →
     Refuted (λ b. BracketFits flags b → ⊥) negated lead text
 no_fit flags negated lead text here after p item h e unfit inside rest k fit =

@@ -1,4 +1,4 @@
--- What is read so far is a beginning of a pattern, and how deep it is.
+-- The part of the text that has been read is a prefix of a pattern, and its nesting depth.
 use Rattle.std.proofs.Common.{◌≡◌, ℕ, suc, ◌+◌, ◌<◌, max, List, [], ◌∷◌, ◌++◌, true, length, Some, Result, Ok, Err, IfErr, refl, sym, ap, subst, ◌∙◌, arith}
 use Rattle.logos_pattern_tokens.specs.declared.error.Fault.{Fault}
 use Rattle.logos_pattern_tokens.specs.declared.error.Fault.TheVariants as faults
@@ -103,7 +103,7 @@ deep_brackets flags text following s names r count b deep =
     by_brackets following (front flags text (91 ∷ following) s names r) count
     (subst (λ f. BracketFront f following count) (flags_here flags text (91 ∷ following) s names r) b) (omega arith)
 
--- what a stop at a token says of the text
+-- the meaning of a stop at a token for the text
 pub deep_text : (flags : Flags) (text rest : Text) (s : State) (names others : GroupNames) (stop : Stop) → (r : HasRead flags text rest s names) → IfDeepToken stop s (names_after [] r.tokens) rest others → IfDeepText flags text stop
 deep_text flags text rest s names others (stops.Syntax kind left) r h = tt
 deep_text flags text rest s names others stops.Memory r h = tt
@@ -122,14 +122,14 @@ shallow_token faults.Memory (stops.Syntax other left) s seen text names h = tt
 shallow_token faults.Memory stops.LimitPatternNesting s seen text names h = absurd h
 shallow_token faults.Memory stops.Memory s seen text names h = tt
 
--- what a bracket that stops says
+-- the meaning of a bracket that stops
 pub bracket_is_deep : (s : State) (seen : List Text) (text : Text) (names : GroupNames) (flags : Flags) (base : ℕ) (stop : Stop) → flags ≡ s.top.flags → base ≡ length s.below → IfDeepBracket flags base stop text → IfDeepToken stop s seen (91 ∷ text) names
 bracket_is_deep s seen text names flags base (stops.Syntax kind left) set is h = tt
 bracket_is_deep s seen text names flags base stops.Memory set is h = tt
 bracket_is_deep s seen text names flags base stops.LimitPatternNesting set is h =
     bracket_deep text h.0 (subst (λ f. BracketFront f text h.0) set h.1) (let deep = h.2 in omega arith)
 
--- what a step that stops says
+-- the meaning of a step that stops
 pub step_is_deep : (s u : State) (seen : List Text) (text rest : Text) (token : Token) (names : GroupNames) (stop : Stop) → token_at text ≡ Some (token, rest) → Admits seen token true names → Steps s token (Err stop) u → IfDeepToken stop s seen text names
 step_is_deep s u seen text rest token names (stops.Syntax kind left) is new h = tt
 step_is_deep s u seen text rest token names stops.Memory is new h = tt

@@ -111,7 +111,7 @@ abbrev pub close_level : Level → Stack → Option Slot
 close_level l bottom = None
 close_level l (over k outer opening) = Some (record { level = with_piece outer (group opening (level_inside l)); stack = k })
 
--- the same step on patterns
+-- the corresponding step on patterns
 abbrev pub advance : Slot → Token → Option Slot
 advance p (atom a) = Some (put_piece p (simple a))
 advance p (bracketed b) = Some (put_piece p (class b))

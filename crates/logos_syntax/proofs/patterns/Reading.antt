@@ -1,4 +1,4 @@
--- What the parser reads is a pattern, and each pattern is read.
+-- A text that the parser reads is a pattern, and each pattern is read.
 use Rattle.std.proofs.Common.{◌≡◌, ◌≤◌, false, List, [], ◌∷◌, ◌++◌, Option, Some, None, refl, sym, ap, subst, ◌∙◌, arith, append_assoc, append-nil, option_map, IfSome}
 use Rattle.logos_pattern_tokens.specs.declared.token.Flags.{Flags}
 use Rattle.logos_pattern_tokens.specs.declared.token.Operator.{Operator}
@@ -48,7 +48,7 @@ stack_tokens (over k l opening) = (stack_tokens k ++ branches_tokens (level_insi
 abbrev pub tokens_of : Slot → List Token
 tokens_of p = stack_tokens p.stack ++ branches_tokens (level_inside p.level)
 
--- what is read may stand where it stands
+-- the tokens that are read are allowed where they occur
 abbrev pub StackFits : Flags → Stack → Type 0
 StackFits flags bottom = Unit {0}
 StackFits flags (over k l opening) = StackFits flags k × BranchesFit (front_flags flags k) (level_inside l)
@@ -73,7 +73,7 @@ inside_fits flags (Some bs) its jts g f = (f.0, g f.1)
 piece_fits : (flags : Flags) (l : Level) (p : Piece) → PieceFits (level_flags flags l) p → BranchesFit flags (level_inside l) → BranchesFit flags (level_inside (with_piece l p))
 piece_fits flags l p g f = inside_fits flags l.before l.items (piece l.items p) (λ h. (h, g)) f
 
--- how a step goes on with what is read
+-- how a step continues with what is read
 record Adds (flags : Flags) (p : Slot) (t : Token) (z : Slot) : Type 0 where
   tokens : tokens_of z ≡ tokens_of p ++ t ∷ []
   fits : SlotFits flags p → TokenFits (state_of flags p).top.flags t → SlotFits flags z

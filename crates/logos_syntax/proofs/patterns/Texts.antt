@@ -1,4 +1,4 @@
--- A whole text: how it is cut into tokens, and what the parser's answers say of it.
+-- A whole text: how it is cut into tokens, and the meaning of the parser's results for it.
 use Rattle.std.proofs.Common.{◌≡◌, ◌≢◌, ℕ, ◌+◌, ◌<◌, ◌≤◌, true, false, List, [], ◌∷◌, ◌++◌, length, Option, Some, None, Result, Ok, Err, IfOk, IfErr, refl, sym, ap, subst, ◌∙◌, arith, append-nil}
 use lib.ListN.{get_or}
 use Rattle.logos_pattern_tokens.specs.declared.error.Stop.{Stop}
@@ -123,7 +123,7 @@ reads_on flags text rest after s u names others r g = record {
   has = subst (HasNames others) (sym (names_more [] r.tokens g.token)) g.has;
 }
 
--- what stands behind what is read, in a pattern
+-- the text after the tokens that are read, in a pattern
 record Later (flags : Flags) (rest : Text) (s : State) (names : List Text) (written : Branches) : Type 0 where
   more : List Token
   cut : Cuts rest more []
@@ -142,7 +142,7 @@ later flags text rest s names r tree depth p =
 
 -- ---- refusals
 
--- what the parser stops at says of the text
+-- the meaning of the parser's stop for the text
 pub stopped : (flags : Flags) (text rest : Text) (s : State) (names : GroupNames) (stop : Stop) → (r : HasRead flags text rest s names) → 0 < length rest → ((t : Token) (after : Text) → Starts t rest after → StopsAt stop s (names_after [] r.tokens) t) → StopsText flags text stop
 stopped flags text rest s names (stops.Syntax kind left) r some stop = λ depth spelled. let l = later flags text rest s names r spelled.0 depth spelled.1 in from _ l.more l.cut l.run l.differ
   where

@@ -67,7 +67,7 @@ abbrev mutual
   members_set flags before (member ms item) = union (members_set flags before ms) (item_set flags item)
   members_set flags before (nested ms b) = union (members_set flags before ms) (bracket_set flags b)
 
--- ---- what the flags allow.
+-- ---- the elements that the flags allow.
 
 -- If the pattern matches bytes, a character must be ASCII.
 abbrev pub symbol_fits : Flags → Symbol → Bool
@@ -92,7 +92,7 @@ TokensFit flags (tokens.Close ∷ others) = TokensFit flags others
 abbrev pub BracketFits : Flags → Bracket → Type 0
 BracketFits flags b = TokensFit flags (bracket_tokens b)
 
--- ---- how deeply brackets nest.
+-- ---- the nesting depth of brackets.
 
 abbrev mutual
   pub bracket_depth : Bracket → ℕ

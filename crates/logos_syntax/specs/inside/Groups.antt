@@ -79,12 +79,12 @@ step s closes = close s.top s.below
 step s (sets change) = Some (record s { top = set s.top (flags_after change s.top.flags) })
 step s (repeats op) = option_map (λ g. record s { top = g }) (repeat s.top op s.top.last)
 
--- The parser reads tokens, each of which the flags at its point allow.
+-- The parser reads tokens. The flags at the position of each token allow it.
 pub data Runs : State → List Token → State → Type 0 where
   stays : (s : State) → Runs s [] s
   goes : (s t u : State) (token : Token) (tokens : List Token) → TokenFits s.top.flags token → step s token ≡ Some t → Runs t tokens u → Runs s (token ∷ tokens) u
 
--- The depth of the innermost point so far.
+-- The depth of the innermost point that has been read.
 abbrev pub deepest_below : List Group → ℕ
 deepest_below [] = 0
 deepest_below (g ∷ gs) = max g.inner (deepest_below gs)

@@ -62,8 +62,8 @@ pub(crate) struct BracketValue {
 impl BracketFrame {
     ghost use Rattle.logos_syntax.specs.Views.{pattern_nesting, set_of, fresh_frame, value, whole, frame_view};
 
-    /// Returns a bracket whose opening alone has been read. `level` is the number of groups and
-    /// brackets around its inside.
+    /// Returns a bracket of which only the opening has been read. `level` is the number of groups
+    /// and brackets around its inside.
     fn new(alloc: Global, opening: BracketOpening, level: usize) -> Result<BracketFrame, AllocError>
         requires { level ≤ pattern_nesting }
         ensures { IfOk result (λ f. frame_view f ≡ fresh_frame opening.negated opening.lead level) }

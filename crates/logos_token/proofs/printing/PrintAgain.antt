@@ -82,7 +82,7 @@ gap_or_not (Punctuation s) = inr (λ e. absurd (cc))
 gap_or_not (Opening d) = inr (λ e. absurd (cc))
 gap_or_not (Closing d) = inr (λ e. absurd (cc))
 
--- a lexeme is the same in texts with the same bytes there
+-- a lexeme is the same in texts with equal bytes there
 pub same_lexeme : (a b : List ℕ) (kind : LexemeKind) (s t : Span) → slice_range b t.from t.to ≡ slice_range a s.from s.to → get_or b t.from 0 ≡ get_or a s.from 0 → map bare_lexeme (lexeme_of b kind t) ≡ map bare_lexeme (lexeme_of a kind s)
 same_lexeme a b Gap s t e f = refl
 same_lexeme a b Identifier s t e f = rw e refl
@@ -96,7 +96,7 @@ same_lexeme a b (Closing d) s t e f = refl
 abbrev pub HasNoSpace : List ℕ → Type 0
 HasNoSpace a = (kind : LexemeKind) (from to : ℕ) → IsCharBoundary a from → IsNext a from kind to → kind ≢ Gap → is_space (character a from) ≡ false
 
--- the pieces of the printed text from a place on
+-- the pieces of the printed text from an offset on
 record Remade (a b : List ℕ) (q : ℕ) (pieces : List Piece) : Type 0 where
   news : List Piece
   filled : Pieces b q news (length b)
@@ -106,8 +106,8 @@ record Begins (a b : List ℕ) (q : ℕ) (pieces : List Piece) : Type 0 where
   remade : Remade a b q pieces
   no_space : is_space (character b q) ≡ false
 
--- where a `'` stands directly before a place of the second text, one stands directly before that of
--- the first, and another lexeme begins there
+-- if there is a `'` directly before an offset of the second text, there is one directly before that
+-- of the first, and another lexeme begins there
 abbrev IsAfter : List ℕ → List ℕ → ℕ → ℕ → List Piece → Type 0
 IsAfter a b p q pieces = follows_apostrophe b q ≡ true → (follows_apostrophe a p ≡ true) × Follows pieces
 

@@ -15,7 +15,7 @@ use Rattle.logos_token.proofs.reading.PieceLemmas.{piece-advances, piece-boundar
 use Rattle.logos_lexeme.proofs.again.PrintWindows.{Window}
 use Rattle.logos_token.proofs.printing.PrintParts.{parts, parts-append, after}
 
--- what is printed behind a lexeme of this kind
+-- what is printed after a lexeme of this kind
 abbrev pub gap_of : List ℕ → LexemeKind → ℕ → ℕ → List ℕ
 gap_of bytes (Punctuation spacing) from to = gap_after spacing
 gap_of bytes Doc from to = cond (is_line_comment (slice_range bytes from to)) (10 ∷ []) (32 ∷ [])
@@ -61,7 +61,7 @@ second_slash [] e = absurd (omega arith)
 second_slash (x ∷ []) e = absurd (omega arith)
 second_slash (x ∷ (y ∷ rest)) e = eq-eqb y 47 e
 
--- the bytes of a text behind a place are these and those
+-- the bytes of a text after an offset are these and those
 module _ (b front rest : List ℕ) (q n : ℕ) (long : length front ≡ n) (inside : q ≤ length b) (e : drop q b ≡ front ++ rest) where
   pub whole_length : length b ≡ q + n + length rest
   whole_length = omega (arith, ap length e, length-append front rest, length-drop q b)
@@ -96,7 +96,7 @@ HasText a = (kind : LexemeKind) (from to : ℕ) → IsCharBoundary a from → Is
 abbrev pub HasJoints : List ℕ → Type 0
 HasJoints a = (from to : ℕ) (rest : List Piece) → IsCharBoundary a from → IsNext a from (Punctuation Joint) to → Pieces a to rest (length a) → Follows rest
 
--- behind each joint punctuation among the pieces another lexeme begins
+-- after each joint punctuation among the pieces another lexeme begins
 abbrev pub Joined : List Piece → Type 0
 Joined [] = Unit {0}
 Joined (piece ∷ rest) = (piece.kind ≡ Punctuation Joint → Follows rest) × Joined rest

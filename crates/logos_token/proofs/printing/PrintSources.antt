@@ -1,4 +1,4 @@
--- The lexemes of a source have what the printing of its tokens asks for.
+-- The lexemes of a source have the properties that printing its tokens requires.
 use Rattle.std.proofs.Common.{◌≡◌, ◌≢◌, ℕ, ◌+◌, ◌-◌, ◌<◌, ◌≤◌, ◌⊎◌, ◌==◌, ◌&&◌, ◌||◌, not, inl, inr, Bool, true, false, cond, List, [], ◌∷◌, ◌++◌, length, get_or, take, slice_range, Option, Some, None, is_some, IsUtf8, encode_utf8, refl, sym, ◌∙◌, ap, subst, arith, get_or-take, length-take-le}
 use Rattle.std.proofs.lemmas.Bool.{cases_lt, cases_Bool, and_parts, or_cases, eqb-true, false≢true, true≢false}
 use Rattle.std.proofs.lemmas.List.Edits.{between_more, between_none}
@@ -26,7 +26,7 @@ use Rattle.logos_lexeme.proofs.again.PrintFacts.{visible_no_space, start_large, 
 use Rattle.logos_token.proofs.printing.PrintDelimiters.{IsDelimiter, opening, closing, is_delimiter}
 use Rattle.logos_token.proofs.printing.PrintAgain.{HasNoSpace}
 
--- how a lexeme stands at a place
+-- the occurrence of a lexeme at an offset
 data Form (a : List ℕ) (p : ℕ) (kind : LexemeKind) (to : ℕ) : Type 0 where
   literal_form : kind ≡ Literal → Form a p kind to
   doc_form : kind ≡ Doc → p + 2 ≤ to → Form a p kind to

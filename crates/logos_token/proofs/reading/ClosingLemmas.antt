@@ -1,4 +1,4 @@
--- What is held while a source is read, at closing delimiters and at the end.
+-- Invariants of reading a source, at closing delimiters and at the end.
 use Rattle.std.proofs.Common.{◌≡◌, ℕ, ◌+◌, ◌-◌, ◌≤◌, false, List, [], ◌∷◌, ◌++◌, length, set, arith, sym, ◌∙◌, subst, ap, refl, append_assoc, length-append}
 use Rattle.std.proofs.lemmas.List.{append-nil, same_from_push, set_at, length_push}
 use Rattle.logos_lexeme.specs.declared.lexeme.Span.{Span}

@@ -11,7 +11,7 @@ token_count-positive (literal text span) = omega arith
 token_count-positive (doc text span) = omega arith
 token_count-positive (group delimiter span inside) = omega arith
 
--- behind its first token a run has fewer tokens
+-- after its first token a run has fewer tokens
 pub count_of-rest : (tokens : TokenList) (token : Token) (rest : TokenList) → tokens ≡ also token rest → count_of rest < count_of tokens
 count_of-rest tokens token rest is = let positive = token_count-positive token in rw is (omega arith)
 

@@ -42,7 +42,7 @@ most_open-least n (leaf token ∷ rest) = most_open-least n rest
 most_open-least n (opens delimiter from ∷ rest) = omega (arith, most_open-least (n + 1) rest)
 most_open-least n (closes delimiter to ∷ rest) = omega arith
 
--- tokens open as many more delimiters as their groups stand inside one another
+-- tokens open as many more delimiters as the depth of their groups
 pub most_open-lexemes : (tokens : TokenList) (n : ℕ) (more : List Lexeme) → most_open n (lexemes tokens ++ more) ≡ max (n + depth_of tokens) (most_open n more)
 most_open-lexemes none n more = omega (arith, most_open-least n more)
 most_open-lexemes (also (identifier text span) rest) n more = omega (arith, most_open-lexemes rest n more)
@@ -89,9 +89,9 @@ most_open-append (closes delimiter to ∷ front) back (innermost ∷ around) beh
     omega (arith, closed-most_open front back around behind (suc (length around) - 1) (is_partner innermost.0 delimiter) e (most_open-append front back around behind) is)
 
 -- The tokens of lexemes: a stack of groups that are begun, innermost first, and the tokens read
--- behind them.
+-- after them.
 
--- a group that is begun: the tokens in front of it, its delimiter, and the place where it stands
+-- a group that is begun: the tokens in front of it, its delimiter, and the offset where it stands
 record OpenGroup : Type 0 where
   before : TokenList
   delimiter : Delimiter

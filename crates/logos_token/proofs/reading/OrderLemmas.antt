@@ -1,4 +1,4 @@
--- Where the tokens that a source spells stand in it.
+-- The tokens that a source spells occur in it in order.
 use Rattle.std.proofs.Common.{◌≡◌, ℕ, ◌+◌, ◌-◌, ◌<◌, ◌≤◌, ◌⊎◌, inl, inr, List, [], ◌∷◌, ◌++◌, length, slice_index, slice_range, arith, sym, ◌∙◌, subst, ap, refl}
 use Rattle.std.proofs.lemmas.List.{append-nil}
 use Rattle.logos_lexeme.specs.declared.lexeme.Span.{Span}
@@ -123,7 +123,7 @@ pieces-order : (bytes : List ℕ) (from : ℕ) (pieces : List Piece) (to : ℕ) 
 pieces-order bytes from [] to e = omega arith
 pieces-order bytes from (piece ∷ rest) to f = let a = piece-advances bytes from piece.kind piece.span.to f.1 in omega (arith, a.0, pieces-order bytes piece.span.to rest to f.2)
 
--- tokens in front of other lexemes, and the pieces behind them
+-- tokens in front of other lexemes, and the pieces after them
 record Placed (bytes : List ℕ) (from : ℕ) (tokens : TokenList) (more : List Lexeme) (to : ℕ) : Type 0 where
   mid : ℕ
   rest : List Piece
@@ -157,7 +157,7 @@ run-earlier : (bytes : List ℕ) (from from' : ℕ) (tokens : TokenList) (to : �
 run-earlier bytes from from' none to h s = omega (arith, s)
 run-earlier bytes from from' (also token rest) to h s = (token-earlier bytes from from' token h s.0, s.1)
 
--- a token without others inside, and those behind it
+-- a token without others inside, and those after it
 leaf-placed : (bytes : List ℕ) (from : ℕ) (token : Token) (rest : TokenList) (more : List Lexeme) (to : ℕ) (end : ℕ) → end ≡ (span_of token).to → TokenOccurs bytes from token → Placed bytes end rest more to → Placed bytes from (also token rest) more to
 leaf-placed bytes from token rest more to end is s p = record {
   mid = p.mid;

@@ -1,4 +1,4 @@
--- What is held while a source is read, piece by piece.
+-- Invariants of reading a source, piece by piece.
 use Rattle.std.proofs.Common.{◌≡◌, ℕ, ◌+◌, ◌<◌, ◌≤◌, max, List, [], ◌∷◌, ◌++◌, length, Some, arith, sym, ◌∙◌, ap, refl, append_assoc}
 use Rattle.std.proofs.lemmas.List.{append-nil, length_push}
 use Rattle.logos_lexeme.specs.declared.lexeme.Span.{Span}

@@ -29,7 +29,7 @@ abbrev mutual
   RunCut text none = Unit {0}
   RunCut text (also token rest) = TokenCut text token × RunCut text rest
 
--- a lexeme begins and ends between characters, as far as its places are known
+-- a lexeme begins and ends between characters, as far as its offsets are known
 abbrev LexemeCut : List ℕ → Lexeme → Type 0
 LexemeCut text (leaf token) = TokenCut text token
 LexemeCut text (opens delimiter from) = IsCharBoundary text from
@@ -106,7 +106,7 @@ abbrev pub Each : {A : Type 0} → (A → Type 0) → List A → Type 0
 Each P [] = Unit {0}
 Each P (value ∷ rest) = P value × Each P rest
 
--- A run of tokens that stand in order in a text, each of which begins and ends between characters.
+-- A run of tokens that occur in order in a text, each of which begins and ends between characters.
 pub record Fits (text : List ℕ) (run : TokenList) : Type 0 where
   pub from : ℕ
   pub to : ℕ
@@ -116,7 +116,7 @@ pub record Fits (text : List ℕ) (run : TokenList) : Type 0 where
 pub spelled_fits : (text : List ℕ) (tokens : TokenList) → IsUtf8 text → Spells text tokens → Fits text tokens
 spelled_fits text tokens utf8 s = record { from = 0; to = length text; occurs = spelled-in_order text tokens s; cut = spelled_cut text tokens utf8 s }
 
--- what stands in order in front of other tokens, and after others
+-- tokens in order, before other tokens and after others
 record Parted (text : List ℕ) (from : ℕ) (front rest : TokenList) (to : ℕ) : Type 0 where
   middle : ℕ
   before : RunOccurs text from front middle

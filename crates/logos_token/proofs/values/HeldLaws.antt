@@ -1,4 +1,4 @@
--- What a literal holds as a function of its text is what the rules of its pieces say.
+-- The value of a literal as a function of its text is the value by the rules of its pieces.
 use Rattle.std.proofs.Common.{◌≡◌, ◌≢◌, ℕ, zero, suc, ◌+◌, ◌-◌, ◌<◌, ◌≤◌, ◌==◌, ◌||◌, inl, inr, nat_le, Bool, true, false, Option, Some, None, option_map, List, [], ◌++◌, length, drop, get_or, get_or-drop, refl, sym, ◌∙◌, ap, subst, arith, string_bytes}
 use Rattle.std.specs.List.{prefix_len}
 use Rattle.std.specs.Option.{option_and_then}
@@ -35,7 +35,7 @@ record Closing (escapes : Bool) (content : Content) (bytes : List ℕ) (closes :
   pub back : (at next to : ℕ) (said : List ℕ) → closes at ≡ false → Represents escapes content bytes at next said → Close at to → Close next to
   pub on : (at next to : ℕ) (said : List ℕ) → closes at ≡ false → Represents escapes content bytes at next said → Close next to → Close at to
 
--- what is held up to the place that closes is what the pieces hold that fill the span
+-- what is held up to the offset that closes is what the pieces hold that fill the span
 module _ (escapes : Bool) (content : Content) (bytes : List ℕ) (closes : ℕ → Bool) (Close : ℕ → ℕ → Type 0) (closing : Closing escapes content bytes closes Close) where
   abbrev Filled : ℕ → List ℕ → Type 0
   Filled at held = (to : ℕ) × Close at to × Holds escapes content bytes at to held

@@ -1,4 +1,4 @@
--- What strings hold, piece by piece.
+-- The values of strings, piece by piece.
 use Rattle.std.proofs.Common.{◌≡◌, ◌≢◌, ℕ, ◌+◌, ◌-◌, ◌<◌, ◌≤◌, ◌⊎◌, inl, inr, Bool, true, false, List, [], ◌∷◌, ◌++◌, length, get_or, slice_range, refl, sym, ◌∙◌, ap, subst, arith, append_assoc, encode_utf8, IsUtf8, Option, Some, None, string_bytes}
 use Rattle.std.proofs.lemmas.List.{append-nil}
 use Rattle.std.proofs.lemmas.List.Edits.{between_more, between_none}
@@ -32,7 +32,7 @@ module _ (escapes : Bool) (content : Content) (bytes : List ℕ) where
   Holds-le at to held none = omega arith
   Holds-le at to held (more {mid = mid} {first = said} {rest = rest} s h e) = omega (arith, Represents-moves escapes content bytes at mid said s, Holds-le mid to rest h)
 
-  -- the first piece is the one that stands there
+  -- the first piece is the one at this offset
   first_piece : (at next to : ℕ) (said held : List ℕ) → Represents escapes content bytes at next said → at < to → Holds escapes content bytes at to held → (rest : List ℕ) × Holds escapes content bytes next to rest
   first_piece at next to said held s ahead none = absurd (omega arith)
   first_piece at next to said held s ahead (more {mid = mid} {first = other} {rest = rest} t h e) =
@@ -79,7 +79,7 @@ module _ (escapes : Bool) (content : Content) (bytes : List ℕ) where
   pub rest-refuted : (from at to : ℕ) (said : List ℕ) → IsRest escapes content bytes from at to said → ((held : List ℕ) → Holds escapes content bytes at to held → ⊥) → (held : List ℕ) → Holds escapes content bytes from to held → ⊥
   rest-refuted from at to said r other held h = let t = r.back held h in other t.0 t.1
 
--- a run of bytes that stand for themselves
+-- a run of bytes that represent themselves
 
 pub rest-plain : (escapes : Bool) (bytes : List ℕ) (from end to : ℕ) → from ≤ end → end < to → to ≤ length bytes → get_or bytes end 0 ≢ 13 → (escapes ≡ true → get_or bytes end 0 ≢ 92) →
     IsRest escapes Text bytes from end to (slice_range bytes from end) → IsRest escapes Text bytes from (end + 1) to (slice_range bytes from (end + 1))

@@ -9,13 +9,13 @@ use Rattle.logos_lexeme.specs.declared.lexeme.openings.Content.TheVariants.{Text
 use Rattle.logos_token.specs.declared.token.value.LiteralValue.{LiteralValue}
 use Rattle.logos_token.specs.declared.token.value.LiteralValue.TheVariants.{Text, Bytes}
 
--- Between two offsets the pieces of a string represent these bytes, and the string has the same end
+-- Between two offsets the pieces of a string denote these bytes, and the string has the same end
 -- from the second offset as from the first.
 pub record IsRest (escapes : Bool) (content : Content) (bytes : List ℕ) (at next to : ℕ) (first : List ℕ) : Type 0 where
   pub on : (held : List ℕ) → Holds escapes content bytes next to held → Holds escapes content bytes at to (first ++ held)
   pub back : (held : List ℕ) → Holds escapes content bytes at to held → (rest : List ℕ) × Holds escapes content bytes next to rest
 
--- The bytes that the pieces up to a later offset represent were appended to a text.
+-- The bytes that the pieces up to a later offset denote were appended to a text.
 pub record IsAdded (escapes : Bool) (bytes : List ℕ) (at next to : ℕ) (old new : List ℕ) : Type 0 where
   pub first : List ℕ
   pub added : new ≡ old ++ first

@@ -80,7 +80,7 @@ pub enum PatternKind {
     EscapeUnknown,
     /// An escape by number has no digits, too few, or characters that are not digits.
     HexSyntax,
-    /// The number of an escape is not that of a Unicode scalar value.
+    /// The number of an escape is not the number of a Unicode scalar value.
     HexNotScalar,
     /// A range begins after its end, or a class is one of its ends.
     ClassRange,
@@ -88,9 +88,9 @@ pub enum PatternKind {
     UnknownProperty,
     /// A property has a value, or is negated by `^`.
     PropertyForm,
-    /// A property, or a character outside ASCII in a bracket, where the pattern matches bytes.
+    /// A property, or a character outside ASCII in a bracket, in a pattern that matches bytes.
     NotInBytes,
-    /// A word boundary where the pattern matches characters.
+    /// A word boundary in a pattern that matches characters.
     UnicodeWordBoundary,
     /// A word boundary is written as `\b{..}`, `\<` or `\>`.
     WordBoundaryForm,

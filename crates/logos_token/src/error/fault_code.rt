@@ -1,4 +1,4 @@
-//! The codes of faults.
+//! The codes of faults. Every crate that adds a fault to an `Errors` names one.
 
 ghost use Rattle.std.specs.Prelude.{◌≡◌, Some};
 ghost use Rattle.logos_token.specs.ViewImports.{name_of};
@@ -241,7 +241,7 @@ const NAMES: [&str; 75] = [
 ];
 
 impl FaultCode {
-    /// Returns the name of the code, as it is printed.
+    /// Returns the name of the code, as printed.
     pub fn name(self) -> &'static str
         ensures { result.now ≡ name_of self }
     {

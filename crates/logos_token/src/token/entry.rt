@@ -1,4 +1,5 @@
-//! The entries of a token buffer.
+//! The entries of a token buffer. `reader` and `views::growing` append them, and `views` reads
+//! them.
 
 use crate::token::{Delimiter, Doc, Ident, Literal, Punct, Span};
 

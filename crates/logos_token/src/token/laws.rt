@@ -18,7 +18,7 @@ pub fn prints_runs_back()
         SpellsAgain (printed run) run }
 {}
 
-/// The span of neighboring tokens of a source, at any depth, is a span of it.
+/// The span of neighboring tokens of a source, at any depth, is a span of the source.
 pub fn runs_have_spans()
     ensures { (bytes : List ℕ) → IsUtf8 bytes → (run tokens : TokenList) → Spells bytes tokens →
         IsRunOf run tokens → IsSpanOf bytes (run_span run) }

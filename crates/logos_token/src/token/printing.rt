@@ -1,4 +1,4 @@
-//! Prints tokens. Readers of callbacks and types and `logos_strip` print with it.
+//! Prints tokens. Callbacks, types and stripped enums are printed with it.
 
 ghost use Rattle.std.specs.Prelude.{◌≡◌, ◌<◌, ◌∷◌, [], List, ℕ, IsUtf8, IfOk, IfSome, MatchOption, string_bytes, codes, if◌then◌else◌, OnOk};
 ghost use Rattle.logos_token.specs.ViewImports.{SpellsAgain, IsRunOf, EndsJoint, Spells, TokenList, none, opening_text, closing_text, gap_after, is_line_comment, printed, encode_utf8, print_part, tokens_of, printed_of, PrintsOn, LeavesFewer, tree_of, PrintsTree};

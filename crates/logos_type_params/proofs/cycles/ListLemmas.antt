@@ -1,4 +1,4 @@
--- What lists have.
+-- The members of lists.
 use Rattle.std.proofs.Common.{◌≡◌, ◌<◌, ◌≤◌, ◌+◌, ◌⊎◌, inl, inr, ℕ, zero, suc, List, [], ◌∷◌, length, drop, get_or, Vec, Global, Option, Some, None, Bor, Bool, false, refl, sym, ap, arith}
 use Rattle.std.proofs.lemmas.List.{at_drop_more, length-drop}
 use Rattle.std.proofs.lemmas.Option.{get_or_from_slice_get, slice_get_within, slice_get_read}
@@ -27,7 +27,7 @@ contains_none y (k, lt, e) = absurd (omega arith)
 pub contains_past : (xs : List ℕ) (k y : ℕ) → length xs ≤ k → Contains (drop k xs) y → ⊥
 contains_past xs k y past (i, lt, e) = absurd (let l = length-drop k xs in omega (arith, l, lt, past))
 
--- what reading at a membership says
+-- the membership that is read
 pub read_at : {X : Type 0} (xs : List X) (i : ℕ) (r : Bor X) → IsItemAt xs i (Some r) → slice_get xs i ≡ Some r.now
 read_at xs i r h = slice_get_read xs (length xs) i r.now refl h.3.0 h.1
 

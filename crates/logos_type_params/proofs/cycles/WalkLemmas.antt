@@ -73,7 +73,7 @@ module _ (g : List (List ℕ)) (start : ℕ) where
       λ l. e ∙ finds start start k.begun l lt,
     )
 
--- none of so many is found
+-- none of this number of nodes is found
 pub none_found : (f : List Bool) (n node : ℕ) → f ≡ replicate n false → IsFound f node → ⊥
 none_found f n node e h = true≢false (sym h ∙ ap (λ x. get_or x node false) e ∙ ⊎_elim
     (λ lt. get_or-replicate n node false false lt)

@@ -1,5 +1,5 @@
-//! Finds the membership of each node in the components of a graph. The functions here have no
-//! contracts, since `check` validates their result.
+//! Finds the membership of each node in the components of a graph. `on_cycles` calls it first. The
+//! functions here have no contracts, since `check` validates their result.
 
 mod backward_walk;
 mod forward_walk;

@@ -1,4 +1,4 @@
-//! Turns an action into the next step, with the tokens after it.
+//! Turns an action into the next step, with the tokens after it. `table` calls it for each action.
 
 ghost use Rattle.std.specs.Prelude.{◌≡◌, Ok};
 ghost use Rattle.logos_type_reader.specs.Views.{tokens_of, inside_of, sign_of, opens, closes, keeps, to, outside_of, spot_of, IsFirst, IsStep, lead_sign, after_lead, opens_first, opens_type, acts, begun};
@@ -171,7 +171,7 @@ fn open_type<'t, 's>(stage: Stage, run: Tokens<'t, 's>) -> Result<Beginning<'t, 
     })
 }
 
-/// Returns the first token of a type that begins as `start` says.
+/// Returns the first token of a type with the beginning `start`.
 pub(super) fn begin_by<'t, 's>(
     start: FirstEntry,
     run: Tokens<'t, 's>,

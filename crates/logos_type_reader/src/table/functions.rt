@@ -1,4 +1,4 @@
-//! The steps in function types.
+//! The steps in function types. `table` calls one for each stage.
 
 ghost use Rattle.logos_type_reader.specs.Views.{tokens_of, linked_move, unsafe_move, qualified_move, extern_move, function_move, taken_value, taken_move, typed_move, one_taken_move, variadic_move, variadic_end_move, outside_of, spot_of, IsAction};
 

@@ -1,4 +1,4 @@
-//! The steps at the beginnings of types.
+//! The steps at the beginnings of types. The reader of types calls `begin` for each type.
 
 ghost use Rattle.std.specs.Prelude.{◌≡◌, Some, None, MatchOption};
 ghost use Rattle.logos_type_reader.specs.Views.{rest_of, tokens_of, first_span, reference_first, reference_lifetime_first, word_stage, word_first, mark_first, begin, is_reserved, name_of, IsFirst, first_text, IsStart};

@@ -1,4 +1,5 @@
-//! The stages inside a type, and the steps that can follow at each.
+//! The stages inside a type, and the steps that can follow at each. All modules of `table` and the
+//! reader of types use them.
 
 use logos_token::token::{Delimiter, Spacing, Span, Tokens};
 use logos_type::TypeToken;
@@ -19,7 +20,7 @@ pub(crate) enum PathKind {
 pub(crate) enum BoundKind {
     /// In a list. `+` can join another bound if the flag is `true`.
     Listed(bool),
-    /// In parentheses inside such a list.
+    /// In the parentheses of a bound in such a list.
     Enclosed(bool),
 }
 
@@ -209,7 +210,7 @@ pub(crate) enum Prefix {
     Group(Delimiter),
 }
 
-/// The next action. It names no tokens, so it is equal for all runs that begin alike.
+/// The next action. It refers to no tokens, so it is equal for all runs that begin alike.
 #[derive(Clone, Copy)]
 pub(crate) enum TableEntry {
     /// End the construct that was begun.

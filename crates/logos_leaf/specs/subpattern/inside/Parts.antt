@@ -1,4 +1,4 @@
--- The views of the parts of a text, and of the text so far in contracts.
+-- The views of the parts of a text, and of the text that has been made, in contracts.
 use Rattle.std.specs.Prelude.{string_bytes}
 use Rattle.logos_leaf.specs.declared.subpattern.substitution.TextPart.{TextPart}
 use Rattle.logos_leaf.specs.declared.subpattern.substitution.TextPart.TheVariants.{Itself, Used}

@@ -1,4 +1,5 @@
-//! Traverses a graph against its edges, once for each component.
+//! Traverses a graph against its edges, once for each component. `evidence` calls it after the
+//! forward traversal.
 
 use crate::cycles::evidence::{Membership, meets};
 use std::alloc::{AllocError, Global};
@@ -7,7 +8,7 @@ use std::alloc::{AllocError, Global};
 #[derive(Clone, Copy)]
 struct Arrow {
     from: usize,
-    /// The index of the edge among those of `from`.
+    /// The index of the edge among the edges of `from`.
     edge: usize,
 }
 

@@ -1,4 +1,5 @@
 //! Traverses a graph along its edges, and finishes a node after all nodes to which it leads.
+//! `evidence` calls it first.
 
 use crate::cycles::evidence::{Membership, meets};
 use std::alloc::{AllocError, Global};
