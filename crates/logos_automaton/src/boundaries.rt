@@ -195,7 +195,7 @@ fn follow(node: &Node, marks: &[usize], base: usize, marked: &mut [bool; 256]) -
     follow_node(node, marks, base, marked)
 }
 
-/// Like `follow`, for the positions of the set that are in a tree. Skips branches without one of
+/// Acts as `follow`, for the positions of the set that are in a tree. Skips branches without one of
 /// them.
 #[cycle(follow)]
 fn follow_marked(node: &Node, marks: &[usize], own: OwnPositions, marked: &mut [bool; 256]) -> bool
@@ -230,7 +230,7 @@ fn follow_marked(node: &Node, marks: &[usize], own: OwnPositions, marked: &mut [
     one | other
 }
 
-/// Like `follow`, by the form of the tree.
+/// Acts as `follow`, by the form of the tree.
 #[cycle(follow)]
 fn follow_node(node: &Node, marks: &[usize], base: usize, marked: &mut [bool; 256]) -> bool
     requires fits { base + core.width (core_of node.now) < 2 ^ 64 }

@@ -161,8 +161,8 @@ fn report_given(name: Ident<'_>, former: Option<Span>, errors: &mut Errors) -> R
     }
 }
 
-/// Assigns a type to a declared name. If the name already has a type, that type is replaced, and the
-/// second one is reported. After an error everything is unchanged.
+/// Assigns a type to a declared name. If the name already has a type, that type is replaced, and
+/// the second one is reported. After an error everything is unchanged.
 fn emit<'s>(
     types: &mut GivenTypes<'s>,
     name: Ident<'s>,
