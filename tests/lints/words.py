@@ -62,7 +62,7 @@ UNUSED = {
     "try, for match attempt": (["tries"], r"\b(?:a|an|the|each|its|that|one|no|every|next|last) try\b|\b(?:the|its|their|of|all|these|more|many) tries\b|^Tries\b"),
     "look, for look-around": ([], r"\b(?:a|the|each|no|one|some|its) look\b(?!-)|\blooks (?:hold|are|of)\b"),
     "believe, for trust": ([], r"\bbeliev\w+"),
-    "status, for exit status": ([], r"(?<!\bexit )\bstatus(?:es)? \d"),
+    "status, for exit status": ([], r"(?<=.)(?<!\bexit )\bstatus(?:es)? \d"),
     "what, for a thing": (
         [],
         r"\bwhat (?:(?:is|are|was|were) (?:no|left|made|kept|read|written|done|known|found|given|used|needed|wanted|to|in|of|not|there|printed|shown|meant|proved|lost)"
