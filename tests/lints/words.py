@@ -147,7 +147,7 @@ def in_page(path, listing):
             return
         if line.startswith("```"):
             fenced = not fenced
-        elif not fenced:
+        elif not fenced and not line.startswith("#"):
             words, names = apart(line)
             yield from ((number, entry) for entry in in_sentence(words))
             yield from ((number, entry) for name in names for entry in in_name(name, listing))
