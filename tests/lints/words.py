@@ -54,7 +54,7 @@ UNUSED = {
     "chart": (["chart", "charts"], r"(?<!\bflow )\bcharts?\b"),
     "words, for arguments": ([], r"\bwords? (?:asks?|requests?|of (?:a|the) (?:command|program|call)|after the program)\b|\bcommand'?s? words\b"),
     "ask, for call": (["asks"], r"\b(?:ask|asks|asked|asking)\b"),
-    "give, for return": (["give", "gives", "gave"], r"\b(?:gives?|gave)\b"),
+    "give, for return": (["give", "gives", "gave"], r"\b(?:gives|gave)\b|\b(?:they|it|calls?|shapes|tables|files|that|which|who|not) give\b"),
     "stand, for be": (["stand", "stands", "stood"], r"\b(?:stands?|stood|standing)\b"),
     "go on, for continue": ([], r"\b(?:go|goes|went|going) on\b"),
     "hand on, for re-export": ([], r"\bhand(?:s|ed|ing)? (?:\w+ )?on\b"),
@@ -76,6 +76,8 @@ UNUSED = {
     "else, for otherwise": ([], r"\b(?:and|,) else\b"),
     "reached, work, as names of types": ([], r"(?!)"),
 }
+# The ends of helps that `logos_help` prints and `docs/FAULTS.md` repeats.
+MESSAGES = ("again what may stand there", "for what gives no token")
 # The comments of crates have no "what": they name the thing.
 IN_COMMENTS = {"what, for a thing": re.compile(r"\bwhat\b", re.I)}
 # The entries for which the comments of the test programs are not read yet.
@@ -135,8 +137,11 @@ def in_code(path, listing):
 
 
 def apart(line):
-    """Returns a line without its text in backticks, and the names in there."""
-    return re.sub(r"`[^`]*`", "`", line), [name for code in re.findall(r"`([^`]*)`", line) for name in NAME.findall(code)]
+    """Returns a line without its text in backticks and messages, and the names in backticks."""
+    rest = re.sub(r"`[^`]*`", "`", line)
+    for message in MESSAGES:
+        rest = rest.replace(message, "")
+    return rest, [name for code in re.findall(r"`([^`]*)`", line) for name in NAME.findall(code)]
 
 
 def in_page(path, listing):
