@@ -90,6 +90,7 @@ PROVED = {"PLACE", "ASKS", "ASKS_AFTER", "Stood", "stood", "mended"}
 NAME_WORDS = {word: entry for entry, (words, _) in UNUSED.items() for word in words}
 SENTENCES = {entry: re.compile(pattern, re.I if "^" not in pattern else 0) for entry, (_, pattern) in UNUSED.items()}
 NAME = re.compile(r"[A-Za-z_][A-Za-z0-9_]*")
+FILE = re.compile(r"\.(?:rs|sh|py|rows|txt|toml)$")
 PART = re.compile(r"[A-Z]?[a-z0-9]+|[A-Z]+(?![a-z])")
 # A text, a byte text, a raw text, a character, or a comment of a source file.
 RATTLE = re.compile(r'(?P<comment>//[^\n]*)|b?r(?P<hashes>#*)".*?"(?P=hashes)|b?"(?:\\.|[^"\\])*"|b?\'(?:\\[^\n]*?|[^\\\n])\'', re.S)
@@ -137,11 +138,12 @@ def in_code(path, listing):
 
 
 def apart(line):
-    """Returns a line without its text in backticks and messages, and the names in backticks."""
+    """Returns a line without its text in backticks and messages, and the names in backticks that are not
+    files of scripts or of Rust."""
     rest = re.sub(r"`[^`]*`", "`", line)
     for message in MESSAGES:
         rest = rest.replace(message, "")
-    return rest, [name for code in re.findall(r"`([^`]*)`", line) for name in NAME.findall(code)]
+    return rest, [name for code in re.findall(r"`([^`]*)`", line) if not FILE.search(code) for name in NAME.findall(code)]
 
 
 def in_page(path, listing):
