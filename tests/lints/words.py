@@ -138,8 +138,8 @@ def in_code(path, listing):
 
 
 def apart(line):
-    """Returns a line without its text in backticks and messages, and the names in backticks that are not
-    files of scripts or of Rust."""
+    """Returns a line without its text in backticks and messages, and the names in backticks that
+    are not files of scripts or of Rust."""
     rest = re.sub(r"`[^`]*`", "`", line)
     for message in MESSAGES:
         rest = rest.replace(message, "")
@@ -301,7 +301,7 @@ def others(found):
 def homes():
     """Yields each row of the glossary that has no home, and None for each that has one."""
     page = read(GLOSSARY)
-    for word, home in re.findall(r"^\| ([^|]+) \| [^|]+ \| [^|]* ?\| ([^|]+) \|$", page.split("## Verbs")[0], re.M):
+    for word, home in re.findall(r"^\| ([^|]+) \| [^|]+ \| ([^|]+) \|$", page.split("## Verbs")[0], re.M):
         if word in ("Word", "---"):
             continue
         given = re.fullmatch(r"(?:`(\w+)`, )?`([\w./]+)`", home)
