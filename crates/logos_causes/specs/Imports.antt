@@ -9,6 +9,6 @@ pub use Rattle.logos_report.specs.Sets.{size_of, sizes_of}
 pub use Rattle.logos_token.specs.Limits.{delimiter_limit}
 pub use Rattle.logos_token.specs.Refusals.{IsRefusal}
 pub use Rattle.logos_token.specs.Spelling.{Spells}
-pub use Rattle.logos_token.specs.Tokens.{depth_of}
+pub use Rattle.logos_token.specs.Tokens.{depth_of, run_span}
 pub use Rattle.logos_token.specs.Views.{tokens_of}
 pub use Rattle.logos_causes.specs.Sets.{HasSets, LeavesHaveSets, set_size, set_sizes}

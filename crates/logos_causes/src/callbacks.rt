@@ -1,10 +1,11 @@
 //! Warnings for callbacks: tokens that a callback loses, and tokens that were probably not meant as
 //! a callback. Used by `explanation`.
 
+use crate::closures::{closure_start, closure_starts, runs_at};
 use logos_pattern::leaf::{Callback, InlineCallback, Leaf};
 use logos_report::Warning;
 use logos_token::error::Memory;
-use logos_token::token::{Delimiter, Group, Span, TokenError, TokenTree, Tokens, tokenize};
+use logos_token::token::{Delimiter, Group, Punct, Span, TokenTree, Tokens};
 use logos_token::util::begins_with;
 use logos_warnings::fixed_warning;
 use std::alloc::Global;
@@ -16,32 +17,54 @@ pub(crate) enum CallbackOwner {
     ErrorType,
 }
 
-/// Adds the warnings of the callbacks of these leaves of a source.
+/// Adds the warnings of the callbacks of these leaves of a source with these tokens.
 pub(crate) fn add_callbacks(
     alloc: Global,
-    source: &str,
+    tokens: Tokens<'_, '_>,
     leaves: &[Leaf<'_>],
     warnings: &mut Vec<Warning>,
 ) -> Result<(), Memory> {
+    let starts = closure_starts(alloc, leaves)?;
+    let runs = runs_at(alloc, tokens, &starts)?;
+    let mut rest = runs.as_slice();
     for leaf in leaves {
         let callback = leaf.callback.as_ref();
-        add_callback(alloc, source, CallbackOwner::Leaf, callback, warnings)?;
+        rest = add_callback(CallbackOwner::Leaf, callback, rest, warnings)?;
     }
     Ok(())
 }
 
-/// Adds the warnings of a callback, if there is one.
-pub(crate) fn add_callback(
+/// Adds the warnings of the callback for errors of a source with these tokens, if it has one.
+pub(crate) fn add_error_callback(
     alloc: Global,
-    source: &str,
-    owner: CallbackOwner,
+    tokens: Tokens<'_, '_>,
     callback: Option<&Callback<'_>>,
     warnings: &mut Vec<Warning>,
 ) -> Result<(), Memory> {
+    let mut starts = Vec::new(alloc);
+    if let Some(start) = closure_start(callback) {
+        starts.push(start)?;
+    }
+    let runs = runs_at(alloc, tokens, &starts)?;
+    add_callback(CallbackOwner::ErrorType, callback, &runs, warnings)?;
+    Ok(())
+}
+
+/// Adds the warnings of a callback, if there is one. A closure is the first of these runs. Returns
+/// those of the callbacks after it.
+fn add_callback<'r, 't, 's>(
+    owner: CallbackOwner,
+    callback: Option<&Callback<'_>>,
+    runs: &'r [Tokens<'t, 's>],
+    warnings: &mut Vec<Warning>,
+) -> Result<&'r [Tokens<'t, 's>], Memory> {
     match callback {
-        Some(Callback::Label(label)) => add_label(owner, label.run(), warnings),
-        Some(Callback::Inline(closure)) => add_closure(alloc, source, closure, warnings),
-        None => Ok(()),
+        Some(Callback::Label(label)) => {
+            add_label(owner, label.run(), warnings)?;
+            Ok(runs)
+        }
+        Some(Callback::Inline(closure)) => add_closure(closure, runs, warnings),
+        None => Ok(runs),
     }
 }
 
@@ -172,23 +195,18 @@ fn is_path_part(tree: TokenTree<'_, '_>) -> bool {
     }
 }
 
-/// Adds the warnings of a closure.
-fn add_closure(
-    alloc: Global,
-    source: &str,
+/// Adds the warnings of a closure, which is the first of these runs. Returns the others.
+fn add_closure<'r, 't, 's>(
     closure: &InlineCallback<'_>,
+    runs: &'r [Tokens<'t, 's>],
     warnings: &mut Vec<Warning>,
-) -> Result<(), Memory> {
+) -> Result<&'r [Tokens<'t, 's>], Memory> {
     add_escapes(closure.body.run(), warnings)?;
-    let span = closure.span;
-    let Some(text) = source.get(span.from..span.to) else {
-        return Ok(());
+    let [run, rest @ ..] = runs else {
+        return Ok(runs);
     };
-    match tokenize(alloc, text) {
-        Ok(stream) => add_body(span.from, after_bars(stream.run()), warnings),
-        Err(TokenError::Memory) => Err(Memory),
-        Err(_) => Ok(()),
-    }
+    add_body(closure.span.to, after_bars(*run), warnings)?;
+    Ok(rest)
 }
 
 /// Returns the tokens after the parameter of a closure and the bars around it.
@@ -196,31 +214,28 @@ fn after_bars<'t, 's>(closure: Tokens<'t, 's>) -> Tokens<'t, 's> {
     closure.rest().rest().rest()
 }
 
-/// Adds the warnings of the body of a closure, whose text begins in the source at an offset.
-fn add_body(
-    offset: usize,
-    body: Tokens<'_, '_>,
-    warnings: &mut Vec<Warning>,
-) -> Result<(), Memory> {
+/// Adds the warnings of the body of a closure, which ends at an offset.
+fn add_body(to: usize, body: Tokens<'_, '_>, warnings: &mut Vec<Warning>) -> Result<(), Memory> {
     match body.first() {
-        Some(TokenTree::Group(group)) => { add_group(offset, group, body.rest(), warnings) }
-        Some(TokenTree::Punct(_)) => add_type(offset, body, warnings),
+        Some(TokenTree::Group(group)) => add_group(to, group, body.rest(), warnings),
+        Some(TokenTree::Punct(punct)) => add_type(to, punct, body.rest(), warnings),
         _ => Ok(()),
     }
 }
 
 const BRACES: &str = "put all of the body in braces";
 
-/// Adds the warning of a body that begins with a group, if more follows or its brackets matter.
+/// Adds the warning of a body that begins with a group and ends at an offset, if more follows the
+/// group there or its brackets matter.
 fn add_group(
-    offset: usize,
+    to: usize,
     group: Group<'_, '_>,
     rest: Tokens<'_, '_>,
     warnings: &mut Vec<Warning>,
 ) -> Result<(), Memory> {
-    if !rest.is_empty() {
+    if let Some(span) = dropped(to, rest) {
         return add(
-            moved(rest.span(), offset),
+            span,
             "the body of this closure ends before this, which is dropped",
             BRACES,
             warnings,
@@ -228,13 +243,23 @@ fn add_group(
     }
     if loses_brackets(group.delimiter, group.run()) {
         return add(
-            moved(group.span, offset),
+            group.span,
             "the body of this closure loses its outer brackets",
             BRACES,
             warnings,
         );
     }
     Ok(())
+}
+
+/// Returns the span of the tokens of a run up to an offset, if there are some.
+fn dropped(to: usize, run: Tokens<'_, '_>) -> Option<Span> {
+    let from = run.first()?.span().from;
+    if from < to {
+        Some(Span { from, to })
+    } else {
+        None
+    }
 }
 
 /// Returns whether a body means something else without the brackets around it.
@@ -258,15 +283,18 @@ fn has_comma(run: Tokens<'_, '_>) -> bool {
     false
 }
 
-/// Adds the warning of a body that begins with the type of its value.
+/// Adds the warning of a body that begins with this punctuation and ends at an offset, if the type
+/// of its value is in front of it.
 fn add_type(
-    offset: usize,
-    body: Tokens<'_, '_>,
+    to: usize,
+    first: Punct,
+    rest: Tokens<'_, '_>,
     warnings: &mut Vec<Warning>,
 ) -> Result<(), Memory> {
-    if begins_with('-', body) && begins_with('>', body.rest()) {
+    let from = first.span.from;
+    if (first.character == '-') & begins_with('>', rest) {
         return add(
-            moved(body.span(), offset),
+            Span { from, to },
             "the type in front of the body of this closure becomes a part of the body",
             "leave the type out, or write a function and name it",
             warnings,
@@ -301,13 +329,5 @@ fn add_escape(tree: TokenTree<'_, '_>, warnings: &mut Vec<Warning>) -> Result<()
             warnings,
         ),
         _ => Ok(()),
-    }
-}
-
-/// Returns a span that counts from an offset as one of the source.
-fn moved(span: Span, offset: usize) -> Span {
-    Span {
-        from: span.from.saturating_add(offset),
-        to: span.to.saturating_add(offset),
     }
 }

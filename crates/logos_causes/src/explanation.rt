@@ -1,9 +1,9 @@
 //! Explains the faults of a refused source, and warns about a lexer.
 
 ghost use Rattle.std.specs.Prelude.{◌≡◌, ◌≢◌, ◌≤◌, [], IfOk};
-ghost use Rattle.logos_causes.specs.Imports.{YieldsEnum, HasSets, IsRefusal, LeavesHaveSets, Spells, delimiter_limit, depth_of, enum_value, set_sizes, sizes_of, tokens_of};
+ghost use Rattle.logos_causes.specs.Imports.{YieldsEnum, HasSets, IsRefusal, LeavesHaveSets, Spells, delimiter_limit, depth_of, enum_value, run_span, set_sizes, sizes_of, tokens_of};
 
-use crate::callbacks::{CallbackOwner, add_callback, add_callbacks};
+use crate::callbacks::{add_callbacks, add_error_callback};
 use crate::leading_looks::starts_of;
 use crate::meetings::meetings_of;
 use crate::shadowed_leaves::add_hidden;
@@ -13,8 +13,8 @@ use logos_parser::analysis::{Analysis, analyze_enum};
 use logos_pattern::leaf::{Callback, Leaf};
 use logos_report::{Clues, Warning};
 use logos_token::error::Memory;
-use logos_token::token::{Span, TokenError, Tokens, tokenize};
-use logos_warnings::{Origin, item_warnings};
+use logos_token::token::{TokenError, Tokens, tokenize};
+use logos_warnings::{Origin, item_warnings, token_warnings};
 use std::alloc::{AllocError, Global};
 use std::mem;
 
@@ -101,7 +101,7 @@ fn explain_tokens(
     ensures { IfOk result (λ known. HasSets source.now (sizes_of known.clues)) }
 {
     match read_enum(alloc, tokens) {
-        Ok(item) => explain_item(alloc, source, &item, tokens.span(), origin),
+        Ok(item) => explain_item(alloc, EnumText { source, tokens }, &item, origin),
         Err(error) => explain_misread(alloc, error),
     }
 }
@@ -120,19 +120,25 @@ fn explain_misread(alloc: Global, error: ReadError) -> Result<Explained, Memory>
     }
 }
 
-/// Returns what is known of the enum that a source spells, which has this span.
+/// The text of an enum, and its tokens.
+#[derive(Clone, Copy)]
+struct EnumText<'t, 's> {
+    source: &'s str,
+    tokens: Tokens<'t, 's>,
+}
+
+/// Returns what is known of the enum that a source spells.
 fn explain_item(
     alloc: Global,
-    source: &str,
+    text: EnumText<'_, '_>,
     item: &ItemEnum<'_, '_>,
-    span: Span,
     origin: Option<Origin>,
 ) -> Result<Explained, Memory>
-    requires { YieldsEnum source.now (enum_value item.now) span }
-    ensures { IfOk result (λ known. HasSets source.now (sizes_of known.clues)) }
+    requires { YieldsEnum text.source.now (enum_value item.now) (run_span (tokens_of text.tokens)) }
+    ensures { IfOk result (λ known. HasSets text.entry.source.now (sizes_of known.clues)) }
 {
     let mut warnings = known_warnings(alloc, item, origin)?;
-    let clues = clues_in(alloc, source, item, span, &mut warnings)?;
+    let clues = clues_in(alloc, text, item, &mut warnings)?;
     Ok(Explained { clues, warnings })
 }
 
@@ -148,22 +154,21 @@ fn known_warnings(
     }
 }
 
-/// Returns what is known of the faults of the enum that a source spells, which has this span. Adds
-/// the warnings of its callbacks.
+/// Returns what is known of the faults of the enum that a source spells. Adds the warnings of its
+/// callbacks.
 fn clues_in(
     alloc: Global,
-    source: &str,
+    text: EnumText<'_, '_>,
     item: &ItemEnum<'_, '_>,
-    span: Span,
     warnings: &mut Vec<Warning>,
 ) -> Result<Clues, Memory>
-    requires { YieldsEnum source.now (enum_value item.now) span }
-    ensures { IfOk result (λ clues. HasSets source.now (sizes_of clues)) }
+    requires { YieldsEnum text.source.now (enum_value item.now) (run_span (tokens_of text.tokens)) }
+    ensures { IfOk result (λ clues. HasSets text.entry.source.now (sizes_of clues)) }
 {
-    match analyze_enum(alloc, item, span) {
+    match analyze_enum(alloc, item, text.tokens.span()) {
         Ok(analysis) => {
             let mut analysis = analysis;
-            let clues = clues_of_analysis(alloc, source, &mut analysis, warnings);
+            let clues = clues_of_analysis(alloc, text.tokens, &mut analysis, warnings);
             drop(analysis);
             clues
         }
@@ -175,7 +180,7 @@ fn clues_in(
 /// for its callbacks.
 fn clues_of_analysis(
     alloc: Global,
-    source: &str,
+    tokens: Tokens<'_, '_>,
     analysis: &mut Analysis<'_>,
     warnings: &mut Vec<Warning>,
 ) -> Result<Clues, Memory>
@@ -183,8 +188,8 @@ fn clues_of_analysis(
         LeavesHaveSets analysis.old.leaves.items (sizes_of clues)) }
 {
     let error = callback_of(analysis);
-    add_callback(alloc, source, CallbackOwner::ErrorType, error, warnings)?;
-    add_callbacks(alloc, source, &analysis.leaves, warnings)?;
+    add_error_callback(alloc, tokens, error, warnings)?;
+    add_callbacks(alloc, tokens, &analysis.leaves, warnings)?;
     let utf8_mode = analysis.parser.is_utf8();
     clues_of_leaves(alloc, leaves_of(alloc, analysis), utf8_mode)
 }
@@ -228,27 +233,31 @@ fn clues_of(alloc: Global, graph: &Graph<'_>) -> Result<Clues, AllocError>
     })
 }
 
-/// Returns the warnings of a lexer without faults: those of its callbacks, of which one may be for
-/// errors, and those of leaves that are never found. `source` is the text of its enum.
+/// Returns the warnings of an enum without faults, which has these tokens and derives `Logos`: those
+/// of `enum_warnings`, then those of the callbacks of its lexer, of which one may be for errors, and
+/// those of leaves that are never found.
 ///
 /// # Errors
 ///
 /// Returns `Memory` if memory runs out.
-pub fn lexer_warnings(
+pub fn accepted_warnings(
     alloc: Global,
-    source: &str,
-    graph: &Graph<'_>,
-    error: Option<&Callback<'_>>,
+    tokens: Tokens<'_, '_>,
+    lexer: Lexer<'_, '_>,
+    origin: Origin,
 ) -> Result<Vec<Warning>, Memory> {
-    let mut warnings = Vec::new(alloc);
-    add_callback(
-        alloc,
-        source,
-        CallbackOwner::ErrorType,
-        error,
-        &mut warnings,
-    )?;
-    add_callbacks(alloc, source, graph.leaves(), &mut warnings)?;
-    add_hidden(alloc, graph, &mut warnings)?;
+    let mut warnings = token_warnings(alloc, tokens, true, origin)?;
+    add_error_callback(alloc, tokens, lexer.error, &mut warnings)?;
+    add_callbacks(alloc, tokens, lexer.graph.leaves(), &mut warnings)?;
+    add_hidden(alloc, lexer.graph, &mut warnings)?;
     Ok(warnings)
+}
+
+/// What warnings of a lexer are about.
+#[derive(Clone, Copy)]
+pub struct Lexer<'g, 's> {
+    /// Its graph, with its leaves.
+    pub graph: &'g Graph<'s>,
+    /// Its callback for errors, if it has one.
+    pub error: Option<&'g Callback<'s>>,
 }

@@ -5,6 +5,7 @@
 #![tactic(auto)]
 
 mod callbacks;
+mod closures;
 mod explanation;
 mod leading_looks;
 mod meetings;
@@ -12,4 +13,4 @@ mod names;
 mod quotes;
 mod shadowed_leaves;
 
-pub use explanation::{Explained, explain, explain_enum, lexer_warnings};
+pub use explanation::{Explained, Lexer, accepted_warnings, explain, explain_enum};

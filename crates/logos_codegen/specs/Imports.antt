@@ -21,14 +21,18 @@ pub use Rattle.logos_parser.specs.Endings.{too_long}
 pub use Rattle.logos_parser.specs.Refusals.{IsMemory, Refuses}
 pub use Rattle.logos_pattern.specs.Leaf.{kind_value}
 pub use Rattle.logos_text.specs.Arounds.{around_value}
+pub use Rattle.logos_text.specs.FrontRuns.{front_runs, text_runs}
 pub use Rattle.logos_text.specs.Occurrence.{OccurInOrder}
+pub use Rattle.logos_text.specs.Pieces.{ArePrinted}
 pub use Rattle.logos_text.specs.Texts.{texts_of}
-pub use Rattle.logos_token.specs.Views.{stream_tokens}
+pub use Rattle.logos_token.specs.Views.{stream_tokens, tokens_of}
+pub use Rattle.logos_type.specs.TypeTrees.{type_tree}
 pub use Rattle.std.specs.Coded.{codes}
 pub use Rattle.std.specs.List.{All}
 pub use Rattle.std.specs.Option.{option_map_or}
 pub use Rattle.std.specs.Str.{IsUtf8}
 pub use mir.Syntax.{named}
+pub use Rattle.logos_codegen.specs.Around.{IsAroundOf, around_given, error_run, error_tree, input_text}
 pub use Rattle.logos_codegen.specs.Given.{IsGiven, KeepsEnum, error_callback, variant_at}
 pub use Rattle.logos_codegen.specs.RunLaws.{RunsAreCut}
 pub use Rattle.logos_codegen.specs.Source.{IsAccepted, IsRefused, IsWithinLimits, IsWithinSizes}

@@ -1,8 +1,9 @@
-pub mod Fronts
 pub mod Texts
 pub mod Rules
 pub mod Source
 pub mod Given
+pub mod Around
+pub mod Fronts
 pub mod Refusals
 pub mod RunLaws
 pub mod Tokenizing

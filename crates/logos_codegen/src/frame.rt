@@ -1,14 +1,13 @@
-//! The texts around the body of a lexer. `Generated` prints its text with them.
+//! What is printed around the body of a lexer. `Generated` prints its text with it.
 
-ghost use Rattle.std.specs.Prelude.{◌≡◌, ◌++◌, IfOk, option_map, option_copied, string_bytes};
-ghost use Rattle.logos_codegen.specs.Views.{stream_tokens, error_view, run_in, around_value, error_type_text, extras_text, gap_after_run, input_text, library_text};
+ghost use Rattle.std.specs.Prelude.{◌≡◌, option_map, option_copied};
+ghost use Rattle.logos_codegen.specs.Views.{around_options, around_value, error_run, error_tree, error_view, input_text, run_in, stream_tokens, tokens_of, type_tree};
 
 use logos_definition::error_type::ErrorType;
-use logos_text::{Around, gap_after};
-use logos_token::error::Memory;
-use logos_token::token::{TokenStream, print};
+use logos_text::Around;
+use logos_token::token::{TokenStream, Tokens};
 use logos_token::util::MaybeVoid;
-use std::alloc::Global;
+use logos_type::TypeExpr;
 
 /// The options of a source that the texts around its code depend on.
 #[derive(Drop)]
@@ -19,54 +18,16 @@ pub(crate) struct AroundOptions<'s> {
     pub(crate) extras: MaybeVoid<'s>,
 }
 
-/// The texts around a code, each with the gap after it.
-#[derive(Drop)]
-pub(crate) struct AroundTexts {
-    /// The path of the library.
-    logos: String,
-    /// The type of errors.
-    error: String,
-    /// The type of extras.
-    extras: String,
-}
-
-/// Returns the texts around a code with these options.
-///
-/// # Errors
-///
-/// Returns `Memory` if memory runs out.
-pub(crate) fn around_texts(
-    alloc: Global,
-    options: &AroundOptions<'_>,
-) -> Result<AroundTexts, Memory>
-    ensures logos { IfOk result (λ texts. string_bytes texts.logos
-        ≡ library_text (option_map stream_tokens options.now.library)) }
-    ensures error { IfOk result (λ texts. string_bytes texts.error
-        ≡ error_type_text (option_map error_view options.now.error_type)) }
-    ensures extras { IfOk result (λ texts. string_bytes texts.extras
-        ≡ extras_text (run_in options.now.extras)) }
-{
-    Ok(AroundTexts {
-        logos: library_text(alloc, options.library.as_ref())?,
-        error: error_text(alloc, options.error_type.as_ref())?,
-        extras: extras_text(alloc, &options.extras)?,
-    })
-}
-
-impl AroundTexts {
-    /// Returns the texts, with the type of inputs.
-    pub(crate) fn around(&self, utf8_mode: bool) -> Around<'_>
-        ensures { around_value result ≡ record {
-          logos = string_bytes self.now.logos;
-          error = string_bytes self.now.error;
-          extras = string_bytes self.now.extras;
-          source = input_text utf8_mode;
-        } }
+impl<'s> AroundOptions<'s> {
+    /// Returns what is printed around a code with these options.
+    pub(crate) fn around(&self, utf8_mode: bool) -> Around<'_, 's>
+        ensures { around_value result ≡ around_options self.now utf8_mode }
     {
         Around {
-            logos: self.logos.as_str(),
-            error: self.error.as_str(),
-            extras: self.extras.as_str(),
+            logos: run_of(self.library.as_ref()),
+            error: error_run(self.error_type.as_ref()),
+            error_type: read_type(self.error_type.as_ref()),
+            extras: run_in(&self.extras),
             source: input_text(utf8_mode),
         }
     }
@@ -79,50 +40,44 @@ fn input_text(utf8_mode: bool) -> &'static str
     if utf8_mode { "str " } else { "[ u8 ] " }
 }
 
-/// Returns the text with the gap after it.
-fn with_gap(text: String, gap: &str) -> Result<String, Memory>
-    ensures { IfOk result (λ whole. string_bytes whole ≡ string_bytes text ++ gap.now) }
-{
-    let mut text = text;
-    text.push_str(gap)?;
-    Ok(text)
-}
-
-/// Returns the gap to print after `tokens`, or after `( )` when they are left out.
-fn gap_after_void(tokens: &MaybeVoid<'_>) -> &'static str
-    ensures { result.now ≡ gap_after_run (run_in tokens.now) }
-{
-    match tokens {
-        MaybeVoid::Some(stream) => gap_after(stream.run()),
-        MaybeVoid::Void => " ",
-    }
-}
-
-/// Returns the text of the path of the library, with the gap after it.
-fn library_text(alloc: Global, path: Option<&TokenStream<'_>>) -> Result<String, Memory>
-    ensures { IfOk result (λ text. string_bytes text
-        ≡ library_text (option_map stream_tokens (option_copied path.entry))) }
+/// Returns the tokens of a path, if there is one.
+fn run_of<'t, 's>(path: Option<&'t TokenStream<'s>>) -> Option<Tokens<'t, 's>>
+    ensures { option_map tokens_of result ≡ option_map stream_tokens (option_copied path.entry) }
 {
     match path {
-        Some(stream) => with_gap(print(alloc, stream.run())?, gap_after(stream.run())),
-        None => Ok(String::from_str(alloc, ":: logos ")?),
+        Some(stream) => Some(stream.run()),
+        None => None,
     }
 }
 
-/// Returns the text of the type of errors, with the gap after it.
-fn error_text(alloc: Global, error: Option<&ErrorType<'_>>) -> Result<String, Memory>
-    ensures { IfOk result (λ text. string_bytes text
-        ≡ error_type_text (option_map error_view (option_copied error.entry))) }
+/// Returns the tokens of a type, if it has some.
+fn run_in<'t, 's>(tokens: &'t MaybeVoid<'s>) -> Option<Tokens<'t, 's>>
+    ensures { option_map tokens_of result ≡ run_in tokens.now }
+{
+    match tokens {
+        MaybeVoid::Some(stream) => Some(stream.run()),
+        MaybeVoid::Void => None,
+    }
+}
+
+/// Returns the tokens of the type of errors, if it has some.
+fn error_run<'t, 's>(error: Option<&'t ErrorType<'s>>) -> Option<Tokens<'t, 's>>
+    ensures { option_map tokens_of result
+        ≡ error_run (option_map error_view (option_copied error.entry)) }
 {
     match error {
-        Some(error) => with_gap(error.print(alloc)?, gap_after_void(&error.ty)),
-        None => Ok(String::from_str(alloc, "( ) ")?),
+        Some(error) => run_in(&error.ty),
+        None => None,
     }
 }
 
-/// Returns the text of the type of extras, with the gap after it.
-fn extras_text(alloc: Global, extras: &MaybeVoid<'_>) -> Result<String, Memory>
-    ensures { IfOk result (λ text. string_bytes text ≡ extras_text (run_in extras.now)) }
+/// Returns the type of errors as it was read, if it was.
+fn read_type<'t, 's>(error: Option<&'t ErrorType<'s>>) -> Option<&'t TypeExpr<'s>>
+    ensures { option_map type_tree (option_copied result)
+        ≡ error_tree (option_map error_view (option_copied error.entry)) }
 {
-    with_gap(extras.print(alloc)?, gap_after_void(extras))
+    match error {
+        Some(error) => error.type_expr.as_ref(),
+        None => None,
+    }
 }

@@ -2,8 +2,9 @@
 
 ghost use Rattle.std.specs.Prelude.{◌≡◌, ◌<◌, ◌↔◌, ◌∷◌, ◌++◌, Bool, List, [], length, map, flat_map, option_map, IfOk, IfErr, IsErrAnd, OnOk, IsTrue, string_bytes, option_copied};
 ghost use Rattle.logos_codegen.specs.Views.{Rule, fault_of, ident_slice, callback_view, parser_view, kind_value, utf8_mode, IsGraphOf, rules_of, KeepsGiven, IsLexer, HeadHasItsType, IsHeadOf, analysis_view, too_long, Refuses, IsMemory, OccurInOrder, texts_of, named_leaf, reported_as, IsGiven, KeepsEnum, error_callback, variant_at, RunsAreCut, IsAccepted, IsRefused, IsWithinSizes, IsWithinLimits, IsLimit, ReportsGraph, IsFaultless, AreGraphFaults, IsGraphMade, BeginsImplementation, IsFrontOf};
+ghost use Rattle.logos_codegen.specs.Views.{ArePrinted, IsAroundOf, around_given, around_made, front_runs, text_runs};
 
-use crate::frame::{AroundOptions, around_texts};
+use crate::frame::AroundOptions;
 use crate::reports::report_fault;
 use logos_definition::parser::{ExportPath, Parser};
 use logos_generator::code::Code;
@@ -13,7 +14,7 @@ use logos_hir::leaf::LeafId;
 use logos_parser::analysis::{Analysis, analyze};
 use logos_parser::refusal::Refusal;
 use logos_pattern::leaf::{Callback, Leaf};
-use logos_text::{front_in, text_in};
+use logos_text::{Sink, front_in, text_in};
 use logos_token::error::{Errors, FaultCode, Memory};
 use logos_token::token::{Ident, Span};
 use logos_type::TypeExpr;
@@ -64,22 +65,47 @@ impl Generated<'_> {
         // It begins with the head of the implementation, by the options of the source.
         ensures begins { IfOk result (λ text. BeginsImplementation self.now (string_bytes text)) }
     {
-        let texts = around_texts(alloc, &self.options)?;
-        text_in(alloc, &self.code, texts.around(self.graph.utf8_mode()))
+        Ok(self.printed(alloc)?.text)
     }
 
-    /// Returns the beginning of the Rust text of a lexer by tables: the implementation of `Logos`
-    /// for the enum, as printed tokens, up to the functions for errors, matches and tokens in the
-    /// body of the function that lexes. The tables follow it.
+    /// Returns the same text with the pieces of the source in it.
     ///
     /// # Errors
     ///
     /// Returns `Memory` if memory runs out.
-    pub fn front(&self, alloc: Global) -> Result<String, Memory>
-        ensures { IfOk result (λ text. IsFrontOf self.now (string_bytes text)) }
+    pub fn printed(&self, alloc: Global) -> Result<Sink, Memory>
+        ensures occur { IfOk result (λ sink.
+            OccurInOrder (texts_of self.now.code) (string_bytes sink.text)) }
+        ensures begins { IfOk result (λ sink. BeginsImplementation self.now (string_bytes sink.text)) }
+        // Each piece is tokens of the source, and these are all of them.
+        ensures pieces { IfOk result (λ sink. ArePrinted (text_runs (around_made self.now) self.now.code)
+            0 sink.pieces.items (string_bytes sink.text)) }
     {
-        let texts = around_texts(alloc, &self.options)?;
-        front_in(alloc, &self.code, texts.around(self.graph.utf8_mode()))
+        text_in(
+            alloc,
+            &self.code,
+            self.options.around(self.graph.utf8_mode()),
+        )
+    }
+
+    /// Returns the beginning of the Rust text of a lexer by tables: the implementation of `Logos`
+    /// for the enum, as printed tokens, up to the functions for errors, matches and tokens in the
+    /// body of the function that lexes. The tables follow it. The pieces of the source in it are
+    /// returned with it.
+    ///
+    /// # Errors
+    ///
+    /// Returns `Memory` if memory runs out.
+    pub fn front(&self, alloc: Global) -> Result<Sink, Memory>
+        ensures front { IfOk result (λ sink. IsFrontOf self.now (string_bytes sink.text)) }
+        ensures pieces { IfOk result (λ sink. ArePrinted (front_runs (around_made self.now) self.now.code)
+            0 sink.pieces.items (string_bytes sink.text)) }
+    {
+        front_in(
+            alloc,
+            &self.code,
+            self.options.around(self.graph.utf8_mode()),
+        )
     }
 }
 
@@ -296,6 +322,8 @@ fn put_together<'s>(code: Code<'s>, graph: Graph<'s>, head: EnumHead<'s>) -> Gen
         × (result.name ≡ head.entry.name) }
     ensures path { option_map string_bytes result.export_path
         ≡ option_map (λ e. e.path) (parser_view head.entry.options).export_path }
+    ensures around { around_made result
+        ≡ around_given (parser_view head.entry.options) graph.entry.utf8 }
 {
     let EnumHead { name, options, .. } = head;
     let Parser {
@@ -341,6 +369,8 @@ pub fn generate<'s>(alloc: Global, src: &'s str, config: Config) -> Result<Gener
     // the enum's, and the path is that of `export_dir`.
     ensures given { IfOk result (λ made. IsGiven src.now config made.graph made.code
         (ident_slice made.name) (option_map string_bytes made.export_path)) }
+    // What is printed around the lexer is that of the options of the source.
+    ensures around { IfOk result (λ made. IsAroundOf src.now made.graph (around_made made)) }
     // The length of the source, its nesting and the size of its trees are within their limits.
     ensures within { IfOk result (λ made. IsWithinSizes src.now (rules_of made.graph.leaves)) }
     // From each point of each input the code finds exactly what maximal munch finds there.

@@ -3,4 +3,3 @@
 pub use Rattle.std.specs.List.{All}
 pub use Rattle.logos_report.specs.Sets.{next_value, sizes_of}
 pub use Rattle.logos_token.specs.FaultView.{fault_of, faults_of}
-pub use Rattle.logos_derive.specs.Parts.{IsPartOf, OccursAt}

@@ -1,4 +1,3 @@
-pub mod Parts
 pub mod Implementations
 pub mod Diagnostics
 pub mod Derivations

@@ -5,22 +5,23 @@ ghost use Rattle.logos_derive.specs.Views.{All, HasErrors, IsAcceptedBy, IsDeriv
 
 use crate::diagnostic::Diagnostic;
 use crate::errors::errors_of;
-use crate::implementation::{Implementation, implementation_of};
 use crate::warnings::warnings_of;
-use logos_causes::{Explained, explain_enum, lexer_warnings};
+use logos_causes::{Explained, Lexer, accepted_warnings, explain_enum};
 use logos_codegen::{Generated, Refusal, generate};
 use logos_help::add_helps;
 use logos_report::{Part, Source};
-use logos_tables::{Shape, config_of};
+use logos_tables::{Shape, config_of, lexer_text};
+use logos_text::Sink;
 use logos_token::error::{Errors, Memory};
-use logos_warnings::{Origin, enum_warnings};
+use logos_token::token::{Tokens, tokenize};
+use logos_warnings::Origin;
 use std::alloc::Global;
 
 /// The result of deriving an enum.
 #[derive(Debug, Drop)]
 pub struct Derivation {
     /// The implementation, if the enum is accepted.
-    pub implementation: Option<Implementation>,
+    pub implementation: Option<Sink>,
     /// The errors, in the order of the faults, and then the warnings.
     pub diagnostics: Vec<Diagnostic>,
 }
@@ -51,9 +52,9 @@ fn accepted(
     shape: Shape,
     made: &Generated<'_>,
 ) -> Result<Derivation, Memory>
-    ensures { IfOk result (IsAcceptedBy shape (around_made made.now) made.now.code source.now) }
+    ensures { IfOk result (IsAcceptedBy shape (around_made made.now) made.now.code) }
 {
-    let implementation = implementation_of(alloc, source, shape, made)?;
+    let implementation = lexer_text(alloc, shape, made)?;
     let diagnostics = warnings_by(alloc, source, made)?;
     Ok(Derivation {
         implementation: Some(implementation),
@@ -65,10 +66,26 @@ fn accepted(
 fn warnings_by(alloc: Global, source: &str, made: &Generated<'_>) -> Result<Vec<Diagnostic>, Memory>
     ensures { IfOk result (λ diagnostics. All IsWarning diagnostics.items) }
 {
-    let mut warned = enum_warnings(alloc, source, true, Origin::Macro)?;
-    let error = made.code.error_callback();
-    let mut more = lexer_warnings(alloc, source, &made.graph, error)?;
-    warned.append(&mut more)?;
+    match tokenize(alloc, source) {
+        Ok(stream) => warnings_with(alloc, stream.run(), made),
+        // The source has tokens, within the limits.
+        Err(_) => Err(Memory),
+    }
+}
+
+/// Returns the warnings of an accepted source with these tokens.
+fn warnings_with(
+    alloc: Global,
+    tokens: Tokens<'_, '_>,
+    made: &Generated<'_>,
+) -> Result<Vec<Diagnostic>, Memory>
+    ensures { IfOk result (λ diagnostics. All IsWarning diagnostics.items) }
+{
+    let lexer = Lexer {
+        graph: &made.graph,
+        error: made.code.error_callback(),
+    };
+    let warned = accepted_warnings(alloc, tokens, lexer, Origin::Macro)?;
     warnings_of(alloc, &warned)
 }
 

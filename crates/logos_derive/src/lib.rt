@@ -3,20 +3,13 @@
 
 #![tactic(auto)]
 
-mod calls;
 mod derivation;
 mod diagnostic;
 mod errors;
-mod implementation;
 mod joined;
 mod notes;
-mod options;
-mod parts;
-mod placing;
-mod printed;
 mod warnings;
 
-pub use calls::{Call, calls_in};
 pub use derivation::{Derivation, derive};
 pub use diagnostic::{Diagnostic, Label, Level, Note};
-pub use implementation::{Implementation, Piece};
+pub use logos_text::{Piece, Sink};

@@ -6,6 +6,7 @@ use Rattle.std.proofs.Math.ListN.{drop_of_length-le}
 use Rattle.logos_codegen.specs.Imports.{Rule}
 use Rattle.logos_code.specs.Code.{CodeValue}
 use Rattle.logos_tables.specs.declared.shape.Shape.{Shape}
+use Rattle.logos_codegen.specs.Around.{IsAroundOf}
 use Rattle.logos_codegen.specs.Given.{IsGiven}
 use Rattle.logos_codegen.specs.Source.{IsAccepted, IsRefused, IsWithinSizes}
 use Rattle.logos_expand.specs.declared.expansion.Gathered.{Gathered}
@@ -15,6 +16,7 @@ use Rattle.logos_report.specs.declared.clues.Clues.{Clues}
 use Rattle.logos_report.specs.declared.file_report.Refused.{Refused}
 use Rattle.logos_expand.specs.Expanding.{IsExpansion, IsExpanded, IsFileOf, IsUnreadable, Replaces, text_at}
 use Rattle.logos_tables.specs.Shapes.{config_of}
+use Rattle.logos_text.specs.Fronts.{AroundValue}
 use Rattle.logos_expand.specs.Expanding.Replaces.{ended as r_ended, stays as r_stays, yields as r_gives}
 use Rattle.logos_expand.specs.Heads.{IsFileWith}
 use Rattle.logos_expand.specs.inside.Steps.{AddsRefusal, AreFaultsOf, GathersOne, IsExpansionBy}
@@ -179,8 +181,8 @@ ordered_parts shape text found gathered g o = order_parts shape text found gathe
 
 -- ---- the expansion of an enum
 
-pub expansion_made : (shape : Shape) (source shown : List ℕ) (graph : GraphValue) (code : CodeValue) (name : Slice) (export : Option (List ℕ)) → IsGiven source (config_of shape) graph code name export → IsExpansionBy shape code source shown → IsExpansion shape source shown
-expansion_made shape source shown graph code name export g b = record {
+pub expansion_made : (shape : Shape) (around : AroundValue) (source shown : List ℕ) (graph : GraphValue) (code : CodeValue) (name : Slice) (export : Option (List ℕ)) → IsGiven source (config_of shape) graph code name export → IsAroundOf source graph around → IsExpansionBy shape around code source shown → IsExpansion shape source shown
+expansion_made shape around source shown graph code name export g o b = record {
   left = b.left;
   written = b.prints.written;
   by_name = b.prints.by_name;
@@ -188,7 +190,7 @@ expansion_made shape source shown graph code name export g b = record {
   laid = b.prints.laid;
   stripped = b.stripped;
   is_written = b.prints.is_written;
-  is_lexer = record { graph = graph; code = code; name = name; export = export; given = g; around = b.prints.around; occur = b.prints.occur };
+  is_lexer = record { around = around; code = code; lexer = record { graph = graph; name = name; export = export; given = g; is_around = o }; occur = b.prints.occur };
   is_laid_out = b.prints.is_laid_out;
   is = b.prints.is;
 }

@@ -1,16 +1,16 @@
 //! Expands the derive of the lexers in a file. Called by `logos_cli`.
 
 ghost use Rattle.std.specs.Prelude.{◌≡◌, ◌≤◌, ◌++◌, All, IfErr, IfOk, IsTrue, OnOk, length, map, string_bytes};
-ghost use Rattle.logos_expand.specs.Views.{IsRefused, AreInOrder, IsFoundCut, found_span, part_span, AreEnumsOf, OccurInOrder, Refuses, IsExpanded, IsExpansion, IsFileOf, IsUnreadable, AreRefused, EndsWithLines, FailsFor, GathersAll, ShowsRefused, refused_texts, AddsRefusal, GathersOne, HasSets, IsExpansionBy, sizes_of, SpellsEnum};
+ghost use Rattle.logos_expand.specs.Views.{IsRefused, AreInOrder, IsFoundCut, found_span, part_span, AreEnumsOf, OccurInOrder, Refuses, IsExpanded, IsExpansion, IsFileOf, IsUnreadable, AreRefused, EndsWithLines, FailsFor, GathersAll, ShowsRefused, refused_texts, AddsRefusal, GathersOne, HasSets, IsExpansionBy, around_made, sizes_of, Spells, SpellsEnum, tokens_of};
 
 use crate::head::with_head;
 use crate::printer::{Site, printed_with};
-use logos_causes::{Explained, explain_enum};
+use logos_causes::{Explained, Lexer, explain_enum};
 use logos_codegen::error::Memory;
 use logos_codegen::{Generated, Refusal, generate};
 use logos_file_warnings::{
-    Showing, add_lexer, add_missing, add_passed, add_text, add_warnings, denial_text, push_warned,
-    text_of, warning_lines, warning_text,
+    Showing, add_accepted, add_missing, add_passed, add_text, add_warnings, denial_text,
+    push_warned, text_of, warning_lines, warning_text,
 };
 use logos_help::add_helps;
 use logos_host::{Failure, MessageFormat};
@@ -19,9 +19,10 @@ use logos_page::Page;
 use logos_report::{
     Clues, Part, Refused, Source, Warning, count_errors, push_refused, push_summary,
 };
-use logos_rust_file::{FoundEnum, Replacement, enums_in, replace};
+use logos_rust_file::{FoundEnum, ReadFile, Replacement, read_file, replace};
 use logos_strip::stripper::strip_enum;
 use logos_tables::{Shape, config_of};
+use logos_token::token::{Tokens, tokenize};
 use logos_warnings::Origin;
 use std::alloc::{AllocError, Global};
 
@@ -56,11 +57,10 @@ pub fn expand<'w>(
     ensures done { IfOk result (λ made. IsExpanded shape source.now.text made.bytes.items) }
     ensures denied { IfErr result (FailsFor showing.format showing.denies shape source.now) }
 {
-    let found = match enums_in(showing.alloc, source.text()) {
-        Ok(found) => found,
-        Err(refusal) => return Err(refused_whole(source, showing, refusal)),
-    };
-    expand_enums(source, shape, showing, &found)
+    match read_file(showing.alloc, source.text()) {
+        Ok(file) => expand_enums(source, shape, showing, &file),
+        Err(refusal) => Err(refused_whole(source, showing, refusal)),
+    }
 }
 
 /// Returns the refusal of a file that cannot be read into tokens.
@@ -76,16 +76,16 @@ fn refused_whole<'w>(source: &Source<'_>, showing: Showing, refusal: Refusal) ->
     }
 }
 
-/// Returns a file with these enums expanded.
+/// Returns a file that was read with its enums expanded.
 fn expand_enums<'w>(
     source: &Source<'_>,
     shape: Shape,
     showing: Showing,
-    found: &[FoundEnum],
+    file: &ReadFile<'_>,
 ) -> Result<Expansion, Failure<'w>>
-    requires enums { AreEnumsOf source.now.text found.now }
-    requires order { AreInOrder 0 (map found_span found.now) (length source.now.text) }
-    requires cut { All (IsFoundCut source.now.text) found.now }
+    requires enums { AreEnumsOf source.now.text file.now.found.items }
+    requires order { AreInOrder 0 (map found_span file.now.found.items) (length source.now.text) }
+    requires cut { All (IsFoundCut source.now.text) file.now.found.items }
     ensures done { IfOk result (λ made. IsExpanded shape source.now.text made.bytes.items) }
     ensures denied { IfErr result (FailsFor showing.format showing.denies shape source.now) }
 {
@@ -96,9 +96,9 @@ fn expand_enums<'w>(
         offset: 0,
         by_name: has_import(source),
     };
-    let gathered = gather(source.text(), site, found, &mut warned)?;
-    add_passed(source.text(), found, &mut warned)?;
-    add_missing(showing, found, &mut warned)?;
+    let gathered = gather(source.text(), site, &file.found, &mut warned)?;
+    add_passed(file.stream.run(), &file.found, &mut warned)?;
+    add_missing(showing, &file.found, &mut warned)?;
     if gathered.refused.is_empty() {
         return accepted_file(source, shape, showing, &gathered.parts, &warned);
     }
@@ -284,18 +284,35 @@ fn expansion_by(
 ) -> Result<String, Memory>
     requires { SpellsEnum source.now }
     ensures { IfOk result (λ text.
-        IsExpansionBy site.entry.shape made.now.code source.now (string_bytes text)) }
+        IsExpansionBy site.entry.shape (around_made made.now) made.now.code source.now (string_bytes text)) }
+{
+    match tokenize(*warned.allocator(), source) {
+        Ok(stream) => expansion_with(source, stream.run(), site, made, warned),
+        // The source has tokens, within the limits.
+        Err(_) => Err(Memory),
+    }
+}
+
+/// Returns the same of an enum with these tokens.
+fn expansion_with(
+    source: &str,
+    tokens: Tokens<'_, '_>,
+    site: Site<'_, '_>,
+    made: &Generated<'_>,
+    warned: &mut Vec<Warning>,
+) -> Result<String, Memory>
+    requires known { SpellsEnum source.now }
+    requires spelled { Spells source.now (tokens_of tokens) }
+    ensures { IfOk result (λ text.
+        IsExpansionBy site.entry.shape (around_made made.now) made.now.code source.now (string_bytes text)) }
 {
     let alloc = *warned.allocator();
-    add_text(source, site.offset, true, warned)?;
-    add_lexer(
-        source,
-        site.offset,
-        &made.graph,
-        made.code.error_callback(),
-        warned,
-    )?;
-    let left = strip_enum(alloc, source)?;
+    let lexer = Lexer {
+        graph: &made.graph,
+        error: made.code.error_callback(),
+    };
+    add_accepted(tokens, site.offset, lexer, warned)?;
+    let left = strip_enum(alloc, source, tokens)?;
     printed_with(alloc, source, left.run(), site, made)
 }
 

@@ -2,15 +2,15 @@
 //! implementation. Called by `expansion`.
 
 ghost use Rattle.std.specs.Prelude.{◌≡◌, ◌++◌, true, IfOk, OnOk, string_bytes};
-ghost use Rattle.logos_expand.specs.Views.{tokens_of, IsLaidOut, IsGuard, IsGuarded, are_blanks, guard_text, import_under, lexer_under, under, IsPrintedWith};
+ghost use Rattle.logos_expand.specs.Views.{around_made, tokens_of, IsLaidOut, IsGuard, IsGuarded, are_blanks, guard_text, import_under, lexer_under, under, IsPrintedWith};
 
 use logos_codegen::Generated;
 use logos_codegen::error::Memory;
 use logos_codegen::token::Tokens;
-use logos_derive::calls_in;
 use logos_layout::{Note, Setting, lay_out, push_conditions, write_left};
 use logos_report::Source;
 use logos_tables::{Shape, lexer_text};
+use logos_text::{Call, Sink};
 use std::alloc::Global;
 
 /// The location of an enum, and the shape of its lexer.
@@ -57,8 +57,8 @@ pub(crate) fn printed_with(
         (tokens_of left.entry) (string_bytes text)) }
 {
     let lexer = lexer_text(alloc, site.shape, made)?;
-    let whole = under(alloc, site.by_name, left, lexer.as_str())?;
-    let laid = laid_out(alloc, whole.as_str(), site, made)?;
+    let whole = under(alloc, site.by_name, left, lexer.text.as_str())?;
+    let laid = laid_out(alloc, whole.as_str(), site, &lexer)?;
     let mut text = guarded(alloc, source, left, site)?;
     text.push('\n')?;
     text.push_str(laid.as_str())?;
@@ -159,17 +159,12 @@ fn are_blanks(bytes: &[u8]) -> bool
     true
 }
 
-/// Returns the text of a lexer with its attributes, laid out. The line of the file stands at each
-/// callback.
-fn laid_out(
-    alloc: Global,
-    whole: &str,
-    site: Site<'_, '_>,
-    made: &Generated<'_>,
-) -> Result<String, Memory>
+/// Returns a text that ends with a lexer, laid out. The line of the file stands at each callback.
+fn laid_out(alloc: Global, whole: &str, site: Site<'_, '_>, lexer: &Sink) -> Result<String, Memory>
     ensures { IfOk result (λ laid. IsLaidOut whole.now (string_bytes laid)) }
 {
-    let notes = notes_of(alloc, whole, site, made)?;
+    let start = whole.len().saturating_sub(lexer.text.len());
+    let notes = notes_of(alloc, start, site, &lexer.calls)?;
     let margin = margin_at(site.file.text(), site.offset);
     let setting = Setting {
         margin,
@@ -178,19 +173,19 @@ fn laid_out(
     lay_out(alloc, whole, setting)
 }
 
-/// Returns the lines of the file at which the callbacks stand that a lexer calls.
+/// Returns the lines of the file at which callbacks stand that a lexer calls, whose text begins at
+/// an offset.
 fn notes_of(
     alloc: Global,
-    lexer: &str,
+    start: usize,
     site: Site<'_, '_>,
-    made: &Generated<'_>,
+    calls: &[Call],
 ) -> Result<Vec<Note>, Memory> {
-    let calls = calls_in(alloc, &made.code, lexer)?;
     let mut notes = Vec::new(alloc);
-    for call in &calls {
+    for call in calls {
         let from = site.offset.saturating_add(call.from);
         notes.push(Note {
-            offset: call.offset,
+            offset: start.saturating_add(call.offset),
             line: site.file.location(from).line,
         })?;
     }

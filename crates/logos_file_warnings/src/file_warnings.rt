@@ -4,16 +4,14 @@
 ghost use Rattle.std.specs.Prelude.{◌≡◌, IfOk, [], string_bytes};
 ghost use Rattle.logos_page.specs.Pages.{Shows};
 
-use logos_causes::lexer_warnings;
-use logos_graph::graph::Graph;
+use logos_causes::{Lexer, accepted_warnings};
 use logos_host::MessageFormat;
 use logos_messages::push_warning_messages;
 use logos_page::Page;
-use logos_pattern::leaf::Callback;
 use logos_report::{Part, Source, Warning, push_warnings};
 use logos_rust_file::FoundEnum;
 use logos_token::error::Memory;
-use logos_token::token::Span;
+use logos_token::token::{Span, Tokens};
 use logos_warnings::{Origin, enum_warnings, fixed_warning, passed_over};
 use std::alloc::{AllocError, Global};
 
@@ -73,28 +71,28 @@ pub fn add_text(
     add_warnings(offset, warnings, warned)
 }
 
-/// Adds the warnings of the lexer of an enum, whose text begins at an offset of a file. It may have
-/// a callback for errors.
-pub fn add_lexer(
-    text: &str,
+/// Adds the warnings of an enum without faults that derives `Logos`, and of its lexer. The enum has
+/// these tokens, and begins at an offset of a file.
+pub fn add_accepted(
+    tokens: Tokens<'_, '_>,
     offset: usize,
-    graph: &Graph<'_>,
-    error: Option<&Callback<'_>>,
+    lexer: Lexer<'_, '_>,
     warned: &mut Vec<Warning>,
 ) -> Result<(), Memory> {
-    let warnings = lexer_warnings(*warned.allocator(), text, graph, error)?;
+    let warnings = accepted_warnings(*warned.allocator(), tokens, lexer, Origin::File)?;
     add_warnings(offset, warnings, warned)
 }
 
-/// Adds the warnings of entries of `derive` that are passed over in a file with these enums.
+/// Adds the warnings of entries of `derive` that are passed over in a file with these tokens and
+/// these enums.
 pub fn add_passed(
-    text: &str,
+    tokens: Tokens<'_, '_>,
     found: &[FoundEnum],
     warned: &mut Vec<Warning>,
 ) -> Result<(), Memory> {
     let alloc = *warned.allocator();
     let spans = spans_of(alloc, found)?;
-    let warnings = passed_over(alloc, text, &spans)?;
+    let warnings = passed_over(alloc, tokens, &spans)?;
     add_warnings(0, warnings, warned)
 }
 

@@ -6,6 +6,6 @@
 mod file_warnings;
 
 pub use file_warnings::{
-    Showing, add_lexer, add_missing, add_passed, add_text, add_warnings, denial_text, has_lexer,
+    Showing, add_accepted, add_missing, add_passed, add_text, add_warnings, denial_text, has_lexer,
     push_warned, text_of, warning_lines, warning_text,
 };

@@ -1,7 +1,7 @@
-//! The enums of a file. `logos_cli` and `logos_show` call `enums_in` once for each file.
+//! The enums of a file. `logos_cli` and `logos_show` call `read_file` or `enums_in` once for each file.
 
 ghost use Rattle.std.specs.Prelude.{◌≡◌, ◌∷◌, [], All, IfOk, IfErr, OnOk, length, map};
-ghost use Rattle.logos_rust_file.specs.Views.{Fault, tokens_of, EndsReading, Refuses, AreEnumsOf, Describes, Finds, AreInOrder, IsFoundCut, found_span, AddsItem, AddsRun};
+ghost use Rattle.logos_rust_file.specs.Views.{Fault, Spells, stream_tokens, tokens_of, EndsReading, Refuses, AreEnumsOf, Describes, Finds, AreInOrder, IsFoundCut, found_span, AddsItem, AddsRun};
 
 use crate::derives::derives;
 use crate::fronts::{ItemKind, kind_of, name_of};
@@ -9,7 +9,7 @@ use crate::names::derives_by_name;
 use logos_parser::ending_faults::unreadable;
 use logos_parser::refusal::Refusal;
 use logos_token::error::Memory;
-use logos_token::token::{Span, Tokens, tokenize};
+use logos_token::token::{Span, TokenStream, Tokens, tokenize};
 use std::alloc::Global;
 
 /// An enum of a file.
@@ -24,6 +24,15 @@ pub struct FoundEnum {
     pub derives: bool,
     /// Whether one of these entries is `Logos` without a path, which the file then imports.
     pub by_name: bool,
+}
+
+/// A Rust file that was read.
+#[derive(Drop)]
+pub struct ReadFile<'s> {
+    /// Its tokens.
+    pub stream: TokenStream<'s>,
+    /// Its enums, in order.
+    pub found: Vec<FoundEnum>,
 }
 
 /// Returns the enums of a Rust file, in order: those at its top level and those in the bodies of
@@ -41,9 +50,29 @@ pub fn enums_in(alloc: Global, text: &str) -> Result<Vec<FoundEnum>, Refusal>
     ensures unreadable { IfErr result (Refuses (λ faults. (ending : Fault)
         × EndsReading text.now ending × (faults ≡ ending ∷ []))) }
 {
+    match read_file(alloc, text) {
+        Ok(file) => Ok(file.found),
+        Err(refusal) => Err(refusal),
+    }
+}
+
+/// Returns the same enums with the tokens of the file.
+///
+/// # Errors
+///
+/// Returns the same errors.
+pub fn read_file<'s>(alloc: Global, text: &'s str) -> Result<ReadFile<'s>, Refusal>
+    ensures spelled { IfOk result (λ file. Spells text.now (stream_tokens file.stream)) }
+    ensures found { IfOk result (λ file. AreEnumsOf text.now file.found.items) }
+    ensures in_order { IfOk result (λ file.
+        AreInOrder 0 (map found_span file.found.items) (length text.now)) }
+    ensures cut { IfOk result (λ file. All (IsFoundCut text.now) file.found.items) }
+    ensures unreadable { IfErr result (Refuses (λ faults. (ending : Fault)
+        × EndsReading text.now ending × (faults ≡ ending ∷ []))) }
+{
     match tokenize(alloc, text) {
         Ok(stream) => match enums_of(alloc, stream.run()) {
-            Ok(found) => Ok(found),
+            Ok(found) => Ok(ReadFile { stream, found }),
             Err(Memory) => Err(Refusal::Memory),
         },
         Err(error) => Err(unreadable(alloc, text, error)),

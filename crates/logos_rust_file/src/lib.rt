@@ -11,6 +11,6 @@ mod names;
 mod paths;
 mod replacement;
 
-pub use finder::{FoundEnum, enums_in};
+pub use finder::{FoundEnum, ReadFile, enums_in, read_file};
 pub use paths::path_of;
 pub use replacement::{Replacement, replace};

@@ -1,5 +1,5 @@
-//! Walks over folded rows: a chunk of bytes at once, in six blocks side by side and without a
-//! branch for each byte, and the flags of the entries as bits.
+//! Walks over folded rows: a chunk of bytes at once, in six parallel blocks and without a branch
+//! for each byte, and the bit masks of the entries at which attempts end.
 //!
 //! Folded rows are rows of 256 entries. A row is identified by its row offset, the index of its
 //! first entry. The lowest twenty bits of the entry of a byte are the offset of the next row. Its
@@ -15,17 +15,17 @@ pub mod guess;
 pub mod masks;
 pub mod repair;
 
-/// The bits of an entry that are the offset of the next row.
+/// The bits of an entry that name the next row, by its offset.
 pub const PLACE: u32 = 0xF_FFFF;
 
 /// The flag of an entry before whose byte a match ends.
 pub const ENDED: u32 = 1 << 31;
 
-/// The flag of a pending entry.
+/// The flag of an entry at whose byte there is something to do.
 pub const TOKEN: u32 = 1 << 30;
 
-/// Returns the entry of a byte in a row. The byte is added first, since the offset of the row,
-/// which comes from the entry before, is known last.
+/// Returns the entry of a byte in a row. The byte is added first: the offset of the row, which
+/// comes from the entry before, is known last.
 #[inline(always)]
 pub(crate) fn entry_of(rows: &[u32], byte: u8, row_start: usize) -> u32
     requires { IsRowStart rows.now row_start }
@@ -35,7 +35,7 @@ pub(crate) fn entry_of(rows: &[u32], byte: u8, row_start: usize) -> u32
     column[row_start]
 }
 
-/// Steps over the byte at `at`: writes its entry, and returns the next row.
+/// Steps over the byte at `at`: writes its entry, and returns the row that it names.
 #[inline(always)]
 pub fn step(rows: &[u32], text: &[u8], row_start: usize, trace: &mut [u32], at: usize) -> usize
     requires closed { IsClosed rows.now }

@@ -6,12 +6,13 @@ ghost use Rattle.logos_show.specs.Orders.{IsNoMisuse};
 use crate::choice::has_name;
 use crate::refusals::{refusal_of, refused, refused_with, text_of};
 use logos_answers::{push_costs, push_examples, push_rows};
-use logos_causes::{Explained, explain_enum};
+use logos_causes::{Explained, Lexer, explain_enum};
 use logos_codegen::error::Memory;
 use logos_codegen::generator::Config;
+use logos_codegen::token::{TokenStream, tokenize};
 use logos_codegen::{Generated, generate};
 use logos_file_warnings::{
-    Showing, add_lexer, add_missing, add_passed, add_text, add_warnings, denial_text, has_lexer,
+    Showing, add_accepted, add_missing, add_passed, add_text, add_warnings, denial_text, has_lexer,
     warning_text,
 };
 use logos_host::Failure;
@@ -22,7 +23,7 @@ use logos_records::{
     JsonLines, NamedGraph, push_cost_record, push_example_records, push_leaf_records,
 };
 use logos_report::{Part, Source, Warning};
-use logos_rust_file::{FoundEnum, enums_in};
+use logos_rust_file::{FoundEnum, read_file};
 use logos_warnings::Origin;
 use std::alloc::Global;
 use std::mem;
@@ -94,15 +95,15 @@ pub(crate) fn shown_of(
     ensures { IfErr result IsNoMisuse }
 {
     let whole = Part { source, offset: 0 };
-    let found = match enums_in(alloc, source.text()) {
-        Ok(found) => found,
+    let file = match read_file(alloc, source.text()) {
+        Ok(file) => file,
         Err(refusal) => return Err(refused(alloc, whole, style.showing, refusal)),
     };
     let lines = LineIndex::new(alloc, source.text())?;
-    let mut pages = pages_of(&*source, &lines, &found, style, name)?;
-    add_passed(source.text(), &found, &mut pages.warned)?;
-    add_missing(style.showing, &found, &mut pages.warned)?;
-    shown_by(source, pages, !has_lexer(&found))
+    let mut pages = pages_of(&*source, &lines, &file.found, style, name)?;
+    add_passed(file.stream.run(), &file.found, &mut pages.warned)?;
+    add_missing(style.showing, &file.found, &mut pages.warned)?;
+    shown_by(source, pages, !has_lexer(&file.found))
 }
 
 /// Returns the pages of the enums of a file, or of those with a given name.
@@ -240,15 +241,21 @@ fn push_made(
     ensures { IfErr result IsNoMisuse }
 {
     push_form(alloc, pages, one, made)?;
-    add_text(one.text, one.part.offset, true, &mut pages.warned)?;
-    add_lexer(
-        one.text,
-        one.part.offset,
-        &made.graph,
-        made.code.error_callback(),
-        &mut pages.warned,
-    )?;
+    let stream = tokens_of(alloc, one.text)?;
+    let lexer = Lexer {
+        graph: &made.graph,
+        error: made.code.error_callback(),
+    };
+    add_accepted(stream.run(), one.part.offset, lexer, &mut pages.warned)?;
     Ok(())
+}
+
+/// Returns the tokens of an enum that has a lexer: there are some.
+fn tokens_of<'s>(alloc: Global, text: &'s str) -> Result<TokenStream<'s>, Memory> {
+    match tokenize(alloc, text) {
+        Ok(stream) => Ok(stream),
+        Err(_) => Err(Memory),
+    }
 }
 
 /// Appends the leaves of a lexer or its examples, in the form that is asked for.

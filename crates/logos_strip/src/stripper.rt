@@ -1,7 +1,7 @@
 //! Strips sources. `logos strip` and the expansion of files call it.
 
 ghost use Rattle.std.specs.Prelude.{◌≡◌, ◌<◌, [], ◌∷◌, length, IfOk, IfErr, IsErrAnd};
-ghost use Rattle.logos_strip.specs.Views.{source_limit, Fault, stream_tokens, EnumValue, too_long, EndsReading, EndsTokens, Refuses, IsMemory, stripped, AreStripped, IsStripped, SpellsEnum};
+ghost use Rattle.logos_strip.specs.Views.{source_limit, Fault, Spells, stream_tokens, tokens_of, EnumValue, too_long, EndsReading, EndsTokens, Refuses, IsMemory, stripped, AreStripped, IsStripped, SpellsEnum};
 
 use crate::groups::strip_run;
 use crate::spots::Scope;
@@ -9,7 +9,7 @@ use logos_enum::read_enum;
 use logos_parser::ending_faults::{misread, unreadable};
 use logos_parser::refusal::Refusal;
 use logos_token::error::Memory;
-use logos_token::token::{TokenStream, tokenize};
+use logos_token::token::{TokenStream, Tokens, tokenize};
 use std::alloc::Global;
 
 /// Strips the tokens of a source.
@@ -57,19 +57,22 @@ pub fn strip_attributes<'s>(alloc: Global, src: &'s str) -> Result<TokenStream<'
     }
 }
 
-/// Returns the tokens that `strip_attributes` returns, for a source that is known to spell an enum,
-/// such as one from which `generate` has made a lexer. The enum is not read again.
+/// Returns the tokens that `strip_attributes` returns, for the tokens of a source that is known to
+/// spell an enum, such as one from which `generate` has made a lexer. The enum is not read again.
 ///
 /// # Errors
 ///
 /// Returns `Memory` if memory runs out.
-pub fn strip_enum<'s>(alloc: Global, src: &'s str) -> Result<TokenStream<'s>, Memory>
-    requires { SpellsEnum src.now }
+pub fn strip_enum<'s>(
+    alloc: Global,
+    src: &'s str,
+    tokens: Tokens<'_, 's>,
+) -> Result<TokenStream<'s>, Memory>
+    requires known { SpellsEnum src.now }
+    requires spelled { Spells src.now (tokens_of tokens) }
     ensures { IfOk result (λ left. IsStripped src.now (stream_tokens left)) }
 {
-    match tokenize(alloc, src) {
-        Ok(stream) => strip_run(alloc, Scope::Enum, stream.run()),
-        // The source has tokens, within the limits.
-        Err(_) => Err(Memory),
-    }
+    // The source is here for what is known of it alone.
+    let _ = src;
+    strip_run(alloc, Scope::Enum, tokens)
 }

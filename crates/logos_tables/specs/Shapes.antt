@@ -2,6 +2,7 @@
 use Rattle.std.specs.Prelude.{ℕ, List, Option, true}
 use Rattle.logos_code.specs.Code.{CodeValue}
 use Rattle.logos_code.specs.declared.code.Config.{Config}
+use Rattle.logos_codegen.specs.Around.{IsAroundOf}
 use Rattle.logos_codegen.specs.Given.{IsGiven}
 use Rattle.logos_enum.specs.Values.{Slice}
 use Rattle.logos_graph.specs.View.{GraphValue}
@@ -9,8 +10,10 @@ use Rattle.logos_tables.specs.Texts.{HoldsTables}
 use Rattle.logos_tables.specs.declared.shape.Shape.{Shape}
 use Rattle.logos_tables.specs.declared.shape.Shape.TheVariants.{Code, Tables}
 use Rattle.logos_text.specs.Fronts.{AroundValue, BeginsWith, opening_text, short_core}
+use Rattle.logos_text.specs.FrontRuns.{front_runs, text_runs}
 use Rattle.logos_text.specs.Occurrence.{OccurInOrder}
 use Rattle.logos_text.specs.Texts.{texts_of}
+use Rattle.logos_token.specs.Tokens.{TokenList}
 use Rattle.logos_type.specs.Printed.{printed_type}
 use Rattle.logos_type.specs.TypeTrees.{type_tree}
 
@@ -32,12 +35,23 @@ abbrev pub IsShown : Shape → AroundValue → CodeValue → List ℕ → Type 0
 IsShown (Code config) around code shown = IsCodeText around code shown
 IsShown Tables around code shown = HoldsTables around code shown
 
--- This is the generated code for a source without faults, in this shape.
-pub record IsLexerText (shape : Shape) (source shown : List ℕ) : Type 0 where
+-- The tokens of a source that a code repeats in a shape, with this around its function.
+abbrev pub shape_runs : Shape → AroundValue → CodeValue → List TokenList
+shape_runs (Code config) around code = text_runs around code
+shape_runs Tables around code = front_runs around code
+
+-- This is the code of a lexer of a source without faults, in this shape, and this is printed around
+-- its function by the options of the source.
+pub record IsLexerOf (shape : Shape) (source : List ℕ) (around : AroundValue) (code : CodeValue) : Type 0 where
   pub graph : GraphValue
-  pub code : CodeValue
   pub name : Slice
   pub export : Option (List ℕ)
   pub given : IsGiven source (config_of shape) graph code name export
+  pub is_around : IsAroundOf source graph around
+
+-- This is the text of a lexer of a source without faults, in this shape.
+pub record IsLexerText (shape : Shape) (source shown : List ℕ) : Type 0 where
   pub around : AroundValue
+  pub code : CodeValue
+  pub lexer : IsLexerOf shape source around code
   pub occur : IsShown shape around code shown

@@ -1,7 +1,7 @@
 //! Prints a lexer as tables. Called by `shape` for the shape `tables`.
 
 ghost use Rattle.std.specs.Prelude.{◌∷◌, [], IfOk, OnOk, length, string_bytes};
-ghost use Rattle.logos_tables.specs.Views.{Appends, AppendsMade, AppendsNumbers, AppendsTables, HoldsTables, around_made, marks_text, skips_text, step_texts};
+ghost use Rattle.logos_tables.specs.Views.{Appends, AppendsMade, AppendsNumbers, AppendsTables, ArePrinted, HoldsTables, around_made, front_runs, marks_text, skips_text, step_texts};
 
 use crate::fields::{push_field, push_runs};
 use crate::made::{PrintedTables, tables_of};
@@ -12,25 +12,29 @@ use crate::parts::{
 };
 use logos_code::code::Code;
 use logos_codegen::Generated;
+use logos_text::Sink;
 use logos_token::error::Memory;
 use logos_type::print_type;
 use std::alloc::Global;
 
 /// Returns the Rust text of an implementation of `Logos` for the enum, whose function that lexes
-/// has tables for the loop of the runtime. The tables hold what each byte, and the end of the
-/// input, does in each state of the code, and the mark of each state.
+/// has tables for the loop of the runtime, with the pieces of the source in it. The tables hold what
+/// each byte, and the end of the input, does in each state of the code, and the mark of each state.
 ///
 /// # Errors
 ///
 /// Returns `Memory` if memory runs out.
-pub fn tables(alloc: Global, made: &Generated<'_>) -> Result<String, Memory>
+pub fn tables(alloc: Global, made: &Generated<'_>) -> Result<Sink, Memory>
     // The whole text: that of `front`, and right after it the implementation of `Tables`.
-    ensures { IfOk result (λ text.
-        HoldsTables (around_made made.now) made.now.code (string_bytes text)) }
+    ensures holds { IfOk result (λ sink.
+        HoldsTables (around_made made.now) made.now.code (string_bytes sink.text)) }
+    // The pieces are those of the front.
+    ensures pieces { IfOk result (λ sink. ArePrinted (front_runs (around_made made.now) made.now.code)
+        0 sink.pieces.items (string_bytes sink.text)) }
 {
-    let mut text = made.front(alloc)?;
-    push_implementation(alloc, &mut text, &made.code)?;
-    Ok(text)
+    let mut sink = made.front(alloc)?;
+    push_implementation(alloc, &mut sink.text, &made.code)?;
+    Ok(sink)
 }
 
 /// Appends the implementation of `Tables`, and the rest of the function that lexes.

@@ -2,11 +2,12 @@
 //! `logos_cli`.
 
 ghost use Rattle.std.specs.Prelude.{◌≡◌, IfOk, string_bytes};
-ghost use Rattle.logos_tables.specs.Views.{IsShown, around_made, config_of};
+ghost use Rattle.logos_tables.specs.Views.{ArePrinted, IsShown, around_made, config_of, shape_runs};
 
 use crate::lexer::tables;
 use logos_codegen::Generated;
 use logos_codegen::generator::Config;
+use logos_text::Sink;
 use logos_token::error::Memory;
 use std::alloc::Global;
 
@@ -31,17 +32,20 @@ pub fn config_of(shape: Shape) -> Config
     }
 }
 
-/// Returns the text of a lexer.
+/// Returns the text of a lexer, with the pieces of the source in it.
 ///
 /// # Errors
 ///
 /// Returns `Memory` if memory runs out.
-pub fn lexer_text(alloc: Global, shape: Shape, made: &Generated<'_>) -> Result<String, Memory>
-    ensures { IfOk result (λ text.
-        IsShown shape (around_made made.now) made.now.code (string_bytes text)) }
+pub fn lexer_text(alloc: Global, shape: Shape, made: &Generated<'_>) -> Result<Sink, Memory>
+    ensures shown { IfOk result (λ sink.
+        IsShown shape (around_made made.now) made.now.code (string_bytes sink.text)) }
+    ensures pieces { IfOk result (λ sink.
+        ArePrinted (shape_runs shape (around_made made.now) made.now.code)
+        0 sink.pieces.items (string_bytes sink.text)) }
 {
     match shape {
-        Shape::Code(_) => made.text(alloc),
+        Shape::Code(_) => made.printed(alloc),
         Shape::Tables => tables(alloc, made),
     }
 }

@@ -3,8 +3,7 @@ use Rattle.std.proofs.Common.{◌≡◌, ℕ, ◌+◌, ◌-◌, ◌<◌, ◌≤�
 use Rattle.std.proofs.Math.ListN.{drop_of_length-le}
 use Rattle.std.specs.List.{flat_map}
 use Rattle.logos_text.specs.Texts.{table_text, table_texts}
-use Rattle.logos_text.specs.Fronts.{BeginsWith, IsFront, last_arm_text, opening_text, tables_use_text, whole_core, AroundValue}
-use Rattle.logos_text.specs.Occurrence.{OccurInOrder, Adds, AddsLast, Grows}
+use Rattle.logos_text.specs.Occurrence.{OccurInOrder, Adds, Grows}
 
 -- the part of an element is added
 part_added : (whole old new part rest : List ℕ) → new ≡ old ++ part → old ++ (part ++ rest) ≡ whole → new ++ rest ≡ whole
@@ -56,29 +55,6 @@ adds_nothing a = record { added = []; is = sym (append-nil a); occur = tt }
 -- an exact text is printed, and nothing is promised of it
 pub grows_text : {a b : List ℕ} (text : List ℕ) → b ≡ a ++ text → Grows a b
 grows_text text e = record { added = text; is = e; occur = tt }
-
--- a last text is printed
-pub last_added : {a b c : List ℕ} (last : List ℕ) → Grows a b → c ≡ b ++ last → AddsLast last a c
-last_added {a} {b} {c} last p e = record { added = p.added; is = e ∙ ap (λ w. w ++ last) p.is ∙ append_assoc a p.added last }
-
-pub last_grows : {last a b : List ℕ} → AddsLast last a b → Grows a b
-last_grows {last} {a} {b} p = record { added = p.added ++ last; is = p.is; occur = tt }
-
--- what was printed first begins the whole
-pub begins_whole : {xs : List (List ℕ)} {front a b c d : List ℕ} → a ≡ [] → b ≡ a ++ front → Adds xs b c → Grows c d → BeginsWith front d
-begins_whole {xs} {front} {a} {b} {c} {d} none e p q = record {
-  rest = p.added ++ q.added;
-  is = q.is ∙ ap (λ w. w ++ q.added) (p.is ∙ ap (λ w. w ++ p.added) (e ∙ ap (λ w. w ++ front) none)) ∙ append_assoc front p.added q.added;
-}
-
--- the front of an implementation
-pub is_front : {a b c d : List ℕ} (around : AroundValue) (this : List ℕ) → a ≡ [] → b ≡ a ++ opening_text whole_core around this →
-    c ≡ b ++ tables_use_text around.logos → AddsLast last_arm_text c d → IsFront around this d
-is_front {a} {b} {c} {d} around this none e f p = record {
-  functions = p.added;
-  is = p.is ∙ ap (λ w. w ++ (p.added ++ last_arm_text)) (f ∙ ap (λ w. w ++ tables_use_text around.logos) (e ∙ ap (λ w. w ++ opening_text whole_core around this) none))
-      ∙ append_assoc (opening_text whole_core around this) (tables_use_text around.logos) (p.added ++ last_arm_text);
-}
 
 -- what is added to nothing is the whole
 pub occur_whole : {texts : List (List ℕ)} {old whole : List ℕ} → old ≡ [] → Adds texts old whole → OccurInOrder texts whole

@@ -1,6 +1,9 @@
-pub mod Arounds
-pub mod Fronts
 pub mod Gaps
+pub mod Fronts
+pub mod Runs
+pub mod FrontRuns
+pub mod Arounds
+pub mod Pieces
 pub mod Occurrence
 pub mod Texts
 pub mod Imports

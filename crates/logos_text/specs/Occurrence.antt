@@ -13,11 +13,6 @@ pub record Adds (texts : List (List ℕ)) (old new : List ℕ) : Type 0 where
   pub is : new ≡ old ++ added
   pub occur : OccurInOrder texts added
 
--- A text is appended to, and the appended text ends with this one.
-pub record AddsLast (last old new : List ℕ) : Type 0 where
-  pub added : List ℕ
-  pub is : new ≡ old ++ (added ++ last)
-
--- A text is appended to. The appended text is unspecified.
+-- A text is appended to, and nothing is promised of what was added.
 abbrev pub Grows : List ℕ → List ℕ → Type 0
 Grows = Adds []

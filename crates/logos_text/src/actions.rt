@@ -1,43 +1,33 @@
 //! Prints what matches of a lexer by tables give, with leaves as numbers. `code` calls it once.
 
-ghost use Rattle.std.specs.Prelude.{◌≡◌, ◌++◌, OnOk, string_bytes};
-ghost use Rattle.logos_text.specs.Imports.{AddsLast, Grows, last_arm_text, tables_use_text};
+ghost use Rattle.std.specs.Prelude.{◌≡◌, OnOk};
+ghost use Rattle.logos_text.specs.Views.{Notes, NotesLast, called_leaf_runs, flat_map, is_called, last_arm_text, plain_leaf_runs, table_runs, variant_runs};
 
 use crate::errors::push_make_error;
-use crate::leaves::push_leaf;
+use crate::leaves::{push_leaf, push_variant};
 use crate::names::Names;
-use crate::pieces::{push, push_str};
+use crate::sink::Sink;
 use logos_code::code::{CodeLeaf, CodeParts};
 use logos_pattern::leaf::VariantKind;
 use logos_token::error::Memory;
+use logos_token::token::Ident;
 use std::alloc::Global;
-
-/// Appends the import of what a lexer by tables uses of the library.
-pub(crate) fn push_tables_use(text: &mut String, logos: &str) -> Result<(), Memory>
-    ensures { OnOk result (string_bytes text.new
-        ≡ string_bytes text.old ++ tables_use_text logos.now) }
-{
-    write!(
-        text,
-        "use {logos}:: internal :: {{ _Data , _Ranges , _Tables , _Unpacked }} ; "
-    )?;
-    Ok(())
-}
 
 /// Appends the functions for errors, for matches, and for the tokens of leaves for which nothing is
 /// called.
 pub(crate) fn push_table_actions(
     alloc: Global,
-    text: &mut String,
+    sink: &mut Sink,
     parts: &CodeParts<'_>,
     names: Names<'_>,
 ) -> Result<(), Memory>
-    ensures { OnOk result (AddsLast last_arm_text (string_bytes text.old) (string_bytes text.new)) }
+    ensures { OnOk result (NotesLast last_arm_text (table_runs names.entry.name
+        parts.now.header.error_callback parts.now.leaves.items) sink.old sink.new) }
 {
-    push_make_error(alloc, text, parts.header.error_callback.as_ref(), names)?;
-    push_action(alloc, text, &parts.leaves, names)?;
-    push_tokens(text, &parts.leaves, names)?;
-    push_str(text, "_ => _Option :: None } } ")?;
+    push_make_error(alloc, sink, parts.header.error_callback.as_ref(), names)?;
+    push_action(alloc, sink, &parts.leaves, names)?;
+    push_tokens(sink, &parts.leaves, names)?;
+    sink.push("_ => _Option :: None } } ")?;
     Ok(())
 }
 
@@ -45,32 +35,35 @@ pub(crate) fn push_table_actions(
 /// callback or a value.
 fn push_action(
     alloc: Global,
-    text: &mut String,
+    sink: &mut Sink,
     leaves: &[CodeLeaf<'_>],
     names: Names<'_>,
 ) -> Result<(), Memory>
-    ensures { OnOk result (Grows (string_bytes text.old) (string_bytes text.new)) }
+    ensures { OnOk result (Notes (flat_map (called_leaf_runs names.entry.name) leaves.now)
+        sink.old sink.new) }
 {
     let this = names.this;
     write!(
-        text,
+        sink.text,
         "# [ inline ] # [ allow ( clippy :: match_single_binding ) ] fn _get_action < 's > ( lex : & mut _Lexer < 's > , leaf : usize ) -> CallbackResult < 's , {this} > {{ match leaf {{ "
     )?;
-    push_action_arms(alloc, text, leaves, names)?;
-    push(text, "_ => { let _ = lex ; CallbackResult :: Skip } } } ")
+    push_action_arms(alloc, sink, leaves, names)?;
+    sink.push("_ => { let _ = lex ; CallbackResult :: Skip } } } ")?;
+    Ok(())
 }
 
 /// Appends the match arms of the leaves that have a callback or a value.
 fn push_action_arms(
     alloc: Global,
-    text: &mut String,
+    sink: &mut Sink,
     leaves: &[CodeLeaf<'_>],
     names: Names<'_>,
 ) -> Result<(), Memory>
-    ensures { OnOk result (Grows (string_bytes text.old) (string_bytes text.new)) }
+    ensures { OnOk result (Notes (flat_map (called_leaf_runs names.entry.name) leaves.now)
+        sink.old sink.new) }
 {
     for n in 0..leaves.len() {
-        push_action_arm(alloc, text, n, &leaves[n], names)?;
+        push_action_arm(alloc, sink, n, &leaves[n], names)?;
     }
     Ok(())
 }
@@ -78,54 +71,77 @@ fn push_action_arms(
 /// Appends the match arm of leaf number n, if it has a callback or a value.
 fn push_action_arm(
     alloc: Global,
-    text: &mut String,
+    sink: &mut Sink,
     n: usize,
     leaf: &CodeLeaf<'_>,
     names: Names<'_>,
 ) -> Result<(), Memory>
-    ensures { OnOk result (Grows (string_bytes text.old) (string_bytes text.new)) }
+    ensures { OnOk result (Notes (called_leaf_runs names.entry.name leaf.now) sink.old sink.new) }
 {
-    if leaf.callback.is_none() & !matches!(leaf.kind, VariantKind::Value(_, _)) {
-        return push(text, "");
+    if !is_called(leaf) {
+        return sink.push("");
     }
-    write!(text, "{n} => {{ ")?;
-    push_leaf(alloc, text, leaf, names)?;
-    push(text, "} , ")
+    write!(sink.text, "{n} => {{ ")?;
+    push_leaf(alloc, sink, leaf, names)?;
+    sink.push("} , ")?;
+    Ok(())
+}
+
+/// Returns whether a leaf has a callback or a value.
+fn is_called(leaf: &CodeLeaf<'_>) -> bool
+    ensures { result ≡ is_called leaf.now }
+{
+    leaf.callback.is_some() | matches!(leaf.kind, VariantKind::Value(_, _))
 }
 
 /// Appends the function `_token`, which returns the token of a leaf that has no callback and no
 /// value, up to its last match arm.
-fn push_tokens(text: &mut String, leaves: &[CodeLeaf<'_>], names: Names<'_>) -> Result<(), Memory>
-    ensures { OnOk result (Grows (string_bytes text.old) (string_bytes text.new)) }
+fn push_tokens(sink: &mut Sink, leaves: &[CodeLeaf<'_>], names: Names<'_>) -> Result<(), Memory>
+    ensures { OnOk result (Notes (flat_map (plain_leaf_runs names.entry.name) leaves.now)
+        sink.old sink.new) }
 {
     let this = names.this;
     write!(
-        text,
+        sink.text,
         "# [ inline ] # [ allow ( clippy :: extra_unused_lifetimes , clippy :: match_single_binding ) ] fn _token < 's > ( leaf : usize ) -> _Option < {this} > {{ match leaf {{ "
     )?;
-    push_token_arms(text, leaves, names.name)
+    push_token_arms(sink, leaves, names.name)?;
+    Ok(())
 }
 
 /// Appends the match arms of the leaves that have no callback and no value.
-fn push_token_arms(text: &mut String, leaves: &[CodeLeaf<'_>], name: &str) -> Result<(), Memory>
-    ensures { OnOk result (Grows (string_bytes text.old) (string_bytes text.new)) }
+fn push_token_arms(sink: &mut Sink, leaves: &[CodeLeaf<'_>], name: Ident<'_>) -> Result<(), Memory>
+    ensures { OnOk result (Notes (flat_map (plain_leaf_runs name) leaves.now) sink.old sink.new) }
 {
     for n in 0..leaves.len() {
-        push_token(text, n, &leaves[n], name)?;
+        push_token(sink, n, &leaves[n], name)?;
     }
     Ok(())
 }
 
 /// Appends the match arm of leaf number n, if it has no callback and no value.
-fn push_token(text: &mut String, n: usize, leaf: &CodeLeaf<'_>, name: &str) -> Result<(), Memory>
-    ensures { OnOk result (Grows (string_bytes text.old) (string_bytes text.new)) }
+fn push_token(sink: &mut Sink, n: usize, leaf: &CodeLeaf<'_>, name: Ident<'_>) -> Result<(), Memory>
+    ensures { OnOk result (Notes (plain_leaf_runs name leaf.now) sink.old sink.new) }
 {
     match &leaf.kind {
         VariantKind::Unit(variant) if leaf.callback.is_none() => {
-            let variant = variant.text;
-            write!(text, "{n} => _Option :: Some ( {name} :: {variant} ) , ")?;
-            Ok(())
+            push_token_arm(sink, n, name, *variant)
         }
-        _ => push(text, ""),
+        _ => sink.push(""),
     }
+}
+
+/// Appends the match arm of leaf number n, which has this variant.
+fn push_token_arm(
+    sink: &mut Sink,
+    n: usize,
+    name: Ident<'_>,
+    variant: Ident<'_>,
+) -> Result<(), Memory>
+    ensures { OnOk result (Notes (variant_runs name variant) sink.old sink.new) }
+{
+    write!(sink.text, "{n} => _Option :: Some ( ")?;
+    push_variant(sink, name, variant)?;
+    sink.push(" ) , ")?;
+    Ok(())
 }

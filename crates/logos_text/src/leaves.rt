@@ -1,15 +1,17 @@
 //! Prints the leaves, and what the lexer does with their matches. `code` calls it once for all
 //! leaves.
 
-ghost use Rattle.std.specs.Prelude.{OnOk, string_bytes};
-ghost use Rattle.logos_text.specs.Imports.{Grows};
+ghost use Rattle.std.specs.Prelude.{[], OnOk, string_bytes};
+ghost use Rattle.logos_text.specs.Views.{Grows, Notes, flat_map, kind_runs, kind_value, leaf_runs, variant_runs};
 
 use crate::callbacks::push_call;
 use crate::names::Names;
 use crate::pieces::{comma_before, push};
+use crate::sink::Sink;
 use logos_code::code::CodeLeaf;
 use logos_pattern::leaf::VariantKind;
 use logos_token::error::Memory;
+use logos_token::token::Ident;
 use logos_type::print_type;
 use std::alloc::Global;
 
@@ -44,174 +46,192 @@ fn push_leaf_name(text: &mut String, leaf: usize) -> Result<(), Memory>
 /// Appends the function `_get_action`, which returns what a match, or an error, gives.
 pub(crate) fn push_get_action(
     alloc: Global,
-    text: &mut String,
+    sink: &mut Sink,
     leaves: &[CodeLeaf<'_>],
     names: Names<'_>,
 ) -> Result<(), Memory>
-    ensures { OnOk result (Grows (string_bytes text.old) (string_bytes text.new)) }
+    ensures { OnOk result (Notes (flat_map (leaf_runs names.entry.name) leaves.now)
+        sink.old sink.new) }
 {
     let this = names.this;
     write!(
-        text,
+        sink.text,
         "# [ inline ] fn _get_action < 's > ( lex : & mut _Lexer < 's > , offset : usize , context : _Option < LogosLeaf > ) -> CallbackResult < 's , {this} > {{ match context {{ None => {{ lex . end_to_boundary ( offset . max ( lex . offset ( ) + 1 ) ) ; CallbackResult :: Error ( _make_error ( lex ) ) }} , "
     )?;
-    push_arms(alloc, text, leaves, names)?;
-    push(text, "} } ")
+    push_arms(alloc, sink, leaves, names)?;
+    sink.push("} } ")?;
+    Ok(())
 }
 
 /// Appends the match arms of all leaves.
 fn push_arms(
     alloc: Global,
-    text: &mut String,
+    sink: &mut Sink,
     leaves: &[CodeLeaf<'_>],
     names: Names<'_>,
 ) -> Result<(), Memory>
-    ensures { OnOk result (Grows (string_bytes text.old) (string_bytes text.new)) }
+    ensures { OnOk result (Notes (flat_map (leaf_runs names.entry.name) leaves.now)
+        sink.old sink.new) }
 {
     if leaves.is_empty() {
-        return push_no_arm(text);
+        return push_no_arm(sink);
     }
     for n in 0..leaves.len() {
-        push_arm(alloc, text, n, &leaves[n], names)?;
+        push_arm(alloc, sink, n, &leaves[n], names)?;
     }
     Ok(())
 }
 
 /// Appends the match arm where there are no leaves.
-fn push_no_arm(text: &mut String) -> Result<(), Memory>
-    ensures { OnOk result (Grows (string_bytes text.old) (string_bytes text.new)) }
+fn push_no_arm(sink: &mut Sink) -> Result<(), Memory>
+    ensures { OnOk result (Notes [] sink.old sink.new) }
 {
-    push(
-        text,
-        "Some ( _ ) => unreachable ! ( \"There are no matchable tokens\" ) , ",
-    )
+    sink.push("Some ( _ ) => unreachable ! ( \"There are no matchable tokens\" ) , ")
 }
 
 /// Appends the match arm of leaf number n.
 fn push_arm(
     alloc: Global,
-    text: &mut String,
+    sink: &mut Sink,
     n: usize,
     leaf: &CodeLeaf<'_>,
     names: Names<'_>,
 ) -> Result<(), Memory>
-    ensures { OnOk result (Grows (string_bytes text.old) (string_bytes text.new)) }
+    ensures { OnOk result (Notes (leaf_runs names.entry.name leaf.now) sink.old sink.new) }
 {
     let comma = comma_before(n);
-    write!(text, "{comma}Some ( LogosLeaf :: Leaf{n} ) => {{ ")?;
-    push_leaf(alloc, text, leaf, names)?;
-    push(text, "} ")
+    write!(sink.text, "{comma}Some ( LogosLeaf :: Leaf{n} ) => {{ ")?;
+    push_leaf(alloc, sink, leaf, names)?;
+    sink.push("} ")?;
+    Ok(())
 }
 
 /// Appends the body of a leaf's arm: the call of its callback, if it has one, and what a match
 /// gives.
 pub(crate) fn push_leaf(
     alloc: Global,
-    text: &mut String,
+    sink: &mut Sink,
     leaf: &CodeLeaf<'_>,
     names: Names<'_>,
 ) -> Result<(), Memory>
-    ensures { OnOk result (Grows (string_bytes text.old) (string_bytes text.new)) }
+    ensures { OnOk result (Notes (leaf_runs names.entry.name leaf.now) sink.old sink.new) }
 {
     let Some(callback) = &leaf.callback else {
-        return push_plain(text, &leaf.kind, names);
+        return push_plain(sink, &leaf.kind, names);
     };
-    push(text, "let cb_result = ")?;
-    push_call(alloc, text, callback)?;
-    push(text, "; ")?;
-    push_result(alloc, text, &leaf.kind, names)
+    sink.note_call(callback)?;
+    sink.push("let cb_result = ")?;
+    push_call(alloc, sink, callback)?;
+    sink.push("; ")?;
+    push_result(alloc, sink, &leaf.kind, names)?;
+    Ok(())
 }
 
 /// Appends what a match gives if the leaf has no callback.
-fn push_plain(text: &mut String, kind: &VariantKind<'_>, names: Names<'_>) -> Result<(), Memory>
-    ensures { OnOk result (Grows (string_bytes text.old) (string_bytes text.new)) }
+fn push_plain(sink: &mut Sink, kind: &VariantKind<'_>, names: Names<'_>) -> Result<(), Memory>
+    ensures { OnOk result (Notes (kind_runs names.entry.name (kind_value kind.now)) sink.old sink.new) }
 {
     match kind {
-        VariantKind::Skip => push(text, "CallbackResult :: Skip "),
-        VariantKind::Unit(variant) => push_unit(text, variant.text, names),
-        VariantKind::Value(variant, _) => push_value(text, variant.text, names),
+        VariantKind::Skip => sink.push("CallbackResult :: Skip "),
+        VariantKind::Unit(variant) => push_unit(sink, *variant, names),
+        VariantKind::Value(variant, _) => push_value(sink, *variant, names),
     }
 }
 
 /// Appends that a match gives a variant without a field.
-fn push_unit(text: &mut String, variant: &str, names: Names<'_>) -> Result<(), Memory>
-    ensures { OnOk result (Grows (string_bytes text.old) (string_bytes text.new)) }
+fn push_unit(sink: &mut Sink, variant: Ident<'_>, names: Names<'_>) -> Result<(), Memory>
+    ensures { OnOk result (Notes (variant_runs names.entry.name variant) sink.old sink.new) }
 {
-    let name = names.name;
-    write!(text, "CallbackResult :: Emit ( {name} :: {variant} ) ")?;
+    sink.push("CallbackResult :: Emit ( ")?;
+    push_variant(sink, names.name, variant)?;
+    sink.push(" ) ")?;
     Ok(())
 }
 
 /// Appends that a match gives a variant whose field is the slice that was matched.
-fn push_value(text: &mut String, variant: &str, names: Names<'_>) -> Result<(), Memory>
-    ensures { OnOk result (Grows (string_bytes text.old) (string_bytes text.new)) }
+fn push_value(sink: &mut Sink, variant: Ident<'_>, names: Names<'_>) -> Result<(), Memory>
+    ensures { OnOk result (Notes (variant_runs names.entry.name variant) sink.old sink.new) }
 {
-    let name = names.name;
-    write!(
-        text,
-        "let token = {name} :: {variant} ( lex . slice ( ) ) ; CallbackResult :: Emit ( token ) "
-    )?;
+    sink.push("let token = ")?;
+    push_variant(sink, names.name, variant)?;
+    sink.push(" ( lex . slice ( ) ) ; CallbackResult :: Emit ( token ) ")?;
+    Ok(())
+}
+
+/// Appends the path of a variant of the enum with a name.
+pub(crate) fn push_variant(
+    sink: &mut Sink,
+    name: Ident<'_>,
+    variant: Ident<'_>,
+) -> Result<(), Memory>
+    ensures { OnOk result (Notes (variant_runs name variant) sink.old sink.new) }
+{
+    sink.push_name(name)?;
+    sink.push(" :: ")?;
+    sink.push_name(variant)?;
     Ok(())
 }
 
 /// Appends what a match gives by the callback's answer.
 fn push_result(
     alloc: Global,
-    text: &mut String,
+    sink: &mut Sink,
     kind: &VariantKind<'_>,
     names: Names<'_>,
 ) -> Result<(), Memory>
-    ensures { OnOk result (Grows (string_bytes text.old) (string_bytes text.new)) }
+    ensures { OnOk result (Notes (kind_runs names.entry.name (kind_value kind.now)) sink.old sink.new) }
 {
     match kind {
-        VariantKind::Skip => push_skip_result(text, names),
-        VariantKind::Unit(variant) => push_unit_result(text, variant.text, names),
+        VariantKind::Skip => push_skip_result(sink, names),
+        VariantKind::Unit(variant) => push_unit_result(sink, *variant, names),
         VariantKind::Value(variant, field) => {
             let printed = print_type(alloc, field)?;
-            push_value_result(text, variant.text, printed.as_str(), names)
+            push_value_result(sink, *variant, printed.as_str(), names)
         }
     }
 }
 
 /// Appends what a match of a skip gives by the callback's answer.
-fn push_skip_result(text: &mut String, names: Names<'_>) -> Result<(), Memory>
-    ensures { OnOk result (Grows (string_bytes text.old) (string_bytes text.new)) }
+fn push_skip_result(sink: &mut Sink, names: Names<'_>) -> Result<(), Memory>
+    ensures { OnOk result (Notes [] sink.old sink.new) }
 {
     let this = names.this;
     write!(
-        text,
+        sink.text,
         "let srv = SkipRetVal :: < 's , {this} > :: construct ( cb_result ) ; CallbackResult :: from ( srv ) "
     )?;
     Ok(())
 }
 
 /// Appends what a match gives by the callback's answer, of a variant without a field.
-fn push_unit_result(text: &mut String, variant: &str, names: Names<'_>) -> Result<(), Memory>
-    ensures { OnOk result (Grows (string_bytes text.old) (string_bytes text.new)) }
+fn push_unit_result(sink: &mut Sink, variant: Ident<'_>, names: Names<'_>) -> Result<(), Memory>
+    ensures { OnOk result (Notes (variant_runs names.entry.name variant) sink.old sink.new) }
 {
     let this = names.this;
-    let name = names.name;
     write!(
-        text,
-        "CallbackRetVal :: < 's , ( ) , {this} > :: construct ( cb_result , | ( ) | {name} :: {variant} ) "
+        sink.text,
+        "CallbackRetVal :: < 's , ( ) , {this} > :: construct ( cb_result , | ( ) | "
     )?;
+    push_variant(sink, names.name, variant)?;
+    sink.push(" ) ")?;
     Ok(())
 }
 
 /// Appends what a match gives by the callback's answer, of a variant with a field of this type.
 fn push_value_result(
-    text: &mut String,
-    variant: &str,
+    sink: &mut Sink,
+    variant: Ident<'_>,
     field: &str,
     names: Names<'_>,
 ) -> Result<(), Memory>
-    ensures { OnOk result (Grows (string_bytes text.old) (string_bytes text.new)) }
+    ensures { OnOk result (Notes (variant_runs names.entry.name variant) sink.old sink.new) }
 {
     let this = names.this;
-    let name = names.name;
     write!(
-        text,
-        "CallbackRetVal :: < 's , {field} , {this} > :: construct ( cb_result , {name} :: {variant} ) "
+        sink.text,
+        "CallbackRetVal :: < 's , {field} , {this} > :: construct ( cb_result , "
     )?;
+    push_variant(sink, names.name, variant)?;
+    sink.push(" ) ")?;
     Ok(())
 }

@@ -8,14 +8,16 @@ mod code;
 mod conditions;
 mod errors;
 mod forks;
+mod gaps;
 mod implementation;
 mod leaves;
 mod macros;
 mod names;
 mod pieces;
+mod sink;
 mod states;
 mod tables;
 
-pub use callbacks::gap_after;
 pub use code::{front_in, text, text_in};
 pub use implementation::Around;
+pub use sink::{Call, Piece, Sink};

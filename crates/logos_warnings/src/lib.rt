@@ -13,7 +13,7 @@ mod other_attributes;
 mod warning_list;
 
 pub use helper::{Helper, intended_helper};
-pub use messages::{enum_warnings, item_warnings};
+pub use messages::{enum_warnings, item_warnings, token_warnings};
 pub use missed_derives::passed_over;
 pub use mistakes::{Mistake, mistakes_of};
 pub use origin::Origin;

@@ -10,7 +10,7 @@ use crate::warning_list::{fixed_warning, plain_warning};
 use logos_enum::{ItemEnum, ReadError, read_enum};
 use logos_report::Warning;
 use logos_token::error::Memory;
-use logos_token::token::{TokenError, tokenize};
+use logos_token::token::{TokenError, Tokens, tokenize};
 use std::alloc::{AllocError, Global};
 
 /// Returns the warnings for an enum with this text: those for its own attributes and then those for
@@ -27,12 +27,25 @@ pub fn enum_warnings(
     derives: bool,
     origin: Origin,
 ) -> Result<Vec<Warning>, Memory> {
-    let stream = match tokenize(alloc, text) {
-        Ok(stream) => stream,
-        Err(TokenError::Memory) => return Err(Memory),
-        Err(_) => return Ok(Vec::new(alloc)),
-    };
-    match read_enum(alloc, stream.run()) {
+    match tokenize(alloc, text) {
+        Ok(stream) => token_warnings(alloc, stream.run(), derives, origin),
+        Err(TokenError::Memory) => Err(Memory),
+        Err(_) => Ok(Vec::new(alloc)),
+    }
+}
+
+/// Returns the same of an enum with these tokens.
+///
+/// # Errors
+///
+/// Returns `Memory` if memory runs out.
+pub fn token_warnings(
+    alloc: Global,
+    tokens: Tokens<'_, '_>,
+    derives: bool,
+    origin: Origin,
+) -> Result<Vec<Warning>, Memory> {
+    match read_enum(alloc, tokens) {
         Ok(item) => Ok(item_warnings(alloc, &item, derives, origin)?),
         Err(ReadError::Memory) => Err(Memory),
         Err(_) => Ok(Vec::new(alloc)),

@@ -4,7 +4,7 @@
 use crate::warning_list::fixed_warning;
 use logos_report::Warning;
 use logos_token::error::Memory;
-use logos_token::token::{Delimiter, Span, TokenError, TokenTree, Tokens, tokenize};
+use logos_token::token::{Delimiter, Span, TokenTree, Tokens};
 use logos_token::util::{after_word, begins_with};
 use std::alloc::{AllocError, Global};
 
@@ -13,20 +13,20 @@ const MESSAGE: &str = "this derive of `Logos` is passed over";
 const HELP: &str =
     "write `derive(Logos)` or `derive(logos::Logos)` on an enum outside of functions and macros";
 
-/// Returns a warning for each `derive` in a file that lists the derive macro, by any path, and that
-/// stands in none of these spans: those of the enums that are found to derive it, in order.
+/// Returns a warning for each `derive` among the tokens of a file that lists the derive macro, by any
+/// path, and that stands in none of these spans: those of the enums that are found to derive it, in
+/// order.
 ///
 /// # Errors
 ///
 /// Returns `Memory` if memory runs out.
-pub fn passed_over(alloc: Global, text: &str, found: &[Span]) -> Result<Vec<Warning>, Memory> {
-    let stream = match tokenize(alloc, text) {
-        Ok(stream) => stream,
-        Err(TokenError::Memory) => return Err(Memory),
-        Err(_) => return Ok(Vec::new(alloc)),
-    };
+pub fn passed_over(
+    alloc: Global,
+    tokens: Tokens<'_, '_>,
+    found: &[Span],
+) -> Result<Vec<Warning>, Memory> {
     let mut derives = Vec::new(alloc);
-    search_run(stream.run(), &mut derives)?;
+    search_run(tokens, &mut derives)?;
     Ok(warnings_of(alloc, &derives, found)?)
 }
 

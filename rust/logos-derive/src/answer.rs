@@ -113,7 +113,7 @@ fn answer(derivation: &library::Derivation) -> Answer {
     }
 }
 
-fn implementation(found: &library::Implementation) -> Implementation {
+fn implementation(found: &library::Sink) -> Implementation {
     Implementation {
         text: found.text.as_str().into(),
         pieces: found.pieces.iter().map(piece).collect(),

@@ -41,20 +41,20 @@ pub record AddsRefusal (offset : ℕ) (refusal : Refusal) (clues : Clues) (old n
   pub known : sizes_of bad.clues ≡ sizes_of clues
   pub are : new ≡ old ++ bad ∷ []
 
--- These are tokens, and after LF the text of a lexer with this code and with attributes, laid out.
-pub record IsPrintedWith (shape : Shape) (code : CodeValue) (left : TokenList) (shown : List ℕ) : Type 0 where
+-- These are tokens, and after LF the text of a lexer with this code, with this around its function,
+-- and with attributes, laid out.
+pub record IsPrintedWith (shape : Shape) (around : AroundValue) (code : CodeValue) (left : TokenList) (shown : List ℕ) : Type 0 where
   pub written : List ℕ
   pub lexer : List ℕ
   pub laid : List ℕ
-  pub around : AroundValue
   pub occur : IsShown shape around code lexer
   pub by_name : Bool
   pub is_written : IsGuarded left written
   pub is_laid_out : IsLaidOut (under by_name left lexer) laid
   pub is : shown ≡ written ++ 10 ∷ laid
 
--- This is the expansion of an enum whose lexer has this code.
-pub record IsExpansionBy (shape : Shape) (code : CodeValue) (source shown : List ℕ) : Type 0 where
+-- This is the expansion of an enum whose lexer has this code, with this around its function.
+pub record IsExpansionBy (shape : Shape) (around : AroundValue) (code : CodeValue) (source shown : List ℕ) : Type 0 where
   pub left : TokenList
   pub stripped : IsStripped source left
-  pub prints : IsPrintedWith shape code left shown
+  pub prints : IsPrintedWith shape around code left shown

@@ -18,4 +18,4 @@ write_digits-requires c =
     let few : length (decimal c.args.location.column) ≤ 20 = search (rules, few_digits) in
     let few_more : length (decimal c.args.location.line) ≤ 20 = search (rules, few_digits) in
     let start = c.write_digits-end.ensures.start in
-    (omega (arith, few, few_more, start), simp length-set (omega (arith, start, c.write_digits-end.auto.buf, c.reported-line)))
+    (omega (arith, few, few_more, start), simp length-set (omega (arith, start, c.write_digits-end.auto.buf, c.told-line)))

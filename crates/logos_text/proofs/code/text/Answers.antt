@@ -7,5 +7,5 @@ use Rattle.logos_text.proofs.code.text.Goals as goal
 
 pub returns : goal.returns
 returns c =
-    let code = rw c.new.ensures.shape at c.in_ok-push_code.ensures in
-    subst (λ (code : CodeValue). OccurInOrder (texts_of code) (string_bytes c.push_code.new.text)) c.parts-parts.ensures.is (occur_whole c.new-text.ensures.bytes code)
+    let code = rw c.new.ensures.shape at c.in_ok-push_code.ensures.adds in
+    subst (λ (code : CodeValue). OccurInOrder (texts_of code) (string_bytes c.push_code.new.sink.text)) c.parts-parts.ensures.is (occur_whole c.new-sink.ensures.text code)

@@ -11,13 +11,13 @@ pub after-self-inside-requires-clause-line : goal.after-self-inside-requires-cla
 after-self-inside-requires-clause-line c =
     let b = bounds c.loop-self.self-inside.bytes.now c.loop-self.self-inside.offset c.loop-self.invariant.inside in
     let line = rw (← c.loop-self.invariant.location) at b.line in
-    omega (arith, line, c.loop-self-test.true, c.min-end.ensures, c.self.reported.1)
+    omega (arith, line, c.loop-self-test.true, c.min-end.ensures, c.self.told.1)
 
 pub after-self-inside-requires-clause-column : goal.after-self-inside-requires-clause-column
 after-self-inside-requires-clause-column c =
     let b = bounds c.loop-self.self-inside.bytes.now c.loop-self.self-inside.offset c.loop-self.invariant.inside in
     let column = rw (← c.loop-self.invariant.location) at b.column in
-    omega (arith, column, c.loop-self-test.true, c.min-end.ensures, c.self.reported.1)
+    omega (arith, column, c.loop-self-test.true, c.min-end.ensures, c.self.told.1)
 
 pub loop-self-preserved : goal.loop-self-preserved
 loop-self-preserved c =
