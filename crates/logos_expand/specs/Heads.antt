@@ -38,6 +38,12 @@ head_text name shape = line_text (shown_name name) (shape_name shape)
 abbrev pub IsHead : Shape → List ℕ → Type 0
 IsHead shape head = (head ≡ []) ⊎ ((name : List ℕ) × (head ≡ head_text name shape))
 
+-- A file with these bytes, perhaps after a first line.
+pub record IsHeaded (shape : Shape) (body made : List ℕ) : Type 0 where
+  pub head : List ℕ
+  pub is_head : IsHead shape head
+  pub is : made ≡ head ++ body
+
 -- A file with these bytes, whose own documentation and attributes are plain comments, optionally
 -- after a first line.
 pub record IsFileWith (shape : Shape) (bytes made : List ℕ) : Type 0 where

@@ -1,7 +1,8 @@
 //! Expands the derive of the lexers in a file. Called by `logos_cli`.
 
 ghost use Rattle.std.specs.Prelude.{◌≡◌, ◌≤◌, ◌++◌, All, IfErr, IfOk, IsTrue, OnOk, length, map, string_bytes};
-ghost use Rattle.logos_expand.specs.Views.{IsRefused, AreInOrder, IsFoundCut, found_span, part_span, AreEnumsOf, OccurInOrder, Refuses, IsExpanded, IsExpansion, IsFileOf, IsUnreadable, AreRefused, EndsWithLines, FailsFor, GathersAll, ShowsRefused, refused_texts, AddsRefusal, GathersOne, HasSets, IsExpansionBy, around_made, sizes_of, Spells, SpellsEnum, tokens_of};
+ghost use Rattle.logos_expand.specs.Views.{IsRefused, AreInOrder, IsFoundCut, found_span, part_span, AreEnumsOf, OccurInOrder, Refuses, IsExpanded, IsExpansion, IsUnreadable, AreRefused, EndsWithLines, FailsFor, GathersAll, ShowsRefused, refused_texts, AddsRefusal, GathersOne, HasSets, IsExpansionBy, around_made, sizes_of, Spells, SpellsEnum, tokens_of};
+ghost use Rattle.logos_expand.specs.Views.{AddsInner, HasFront, IsBefore, IsPut};
 
 use crate::head::with_head;
 use crate::printer::{Site, printed_with};
@@ -13,6 +14,7 @@ use logos_file_warnings::{
     push_warned, text_of, warning_lines, warning_text,
 };
 use logos_help::add_helps;
+use logos_layout::{PlainFront, plain_front};
 use logos_host::{Failure, MessageFormat};
 use logos_messages::push_refused_messages;
 use logos_page::Page;
@@ -22,7 +24,7 @@ use logos_report::{
 use logos_rust_file::{FoundEnum, ReadFile, Replacement, read_file, replace};
 use logos_strip::stripper::strip_enum;
 use logos_tables::{Shape, config_of};
-use logos_token::token::{Tokens, tokenize};
+use logos_token::token::{Span, Tokens, tokenize};
 use logos_warnings::Origin;
 use std::alloc::{AllocError, Global};
 
@@ -100,7 +102,8 @@ fn expand_enums<'w>(
     add_passed(file.stream.run(), &file.found, &mut warned)?;
     add_missing(showing, &file.found, &mut warned)?;
     if gathered.refused.is_empty() {
-        return accepted_file(source, shape, showing, &gathered.parts, &warned);
+        let parts = with_inner(source.text(), file.stream.run(), gathered.parts)?;
+        return accepted_file(source, shape, showing, &parts, &warned);
     }
     Err(refused_file(source, showing, &gathered.refused, &warned))
 }
@@ -109,6 +112,50 @@ fn expand_enums<'w>(
 fn has_import(source: &Source<'_>) -> bool {
     let text = source.text();
     text.contains("::Logos") | text.contains("logos::{") | text.contains("::*")
+}
+
+/// Returns the parts of a file that has these tokens, with plain comments for the documentation and
+/// the attributes of the file itself, if it has parts and these come before them.
+fn with_inner(
+    text: &str,
+    tokens: Tokens<'_, '_>,
+    parts: Vec<Replacement>,
+) -> Result<Vec<Replacement>, Memory>
+    requires { AreInOrder 0 (map part_span parts.items) (length text.now) }
+    ensures { IfOk result (λ whole. AddsInner text.now parts.entry.items whole.items) }
+{
+    let alloc = *parts.allocator();
+    match plain_front(alloc, text, tokens)? {
+        Some(front) if is_before(front.to, &parts) => with_front(alloc, front, parts),
+        _ => Ok(parts),
+    }
+}
+
+/// Returns whether an offset that is not 0 is not after the first of some parts.
+fn is_before(to: usize, parts: &[Replacement]) -> bool
+    ensures { IsTrue result → IsBefore to parts.now }
+{
+    match parts.first() {
+        Some(part) => (0 < to) & (to <= part.span.from),
+        None => false,
+    }
+}
+
+/// Returns parts after plain comments in the place of what comes first.
+fn with_front(
+    alloc: Global,
+    front: PlainFront,
+    parts: Vec<Replacement>,
+) -> Result<Vec<Replacement>, Memory>
+    ensures { IfOk result (λ whole. HasFront front.entry parts.entry.items whole.items) }
+{
+    let PlainFront { to, text } = front;
+    let span = Span { from: 0, to };
+    let mut parts = parts;
+    let mut whole = Vec::new(alloc);
+    whole.push(Replacement { span, text })?;
+    whole.append(&mut parts)?;
+    Ok(whole)
 }
 
 /// Returns a file with parts replaced, unless its warnings are denied.
@@ -120,7 +167,7 @@ fn accepted_file<'w>(
     warned: &[Warning],
 ) -> Result<Expansion, Failure<'w>>
     requires { AreInOrder 0 (map part_span parts.now) (length source.now.text) }
-    ensures done { IfOk result (λ made. IsFileOf shape source.now.text parts.now made.bytes.items) }
+    ensures done { IfOk result (λ made. IsPut shape source.now.text parts.now made.bytes.items) }
     ensures denied { IfErr result (FailsFor showing.format showing.denies shape source.now) }
 {
     if showing.denies && !warned.is_empty() {
@@ -152,7 +199,7 @@ fn expanded_file(
     parts: &[Replacement],
 ) -> Result<Vec<u8>, Memory>
     requires { AreInOrder 0 (map part_span parts.now) (length source.now.text) }
-    ensures { IfOk result (λ made. IsFileOf shape source.now.text parts.now made.items) }
+    ensures { IfOk result (λ made. IsPut shape source.now.text parts.now made.items) }
 {
     let bytes = replace(alloc, source.text(), parts)?;
     if parts.is_empty() {

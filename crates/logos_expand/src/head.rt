@@ -1,44 +1,27 @@
 //! The first line of an expanded file. Used by `expansion` and `logos_cli`.
 
 ghost use Rattle.std.specs.Prelude.{◌≡◌, ◌++◌, IfOk, OnOk, string_bytes};
-ghost use Rattle.logos_expand.specs.Views.{IsWithoutInner, IsFileWith, IsHead, code_name, head_text, is_plain, is_printable, line_text, shape_name, shown_name};
+ghost use Rattle.logos_expand.specs.Views.{IsHead, IsHeaded, code_name, head_text, is_plain, is_printable, line_text, shape_name, shown_name};
 
 use logos_host::file_name;
-use logos_layout::without_inner;
 use logos_tables::Shape;
 use logos_token::error::Memory;
 use std::alloc::Global;
 
-/// Returns the text of a file after a first line that names the file from which it was made.
-/// Documentation and attributes of the file itself become plain comments, so another file can
-/// include it. A file whose first bytes are significant, which are `#!` and U+FEFF, gets no such
-/// line.
+/// Returns a file with these bytes after its first line, which says what the file was made from. A
+/// file whose first bytes mean something has no such line: that of `#!`, and U+FEFF.
 pub(crate) fn with_head(
     alloc: Global,
     path: &str,
     shape: Shape,
-    bytes: &[u8],
+    body: &[u8],
 ) -> Result<Vec<u8>, Memory>
-    ensures { IfOk result (λ made. IsFileWith shape bytes.now made.items) }
+    ensures { IfOk result (λ made. IsHeaded shape body.now made.items) }
 {
-    let body = plain_bytes(alloc, bytes)?;
-    let head = head_of(alloc, path, shape, &body)?;
+    let head = head_of(alloc, path, shape, body)?;
     let mut made = head.into_bytes();
-    made.extend_from_slice(&body)?;
+    made.extend_from_slice(body)?;
     Ok(made)
-}
-
-/// Returns the bytes of a file with its own documentation and attributes as plain comments.
-fn plain_bytes(alloc: Global, bytes: &[u8]) -> Result<Vec<u8>, Memory>
-    ensures { IfOk result (λ body. IsWithoutInner bytes.now body.items) }
-{
-    match str::from_utf8(bytes) {
-        Ok(text) => match without_inner(alloc, text) {
-            Ok(body) => Ok(body.into_bytes()),
-            Err(Memory) => Err(Memory),
-        },
-        Err(_) => Ok(Vec::from_slice(alloc, bytes)?),
-    }
 }
 
 /// Returns the first line of a file with these bytes, or nothing if it cannot have one.

@@ -1,5 +1,5 @@
 -- The documentation and the attributes of a file itself, as plain comments.
-use Rattle.std.specs.Prelude.{◌≡◌, ◌⊎◌, ℕ, ◌==◌, if◌then◌else◌, Bool, false, List, ◌∷◌, ◌++◌, Option, Some, None}
+use Rattle.std.specs.Prelude.{◌≡◌, ◌⊎◌, ℕ, ◌==◌, if◌then◌else◌, Bool, false, length, List, ◌∷◌, ◌++◌, Option, Some, None}
 use Rattle.logos_lexeme.specs.declared.lexeme.Delimiter.TheVariants.{Bracket}
 use Rattle.logos_token.specs.Spelling.{Spells}
 use Rattle.logos_token.specs.Tokens.{TokenList, punctuation, doc, group, none, also}
@@ -36,6 +36,16 @@ pub record IsInnerText (text : List ℕ) : Type 0 where
   pub tokens : TokenList
   pub spelled : Spells text tokens
   pub are : AreInner tokens
+
+-- A text begins with inner documentation comments and attributes alone, up to an offset, and a plain
+-- text that stands for them spells nothing.
+pub record IsPlainFront (text : List ℕ) (to : ℕ) (plain : List ℕ) : Type 0 where
+  pub front : List ℕ
+  pub rest : List ℕ
+  pub is : text ≡ front ++ rest
+  pub ends : length front ≡ to
+  pub inner : IsInnerText front
+  pub bare : Spells plain none
 
 -- The second text is the first one, except that a prefix that spells only inner documentation
 -- comments and attributes is replaced by one that spells nothing.

@@ -1,70 +1,57 @@
 //! The documentation and the attributes of a file itself, at its beginning. Called by
 //! `logos_expand`.
 
-ghost use Rattle.std.specs.Prelude.{◌≡◌, ◌<◌, ◌++◌, IfOk, IfSome, IsTrue, MatchOption, None, Some, string_bytes};
-ghost use Rattle.logos_layout.specs.Imports.{AreInner, IsInnerText, IsPlainly, IsWithoutInner, Spells, after_brackets, after_inner, after_mark, count_of, is_inner, none, tokens_of};
+ghost use Rattle.std.specs.Prelude.{◌≡◌, ◌<◌, IfOk, IfSome, IsTrue, MatchOption, None, Some, string_bytes};
+ghost use Rattle.logos_layout.specs.Imports.{AreInner, IsInnerText, IsPlainFront, Spells, after_brackets, after_inner, after_mark, count_of, is_inner, none, tokens_of};
 
 use crate::plain_comments::plain_text;
 use logos_token::error::Memory;
 use logos_token::token::{Delimiter, TokenError, TokenTree, Tokens, tokenize};
 use std::alloc::Global;
 
-/// Returns a Rust text with its leading inner documentation and inner attributes as plain comments:
-/// `//!` becomes `//`, `/*!` becomes `/*`, and `#![..]` is put in `/* */`. Thus another file can
-/// include it. All other bytes stay.
+/// Plain comments that stand for the documentation and the attributes of a file itself.
+#[derive(Drop)]
+pub struct PlainFront {
+    /// Where these end in the file, in bytes.
+    pub to: usize,
+    /// The comments.
+    pub text: String,
+}
+
+/// Returns plain comments for the inner documentation and the inner attributes that come first in a
+/// Rust file with these tokens: `//!` is `//`, `/*!` is `/*`, and `#![..]` stands in `/* */`. So
+/// another file can include it.
 ///
-/// A text that cannot be read into tokens is returned unchanged, and so is one whose attributes
-/// would end these comments.
+/// `None` if nothing of this kind comes first, or if the attributes would end these comments.
 ///
 /// # Errors
 ///
 /// Returns `Memory` if memory runs out.
-pub fn without_inner(alloc: Global, text: &str) -> Result<String, Memory>
-    ensures { IfOk result (λ made. IsWithoutInner text.now (string_bytes made)) }
+pub fn plain_front(
+    alloc: Global,
+    file: &str,
+    tokens: Tokens<'_, '_>,
+) -> Result<Option<PlainFront>, Memory>
+    ensures { IfOk result (λ found. IfSome found
+        (λ front. IsPlainFront file.now front.to (string_bytes front.text))) }
 {
-    let end = inner_end(alloc, text)?;
-    match text.split_at_checked(end) {
-        Some((front, rest)) => match plain_front(alloc, front)? {
-            Some(plain) => joined(plain, rest),
-            None => same(alloc, text),
-        },
-        None => same(alloc, text),
+    let to = read_inner(tokens).0;
+    let Some((front, _)) = file.split_at_checked(to) else {
+        return Ok(None);
+    };
+    match plain_comments(alloc, front)? {
+        Some(text) => Ok(Some(PlainFront { to, text })),
+        None => Ok(None),
     }
 }
 
-/// Returns a text unchanged.
-fn same(alloc: Global, text: &str) -> Result<String, Memory>
-    ensures { IfOk result (λ made. string_bytes made ≡ text.now) }
-{
-    Ok(String::from_str(alloc, text)?)
-}
-
-/// Returns two texts, one after the other.
-fn joined(front: String, rest: &str) -> Result<String, Memory>
-    ensures { IfOk result (λ made. string_bytes made ≡ string_bytes front ++ rest.now) }
-{
-    let mut text = front;
-    text.push_str(rest)?;
-    Ok(text)
-}
-
-/// Returns the byte offset at which the leading inner documentation comments and attributes of a
-/// text end.
-fn inner_end(alloc: Global, text: &str) -> Result<usize, Memory> {
-    match tokenize(alloc, text) {
-        Ok(stream) => Ok(read_inner(stream.run()).0),
-        Err(TokenError::Memory) => Err(Memory),
-        Err(_) => Ok(0),
-    }
-}
-
-/// Returns the plain comments for a text of inner documentation comments and attributes, or `None`
-/// if the text spells any other token or the comments would spell a token.
-fn plain_front(alloc: Global, front: &str) -> Result<Option<String>, Memory>
+/// Returns the plain comments that stand for a text of inner documentation comments and attributes.
+/// `None` if the text spells anything else, or if the comments would spell anything.
+fn plain_comments(alloc: Global, front: &str) -> Result<Option<String>, Memory>
     ensures { IfOk result (λ found. IfSome found
         (λ plain. IsInnerText front.now × Spells (string_bytes plain) none)) }
 {
-    if !is_inner_text(alloc, front)? {
+    if front.is_empty() || !is_inner_text(alloc, front)? {
         return Ok(None);
     }
     let plain = plain_text(alloc, front)?;

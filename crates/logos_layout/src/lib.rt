@@ -19,6 +19,6 @@ mod without_derive;
 mod writer;
 
 pub use conditions::push_conditions;
-pub use inner_attributes::without_inner;
+pub use inner_attributes::{PlainFront, plain_front};
 pub use layout::{Note, Setting, lay_out};
 pub use writer::write_left;

@@ -38,10 +38,11 @@ unnamed_this {a} {b} name this h p =
     subst (λ (begins : Bool). Prints this (if begins then name_runs name else []) a b) (sym (lacks_front name.text.now this h)) p
 
 -- the text of an implementation begins with its opening
-pub begins_text : {front : List ℕ} {xs ys : List TokenList} {texts : List (List ℕ)} {a b c d : Sink} → IsEmptySink a → Prints front xs a b → Adds texts (string_bytes b.text) (string_bytes c.text) → Prints (32 ∷ 125 ∷ 32 ∷ 125 ∷ []) ys c d → BeginsWith front (string_bytes d.text)
-begins_text {front} {xs} {ys} {texts} {a} {b} {c} {d} empty p q last = record {
-  rest = q.added ++ (32 ∷ 125 ∷ 32 ∷ 125 ∷ []);
-  is = last.is_text ∙ ap (λ w. w ++ (32 ∷ 125 ∷ 32 ∷ 125 ∷ [])) (q.is ∙ ap (λ w. w ++ q.added) (whole_text empty p)) ∙ append_assoc front q.added (32 ∷ 125 ∷ 32 ∷ 125 ∷ []);
+pub begins_text : {front last : List ℕ} {xs ys : List TokenList} {texts : List (List ℕ)} {a b c d : Sink} → IsEmptySink a → Prints front xs a b → Adds texts (string_bytes b.text) (string_bytes c.text) → Prints last ys c d →
+    BeginsWith front (string_bytes d.text)
+begins_text {front} {last} {xs} {ys} {texts} {a} {b} {c} {d} empty p q tail = record {
+  rest = q.added ++ last;
+  is = tail.is_text ∙ ap (λ w. w ++ last) (q.is ∙ ap (λ w. w ++ q.added) (whole_text empty p)) ∙ append_assoc front q.added last;
 }
 
 -- the front of an implementation by tables

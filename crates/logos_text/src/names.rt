@@ -19,6 +19,7 @@ impl<'p> Names<'p> {
     pub(crate) fn new(parts: &'p CodeParts<'_>, this: &'p str) -> Names<'p>
         ensures shape { result.shape ≡ parts.now.header.shape }
         ensures name { result.name ≡ parts.now.header.name }
+        ensures this { result.this.now ≡ this.now }
     {
         Names {
             shape: parts.header.shape,
