@@ -252,7 +252,7 @@ fn tokens_of<'s>(alloc: Global, text: &'s str) -> Result<TokenStream<'s>, Memory
     }
 }
 
-/// Appends the leaves of a lexer or its examples, in the form that is asked for.
+/// Appends the leaves of a lexer or its examples, in the requested form.
 fn push_form(
     alloc: Global,
     pages: &mut Pages,
