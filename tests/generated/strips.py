@@ -23,7 +23,7 @@ SOURCES = 600
 WRONG = [0, 0.1, 0.25, 0, 0.5]
 # Where the repository has sources, and how many at least.
 ROOT = os.path.join(os.path.dirname(os.path.abspath(__file__)), '..', '..')
-FOLDERS = ['tests/rust_text/sources', 'tests/texts', 'tests/memory/logos', 'bench/lexer/rules', 'docs/guide', 'crates/logos_program/data']
+FOLDERS = ['tests/compiled_rust/sources', 'tests/expected_rust', 'tests/memory/logos', 'bench/lexer/rules', 'docs/guide', 'crates/logos_program/data']
 FILES = 43
 
 

@@ -27,8 +27,8 @@ HEAD = """\
 # The crates
 
 Each crate has one purpose and is proved by itself. The rooms read from front to back: a crate uses
-those of earlier rooms and those above it in its own. `docs/MAP.md` shows the way of the data
-through them, and where to change what.
+those of earlier rooms and those above it in its own. `docs/MAP.md` shows the flow of data
+through them, and the files of each thing.
 
 In each crate `src/` is the code with its contracts, `specs/` the definitions that contracts cite,
 `proofs/` the proofs, and `must-fail/` wrong bodies that the prover refuses.

@@ -1,11 +1,21 @@
 -- The number of items of each kind, as lines.
-use Rattle.std.specs.Prelude.{ℕ, zero, suc, ◌+◌, ◌-◌, ◌^◌, ◌==◌, min, Bool, false, List, [], ◌++◌, Option, Some, None, bytes_eq, codes, decimal, if◌then◌else◌, length, option_and_then, slice_get, slice_index}
+use Rattle.std.specs.Prelude.{◌≡◌, ◌≢◌, ◌<◌, ℕ, zero, suc, ◌+◌, ◌-◌, ◌^◌, ◌==◌, min, Bool, false, List, [], ◌++◌, Option, Some, None, bytes_eq, codes, decimal, if◌then◌else◌, length, option_and_then, slice_get, slice_index}
 use Rattle.logos_code.specs.declared.code.CodeLeaf.{CodeLeaf}
 use Rattle.logos_answers.specs.Names.{variant_name}
 
 -- The variant of the leaf of a code with this number. A skip has none.
 abbrev pub code_variant : List CodeLeaf → ℕ → Option (List ℕ)
 code_variant leaves leaf = option_and_then (λ (it : CodeLeaf). variant_name it.kind) (slice_get leaves leaf)
+
+-- One more, saturating at the greatest number.
+abbrev pub one_more : ℕ → ℕ
+one_more count = min (count + 1) (2 ^ 64 - 1)
+
+-- The numbers of items of leaves, after one more item of a leaf: all others are unchanged.
+pub record CountsItem (leaf : ℕ) (old new : List ℕ) : Type 0 where
+  pub same_length : length new ≡ length old
+  pub counted : leaf < length old → slice_index new leaf ≡ one_more (slice_index old leaf)
+  pub others : (other : ℕ) → other ≢ leaf → slice_index new other ≡ slice_index old other
 
 -- Two leaves are of one variant.
 abbrev pub is_same_name : Option (List ℕ) → Option (List ℕ) → Bool

@@ -1,5 +1,6 @@
 pub mod Comparing
 pub mod Counts
+pub mod Differences
 pub mod Examples
 pub mod Expecting
 pub mod Inputs

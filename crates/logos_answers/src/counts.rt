@@ -24,32 +24,38 @@ pub struct Totals {
 }
 
 impl Counts {
-    ghost use Rattle.std.specs.Prelude.{◌≡◌, slice_index};
-    ghost use Rattle.logos_answers.specs.Imports.{Gains, ends_text, totals_text, variant_lines};
+    ghost use Rattle.std.specs.Prelude.{◌≡◌, IfOk, replicate, slice_index};
+    ghost use Rattle.logos_answers.specs.Imports.{CountsItem, Gains, ends_text, one_more, totals_text, variant_lines};
 
     /// Returns counts that are zero, for this many leaves.
     ///
     /// # Errors
     ///
     /// Returns `AllocError` if memory runs out.
-    pub fn new(alloc: Global, leaves: usize) -> Result<Counts, AllocError> {
-        let mut by_leaf = Vec::new(alloc);
-        for _ in 0..leaves {
-            by_leaf.push(0)?;
-        }
+    pub fn new(alloc: Global, leaves: usize) -> Result<Counts, AllocError>
+        ensures { IfOk result (λ counts.
+            (counts.by_leaf.items ≡ replicate leaves 0) × (counts.errors ≡ 0)) }
+    {
+        let by_leaf = vec![in alloc; 0; leaves]?;
         Ok(Counts { by_leaf, errors: 0 })
     }
 
     /// Counts an item of a leaf.
     #[inline(always)]
-    pub fn count_token(&mut self, leaf: usize) {
-        if let Some(count) = self.by_leaf.get_mut(leaf) {
-            *count = count.saturating_add(1);
+    pub fn count_token(&mut self, leaf: usize)
+        ensures leaves { CountsItem leaf self.old.by_leaf.items self.new.by_leaf.items }
+        ensures errors { self.new.errors ≡ self.old.errors }
+    {
+        if leaf < self.by_leaf.len() {
+            self.by_leaf[leaf] = self.by_leaf[leaf].saturating_add(1);
         }
     }
 
     /// Counts an error.
-    pub fn count_error(&mut self) {
+    pub fn count_error(&mut self)
+        ensures leaves { self.new.by_leaf.items ≡ self.old.by_leaf.items }
+        ensures errors { self.new.errors ≡ one_more self.old.errors }
+    {
         self.errors = self.errors.saturating_add(1);
     }
 

@@ -1,6 +1,9 @@
 //! The findings of two lexers at an input on which they differ. Used by `callbacks`,
 //! `logos_records` and `logos_show`.
 
+ghost use Rattle.std.specs.Prelude.{◌≡◌, ◌++◌, ℕ, List, OnOk, codes, if◌then◌else◌};
+ghost use Rattle.logos_answers.specs.Imports.{Gains, difference_line, mode_line};
+
 use crate::matches::{bytes_between, push_first};
 use crate::names::variant_at;
 use crate::quotes::push_quoted;
@@ -35,38 +38,70 @@ pub struct Finding<'f> {
 }
 
 /// Appends the kinds of inputs that two lexers read.
-pub fn push_modes(page: &mut Page, one: NamedLexer<'_, '_>, other: NamedLexer<'_, '_>) {
+pub fn push_modes(page: &mut Page, one: NamedLexer<'_, '_>, other: NamedLexer<'_, '_>)
+    ensures { Gains (mode_line one.entry.path.now one.entry.graph.now.utf8
+        ++ mode_line other.entry.path.now other.entry.graph.now.utf8) page.old page.new }
+{
     push_mode(page, one);
     push_mode(page, other);
 }
 
 /// Appends the line with the kind of inputs that a lexer reads.
-fn push_mode(page: &mut Page, one: NamedLexer<'_, '_>) {
+fn push_mode(page: &mut Page, one: NamedLexer<'_, '_>)
+    ensures { Gains (mode_line one.entry.path.now one.entry.graph.now.utf8) page.old page.new }
+{
     page.push_shown(one.path);
-    if one.graph.utf8_mode() {
-        page.push(" reads UTF-8\n");
-    } else {
-        page.push(" reads any bytes\n");
-    }
+    page.push(mode_text(one.graph.utf8_mode()));
+}
+
+/// Returns the text after the path of a lexer that reads UTF-8, or any bytes.
+fn mode_text(is_utf8: bool) -> &'static str
+    ensures { result.now ≡ (if is_utf8 then codes " reads UTF-8\n" else codes " reads any bytes\n") }
+{
+    if is_utf8 { " reads UTF-8\n" } else { " reads any bytes\n" }
 }
 
 /// Appends an input on which two lexers differ, and their first findings there.
 ///
 /// # Errors
 ///
-/// Returns `AllocError` if memory runs out. Then some lines may have been appended.
+/// Returns `AllocError` if memory runs out. Then nothing was appended.
 pub fn push_difference(
     alloc: Global,
     page: &mut Page,
     one: NamedLexer<'_, '_>,
     other: NamedLexer<'_, '_>,
     input: &[u8],
-) -> Result<(), AllocError> {
+) -> Result<(), AllocError>
+    ensures { OnOk result ((findings : List ℕ)
+        × Gains (difference_line input.now ++ findings) page.old page.new) }
+{
+    let findings = findings_text(alloc, one, other, input)?;
+    push_input(page, input);
+    page.push(findings.as_str());
+    Ok(())
+}
+
+/// Appends the line with an input on which two lexers differ.
+fn push_input(page: &mut Page, input: &[u8])
+    ensures { Gains (difference_line input.now) page.old page.new }
+{
     page.push("the lexers differ on ");
     push_quoted(page, input);
     page.push("\n");
-    push_finding(alloc, page, one, input)?;
-    push_finding(alloc, page, other, input)
+}
+
+/// Returns the lines with the findings of two lexers at the beginning of an input.
+fn findings_text(
+    alloc: Global,
+    one: NamedLexer<'_, '_>,
+    other: NamedLexer<'_, '_>,
+    input: &[u8],
+) -> Result<String, AllocError> {
+    let mut page = Page::new(alloc, false);
+    push_finding(alloc, &mut page, one, input)?;
+    push_finding(alloc, &mut page, other, input)?;
+    page.finish()
 }
 
 /// Appends the line with the finding of a lexer at the beginning of an input.

@@ -1,10 +1,11 @@
 //! Compares an answer with a stored one. Called for `--expect`.
 
-ghost use Rattle.std.specs.Prelude.{◌≡◌, ◌≤◌, ◌↔◌, IsTrue, drop, length, take};
-ghost use Rattle.logos_answers.specs.Imports.{IsLineStart, timeless};
+ghost use Rattle.std.specs.Prelude.{◌≡◌, ◌≤◌, ◌↔◌, ◌++◌, ℕ, List, IsTrue, drop, length, take};
+ghost use Rattle.logos_answers.specs.Imports.{Gains, IsLineStart, ShowsAgreement, line_text, timeless};
+ghost use Rattle.logos_page.specs.Shown.{shown_text};
 
 use crate::quotes::push_quoted;
-use logos_lines::Cursor;
+use logos_lines::{Cursor, Location};
 use logos_page::Page;
 
 /// The beginning of the line that may differ between two runs.
@@ -14,17 +15,17 @@ const TIME: &[u8] = b"milliseconds: ";
 /// the line and the column of the stored one at which they first differ, and both lines. The line
 /// with the time is not compared. `path` is the path of the stored answer.
 pub fn push_agreement(page: &mut Page, path: &str, stored: &[u8], made: &[u8]) -> bool
-    ensures { IsTrue result ↔ (timeless stored.now ≡ timeless made.now) }
+    ensures same { IsTrue result ↔ (timeless stored.now ≡ timeless made.now) }
+    ensures shows { ShowsAgreement path.now result page.old page.new }
 {
     let stored = without_time(stored);
     let made = without_time(made);
-    let is_same = stored == made;
-    if is_same {
+    if stored == made {
         page.push("as expected\n");
-    } else {
-        push_difference(page, path, stored, made);
+        return true;
     }
-    is_same
+    push_difference(page, path, stored, made);
+    false
 }
 
 /// Returns an answer without its last line, if that is the line with the time.
@@ -71,10 +72,13 @@ fn tail_of(text: &[u8], at: usize) -> &[u8]
 }
 
 /// Appends the first difference of two answers.
-fn push_difference(page: &mut Page, path: &str, stored: &[u8], made: &[u8]) {
+fn push_difference(page: &mut Page, path: &str, stored: &[u8], made: &[u8])
+    ensures { (rest : List ℕ) × Gains (shown_text path.now ++ rest) page.old page.new }
+{
     let at = common_length(stored, made);
     let start = line_start(stored, at);
-    push_location(page, path, stored, at);
+    page.push_shown(path);
+    push_location(page, stored, at);
     push_line(page, "expected ", line_from(stored, start));
     push_line(page, "found    ", line_from(made, start));
 }
@@ -99,12 +103,19 @@ fn line_from(text: &[u8], start: usize) -> &[u8] {
     }
 }
 
-/// Appends the path of a file, and a line and a column of it.
-fn push_location(page: &mut Page, path: &str, text: &[u8], at: usize) {
+/// Appends the line and the column of an offset of a text.
+fn push_location(page: &mut Page, text: &[u8], at: usize)
+    ensures { (added : List ℕ) × Gains added page.old page.new }
+{
     let mut cursor = Cursor::new(text);
     cursor.go_to(at);
-    let location = cursor.location();
-    page.push_shown(path);
+    push_point(page, cursor.location());
+}
+
+/// Appends a line and a column, and the end of the line of a difference.
+fn push_point(page: &mut Page, location: Location)
+    ensures { (added : List ℕ) × Gains added page.old page.new }
+{
     page.push(":");
     page.push_number(location.line);
     page.push(":");
@@ -113,7 +124,9 @@ fn push_location(page: &mut Page, path: &str, text: &[u8], at: usize) {
 }
 
 /// Appends a line of an answer in quotes.
-fn push_line(page: &mut Page, before: &str, line: &[u8]) {
+fn push_line(page: &mut Page, before: &str, line: &[u8])
+    ensures { Gains (line_text before.now line.now) page.old page.new }
+{
     page.push(before);
     push_quoted(page, line);
     page.push("\n");

@@ -136,7 +136,7 @@ fn open(node: &Node, marked: &mut [bool; 256]) -> bool
     }
 }
 
-/// Does what `open` does if the tree is entered.
+/// Calls `open` if the tree is entered, and otherwise marks nothing and returns false.
 fn open_if(entered: bool, node: &Node, marked: &mut [bool; 256]) -> bool
     ensures marks { SetsFlags (λ x y. IsTrue entered → OpensAlike (core_of node.now) x y)
         marked.old marked.new }
@@ -195,8 +195,8 @@ fn follow(node: &Node, marks: &[usize], base: usize, marked: &mut [bool; 256]) -
     follow_node(node, marks, base, marked)
 }
 
-/// Does what `follow` does for a tree that has these positions of the set. Branches without one of
-/// them are skipped.
+/// Acts as `follow`, for the positions of the set that are in a tree. Skips branches without one of
+/// them.
 #[cycle(follow)]
 fn follow_marked(node: &Node, marks: &[usize], own: OwnPositions, marked: &mut [bool; 256]) -> bool
     requires fits { own.base + core.width (core_of node.now) < 2 ^ 64 }
@@ -230,7 +230,7 @@ fn follow_marked(node: &Node, marks: &[usize], own: OwnPositions, marked: &mut [
     one | other
 }
 
-/// Does what `follow` does, dispatching on the form of the tree.
+/// Acts as `follow`, by the form of the tree.
 #[cycle(follow)]
 fn follow_node(node: &Node, marks: &[usize], base: usize, marked: &mut [bool; 256]) -> bool
     requires fits { base + core.width (core_of node.now) < 2 ^ 64 }

@@ -36,7 +36,7 @@ pub struct LiveTree {
     pub steps: usize,
 }
 
-/// Returns the places from `low` on and below `high`.
+/// Returns the positions from `low` up to but not including `high`.
 ///
 /// # Errors
 ///

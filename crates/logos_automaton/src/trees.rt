@@ -23,7 +23,7 @@ pub struct Trees<'n> {
     pub kinds: &'n [bool; 256],
 }
 
-/// Returns where the places of each tree begin, and where those of the last tree end.
+/// Returns the first position of each tree, and the end of the positions of the last tree.
 ///
 /// # Errors
 ///

@@ -29,9 +29,24 @@ pub(crate) fn add_callbacks(
     let mut next = 0;
     for leaf in leaves {
         let callback = leaf.callback.as_ref();
-        next = add_callback(CallbackOwner::Leaf, callback, &runs, next, warnings)?;
+        add_callback(
+            CallbackOwner::Leaf,
+            callback,
+            runs.get(next).copied(),
+            warnings,
+        )?;
+        next = after_callback(callback, next);
     }
     Ok(())
+}
+
+/// Returns the index of the next closure after a callback, if the index of the next one before it
+/// is `next`.
+fn after_callback(callback: Option<&Callback<'_>>, next: usize) -> usize {
+    match callback {
+        Some(Callback::Inline(_)) => next.saturating_add(1),
+        _ => next,
+    }
 }
 
 /// Adds the warnings of the callback for errors of a source with these tokens, if it has one.
@@ -46,29 +61,25 @@ pub(crate) fn add_error_callback(
         starts.push(start)?;
     }
     let runs = runs_at(alloc, tokens, &starts)?;
-    add_callback(CallbackOwner::ErrorType, callback, &runs, 0, warnings)?;
-    Ok(())
+    add_callback(
+        CallbackOwner::ErrorType,
+        callback,
+        runs.first().copied(),
+        warnings,
+    )
 }
 
-/// Adds the warnings of a callback, if there is one. A closure is the run with the next number.
-/// Returns the next number after it.
+/// Adds the warnings of a callback, if there is one. `run` begins with its closure, if it is one.
 fn add_callback(
     owner: CallbackOwner,
     callback: Option<&Callback<'_>>,
-    runs: &[Tokens<'_, '_>],
-    next: usize,
+    run: Option<Tokens<'_, '_>>,
     warnings: &mut Vec<Warning>,
-) -> Result<usize, Memory> {
+) -> Result<(), Memory> {
     match callback {
-        Some(Callback::Label(label)) => {
-            add_label(owner, label.run(), warnings)?;
-            Ok(next)
-        }
-        Some(Callback::Inline(closure)) => {
-            add_closure(closure, runs.get(next), warnings)?;
-            Ok(next.saturating_add(1))
-        }
-        None => Ok(next),
+        Some(Callback::Label(label)) => add_label(owner, label.run(), warnings),
+        Some(Callback::Inline(closure)) => add_closure(closure, run, warnings),
+        None => Ok(()),
     }
 }
 
@@ -199,15 +210,15 @@ fn is_path_part(tree: TokenTree<'_, '_>) -> bool {
     }
 }
 
-/// Adds the warnings of a closure, which is the first part of this run.
+/// Adds the warnings of a closure, with which `run` begins.
 fn add_closure(
     closure: &InlineCallback<'_>,
-    run: Option<&Tokens<'_, '_>>,
+    run: Option<Tokens<'_, '_>>,
     warnings: &mut Vec<Warning>,
 ) -> Result<(), Memory> {
     add_escapes(closure.body.run(), warnings)?;
     match run {
-        Some(run) => add_body(closure.span.to, after_bars(*run), warnings),
+        Some(run) => add_body(closure.span.to, after_bars(run), warnings),
         None => Ok(()),
     }
 }

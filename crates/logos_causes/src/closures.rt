@@ -23,8 +23,8 @@ pub(crate) fn closure_starts(alloc: Global, leaves: &[Leaf<'_>]) -> Result<Vec<u
     Ok(starts)
 }
 
-/// Returns the runs of a source that begin at these byte offsets, which ascend. Each goes on to the
-/// end of the group that it is in.
+/// Returns the runs of a source that begin at these byte offsets, which ascend. Each extends to the
+/// end of the group that contains it.
 pub(crate) fn runs_at<'t, 's>(
     alloc: Global,
     tokens: Tokens<'t, 's>,

@@ -127,7 +127,7 @@ struct EnumText<'t, 's> {
     tokens: Tokens<'t, 's>,
 }
 
-/// Returns what is known of the enum that a source spells.
+/// Returns the clues about the enum that a source spells.
 fn explain_item(
     alloc: Global,
     text: EnumText<'_, '_>,
@@ -154,7 +154,7 @@ fn known_warnings(
     }
 }
 
-/// Returns what is known of the faults of the enum that a source spells. Adds the warnings of its
+/// Returns the clues about the faults of the enum that a source spells. Adds the warnings of its
 /// callbacks.
 fn clues_in(
     alloc: Global,
@@ -233,9 +233,9 @@ fn clues_of(alloc: Global, graph: &Graph<'_>) -> Result<Clues, AllocError>
     })
 }
 
-/// Returns the warnings of an enum without faults, which has these tokens and derives `Logos`: those
-/// of `enum_warnings`, then those of the callbacks of its lexer, of which one may be for errors, and
-/// those of leaves that are never found.
+/// Returns the warnings of an enum without faults, which has these tokens and derives `Logos`:
+/// those of `enum_warnings`, then those of the callbacks of its lexer, one of which may be for
+/// errors, and those of leaves that are never found.
 ///
 /// # Errors
 ///
@@ -253,7 +253,7 @@ pub fn accepted_warnings(
     Ok(warnings)
 }
 
-/// What warnings of a lexer are about.
+/// The lexer that warnings are about.
 #[derive(Clone, Copy)]
 pub struct Lexer<'g, 's> {
     /// Its graph, with its leaves.

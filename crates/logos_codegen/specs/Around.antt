@@ -1,4 +1,4 @@
--- What is printed around the lexer of a source, by its options.
+-- The text around the lexer of a source, by its options.
 use Rattle.std.specs.Prelude.{◌≡◌, ℕ, Bool, List, codes, Option, Some, None, if◌then◌else◌}
 use Rattle.logos_codegen.specs.Given.{IsGraphOfSource}
 use Rattle.logos_definition.specs.ErrorTypes.{ErrorView}
@@ -22,7 +22,7 @@ abbrev pub error_tree : Option ErrorView → Option Tree
 error_tree None = None
 error_tree (Some error) = error.type
 
--- What is printed around a lexer with these options, in this mode.
+-- The text around a lexer with these options, in this mode.
 abbrev pub around_given : OptionsView → Bool → AroundValue
 around_given options utf8 = record {
   logos = options.logos_path;

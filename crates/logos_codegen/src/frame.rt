@@ -1,4 +1,4 @@
-//! What is printed around the body of a lexer. `Generated` prints its text with it.
+//! The text around the body of a lexer. `Generated` prints its text with it.
 
 ghost use Rattle.std.specs.Prelude.{◌≡◌, option_map, option_copied};
 ghost use Rattle.logos_codegen.specs.Views.{around_options, around_value, error_run, error_tree, error_view, input_text, run_in, stream_tokens, tokens_of, type_tree};
@@ -12,14 +12,14 @@ use logos_type::TypeExpr;
 /// The options of a source that the texts around its code depend on.
 #[derive(Drop)]
 pub(crate) struct AroundOptions<'s> {
-    /// The path of the library, if the source gives one.
+    /// The path of the library, if the source has one.
     pub(crate) library: Option<TokenStream<'s>>,
     pub(crate) error_type: Option<ErrorType<'s>>,
     pub(crate) extras: MaybeVoid<'s>,
 }
 
 impl<'s> AroundOptions<'s> {
-    /// Returns what is printed around a code with these options.
+    /// Returns the text around a code with these options.
     pub(crate) fn around(&self, utf8_mode: bool) -> Around<'_, 's>
         ensures { around_value result ≡ around_options self.now utf8_mode }
     {

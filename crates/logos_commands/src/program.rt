@@ -57,17 +57,17 @@ pub fn run<F: Files, O: Write, E: Write>(
     err: &mut E,
 ) -> u8
     ensures usage { (result ≡ 2) ↔ (requested (map string_bytes arguments.now) ≡ None) }
-    // At status 0 the source in the files is accepted, and the output of the command was printed or
-    // written entirely.
+    // At exit status 0 the source in the files is accepted, and the output of the command was
+    // printed or written entirely.
     ensures done { result ≡ 0 → IfSome (requested (map string_bytes arguments.now))
         (λ command. IsDone F.read_yields F.write_makes command files.old files.new
         (O.contents out.old) (O.contents out.new)) }
-    // At status 1 a source or an input in the files is refused, or the path of a diagram. Nothing
-    // was written.
+    // At exit status 1 a source or an input in the files is refused, or the path of a diagram.
+    // Nothing was written.
     ensures denied { result ≡ 1 → IfSome (requested (map string_bytes arguments.now))
         (λ command. (failure : Why) × IsDenied F.read_yields command files.old files.new failure) }
     ensures silent { result ≡ 1 → Keeps (O.contents out.old) (O.contents out.new) }
-    // At status 2 no file was read or written, and nothing was printed.
+    // At exit status 2 no file was read or written, and nothing was printed.
     ensures untouched { result ≡ 2 →
         (files.new ≡ files.old) × Keeps (O.contents out.old) (O.contents out.new) }
     ensures known { result ≤ 3 }

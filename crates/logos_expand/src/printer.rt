@@ -159,7 +159,7 @@ fn are_blanks(bytes: &[u8]) -> bool
     true
 }
 
-/// Returns a text that ends with a lexer, laid out. The line of the file stands at each callback.
+/// Returns a text that ends with a lexer, laid out, with the line of the file at each callback.
 fn laid_out(alloc: Global, whole: &str, site: Site<'_, '_>, lexer: &Sink) -> Result<String, Memory>
     ensures { IfOk result (λ laid. IsLaidOut whole.now (string_bytes laid)) }
 {
@@ -173,8 +173,8 @@ fn laid_out(alloc: Global, whole: &str, site: Site<'_, '_>, lexer: &Sink) -> Res
     lay_out(alloc, whole, setting)
 }
 
-/// Returns the lines of the file at which callbacks stand that a lexer calls, whose text begins at
-/// an offset.
+/// Returns the lines of the file that contain the callbacks of a lexer, whose text begins at an
+/// offset.
 fn notes_of(
     alloc: Global,
     start: usize,
@@ -193,7 +193,7 @@ fn notes_of(
 }
 
 /// Returns the text of a lexer with its attributes, and perhaps with the import of `Logos` before
-/// it. Both stand under the conditions of the enum with these tokens.
+/// it. Both have the conditions of the enum with these tokens.
 fn under(alloc: Global, by_name: bool, left: Tokens<'_, '_>, lexer: &str) -> Result<String, Memory>
     ensures { IfOk result (λ text.
         string_bytes text ≡ under by_name (tokens_of left.entry) lexer.now) }

@@ -1,5 +1,6 @@
 //! The ways in which a program fails.
 
+ghost use Rattle.std.specs.IoError.{error_kind};
 ghost use Rattle.std.specs.Prelude.{◌≡◌, ◌≢◌};
 ghost use Rattle.logos_host.specs.Views.{Closed, IsOutputFailure, IsReadingFailure, IsUnread, IsUnwritten, IsWritingFailure, Output, status_of, Memory as OutOfMemory};
 
@@ -113,6 +114,8 @@ impl Failure<'_> {
 
     /// Returns the failure for an error of standard output.
     pub fn of_output(error: &io::Error) -> Failure<'static>
+        ensures closed { error_kind error.now ≡ ErrorKind.BrokenPipe → result ≡ Closed }
+        ensures other { error_kind error.now ≢ ErrorKind.BrokenPipe → result ≡ Output }
         ensures failure { IsOutputFailure result }
         ensures status { status_of result ≡ 3 }
     {

@@ -19,7 +19,7 @@ text_if (Some rest) inside = attribute_text inside
 abbrev pub condition_text : TokenList → List ℕ
 condition_text inside = text_if (after_word (codes "cfg") inside) inside
 
--- The same of an attribute. A documentation comment has no brackets.
+-- The condition of an attribute. A documentation comment has no brackets.
 abbrev pub attribute_condition : AttributeValue → List ℕ
 attribute_condition attribute = elim attribute.inside [ None ↦ [] | Some inside ↦ condition_text inside ]
 

@@ -11,5 +11,6 @@ pub use Rattle.logos_token.specs.FaultNames.{name_of}
 pub use Rattle.logos_token.specs.FaultView.{fault_of, faults_of}
 pub use Rattle.logos_messages.specs.Growing.{YieldsLineList, YieldsLines, YieldsMessage, YieldsNoteList, YieldsNotes, YieldsOther, YieldsSpan, YieldsSpanList}
 pub use Rattle.logos_messages.specs.Messages.{AreMessages, AreRefusedMessages, PutsAfter, PutsCounted, PutsFault, PutsFrom, PutsRest}
+pub use Rattle.logos_messages.specs.Shown.{HasLongLine, IsLongAt, first_column, last_column}
 pub use Rattle.logos_messages.specs.Tokens.{bytes_tokens, code_member, error_tokens, fault_head, head_tokens, label_tokens, left_out_tokens, level_of, marked_tokens, message_tokens, note_tokens, nothing_tokens, locations_tokens, warning_head}
 pub use Rattle.logos_messages.specs.Warnings.{AreWarnings, PutsWarning, PutsWarnings}

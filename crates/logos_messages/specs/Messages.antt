@@ -16,7 +16,7 @@ use Rattle.logos_messages.specs.Tokens.{fault_tokens, rest_tokens}
 -- has the line of the fault and the one that names its position.
 pub record IsFaultLine (source : SourceValue) (begin : ℕ) (fault : Fault) (tokens : List Token) : Type 0 where
   pub shown : Shown
-  pub may : IsShown source (fault_texts false source begin fault) shown
+  pub may : IsShown source begin fault.span fault.also (fault_texts false source begin fault) shown
   pub is : tokens ≡ fault_tokens source begin fault shown
 
 -- These tokens are the line with the number of faults of a code that are left out; its report has

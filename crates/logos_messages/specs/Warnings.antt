@@ -12,7 +12,7 @@ use Rattle.logos_messages.specs.Tokens.{warning_tokens}
 -- has the line of the warning and the one that names its position.
 pub record IsWarningLine (source : SourceValue) (begin : ℕ) (warning : Warning) (tokens : List Token) : Type 0 where
   pub shown : Shown
-  pub may : IsShown source (warning_texts false source begin warning) shown
+  pub may : IsShown source begin warning.span warning.also (warning_texts false source begin warning) shown
   pub is : tokens ≡ warning_tokens source begin warning shown
 
 -- These are the lines of warnings, one for each, in order.

@@ -1,7 +1,7 @@
 //! Lines of a file, and the columns of a span in them. Used by `spans`.
 
-ghost use Rattle.std.specs.Prelude.{◌≡◌, [], ◌∷◌};
-ghost use Rattle.logos_messages.specs.Imports.{Gains, YieldsLineList, YieldsLines, marked_tokens};
+ghost use Rattle.std.specs.Prelude.{◌≡◌, ◌≤◌, [], ◌∷◌, length, chars};
+ghost use Rattle.logos_messages.specs.Imports.{Gains, YieldsLineList, YieldsLines, first_column, last_column, marked_tokens};
 
 use logos_json::JsonLines;
 use logos_lines::Location;
@@ -23,7 +23,7 @@ pub(crate) struct Reach {
 /// Appends the lines of a span, as a member. Long lines are left out, and if a span has many lines,
 /// all of them are.
 pub(crate) fn push_lines(lines: &mut JsonLines, source: &Source<'_>, reach: Reach)
-    ensures { YieldsLineList source.now.text lines.old lines.new }
+    ensures { YieldsLineList source.now.text reach.first reach.last lines.old lines.new }
 {
     lines.begin_list("text");
     push_each_line(lines, source, reach);
@@ -32,7 +32,7 @@ pub(crate) fn push_lines(lines: &mut JsonLines, source: &Source<'_>, reach: Reac
 
 /// Appends the lines of a span that are not long, if there are few.
 fn push_each_line(lines: &mut JsonLines, source: &Source<'_>, reach: Reach)
-    ensures { YieldsLines source.now.text lines.old lines.new }
+    ensures { YieldsLines source.now.text reach.first reach.last lines.old lines.new }
 {
     if reach.last.line.saturating_sub(reach.first.line) > LINES {
         return;
@@ -44,7 +44,9 @@ fn push_each_line(lines: &mut JsonLines, source: &Source<'_>, reach: Reach)
 
 /// Appends a line, unless it is long.
 fn push_line(lines: &mut JsonLines, source: &Source<'_>, reach: Reach, number: usize)
-    ensures { YieldsLines source.now.text lines.old lines.new }
+    requires after { reach.first.line ≤ number }
+    requires before { number ≤ reach.last.line }
+    ensures { YieldsLines source.now.text reach.first reach.last lines.old lines.new }
 {
     if let Some(text) = source.short_line(number, LONG) {
         push_marked(
@@ -57,7 +59,9 @@ fn push_line(lines: &mut JsonLines, source: &Source<'_>, reach: Reach, number: u
 }
 
 /// Returns the column at which a span begins in a line.
-fn first_column(reach: Reach, number: usize) -> usize {
+fn first_column(reach: Reach, number: usize) -> usize
+    ensures { result ≡ first_column reach.first number }
+{
     if number == reach.first.line {
         reach.first.column
     } else {
@@ -66,12 +70,21 @@ fn first_column(reach: Reach, number: usize) -> usize {
 }
 
 /// Returns the exclusive column at which a span ends in a line with this text.
-fn last_column(reach: Reach, number: usize, text: &str) -> usize {
+fn last_column(reach: Reach, number: usize, text: &str) -> usize
+    ensures { result ≡ last_column reach.last number text.now }
+{
     if number == reach.last.line {
         reach.last.column
     } else {
-        text.chars().count().saturating_add(1)
+        char_count(text).saturating_add(1)
     }
+}
+
+/// Returns the number of characters of a text.
+fn char_count(text: &str) -> usize
+    ensures { result ≡ length (chars text.now) }
+{
+    text.chars().count()
 }
 
 /// Appends a line with the columns of a span in it.

@@ -1,7 +1,7 @@
 //! The spans of a fault or a warning. Used by `fault` and `warnings`.
 
-ghost use Rattle.std.specs.Prelude.{◌≡◌, [], ◌∷◌, List, Some, None, codes, option_map};
-ghost use Rattle.logos_messages.specs.Imports.{Gains, YieldsOther, YieldsSpan, YieldsSpanList, bytes_tokens, label_tokens, locations_tokens};
+ghost use Rattle.std.specs.Prelude.{◌≡◌, [], ◌∷◌, IsTrue, List, Some, None, codes, option_map};
+ghost use Rattle.logos_messages.specs.Imports.{Gains, HasLongLine, IsLongAt, YieldsOther, YieldsSpan, YieldsSpanList, bytes_tokens, label_tokens, locations_tokens};
 
 use crate::marked_lines::{LONG, Reach, push_lines};
 use logos_json::JsonLines;
@@ -91,12 +91,21 @@ fn push_primary(lines: &mut JsonLines)
 }
 
 /// Returns whether a span begins or ends in a long line.
-pub(crate) fn has_long_line(part: Part<'_, '_>, span: Span) -> bool {
-    is_long(part, span.from) | is_long(part, span.to)
+pub(crate) fn has_long_line(part: Part<'_, '_>, span: Span) -> bool
+    ensures { IsTrue result → HasLongLine part.entry.source.now part.entry.offset span }
+{
+    if is_long(part, span.from) {
+        return true;
+    }
+    is_long(part, span.to)
 }
 
 /// Returns whether the line of an offset is long.
-fn is_long(part: Part<'_, '_>, offset: usize) -> bool {
-    let line = part.location(offset).line;
-    part.source.short_line(line, LONG).is_none()
+fn is_long(part: Part<'_, '_>, offset: usize) -> bool
+    ensures { IsTrue result → IsLongAt part.entry.source.now part.entry.offset offset }
+{
+    match part.source.short_line(part.location(offset).line, LONG) {
+        Some(_) => false,
+        None => true,
+    }
 }

@@ -7,7 +7,7 @@ use Rattle.logos_options.specs.declared.options.OptionRole.TheVariants.{Setting,
 use Rattle.logos_options.specs.declared.options.OptionRow.{OptionRow}
 
 -- A row of the table: an option, its name, its short name if it has one, whether it has a value,
--- what it does, and whether `logos_cli` and `logos_show` take it.
+-- its effect, and whether `logos_cli` and `logos_show` take it.
 pub record OptionRowValue : Type 0 where
   pub option : OptionName
   pub word : List ℕ

@@ -1,4 +1,4 @@
-//! The table of options: the name of each, whether it has a value, what it does, and the programs
+//! The table of options: the name of each, whether it has a value, its effect, and the programs
 //! that take it with its lines in their help. Every reader of arguments looks options up here.
 
 ghost use Rattle.std.specs.Prelude.{◌≡◌, ◌<◌, Some, is_some, map};

@@ -1,4 +1,4 @@
-//! Patterns, read from the text of a literal. `logos_leaf` makes one for each leaf, and one for each
+//! Patterns, read from the text of a literal. `logos_leaf` makes one for each leaf and for each
 //! subpattern.
 
 ghost use Rattle.std.specs.Prelude.{◌≡◌, ◌≤◌, ◌++◌, ℕ, chars, IfOk, IfErr, IsTrue, Some};

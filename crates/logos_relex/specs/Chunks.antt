@@ -58,8 +58,7 @@ module _ (code : CodeValue) (callback : Callback) where
     pub within : chunk.window ≤ length bytes
     pub spans : EndBy chunk.length chunk.items.items
     pub begun : AreBegun code callback (take chunk.window bytes) (map (item_at (take chunk.window bytes)) chunk.items.items) chunk.length
-
-  pub text : IsTrue code.utf8 → IsUtf8 (take chunk.window bytes)
+    pub text : IsTrue code.utf8 → IsUtf8 (take chunk.window bytes)
 
   -- The chunks are at the front of the bytes, one after another, and `rest` follows them.
   abbrev pub AreChunks : List ℕ → List Chunk → List ℕ → Type 0

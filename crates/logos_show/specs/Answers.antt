@@ -1,20 +1,18 @@
 -- The output about lexers.
-pub use Rattle.logos_answers.specs.Comparing.{IsCompared}
-pub use Rattle.logos_graph.specs.View.{GraphValue}
-use Rattle.std.specs.Prelude.{◌≢◌, ℕ, Bool, List, ◌++◌, Option, codes, decimal, take}
+use Rattle.std.specs.Prelude.{◌≡◌, ◌≢◌, ℕ, Bool, List, ◌++◌, Option, codes, decimal, take}
 use Rattle.std.specs.List.{flat_map}
 use Rattle.std.specs.Io.KnownBytes.{Appends}
+use Rattle.logos_answers.specs.Expecting.{timeless}
 use Rattle.logos_answers.specs.Inputs.{input_line}
 use Rattle.logos_answers.specs.Matches.{AreLines}
 use Rattle.logos_answers.specs.Offsets.{IsOffsetOf}
-use Rattle.logos_answers.specs.declared.comparison.Compared.{Compared}
-use Rattle.logos_answers.specs.declared.comparison.Compared.TheVariants as compared
 use Rattle.logos_evidence.specs.Covering.{AreCoveringInputs}
 use Rattle.logos_evidence.specs.Matching.{AreMatches}
 use Rattle.logos_evidence.specs.declared.matches.Match.{Match}
 use Rattle.logos_graph.specs.Graph.{GraphState}
 use Rattle.logos_graph.specs.View.{rules_of}
 use Rattle.logos_lines.specs.declared.location.Location.{Location}
+use Rattle.logos_page.specs.Shown.{shown_text}
 use Rattle.logos_pattern.specs.declared.leaf.Leaf.{Leaf}
 use Rattle.logos_records.specs.Inputs.{AreInputRecords}
 use Rattle.logos_records.specs.Matches.{AreMatchRecords}
@@ -57,7 +55,7 @@ pub record PrintsInputRecords (graph : List GraphState) (utf8 : Bool) (most : �
   pub lines : AreInputRecords graph utf8 most count text
   pub printed : Appends old new text
 
--- The verdict on two lexers is that of a comparison.
-abbrev pub IsJudged : GraphValue → GraphValue → Agreement → Type 0
-IsJudged one other Same = IsCompared one other compared.Same
-IsJudged one other Different = (made : Compared) × IsCompared one other made × (made ≢ compared.Same)
+-- The outcome of comparing an answer with the stored one at a path was written to standard output.
+abbrev pub PrintsAgreement : List ℕ → List ℕ → List ℕ → Agreement → Option (List ℕ) → Option (List ℕ) → Type 0
+PrintsAgreement path stored made Same old new = (timeless stored ≡ timeless made) × Appends old new (codes "as expected\n")
+PrintsAgreement path stored made Different old new = (timeless stored ≢ timeless made) × (rest : List ℕ) × Appends old new (shown_text path ++ rest)

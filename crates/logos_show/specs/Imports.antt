@@ -3,3 +3,4 @@
 pub use Rattle.logos_answers.specs.Imports.{AllStart, Gains, IsBytes, IsGraphOf, rules_of}
 pub use Rattle.logos_host.specs.Failures.{status_of}
 pub use Rattle.logos_show.specs.Orders.{IsNoMisuse, requested}
+pub use Rattle.logos_show.specs.Parts.{IsPartAt}

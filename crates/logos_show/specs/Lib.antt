@@ -2,5 +2,8 @@ pub mod questions
 pub mod Answers
 pub mod Choices
 pub mod Orders
+pub mod Parts
+pub mod Verdicts
+pub mod Runs
 pub mod Imports
 pub mod Views

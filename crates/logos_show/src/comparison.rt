@@ -1,36 +1,40 @@
 //! Compares two lexers. Called for `--compare`.
 
-ghost use Rattle.std.specs.Prelude.{IfErr};
-ghost use Rattle.logos_show.specs.Orders.{IsNoMisuse};
+ghost use Rattle.std.specs.Prelude.{◌≡◌, [], IfErr, IfOk};
+ghost use Rattle.logos_show.specs.Views.{ComparesFiles, ComparesTo, IsGraphOf, IsNoMisuse, Reads, order_value};
 
 use crate::choice::lexer_in;
-use crate::pages::SHAPE;
-use crate::program::{Host, Task, is_json, part_of};
+use crate::lexers::{SHAPE, part_of};
+use crate::program::{Task, is_json};
 use crate::refusals::{refused, text_of, write_note};
-use crate::replies::{Agreement, Judgment, Pair, compare_with};
+use crate::replies::Agreement;
+use crate::verdict::{Judgment, Pair, compare_with};
 use logos_answers::NamedLexer;
 use logos_codegen::{Generated, generate};
 use logos_host::{Failure, Files, read_text};
 use logos_report::Source;
 use logos_rust_file::FoundEnum;
-use std::io::{IsTerminal, Write};
-use std::time::Clock;
+use std::io::Write;
 
 /// Writes whether the lexer of another file is equivalent, and returns that.
-pub(crate) fn compare<'w, F: Files, C: Clock, O: Write, E: Write + IsTerminal>(
+pub(crate) fn compare<'w, F: Files, O: Write, E: Write>(
     task: Task<'w>,
     source: &Source<'_>,
     other: &'w str,
-    host: &mut Host<'_, F, C, E>,
+    files: &mut F,
+    err: &mut E,
     out: &mut O,
 ) -> Result<Agreement, Failure<'w>>
-    ensures { IfErr result IsNoMisuse }
+    ensures failed { IfErr result IsNoMisuse }
+    ensures judged { IfOk result (λ agreement. Reads F.read_yields files.old other.now
+        (λ text read. (files.new ≡ read) × ComparesFiles (order_value task.entry.order) source.now
+        (record { path = other.now; text = text }) agreement (O.contents out.old)
+        (O.contents out.new))) }
 {
-    let alloc = task.showing.alloc;
-    let other_text = read_text(other, host.files)?;
-    let other_source = Source::new(alloc, other, other_text.as_str())?;
-    let Judgment { agreement, note } = compare_files(task, source, &other_source, host.err, out)?;
-    write_note(host.err, note.as_bytes());
+    let other_text = read_text(other, files)?;
+    let other_source = Source::new(task.showing.alloc, other, other_text.as_str())?;
+    let Judgment { agreement, note } = compare_files(task, source, &other_source, err, out)?;
+    write_note(err, note.as_bytes());
     Ok(agreement)
 }
 
@@ -42,7 +46,9 @@ fn compare_files<'w, O: Write, E: Write>(
     err: &mut E,
     out: &mut O,
 ) -> Result<Judgment, Failure<'w>>
-    ensures { IfErr result IsNoMisuse }
+    ensures failed { IfErr result IsNoMisuse }
+    ensures judged { IfOk result (λ judgment. ComparesFiles (order_value task.entry.order) source.now
+        other.now judgment.agreement (O.contents out.old) (O.contents out.new)) }
 {
     let alloc = task.showing.alloc;
     let one = lexer_in(alloc, task, source, err)?;
@@ -58,7 +64,10 @@ fn named_lexer<'m, 's>(
     source: &'m Source<'_>,
     one: FoundEnum,
     made: &'m Generated<'s>,
-) -> NamedLexer<'m, 's> {
+) -> NamedLexer<'m, 's>
+    ensures path { result.path.now ≡ source.now.path }
+    ensures graph { result.graph.now ≡ made.now.graph }
+{
     NamedLexer {
         path: source.path(),
         text: text_of(source, one),
@@ -75,7 +84,11 @@ fn compare_to<'w, O: Write, E: Write>(
     err: &mut E,
     out: &mut O,
 ) -> Result<Judgment, Failure<'w>>
-    ensures { IfErr result IsNoMisuse }
+    ensures failed { IfErr result IsNoMisuse }
+    ensures judged { IfOk result (λ judgment. IsGraphOf one.entry.graph.now.leaves
+        one.entry.graph.now.utf8 one.entry.graph.now → one.entry.graph.now.faults ≡ [] →
+        ComparesTo (order_value task.entry.order) one.entry.graph.now one.entry.path.now source.now
+        judgment.agreement (O.contents out.old) (O.contents out.new)) }
 {
     let alloc = task.showing.alloc;
     let other = lexer_in(alloc, task, source, err)?;

@@ -4,22 +4,29 @@
 
 mod choice;
 mod comparison;
+mod inputs;
+mod items;
+mod lexers;
+mod matches;
 mod pages;
 mod program;
 mod questions;
 mod refusals;
 mod replies;
 mod stream;
+mod verdict;
 
 use logos_host::{Disk, arguments};
-use program::{Host, run_with};
+use program::run_with;
 
 /// Runs `logos_show` with the arguments of the process. Returns the exit status.
 pub fn run_logos_show(rt: &HostRuntime) -> u8 {
-    let mut host = Host {
-        files: &mut Disk { rt },
-        clock: rt,
-        err: &mut rt.stderr(),
-    };
-    run_with(rt.alloc(), arguments(rt), &mut host, &mut rt.stdout())
+    run_with(
+        rt.alloc(),
+        arguments(rt),
+        &mut Disk { rt },
+        rt,
+        &mut rt.stderr(),
+        &mut rt.stdout(),
+    )
 }

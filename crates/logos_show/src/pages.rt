@@ -1,14 +1,14 @@
-//! The lexers of a file, as tables. Used by `comparison`, `program` and `stream`.
+//! The lexers of a file, as tables. Used by `program`.
 
 ghost use Rattle.std.specs.Prelude.{IfErr};
 ghost use Rattle.logos_show.specs.Orders.{IsNoMisuse};
 
 use crate::choice::has_name;
+use crate::lexers::SHAPE;
 use crate::refusals::{refusal_of, refused, refused_with, text_of};
 use logos_answers::{push_costs, push_examples, push_rows};
 use logos_causes::{Explained, Lexer, explain_enum};
 use logos_codegen::error::Memory;
-use logos_codegen::generator::Config;
 use logos_codegen::token::{TokenStream, tokenize};
 use logos_codegen::{Generated, generate};
 use logos_file_warnings::{
@@ -27,12 +27,6 @@ use logos_rust_file::{FoundEnum, read_file};
 use logos_warnings::Origin;
 use std::alloc::Global;
 use std::mem;
-
-/// The shape of the code whose tables are counted. The number of tables does not depend on the
-/// shape.
-pub(crate) const SHAPE: Config = Config {
-    use_state_machine_codegen: true,
-};
 
 /// The output for a file.
 #[derive(Drop)]
@@ -258,7 +252,7 @@ fn tokens_of<'s>(alloc: Global, text: &'s str) -> Result<TokenStream<'s>, Memory
     }
 }
 
-/// Appends the leaves of a lexer or its examples, in the form that is asked for.
+/// Appends the leaves of a lexer or its examples, in the requested form.
 fn push_form(
     alloc: Global,
     pages: &mut Pages,

@@ -1,30 +1,25 @@
 //! The program, from its arguments to its exit status. `run_logos_show` calls it.
 
-ghost use Rattle.std.specs.Prelude.{◌≡◌, ◌≤◌, ◌↔◌, ◌⊎◌, None, IfErr, IfOk, map, string_bytes};
-ghost use Rattle.logos_show.specs.Imports.{status_of, IsNoMisuse, requested};
+ghost use Rattle.std.specs.Prelude.{◌≡◌, ◌≤◌, ◌↔◌, ◌⊎◌, None, IfErr, IfOk, IfSome, map, string_bytes};
+ghost use Rattle.logos_show.specs.Views.{Answers, AnswersAbout, AnswersOrExpects, Expects, IsFulfilled, IsNoMisuse, expected_in, is_json, order_value, question_value, request_value, requested, status_of};
 
-use crate::choice::{found_in, lexer_in};
+use crate::choice::found_in;
 use crate::comparison::compare;
-use crate::pages::{Form, PageStyle, SHAPE, Shown, shown_of};
+use crate::inputs::yield_inputs;
+use crate::items::lex;
+use crate::matches::{FilePoint, show_matches};
+use crate::pages::{Form, PageStyle, Shown, shown_of};
 use crate::questions::{Question, ShowOrder, ShowRequest, request_of};
-use crate::refusals::{refused, text_of, write_note};
-use crate::replies::{
-    Agreement, Input, InputPoint, write_agreement, write_input_records, write_inputs,
-    write_match_records, write_matches,
-};
+use crate::refusals::write_note;
+use crate::replies::{Agreement, write_agreement};
 use crate::stream::lex_stream;
-use logos_codegen::graph::Graph;
-use logos_codegen::{Generated, generate};
 use logos_file_warnings::Showing;
 use logos_host::{ComparableFiles, Failure, Files, print_bytes, read_bytes, read_text, report};
-use logos_items::{ItemOrder, write_item_records, write_items};
-use logos_lines::Location;
 use logos_options::{
     HelpText, OptionName, Program, STANDARD_INPUT, path_by_word, print_help, print_version,
     with_nearest,
 };
-use logos_report::{Part, Source};
-use logos_rust_file::FoundEnum;
+use logos_report::Source;
 use std::alloc::Global;
 use std::io::{Input as StandardInput, IsTerminal, Write};
 use std::time::Clock;
@@ -56,15 +51,6 @@ options:
 
 const VERSION: &str = "logos_show 0.1.0 (for logos 0.16)\n";
 
-/// The inputs of the program, and the destination of its messages: files, a clock, which also
-/// provides standard input, and standard error.
-#[derive(Drop)]
-pub(crate) struct Host<'h, F, C, E> {
-    pub(crate) files: &'h mut F,
-    pub(crate) clock: &'h C,
-    pub(crate) err: &'h mut E,
-}
-
 /// Runs the program with its arguments, and returns the exit status of `run`. If the arguments
 /// cannot be read, the status is that of the failure.
 pub(crate) fn run_with<
@@ -75,18 +61,23 @@ pub(crate) fn run_with<
 >(
     alloc: Global,
     arguments: Result<Vec<String>, Failure<'static>>,
-    host: &mut Host<'_, F, C, E>,
+    files: &mut F,
+    clock: &C,
+    err: &mut E,
     out: &mut O,
 ) -> u8
     requires { IfErr arguments (λ failure. (status_of failure ≡ 2) ⊎ (status_of failure ≡ 3)) }
     ensures usage { IfOk arguments.entry (λ passed.
         (result ≡ 2) ↔ (requested (map string_bytes passed.items) ≡ None)) }
+    ensures fulfilled { IfOk arguments.entry (λ passed. result ≡ 0 →
+        IfSome (requested (map string_bytes passed.items)) (λ request. IsFulfilled F.read_yields
+        request files.old files.new Agreement.Same (O.contents out.old) (O.contents out.new))) }
     ensures unread { IfErr arguments.entry (λ failure. result ≡ status_of failure) }
     ensures known { result ≤ 3 }
 {
     match arguments {
-        Ok(passed) => run(alloc, passed.as_slice(), host, out),
-        Err(failure) => failed(&failure, host.err),
+        Ok(passed) => run(alloc, passed.as_slice(), files, clock, err, out),
+        Err(failure) => failed(&failure, err),
     }
 }
 
@@ -96,20 +87,27 @@ pub(crate) fn run_with<
 pub(crate) fn run<F: ComparableFiles, C: Clock + StandardInput, O: Write, E: Write + IsTerminal>(
     alloc: Global,
     arguments: &[String],
-    host: &mut Host<'_, F, C, E>,
+    files: &mut F,
+    clock: &C,
+    err: &mut E,
     out: &mut O,
 ) -> u8
     ensures usage { (result ≡ 2) ↔ (requested (map string_bytes arguments.now) ≡ None) }
+    // At status 0 the question was answered as requested. Two lexers that are compared find the
+    // same on all inputs, and an answer is the stored one.
+    ensures fulfilled { result ≡ 0 → IfSome (requested (map string_bytes arguments.now))
+        (λ request. IsFulfilled F.read_yields request files.old files.new Agreement.Same
+        (O.contents out.old) (O.contents out.new)) }
     ensures known { result ≤ 3 }
 {
     let request = match request_of(arguments) {
         Ok(request) => request,
-        Err(failure) => return failed(&with_nearest(failure, Program::Show), host.err),
+        Err(failure) => return failed(&with_nearest(failure, Program::Show), err),
     };
-    match carry_out(alloc, request, host, out) {
+    match carry_out(alloc, request, files, clock, err, out) {
         Ok(Agreement::Same) => 0,
         Ok(Agreement::Different) => 1,
-        Err(failure) => failed(&failure, host.err),
+        Err(failure) => failed(&failure, err),
     }
 }
 
@@ -133,32 +131,36 @@ pub(crate) struct Task<'w> {
 fn carry_out<'w, F: ComparableFiles, C: Clock + StandardInput, O: Write, E: Write + IsTerminal>(
     alloc: Global,
     request: ShowRequest<'w>,
-    host: &mut Host<'_, F, C, E>,
+    files: &mut F,
+    clock: &C,
+    err: &mut E,
     out: &mut O,
 ) -> Result<Agreement, Failure<'w>>
-    ensures { IfErr result IsNoMisuse }
+    ensures failed { IfErr result IsNoMisuse }
+    ensures fulfilled { IfOk result (λ agreement. IsFulfilled F.read_yields
+        (request_value request.entry) files.old files.new agreement (O.contents out.old)
+        (O.contents out.new)) }
 {
-    let done = match request {
-        ShowRequest::Help => print_help(Program::Show, HELP, out),
-        ShowRequest::Version => print_version(VERSION, host.files, out),
+    match request {
+        ShowRequest::Help => as_same(print_help(Program::Show, HELP, out)),
+        ShowRequest::Version => as_same(print_version(VERSION, files, out)),
         ShowRequest::Show(order) => {
             let showing = Showing {
                 alloc,
                 format: order.style.format,
-                is_colored: order.style.color.is_on(host.err.is_terminal()),
+                is_colored: order.style.color.is_on(err.is_terminal()),
                 denies: order.settings.has(OptionName::DenyWarnings),
             };
-            let task = Task { order, showing };
-            return answer_or_compare(alloc, task, host, out);
+            answer_or_compare(Task { order, showing }, files, clock, err, out)
         }
-    };
-    as_same(done)
+    }
 }
 
 /// Returns `Same` for a request without a comparison, if nothing failed.
 fn as_same<'w>(done: Result<(), Failure<'w>>) -> Result<Agreement, Failure<'w>>
     requires { IfErr done IsNoMisuse }
-    ensures { IfErr result IsNoMisuse }
+    ensures failed { IfErr result IsNoMisuse }
+    ensures same { IfOk result (λ agreement. agreement ≡ Agreement.Same) }
 {
     match done {
         Ok(()) => Ok(Agreement::Same),
@@ -168,60 +170,108 @@ fn as_same<'w>(done: Result<(), Failure<'w>>) -> Result<Agreement, Failure<'w>>
 
 /// Answers the question about the lexers of a file, or compares the answer with a stored one.
 /// Returns the outcome of the comparison, if there is one.
-fn answer_or_compare<'w, F: Files, C: Clock + StandardInput, O: Write, E: Write + IsTerminal>(
-    alloc: Global,
+fn answer_or_compare<'w, F: Files, C: Clock + StandardInput, O: Write, E: Write>(
     task: Task<'w>,
-    host: &mut Host<'_, F, C, E>,
+    files: &mut F,
+    clock: &C,
+    err: &mut E,
     out: &mut O,
 ) -> Result<Agreement, Failure<'w>>
-    ensures { IfErr result IsNoMisuse }
+    ensures failed { IfErr result IsNoMisuse }
+    ensures answered { IfOk result (λ agreement. AnswersOrExpects F.read_yields
+        (expected_in (order_value task.entry.order)) (order_value task.entry.order) files.old files.new
+        agreement (O.contents out.old) (O.contents out.new)) }
 {
-    let Some(word) = task.order.settings.value(OptionName::Expect) else {
-        return answer(alloc, task, host, out);
-    };
-    let path = path_by_word(word);
-    let stored = read_bytes(path, host.files)?;
+    match task.order.settings.value(OptionName::Expect) {
+        Some(word) => expect(task, path_by_word(word), files, clock, err, out),
+        None => answer(task, files, clock, err, out),
+    }
+}
+
+/// Compares the answer to the question about the lexers of a file with the stored one at a path.
+fn expect<'w, F: Files, C: Clock + StandardInput, O: Write, E: Write>(
+    task: Task<'w>,
+    path: &'w str,
+    files: &mut F,
+    clock: &C,
+    err: &mut E,
+    out: &mut O,
+) -> Result<Agreement, Failure<'w>>
+    ensures failed { IfErr result IsNoMisuse }
+    ensures expected { IfOk result (λ agreement. Expects F.read_yields (order_value task.entry.order)
+        path.now files.old files.new agreement (O.contents out.old) (O.contents out.new)) }
+{
+    let alloc = task.showing.alloc;
+    let stored = read_bytes(path, files)?;
     let mut made = Vec::new(alloc);
-    let _ = answer(alloc, task, host, &mut made)?;
+    let _ = answer(task, files, clock, err, &mut made)?;
     write_agreement(alloc, path, &stored, &made, out)
 }
 
 /// Answers the question about the lexers of a file, and returns the outcome of its comparison, if
 /// it has one.
-fn answer<'w, F: Files, C: Clock + StandardInput, O: Write, E: Write + IsTerminal>(
-    alloc: Global,
+fn answer<'w, F: Files, C: Clock + StandardInput, O: Write, E: Write>(
     task: Task<'w>,
-    host: &mut Host<'_, F, C, E>,
+    files: &mut F,
+    clock: &C,
+    err: &mut E,
     out: &mut O,
 ) -> Result<Agreement, Failure<'w>>
-    ensures { IfErr result IsNoMisuse }
+    ensures failed { IfErr result IsNoMisuse }
+    ensures answered { IfOk result (λ agreement. Answers F.read_yields (order_value task.entry.order)
+        files.old files.new agreement (O.contents out.old) (O.contents out.new)) }
 {
     let path = task.order.file;
-    let text = read_text(path, host.files)?;
-    let source = Source::new(alloc, path, text.as_str())?;
-    answer_about(task, &source, host, out)
+    let text = read_text(path, files)?;
+    let source = Source::new(task.showing.alloc, path, text.as_str())?;
+    answer_about(task, &source, files, clock, err, out)
 }
 
 /// Answers the question about the lexers of this file, and returns the outcome of its comparison,
 /// if it has one.
-fn answer_about<'w, F: Files, C: Clock + StandardInput, O: Write, E: Write + IsTerminal>(
+fn answer_about<'w, F: Files, C: Clock + StandardInput, O: Write, E: Write>(
     task: Task<'w>,
     source: &Source<'_>,
-    host: &mut Host<'_, F, C, E>,
+    files: &mut F,
+    clock: &C,
+    err: &mut E,
     out: &mut O,
 ) -> Result<Agreement, Failure<'w>>
+    ensures failed { IfErr result IsNoMisuse }
+    ensures answered { IfOk result (λ agreement. AnswersAbout F.read_yields
+        (order_value task.entry.order) (question_value task.entry.order.question) source.now files.old
+        files.new agreement (O.contents out.old) (O.contents out.new)) }
+{
+    match task.order.question {
+        Question::Comparison(other) => compare(task, source, other, files, err, out),
+        Question::Matches(path, location) => {
+            let point = FilePoint { path, location };
+            show_matches(task, source, point, files, err, out)
+        }
+        Question::Inputs(most) => yield_inputs(task, source, most, err, out),
+        Question::Items(_) => as_same(lex_any(task, source, files, clock, err, out)),
+        Question::Leaves | Question::Examples => as_same(show(task, source, err, out)),
+    }
+}
+
+/// Writes the items of an input. Those of standard input are written as they are found, unless as
+/// JSON.
+fn lex_any<'w, F: Files, C: Clock + StandardInput, O: Write, E: Write>(
+    task: Task<'w>,
+    source: &Source<'_>,
+    files: &mut F,
+    clock: &C,
+    err: &mut E,
+    out: &mut O,
+) -> Result<(), Failure<'w>>
     ensures { IfErr result IsNoMisuse }
 {
-    let done = match task.order.question {
-        Question::Leaves | Question::Examples => show(task, source, host.err, out),
-        Question::Inputs(_) => yield_inputs(task, source, host.err, out),
+    match task.order.question {
         Question::Items(STANDARD_INPUT) if !is_json(task.order) => lex_stream(
-            task, source, host, out,
+            task, source, clock, err, out,
         ),
-        Question::Items(_) | Question::Matches(..) => lex(task, source, host, out),
-        Question::Comparison(other) => return compare(task, source, other, host, out),
-    };
-    as_same(done)
+        _ => lex(task, source, files, clock, err, out),
+    }
 }
 
 /// Writes the tables of a file or examples, and its warnings.
@@ -253,7 +303,9 @@ fn show<'w, O: Write, E: Write>(
 }
 
 /// Returns whether the answer is JSON.
-pub(crate) fn is_json(order: ShowOrder<'_>) -> bool {
+pub(crate) fn is_json(order: ShowOrder<'_>) -> bool
+    ensures { result ≡ is_json (order_value order.entry) }
+{
     order.settings.has(OptionName::Json)
 }
 
@@ -264,185 +316,5 @@ fn form_of(order: ShowOrder<'_>) -> Form {
         (Question::Examples, true) => Form::ExampleRecords,
         (_, false) => Form::Tables,
         (_, true) => Form::LeafRecords,
-    }
-}
-
-/// Writes inputs that together take all edges of the graph of a lexer.
-fn yield_inputs<'w, O: Write, E: Write>(
-    task: Task<'w>,
-    source: &Source<'_>,
-    err: &mut E,
-    out: &mut O,
-) -> Result<(), Failure<'w>>
-    ensures { IfErr result IsNoMisuse }
-{
-    let note = inputs_by_file(task, source, err, out)?;
-    write_note(err, note.as_bytes());
-    Ok(())
-}
-
-/// Writes inputs for the requested lexer of a file, and returns the note about them.
-fn inputs_by_file<'w, O: Write, E: Write>(
-    task: Task<'w>,
-    source: &Source<'_>,
-    err: &mut E,
-    out: &mut O,
-) -> Result<String, Failure<'w>>
-    ensures { IfErr result IsNoMisuse }
-{
-    let alloc = task.showing.alloc;
-    let one = lexer_in(alloc, task, source, err)?;
-    let part = part_of(source, one);
-    match generate(alloc, text_of(source, one), SHAPE) {
-        Ok(made) => inputs_by_lexer(alloc, task.order, &made, out),
-        Err(refusal) => Err(refused(alloc, part, task.showing, refusal)),
-    }
-}
-
-/// Writes inputs for a lexer, and returns the note about them.
-fn inputs_by_lexer<O: Write>(
-    alloc: Global,
-    order: ShowOrder<'_>,
-    made: &Generated<'_>,
-    out: &mut O,
-) -> Result<String, Failure<'static>>
-    ensures { IfErr result IsNoMisuse }
-{
-    let most = most_of(order.question);
-    if is_json(order) {
-        write_input_records(alloc, &made.graph, most, out)
-    } else {
-        write_inputs(alloc, &made.graph, most, out)
-    }
-}
-
-/// Returns the requested maximum number of inputs.
-fn most_of(question: Question<'_>) -> usize {
-    match question {
-        Question::Inputs(most) => most,
-        _ => 0,
-    }
-}
-
-/// Writes the items of an input, or the matches from a line and column of it.
-fn lex<'w, F: Files, C: Clock, O: Write, E: Write + IsTerminal>(
-    task: Task<'w>,
-    source: &Source<'_>,
-    host: &mut Host<'_, F, C, E>,
-    out: &mut O,
-) -> Result<(), Failure<'w>>
-    ensures { IfErr result IsNoMisuse }
-{
-    let (path, location) = input_of(task.order.question);
-    let bytes = read_bytes(path, host.files)?;
-    let input = Input {
-        path,
-        bytes: bytes.as_slice(),
-        location,
-        settings: task.order.settings,
-    };
-    lex_by_file(task, source, input, host, out)
-}
-
-/// Returns the path of the input of a question, and the requested line and column in it.
-fn input_of<'w>(question: Question<'w>) -> (&'w str, Option<Location>) {
-    match question {
-        Question::Items(input) => (input, None),
-        Question::Matches(input, location) => (input, Some(location)),
-        _ => ("", None),
-    }
-}
-
-/// Writes the items of an input or the matches from a point of it, found with the requested lexer
-/// of a file.
-fn lex_by_file<'w, F: Files, C: Clock, O: Write, E: Write + IsTerminal>(
-    task: Task<'w>,
-    source: &Source<'_>,
-    input: Input<'w, '_>,
-    host: &mut Host<'_, F, C, E>,
-    out: &mut O,
-) -> Result<(), Failure<'w>>
-    ensures { IfErr result IsNoMisuse }
-{
-    let alloc = task.showing.alloc;
-    let one = lexer_in(alloc, task, source, host.err)?;
-    let part = part_of(source, one);
-    match generate(alloc, text_of(source, one), SHAPE) {
-        Ok(made) => lex_by_lexer(alloc, &made, input, host, out),
-        Err(refusal) => Err(refused(alloc, part, task.showing, refusal)),
-    }
-}
-
-/// Returns the part of a file that is an enum.
-pub(crate) fn part_of<'f, 's>(source: &'f Source<'s>, one: FoundEnum) -> Part<'f, 's> {
-    Part {
-        source,
-        offset: one.span.from,
-    }
-}
-
-/// Writes the items of an input, or the matches from a point of it.
-fn lex_by_lexer<'w, F: Files, C: Clock, O: Write, E: Write + IsTerminal>(
-    alloc: Global,
-    made: &Generated<'_>,
-    input: Input<'w, '_>,
-    host: &mut Host<'_, F, C, E>,
-    out: &mut O,
-) -> Result<(), Failure<'w>>
-    ensures { IfErr result IsNoMisuse }
-{
-    if let Some(location) = input.location {
-        let point = InputPoint {
-            path: input.path,
-            bytes: input.bytes,
-            location,
-        };
-        return match_by_lexer(
-            alloc,
-            &made.graph,
-            point,
-            input.settings.has(OptionName::Json),
-            out,
-        );
-    }
-    let note = items_by_lexer(alloc, made, input, host.clock, out)?;
-    write_note(host.err, note.as_bytes());
-    Ok(())
-}
-
-/// Writes the items of an input, and returns the note about them.
-fn items_by_lexer<C: Clock, O: Write>(
-    alloc: Global,
-    made: &Generated<'_>,
-    input: Input<'_, '_>,
-    clock: &C,
-    out: &mut O,
-) -> Result<String, Failure<'static>>
-    ensures { IfErr result IsNoMisuse }
-{
-    if input.settings.has(OptionName::Json) {
-        return write_item_records(alloc, &made.code, input.bytes, out);
-    }
-    let order = ItemOrder {
-        alloc,
-        settings: input.settings,
-    };
-    write_items(order, made, input.bytes, clock, out)
-}
-
-/// Writes the matches from a point of an input.
-fn match_by_lexer<O: Write>(
-    alloc: Global,
-    graph: &Graph<'_>,
-    point: InputPoint<'_, '_>,
-    is_json: bool,
-    out: &mut O,
-) -> Result<(), Failure<'static>>
-    ensures { IfErr result IsNoMisuse }
-{
-    if is_json {
-        write_match_records(alloc, graph, point, out)
-    } else {
-        write_matches(alloc, graph, point, out)
     }
 }

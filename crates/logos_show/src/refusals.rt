@@ -1,7 +1,7 @@
 //! The texts of enums, and the refusals of files.
 
 ghost use Rattle.std.specs.Prelude.{IfErr};
-ghost use Rattle.logos_show.specs.Imports.{IsNoMisuse};
+ghost use Rattle.logos_show.specs.Imports.{IsNoMisuse, IsPartAt};
 
 use logos_causes::{Explained, explain};
 use logos_codegen::Refusal;
@@ -19,8 +19,10 @@ use logos_rust_file::{FoundEnum, enums_in};
 use std::alloc::Global;
 use std::io::Write;
 
-/// Returns the text at a span.
-fn slice(text: &str, span: Span) -> &str {
+/// Returns the text at a span, or an empty one if the text has no such span.
+fn slice(text: &str, span: Span) -> &str
+    ensures { IsPartAt text.now span result.now }
+{
     match text.get(span.from..span.to) {
         Some(slice) => slice,
         None => "",
@@ -28,7 +30,9 @@ fn slice(text: &str, span: Span) -> &str {
 }
 
 /// Returns the text of an enum of a file.
-pub(crate) fn text_of<'t>(source: &Source<'t>, found: FoundEnum) -> &'t str {
+pub(crate) fn text_of<'t>(source: &Source<'t>, found: FoundEnum) -> &'t str
+    ensures { IsPartAt source.now.text found.span result.now }
+{
     slice(source.text(), found.span)
 }
 

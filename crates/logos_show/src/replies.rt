@@ -1,22 +1,15 @@
-//! Answers to questions about lexers. Used by `comparison` and `program`.
+//! Answers to questions about lexers. Used by `inputs`, `matches` and `program`.
 
-ghost use Rattle.std.specs.Prelude.{◌≡◌, [], IfErr, IfOk, OnOk};
-ghost use Rattle.logos_show.specs.Views.{AllStart, Gains, IsBytes, IsGraphOf, rules_of, IsNoMisuse, GraphValue, IsCompared, IsJudged, PrintsInputRecords, PrintsInputs, PrintsMatchRecords, PrintsMatches, location_line};
+ghost use Rattle.std.specs.Prelude.{◌≡◌, IfErr, IfOk, OnOk};
+ghost use Rattle.logos_show.specs.Views.{AllStart, Gains, IsBytes, IsGraphOf, rules_of, IsNoMisuse, PrintsAgreement, PrintsInputRecords, PrintsInputs, PrintsMatchRecords, PrintsMatches, location_line};
 
 use crate::refusals::refusal_of;
-use logos_answers::{
-    Compared, NamedLexer, compare_lexers, finding_of, offset_of, push_agreement, push_callbacks,
-    push_difference, push_inputs, push_matches, push_modes,
-};
+use logos_answers::{offset_of, push_agreement, push_inputs, push_matches};
 use logos_codegen::graph::Graph;
 use logos_host::{Failure, print_bytes};
 use logos_lines::Location;
-use logos_options::Settings;
 use logos_page::Page;
-use logos_records::{
-    JsonLines, input_records, match_records, push_difference_record, push_modes_record,
-    push_same_record,
-};
+use logos_records::{input_records, match_records};
 use std::alloc::{AllocError, Global};
 use std::io::Write;
 
@@ -25,16 +18,6 @@ use std::io::Write;
 pub(crate) enum Agreement {
     Same,
     Different,
-}
-
-/// An input: its path, its bytes, and the requested point, if there is one.
-#[derive(Clone, Copy)]
-pub(crate) struct Input<'w, 'i> {
-    pub(crate) path: &'w str,
-    pub(crate) bytes: &'i [u8],
-    pub(crate) location: Option<Location>,
-    /// The given settings.
-    pub(crate) settings: Settings<'w>,
 }
 
 /// A point of an input: the path and the bytes of the input, and the point.
@@ -198,144 +181,16 @@ pub(crate) fn write_agreement<O: Write>(
     made: &[u8],
     out: &mut O,
 ) -> Result<Agreement, Failure<'static>>
-    ensures { IfErr result IsNoMisuse }
+    ensures failed { IfErr result IsNoMisuse }
+    ensures printed { IfOk result (λ agreement. PrintsAgreement path.now stored.now made.now agreement
+        (O.contents out.old) (O.contents out.new)) }
 {
     let mut page = Page::new(alloc, false);
     let is_same = push_agreement(&mut page, path, stored, made);
-    print_bytes(page.finish()?.as_str().as_bytes(), out)?;
+    let text = page.finish()?;
+    print_bytes(text.as_str().as_bytes(), out)?;
     if is_same {
         return Ok(Agreement::Same);
     }
     Ok(Agreement::Different)
-}
-
-/// Two lexers that are compared, and whether the answer is JSON.
-#[derive(Clone, Copy)]
-pub(crate) struct Pair<'m, 's, 't> {
-    pub(crate) one: NamedLexer<'m, 's>,
-    pub(crate) other: NamedLexer<'m, 't>,
-    pub(crate) is_json: bool,
-}
-
-/// The result of comparing two lexers.
-#[derive(Drop)]
-pub(crate) struct Judgment {
-    pub(crate) agreement: Agreement,
-    /// A note about callbacks, which may be empty.
-    pub(crate) note: String,
-}
-
-/// Writes whether two lexers are equivalent, and returns that. If they differ, writes a shortest
-/// input at whose beginning their findings differ, and both findings.
-///
-/// # Errors
-///
-/// Returns `Output` if writing fails, and `Memory` if memory runs out.
-pub(crate) fn compare_with<O: Write>(
-    alloc: Global,
-    pair: Pair<'_, '_, '_>,
-    out: &mut O,
-) -> Result<Judgment, Failure<'static>>
-    ensures failed { IfErr result IsNoMisuse }
-    ensures judged { IfOk result (λ judgment.
-        IsGraphOf pair.entry.one.graph.now.leaves pair.entry.one.graph.now.utf8
-        pair.entry.one.graph.now →
-        IsGraphOf pair.entry.other.graph.now.leaves pair.entry.other.graph.now.utf8
-        pair.entry.other.graph.now →
-        pair.entry.one.graph.now.faults ≡ [] → pair.entry.other.graph.now.faults ≡ [] →
-        IsJudged pair.entry.one.graph.now pair.entry.other.graph.now judgment.agreement) }
-{
-    let compared = compare_lexers(alloc, pair.one.graph, pair.other.graph)?;
-    let bytes = comparison_bytes(alloc, pair, &compared)?;
-    let note = callback_note(alloc, pair.one, pair.other)?;
-    print_bytes(&bytes, out)?;
-    Ok(Judgment {
-        agreement: agreement_of(&compared),
-        note,
-    })
-}
-
-/// Returns whether two lexers are equivalent, given the result of their comparison.
-fn agreement_of(compared: &Compared) -> Agreement
-    ensures { (one other : GraphValue) → IsCompared one other compared.now →
-        IsJudged one other result }
-{
-    match compared {
-        Compared::Same => Agreement::Same,
-        Compared::Differ(_) => Agreement::Different,
-        Compared::OtherMode => Agreement::Different,
-    }
-}
-
-/// Returns the note about callbacks that are written differently.
-fn callback_note<'l>(
-    alloc: Global,
-    one: NamedLexer<'l, '_>,
-    other: NamedLexer<'l, '_>,
-) -> Result<String, AllocError> {
-    let mut page = Page::new(alloc, false);
-    push_callbacks(alloc, &mut page, one, other)?;
-    page.finish()
-}
-
-/// Returns the output about a comparison of two lexers.
-fn comparison_bytes(
-    alloc: Global,
-    pair: Pair<'_, '_, '_>,
-    compared: &Compared,
-) -> Result<Vec<u8>, AllocError> {
-    if pair.is_json {
-        compared_record(alloc, pair, compared)
-    } else {
-        Ok(compared_page(alloc, pair, compared)?.into_bytes())
-    }
-}
-
-/// Returns the lines about a comparison of two lexers.
-fn compared_page(
-    alloc: Global,
-    pair: Pair<'_, '_, '_>,
-    compared: &Compared,
-) -> Result<String, AllocError> {
-    let mut page = Page::new(alloc, false);
-    match compared {
-        Compared::Same => page.push("the same lexer\n"),
-        Compared::OtherMode => push_modes(&mut page, pair.one, pair.other),
-        Compared::Differ(input) => push_difference(alloc, &mut page, pair.one, pair.other, input)?,
-    }
-    page.finish()
-}
-
-/// Returns the object of a comparison of two lexers.
-fn compared_record(
-    alloc: Global,
-    pair: Pair<'_, '_, '_>,
-    compared: &Compared,
-) -> Result<Vec<u8>, AllocError> {
-    let mut lines = JsonLines::new(alloc, Vec::new(alloc));
-    match compared {
-        Compared::Same => push_same_record(&mut lines),
-        Compared::OtherMode => {
-            push_modes_record(
-                &mut lines,
-                pair.one.graph.utf8_mode(),
-                pair.other.graph.utf8_mode(),
-            )
-        }
-        Compared::Differ(input) => push_findings(alloc, &mut lines, pair, input)?,
-    }
-    lines.finish()
-}
-
-/// Appends the object of an input on which two lexers differ.
-fn push_findings(
-    alloc: Global,
-    lines: &mut JsonLines,
-    pair: Pair<'_, '_, '_>,
-    input: &[u8],
-) -> Result<(), AllocError> {
-    let found = finding_of(alloc, pair.one, input)?;
-    let found_by_other = finding_of(alloc, pair.other, input)?;
-    push_difference_record(lines, input, found, found_by_other);
-    Ok(())
 }

@@ -1,6 +1,6 @@
 -- Which tokens are removed from an enum, determined by their spots. A run is read from the left.
--- The spot of a token determines what can begin there: after attributes comes the part to which
--- they belong, and after a comma attributes can begin again.
+-- The spot of a token determines which part can begin there: after attributes comes their part,
+-- and after a comma attributes can begin again.
 use Rattle.std.specs.Prelude.{◌==◌, if◌then◌else◌, Bool, true, false, Option, Some, None, codes}
 use Rattle.std.specs.Str.{bytes_eq}
 use Rattle.logos_lexeme.specs.declared.lexeme.Delimiter.{Delimiter}

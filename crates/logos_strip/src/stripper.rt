@@ -72,7 +72,7 @@ pub fn strip_enum<'s>(
     requires spelled { Spells src.now (tokens_of tokens) }
     ensures { IfOk result (λ left. IsStripped src.now (stream_tokens left)) }
 {
-    // The source is here for what is known of it alone.
+    // The source is only here for the contract's facts about it.
     let _ = src;
     strip_run(alloc, Scope::Enum, tokens)
 }

@@ -6,7 +6,7 @@ use Rattle.logos_token.specs.Tokens.{TokenList}
 use Rattle.logos_type.specs.Parts.{Tree}
 use Rattle.logos_type.specs.Printed.{printed_type}
 
--- What is printed around the body of a lexer.
+-- The text around the body of a lexer.
 pub record AroundValue : Type 0 where
   -- The path of the library.
   pub logos : Option TokenList
@@ -75,8 +75,8 @@ answer_text core =
 abbrev pub signature_text : List ℕ → List ℕ → List ℕ
 signature_text core logos = codes "fn lex ( lex : & mut " ++ logos ++ answer_text core ++ logos ++ codes ":: Logos < 's >> :: Error >> { "
 
--- The imports of that function: of what the library has for it alone, of types of `core`, and of
--- `Logos`, with the type of the lexer.
+-- The imports of that function: of items of the library that only it uses, of types of `core`, and
+-- of `Logos`, with the type of the lexer.
 abbrev pub internals_text : List ℕ → List ℕ
 internals_text logos =
     codes "use " ++ logos ++ codes ":: internal :: { LexerInternal , CallbackRetVal , CallbackResult , SkipRetVal , SkipResult , } ; "
@@ -100,7 +100,7 @@ opening_text core around this =
     head_text (library_text around.logos) this ++ types_text around ++ signature_text core (library_text around.logos)
     ++ uses_text core (library_text around.logos) this
 
--- The import of what a lexer by tables uses of the library.
+-- The import of the items of the library that a lexer by tables uses.
 abbrev pub tables_use_text : List ℕ → List ℕ
 tables_use_text logos = codes "use " ++ logos ++ codes ":: internal :: { _Data , _Ranges , _Tables , _Unpacked } ; "
 

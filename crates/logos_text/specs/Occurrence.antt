@@ -13,6 +13,6 @@ pub record Adds (texts : List (List ℕ)) (old new : List ℕ) : Type 0 where
   pub is : new ≡ old ++ added
   pub occur : OccurInOrder texts added
 
--- A text is appended to, and nothing is promised of what was added.
+-- A text is appended to, and nothing is promised about the appended text.
 abbrev pub Grows : List ℕ → List ℕ → Type 0
 Grows = Adds []

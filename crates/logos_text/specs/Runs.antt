@@ -68,11 +68,11 @@ called_leaf_runs name leaf = if is_called leaf then leaf_runs name leaf else []
 abbrev pub plain_leaf_runs : Ident → CodeLeaf → List TokenList
 plain_leaf_runs name leaf = if is_called leaf then [] else kind_runs name (kind_value leaf.kind)
 
--- What the functions for errors and matches of a text of code repeat.
+-- The runs that the functions for errors and matches of a text of code repeat.
 abbrev pub action_runs : Ident → Option Callback → List CodeLeaf → List TokenList
 action_runs name callback leaves = called_runs (option_map callback_value callback) ++ flat_map (leaf_runs name) leaves
 
--- What those of a text of tables repeat.
+-- The runs that those of a text of tables repeat.
 abbrev pub table_runs : Ident → Option Callback → List CodeLeaf → List TokenList
 table_runs name callback leaves =
     called_runs (option_map callback_value callback) ++ (flat_map (called_leaf_runs name) leaves ++ flat_map (plain_leaf_runs name) leaves)

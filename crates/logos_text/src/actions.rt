@@ -1,4 +1,5 @@
-//! Prints what matches of a lexer by tables give, with leaves as numbers. `code` calls it once.
+//! Prints the results of matches of a lexer by tables, with leaves as numbers. `code` calls it
+//! once.
 
 ghost use Rattle.std.specs.Prelude.{◌≡◌, OnOk};
 ghost use Rattle.logos_text.specs.Views.{Notes, NotesLast, called_leaf_runs, flat_map, is_called, last_arm_text, leaf_runs, plain_leaf_runs, table_runs, variant_runs};
@@ -31,7 +32,7 @@ pub(crate) fn push_table_actions(
     Ok(())
 }
 
-/// Appends the function `_get_action`, which returns what a match of a leaf gives that has a
+/// Appends the function `_get_action`, which returns the result of a match of a leaf that has a
 /// callback or a value.
 fn push_action(
     alloc: Global,

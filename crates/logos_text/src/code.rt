@@ -20,7 +20,7 @@ use std::alloc::Global;
 /// The path of `core`, with the gap after it, in generated code, where the names of the crate are
 /// in scope.
 const SHORT_CORE: &str = "core ";
-/// The same in a text of tables: the whole path, which no module beside the enum changes.
+/// The path of `core` in a text of tables: the whole path, which no module beside the enum changes.
 const WHOLE_CORE: &str = ":: core ";
 
 /// Returns the Rust text of a code, as the body of a function: its tokens, with the gaps that
@@ -66,8 +66,8 @@ pub fn text_in(alloc: Global, code: &Code<'_>, around: Around<'_, '_>) -> Result
 
 /// Returns the beginning of the implementation of `Logos` by tables for the enum of a code: its
 /// types, the imports of the function that lexes, and inside that function the functions for
-/// errors, matches and tokens. Text that follows it can go on with the body of that function. The
-/// pieces of the source in it are returned with it.
+/// errors, matches and tokens. Text that follows it can continue with the body of that function.
+/// The pieces of the source in it are returned with it.
 ///
 /// # Errors
 ///

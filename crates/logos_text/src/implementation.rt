@@ -13,7 +13,7 @@ use logos_token::token::{Ident, Tokens, print};
 use logos_type::{TypeExpr, print_type};
 use std::alloc::Global;
 
-/// What is printed around the body of a lexer, mostly tokens of its source.
+/// The text around the body of a lexer, mostly tokens of its source.
 #[derive(Clone, Copy)]
 pub struct Around<'t, 's> {
     /// The path of the `logos` library. Without tokens it is `::logos`.
@@ -209,7 +209,7 @@ fn push_signature(
     Ok(())
 }
 
-/// Appends the type of the lexer, and of what the function that lexes returns, up to the library.
+/// Appends the type of the lexer and the result type of the function that lexes, up to the library.
 fn push_answer(sink: &mut Sink, core: &str) -> Result<(), Memory>
     ensures { OnOk result (Prints (answer_text core.now) [] sink.old sink.new) }
 {
@@ -238,7 +238,7 @@ fn push_uses(
     Ok(())
 }
 
-/// Appends the import of what the library has for the body alone.
+/// Appends the import of the items of the library that only the body uses.
 fn push_internals(
     alloc: Global,
     sink: &mut Sink,
@@ -293,7 +293,7 @@ fn push_lexer_end(sink: &mut Sink, this: &str) -> Result<(), Memory>
     Ok(())
 }
 
-/// Appends the import of what a lexer by tables uses of the library.
+/// Appends the import of the items of the library that a lexer by tables uses.
 pub(crate) fn push_tables_use(
     alloc: Global,
     sink: &mut Sink,

@@ -1,5 +1,4 @@
-//! Prints the leaves, and what the lexer does with their matches. `code` calls it once for all
-//! leaves.
+//! Prints the leaves, and the results of their matches. `code` calls it once for all leaves.
 
 ghost use Rattle.std.specs.Prelude.{[], OnOk, string_bytes};
 ghost use Rattle.logos_text.specs.Views.{Grows, Notes, flat_map, kind_runs, kind_value, leaf_runs, variant_runs};
@@ -43,7 +42,7 @@ fn push_leaf_name(text: &mut String, leaf: usize) -> Result<(), Memory>
     Ok(())
 }
 
-/// Appends the function `_get_action`, which returns what a match, or an error, gives.
+/// Appends the function `_get_action`, which returns the result of a match or an error.
 pub(crate) fn push_get_action(
     alloc: Global,
     sink: &mut Sink,
@@ -106,8 +105,8 @@ fn push_arm(
     Ok(())
 }
 
-/// Appends the body of a leaf's arm: the call of its callback, if it has one, and what a match
-/// gives.
+/// Appends the body of a leaf's arm: the call of its callback, if it has one, and the result of a
+/// match.
 pub(crate) fn push_leaf(
     alloc: Global,
     sink: &mut Sink,
@@ -127,7 +126,7 @@ pub(crate) fn push_leaf(
     Ok(())
 }
 
-/// Appends what a match gives if the leaf has no callback.
+/// Appends the result of a match of a leaf without a callback.
 fn push_plain(sink: &mut Sink, kind: &VariantKind<'_>, names: Names<'_>) -> Result<(), Memory>
     ensures { OnOk result (Notes (kind_runs names.entry.name (kind_value kind.now)) sink.old sink.new) }
 {
@@ -138,7 +137,7 @@ fn push_plain(sink: &mut Sink, kind: &VariantKind<'_>, names: Names<'_>) -> Resu
     }
 }
 
-/// Appends that a match gives a variant without a field.
+/// Appends the result of a match that is a variant without a field.
 fn push_unit(sink: &mut Sink, variant: Ident<'_>, names: Names<'_>) -> Result<(), Memory>
     ensures { OnOk result (Notes (variant_runs names.entry.name variant.entry) sink.old sink.new) }
 {
@@ -148,7 +147,7 @@ fn push_unit(sink: &mut Sink, variant: Ident<'_>, names: Names<'_>) -> Result<()
     Ok(())
 }
 
-/// Appends that a match gives a variant whose field is the slice that was matched.
+/// Appends the result of a match that is a variant whose field is the matched slice.
 fn push_value(sink: &mut Sink, variant: Ident<'_>, names: Names<'_>) -> Result<(), Memory>
     ensures { OnOk result (Notes (variant_runs names.entry.name variant.entry) sink.old sink.new) }
 {
@@ -172,7 +171,7 @@ pub(crate) fn push_variant(
     Ok(())
 }
 
-/// Appends what a match gives by the callback's answer.
+/// Appends the result of a match, computed from the result of its callback.
 fn push_result(
     alloc: Global,
     sink: &mut Sink,
@@ -191,7 +190,7 @@ fn push_result(
     }
 }
 
-/// Appends what a match of a skip gives by the callback's answer.
+/// Appends the result of a match of a skip, computed from the result of its callback.
 fn push_skip_result(sink: &mut Sink, names: Names<'_>) -> Result<(), Memory>
     ensures { OnOk result (Notes [] sink.old sink.new) }
 {
@@ -203,7 +202,8 @@ fn push_skip_result(sink: &mut Sink, names: Names<'_>) -> Result<(), Memory>
     Ok(())
 }
 
-/// Appends what a match gives by the callback's answer, of a variant without a field.
+/// Appends the result of a match, computed from that of its callback, for a variant without a
+/// field.
 fn push_unit_result(sink: &mut Sink, variant: Ident<'_>, names: Names<'_>) -> Result<(), Memory>
     ensures { OnOk result (Notes (variant_runs names.entry.name variant.entry) sink.old sink.new) }
 {
@@ -217,7 +217,8 @@ fn push_unit_result(sink: &mut Sink, variant: Ident<'_>, names: Names<'_>) -> Re
     Ok(())
 }
 
-/// Appends what a match gives by the callback's answer, of a variant with a field of this type.
+/// Appends the result of a match, computed from that of its callback, for a variant with a field of
+/// this type.
 fn push_value_result(
     sink: &mut Sink,
     variant: Ident<'_>,

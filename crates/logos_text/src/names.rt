@@ -5,7 +5,8 @@ ghost use Rattle.std.specs.Prelude.{◌≡◌};
 use logos_code::code::{CodeParts, Config};
 use logos_token::token::Ident;
 
-/// What all parts of a text use: its shape, the name of the enum, and the enum as a type.
+/// The values that all parts of a text use: its shape, the name of the enum, and the enum as a
+/// type.
 #[derive(Clone, Copy)]
 pub(crate) struct Names<'p> {
     pub(crate) shape: Config,

@@ -1,4 +1,4 @@
-//! What printers write into: a text, and where tokens of the source are in it. `code` makes it, and
+//! The output of printers: a text, and the spans of the source's tokens in it. `code` makes it, and
 //! all printers of a user's tokens write into it.
 
 ghost use Rattle.std.specs.Prelude.{[], OnOk};

@@ -73,8 +73,8 @@ fn add_part(printer: &mut Printer, part: &TypePart<'_>) -> Result<(), Memory>
 }
 
 /// Returns the text of a type: its tokens, separated by one space. `<`, `>` and `&` are lexemes of
-/// their own; `::`, `->` and a lifetime are one lexeme each. The tokens of an array's length and of
-/// braces keep their spacing.
+/// their own; each of `::`, `->` and a lifetime is one lexeme. The tokens of an array's length and
+/// of braces keep their spacing.
 ///
 /// # Errors
 ///

@@ -60,7 +60,7 @@ impl<'s> GivenTypes<'s> {
         self.entries.as_slice()
     }
 
-    /// Gives a type to a name. If the name already has a type, the new one replaces it at the same
+    /// Assigns a type to a name. If the name already has a type, the new one replaces it at its
     /// index.
     ///
     /// # Errors

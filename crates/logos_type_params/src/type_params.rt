@@ -161,8 +161,8 @@ fn report_given(name: Ident<'_>, former: Option<Span>, errors: &mut Errors) -> R
     }
 }
 
-/// Gives a type to a declared name. If the name already has a type, that type is replaced, and the
-/// second one is reported. After an error everything is unchanged.
+/// Assigns a type to a declared name. If the name already has a type, that type is replaced, and
+/// the second one is reported. After an error everything is unchanged.
 fn emit<'s>(
     types: &mut GivenTypes<'s>,
     name: Ident<'s>,
@@ -262,10 +262,10 @@ impl<'s> TypeParams<'s> {
         Ok(())
     }
 
-    /// Gives the type that `value` spells to the declared parameter `name`. Reports a value that is
+    /// Assigns the type that `value` spells to the parameter `name`. Reports a value that is
     /// not a type, as `TypeSyntax` or `LimitTypeNesting`, and a name that is not declared, as
     /// `NotTypeParameter`; in these cases no type is given. Reports a second type as `TypeTwice`,
-    /// with the span of the first one, and gives the second one.
+    /// with the span of the first one, and assigns the second one.
     ///
     /// # Errors
     ///

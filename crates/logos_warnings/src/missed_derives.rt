@@ -13,8 +13,8 @@ const MESSAGE: &str = "this derive of `Logos` is passed over";
 const HELP: &str =
     "write `derive(Logos)` or `derive(logos::Logos)` on an enum outside of functions and macros";
 
-/// Returns a warning for each `derive` among the tokens of a file that lists the derive macro, by any
-/// path, and that stands in none of these spans: those of the enums that are found to derive it, in
+/// Returns a warning for each `derive` among the tokens of a file that lists the derive macro, by
+/// any path, and that is in none of these spans: those of the enums that are found to derive it, in
 /// order.
 ///
 /// # Errors

@@ -1,4 +1,4 @@
-//! `Scan`, by tables that are written by hand. `tests/rust_text` has those of printed lexers.
+//! `Scan`, by tables that are written by hand. `tests/compiled_rust` has those of printed lexers.
 
 use logos::internal::{_Data, _Ranges, _Tables, _Unpacked, CallbackResult, LexerInternal};
 use logos::{Lexer, Logos, Scan, Scanner, Span};

@@ -1,4 +1,4 @@
-use Rattle.std.proofs.Common.{◌≡◌, ℕ, ◌-◌, ◌<◌, length, [], ◌∷◌, sym, subst, arith}
+use Rattle.std.proofs.Common.{◌≡◌, ℕ, ◌-◌, ◌<◌, length, [], ◌∷◌, slice_range, sym, subst, arith}
 use Rattle.logos_code.specs.Items.{items_of}
 use Rattle.logos_machine.specs.LexerValue.{Yields, answers_of, item_of}
 use Rattle.logos_machine.specs.inside.IsAt.{IsMatch}
@@ -23,6 +23,11 @@ returns-in-Emits-clause-item g c =
       subst (λ (to : ℕ). Yields answers old (lexer_at reading c.args.callback.now span.from to) (item_of c.token.result)) (sym t.3)
           (item_emits answers old start span.from span.to t.1.0 c.loop-leaf.invariant.on t.0 c.in-Emits.leaf.0 (item_of c.token.result) t.1.1 t.2 c.token.ensures),
     )
+
+pub matched_item-requires-clause-callable : goal.matched_item-requires-clause-callable
+matched_item-requires-clause-callable g c called shown is =
+    let reading = c.args.reading.now in
+    c.requires.callable c.in-CallsBack.leaf (slice_range reading.input.now c.in-CallsBack.span.from c.in-CallsBack.span.to) called shown is
 
 pub returns-in-Some-clause-item : goal.returns-in-Some-clause-item
 returns-in-Some-clause-item g c =

@@ -1,26 +1,26 @@
 #!/usr/bin/env bash
-# Compiles the Rust texts that `logos gen` prints, and those that `logos_cli --shape tables` does,
-# and compares what they find with `logos lex`.
+# Compiles the generated code that `logos gen` prints, and that `logos_cli --shape tables` prints,
+# and compares what it finds with `logos lex`.
 #
-# Each source of tests/rust_text/sources, and some from elsewhere in the repository, is stripped,
-# and printed in all three shapes; and it stands there as it is, for the derive macro. rustc
-# compiles all texts at once over rust/logos, and what comes of each input of
-# tests/rust_text/inputs is compared, item by item; a source with inputs of its own in
-# tests/rust_text/own, NAME or NAME.ANYTHING, reads these alone. The lines of tests/rust_text/rows
-# are small sources: a name, an enum, and inputs, parted by tabs. A source has at most one attribute
-# on a variant, so that a variant's place gives its leaf, and each skip on a line of its own. A
-# source with callbacks, values or parameters may have more; beside it stands a file of this name in
-# tests/rust_text/beside, with the Rust items that it names, the type of its tokens and the leaf of
-# each. Its callbacks keep what they match, as `logos lex` does. Derives that rustc does not know do
-# nothing.
+# Each source of tests/compiled_rust/sources, and some from elsewhere in the repository, is
+# stripped, and its code is generated in all three shapes; the derive macro gets it as it is. rustc
+# compiles all of this at once over rust/logos, and what comes of each input of
+# tests/compiled_rust/inputs is compared, item by item; a source with inputs of its own in
+# tests/compiled_rust/own, NAME or NAME.ANYTHING, reads these alone. The lines of
+# tests/compiled_rust/rows are small sources: a name, an enum, and inputs, separated by tabs. A
+# source has at most one attribute on a variant, so that the index of a variant gives its leaf, and
+# each skip on a line of its own. A source with callbacks, values or parameters may have more; its
+# file in tests/compiled_rust/beside has the Rust items that it names, the type of its tokens and
+# the leaf of each. Its callbacks keep what they match, as `logos lex` does. Derives that rustc does
+# not know do nothing.
 #
 # Callbacks of skips, callbacks that refuse what they match or leave it out, and the one that makes
-# errors are shown too. Of a source with a file of its name in tests/rust_text/skips the skips stand
-# in `skip(..)`, and `logos lex` is asked with each of them as a variant in front of the others, so
-# that it gives all matches in order, by the same leaves. The file, in sed's language, says what
-# becomes of these lines: `token` where a skip's callback has to say that it was called, `made` in
-# front of `error` where the callback that makes errors has to say so. Each prints where the lexer
-# stands, and `told`, in the file beside, looks at the value of each error.
+# errors are shown too. Of a source with a file of its name in tests/compiled_rust/skips the skips
+# stand in `skip(..)`, and `logos lex` gets each of them as a variant before the others, so that it
+# returns all matches in order, by the same leaves. The file, in sed's language, says what becomes
+# of these lines: `token` where a skip's callback prints that it was called, `made` before `error`
+# where the callback that makes errors prints it. Each prints where the lexer is, and `told`, in the
+# file beside, looks at the value of each error.
 #
 # What `scan` finds by the tables of a source has to be what they find otherwise, in inputs made of
 # each input, whole and in parts.
@@ -47,7 +47,7 @@ of_bytes=' bytes marks program records '
 # The sources whose errors know where they are, which is another place in a part.
 placed=' marks notes '
 root=$(cd "$(dirname "${BASH_SOURCE[0]}")/../.." && pwd)
-here=$root/tests/rust_text
+here=$root/tests/compiled_rust
 logos=$(realpath "${1:-$root/out/programs/logos}")
 cli=$(realpath "${2:-$root/out/programs/logos_cli}")
 shapes=(state_machine tailcall tables derived)
@@ -60,7 +60,7 @@ refused=0
 scanned=0
 
 fail() {
-    echo "rust_text: $1" >&2
+    echo "compiled_rust: $1" >&2
     echo "$((compared + refused)) passed, 1 failed" >&3
     exit 1
 }
@@ -138,7 +138,7 @@ compile() {
     LOGOS_VECTORS=1 rustc --edition 2021 --crate-type rlib --crate-name logos --cfg 'feature="export_derive"' --extern "logos_derive=$room/liblogos_derive.so" \
         -C opt-level=1 -C debug-assertions=on -o "$room/liblogos.rlib" "$root/rust/logos/src/lib.rs"
     rustc --edition 2021 --crate-type proc-macro --crate-name serde -o "$room/libserde.so" "$here/serde.rs"
-    rustc --edition 2021 -L "$room" --extern "logos=$room/liblogos.rlib" --extern "serde=$room/libserde.so" -o "$room/rust_text" "$room/main.rs"
+    rustc --edition 2021 -L "$room" --extern "logos=$room/liblogos.rlib" --extern "serde=$room/libserde.so" -o "$room/compiled_rust" "$room/main.rs"
 }
 
 # Writes a program with a module for each source and shape, and an arm for each in `main`.
@@ -195,7 +195,7 @@ compare() {
         return
     fi
     [ "${status[$asked]}" = 0 ] || fail "$what: the lexer ends with status ${status[$asked]} and $complaint"
-    "$room/rust_text" "$name" "$shape" "$input" > "$room/found" || fail "$what: the compiled text does not end well"
+    "$room/compiled_rust" "$name" "$shape" "$input" > "$room/found" || fail "$what: the compiled text does not end well"
     if ! cmp -s "$room/wanted.$asked" "$room/found"; then
         diff "$room/wanted.$asked" "$room/found" >&2 || true
         fail "$what finds other items"
@@ -209,7 +209,7 @@ compare_cuts() {
     local name=$1 input=$2 kind=text shape first
     [[ $of_bytes != *" $name "* ]] || kind=bytes
     for shape in state_machine tables; do
-        "$room/rust_text" "$name" "$shape" "$input" "$kind" > "$room/cuts.$shape" || fail "the $shape text of $name on beginnings of ${input##*/} does not end well"
+        "$room/compiled_rust" "$name" "$shape" "$input" "$kind" > "$room/cuts.$shape" || fail "the $shape text of $name on beginnings of ${input##*/} does not end well"
     done
     cmp -s "$room/cuts.state_machine" "$room/cuts.tables" || fail "the tables of $name find other items in a beginning of ${input##*/}"
     read -r first < "$room/cuts.tables" || first=
@@ -221,7 +221,7 @@ compare_cuts() {
 compare_scan() {
     local name=$1 input=$2 how=parted lines
     [[ $placed != *" $name "* ]] || how=scan
-    "$room/rust_text" "$name" $how "$input" > "$room/told" 2> "$room/scanned" \
+    "$room/compiled_rust" "$name" $how "$input" > "$room/told" 2> "$room/scanned" \
         || { cat "$room/scanned" >&2; fail "what scan finds by the tables of $name in inputs made of ${input##*/}"; }
     mapfile -t lines < "$room/scanned"
     scanned=$((scanned + lines[-1]))
@@ -247,7 +247,7 @@ declare -A status
 command -v cargo > /dev/null || fail "cargo is missing"
 lay_out
 write_program
-{ of_packages "$root/rust" "$root"/crates/*/src; cat "$here/serde.rs" "$room/main.rs"; } | kept "$room/rust_text" compile || fail "rustc refuses the printed texts"
+{ of_packages "$root/rust" "$root"/crates/*/src; cat "$here/serde.rs" "$room/main.rs"; } | kept "$room/compiled_rust" compile || fail "rustc refuses the printed texts"
 for inputs in "$room"/inputs/*; do
     for input in "$inputs"/*; do
         ask_lexer "${inputs##*/}" "$input"
@@ -256,11 +256,11 @@ for inputs in "$room"/inputs/*; do
         done
     done
 done
-{ cat "$here/run.sh" "$room/rust_text"; (cd "$room/inputs" && find . -type f -print0 | LC_ALL=C sort -z | xargs -0 sha256sum); } \
+{ cat "$here/run.sh" "$room/compiled_rust"; (cd "$room/inputs" && find . -type f -print0 | LC_ALL=C sort -z | xargs -0 sha256sum); } \
     | kept "$room/rust_text_scanned" compare_tables || exit 1
 scanned=$(< "$room/rust_text_scanned")
 [ "$compared $refused" = "$comparisons $refusals" ] \
     || fail "$compared comparisons and $refused refusals, where $comparisons and $refusals are stated"
 [ "$scanned" -ge "$scans" ] || fail "scan found $scanned items, where $scans are stated"
-echo "rust_text: the compiled texts find what the lexer finds, in $compared comparisons, and $refused inputs are refused; scan found $scanned items"
+echo "compiled_rust: the compiled texts find what the lexer finds, in $compared comparisons, and $refused inputs are refused; scan found $scanned items"
 echo "$((compared + refused)) passed, 0 failed"

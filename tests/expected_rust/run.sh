@@ -1,7 +1,7 @@
 #!/usr/bin/env bash
 # Compares the Rust texts that `logos gen` prints with stored ones, word for word.
 #
-# Beside each source NAME.rs of tests/texts stand its texts, NAME.state_machine.txt and
+# Beside each source NAME.rs of tests/expected_rust stand its texts, NAME.state_machine.txt and
 # NAME.tailcall.txt. They were put together from the templates of the crate, by the graph of the
 # source as it is worked out by hand, and not taken from the program. A stored text is laid out in
 # lines; the printed one has one space between its words, a line end where the stored one has `↵`,
@@ -20,7 +20,7 @@ trap 'rm -rf "$room"' EXIT
 compared=0
 
 fail() {
-    echo "texts: $1" >&2
+    echo "expected_rust: $1" >&2
     echo "$compared passed, 1 failed"
     exit 1
 }

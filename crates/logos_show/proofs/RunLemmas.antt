@@ -1,0 +1,53 @@
+-- The lexers of files, and the answers about them.
+use Rattle.std.proofs.Common.{◌≡◌, ℕ, Bool, List, [], Option, Result, Ok, Err, IfOk, OnOk, subst}
+use Rattle.logos_automaton.specs.Faults.{AllStart}
+use Rattle.logos_graph.specs.GraphOf.{IsGraphOf}
+use Rattle.logos_graph.specs.View.{GraphValue, rules_of}
+use Rattle.logos_hir.specs.Text.{IsBytes}
+use Rattle.logos_lines.specs.declared.location.Location.{Location}
+use Rattle.logos_report.specs.Locations.{SourceValue}
+use Rattle.logos_answers.proofs.ExampleLemmas.{all_start}
+use Rattle.logos_show.specs.Runs.{ComparesFiles, ComparesTo, IsLexerIn, PrintsInputsAs, PrintsMatchesAs, ShowsInputsOf, ShowsMatchesOf, is_json, name_in}
+use Rattle.logos_show.specs.Verdicts.{PrintsVerdict}
+use Rattle.logos_show.specs.declared.replies.Agreement.{Agreement}
+use Rattle.logos_show.specs.questions.Orders.{OrderValue}
+
+module _ (order : OrderValue) (old new : Option (List ℕ)) {T E : Type 0} (agreement : T → Agreement) where
+  -- a lexer, compared with that of a file
+  pub compared_to : (first : GraphValue) (path : List ℕ) (other : SourceValue) (second : GraphValue) → IsLexerIn other.text (name_in order) second →
+      (named : GraphValue) → named ≡ second → (named_path : List ℕ) → named_path ≡ other.path → (json : Bool) → json ≡ is_json order → (result : Result T E) →
+      IfOk result (λ x. IsGraphOf first.leaves first.utf8 first → IsGraphOf named.leaves named.utf8 named → first.faults ≡ [] → named.faults ≡ [] → PrintsVerdict first named path named_path json (agreement x) old new) →
+      IfOk result (λ x. IsGraphOf first.leaves first.utf8 first → first.faults ≡ [] → ComparesTo order first path other (agreement x) old new)
+  compared_to first path other second l named same named_path at json is (Ok x) h = λ of_leaves faultless.
+      let here = subst (λ graph. IsGraphOf graph.leaves graph.utf8 graph → first.faults ≡ [] → graph.faults ≡ [] → PrintsVerdict first graph path named_path json (agreement x) old new) same (h of_leaves) in
+      let verdict = here l.given.of_source.of_leaves faultless l.given.of_source.faultless in
+      let there = subst (λ p. PrintsVerdict first second path p json (agreement x) old new) at verdict in
+      record { second = second; of_second = l; verdict = subst (λ j. PrintsVerdict first second path other.path j (agreement x) old new) is there }
+  compared_to first path other second l named same named_path at json is (Err e) h = tt
+
+  -- the lexers of two files
+  pub compared_files : (file other : SourceValue) (first : GraphValue) → IsLexerIn file.text (name_in order) first →
+      (named : GraphValue) → named ≡ first → (path : List ℕ) → path ≡ file.path → (result : Result T E) →
+      IfOk result (λ x. IsGraphOf named.leaves named.utf8 named → named.faults ≡ [] → ComparesTo order named path other (agreement x) old new) →
+      IfOk result (λ x. ComparesFiles order file other (agreement x) old new)
+  compared_files file other first l named same path at (Ok x) h =
+      let here = subst (λ graph. IsGraphOf graph.leaves graph.utf8 graph → graph.faults ≡ [] → ComparesTo order graph path other (agreement x) old new) same h in
+      let there = here l.given.of_source.of_leaves l.given.of_source.faultless in
+      record { first = first; of_first = l; compared = subst (λ p. ComparesTo order first p other (agreement x) old new) at there }
+  compared_files file other first l named same path at (Err e) h = tt
+
+module _ (order : OrderValue) (text : List ℕ) (graph : GraphValue) (l : IsLexerIn text (name_in order) graph) (old new : Option (List ℕ)) {T E : Type 0} where
+  -- the inputs for a lexer of a text
+  pub inputs_shown : (most : ℕ) (json : Bool) → json ≡ is_json order → (result : Result T E) → OnOk result (PrintsInputsAs json graph most old new) → OnOk result (ShowsInputsOf order text most old new)
+  inputs_shown most json is (Ok x) h = record { graph = graph; of_text = l; printed = subst (λ j. PrintsInputsAs j graph most old new) is h }
+  inputs_shown most json is (Err e) h = tt
+
+  -- the matches of a lexer of a text
+  pub matches_shown : (input : List ℕ) → IsBytes input → (location : Location) (json : Bool) → json ≡ is_json order → (result : Result T E) →
+      OnOk result (IsGraphOf graph.leaves graph.utf8 graph → AllStart (rules_of graph.leaves) → IsBytes input → PrintsMatchesAs json graph input location old new) →
+      OnOk result (ShowsMatchesOf order text input location old new)
+  matches_shown input bytes location json is (Ok x) h =
+      let of_leaves = l.given.of_source.of_leaves in
+      let printed = h of_leaves (all_start graph of_leaves l.given.of_source.faultless) bytes in
+      record { graph = graph; of_text = l; printed = subst (λ j. PrintsMatchesAs j graph input location old new) is printed }
+  matches_shown input bytes location json is (Err e) h = tt
