@@ -141,7 +141,7 @@ fn is_before(to: usize, parts: &[Replacement]) -> bool
     }
 }
 
-/// Returns parts after plain comments in the place of what comes first.
+/// Returns parts after plain comments for the front of a file.
 fn with_front(
     alloc: Global,
     front: PlainFront,
