@@ -14,8 +14,8 @@ use logos_file_warnings::{
     push_warned, text_of, warning_lines, warning_text,
 };
 use logos_help::add_helps;
-use logos_layout::{PlainFront, plain_front};
 use logos_host::{Failure, MessageFormat};
+use logos_layout::{PlainFront, plain_front};
 use logos_messages::push_refused_messages;
 use logos_page::Page;
 use logos_report::{
