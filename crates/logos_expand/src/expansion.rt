@@ -14,8 +14,8 @@ use logos_file_warnings::{
     push_warned, text_of, warning_lines, warning_text,
 };
 use logos_help::add_helps;
-use logos_layout::{PlainFront, plain_front};
 use logos_host::{Failure, MessageFormat};
+use logos_layout::{PlainFront, plain_front};
 use logos_messages::push_refused_messages;
 use logos_page::Page;
 use logos_report::{
@@ -141,7 +141,7 @@ fn is_before(to: usize, parts: &[Replacement]) -> bool
     }
 }
 
-/// Returns parts after plain comments in the place of what comes first.
+/// Returns parts after plain comments for the front of a file.
 fn with_front(
     alloc: Global,
     front: PlainFront,

@@ -8,8 +8,8 @@ use logos_tables::Shape;
 use logos_token::error::Memory;
 use std::alloc::Global;
 
-/// Returns a file with these bytes after its first line, which says what the file was made from. A
-/// file whose first bytes mean something has no such line: that of `#!`, and U+FEFF.
+/// Returns a file with these bytes after its first line, which names the source of the file. A file
+/// whose first bytes are significant, which are `#!` and U+FEFF, has no such line.
 pub(crate) fn with_head(
     alloc: Global,
     path: &str,

@@ -37,8 +37,8 @@ pub record IsInnerText (text : List ℕ) : Type 0 where
   pub spelled : Spells text tokens
   pub are : AreInner tokens
 
--- A text begins with inner documentation comments and attributes alone, up to an offset, and a plain
--- text that stands for them spells nothing.
+-- A text begins with inner documentation comments and attributes alone, up to an offset, and a
+-- plain text that replaces them spells nothing.
 pub record IsPlainFront (text : List ℕ) (to : ℕ) (plain : List ℕ) : Type 0 where
   pub front : List ℕ
   pub rest : List ℕ

@@ -9,7 +9,7 @@ use logos_token::error::Memory;
 use logos_token::token::{Delimiter, TokenError, TokenTree, Tokens, tokenize};
 use std::alloc::Global;
 
-/// Plain comments that stand for the documentation and the attributes of a file itself.
+/// Plain comments that replace the documentation and the attributes of a file itself.
 #[derive(Drop)]
 pub struct PlainFront {
     /// Where these end in the file, in bytes.
@@ -19,7 +19,7 @@ pub struct PlainFront {
 }
 
 /// Returns plain comments for the inner documentation and the inner attributes that come first in a
-/// Rust file with these tokens: `//!` is `//`, `/*!` is `/*`, and `#![..]` stands in `/* */`. So
+/// Rust file with these tokens: `//!` is `//`, `/*!` is `/*`, and `#![..]` is put into `/* */`. So
 /// another file can include it.
 ///
 /// `None` if nothing of this kind comes first, or if the attributes would end these comments.
@@ -45,7 +45,7 @@ pub fn plain_front(
     }
 }
 
-/// Returns the plain comments that stand for a text of inner documentation comments and attributes.
+/// Returns the plain comments that replace a text of inner documentation comments and attributes.
 /// `None` if the text spells anything else, or if the comments would spell anything.
 fn plain_comments(alloc: Global, front: &str) -> Result<Option<String>, Memory>
     ensures { IfOk result (λ found. IfSome found

@@ -67,7 +67,8 @@ pub record ComparesTo (order : OrderValue) (first : GraphValue) (path : List ℕ
   pub of_second : IsLexerIn other.text (name_in order) second
   pub verdict : PrintsVerdict first second path other.path (is_json order) agreement old new
 
--- Two files have a requested lexer each, and the verdict on the two was written to standard output.
+-- Each of two files has a requested lexer, and the verdict on the two was written to standard
+-- output.
 pub record ComparesFiles (order : OrderValue) (file other : SourceValue) (agreement : Agreement) (old new : Option (List ℕ)) : Type 0 where
   pub first : GraphValue
   pub of_first : IsLexerIn file.text (name_in order) first
@@ -86,7 +87,7 @@ pub record ShowsInputsOf (order : OrderValue) (text : List ℕ) (most : ℕ) (ol
   pub printed : PrintsInputsAs (is_json order) graph most old new
 
 module _ {F : Type 0} (yields : F → List ℕ → List ℕ → F → Type 0) where
-  -- The question about a file is answered. Nothing is claimed of the answers about leaves, items and
+  -- The question about a file is answered. Nothing is claimed about answers on leaves, items and
   -- examples.
   abbrev pub AnswersAbout : OrderValue → QuestionValue → SourceValue → F → F → Agreement → Option (List ℕ) → Option (List ℕ) → Type 0
   AnswersAbout order (comparison other) file files after agreement old new =

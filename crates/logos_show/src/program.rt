@@ -93,8 +93,8 @@ pub(crate) fn run<F: ComparableFiles, C: Clock + StandardInput, O: Write, E: Wri
     out: &mut O,
 ) -> u8
     ensures usage { (result ≡ 2) ↔ (requested (map string_bytes arguments.now) ≡ None) }
-    // At status 0 the question was answered as requested. Two lexers that are compared find the
-    // same on all inputs, and an answer is the stored one.
+    // At exit status 0 the question was answered as requested. Two lexers that are compared find
+    // the same on all inputs, and an answer is the stored one.
     ensures fulfilled { result ≡ 0 → IfSome (requested (map string_bytes arguments.now))
         (λ request. IsFulfilled F.read_yields request files.old files.new Agreement.Same
         (O.contents out.old) (O.contents out.new)) }

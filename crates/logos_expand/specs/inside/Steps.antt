@@ -23,8 +23,7 @@ use Rattle.logos_rust_file.specs.Handed.{IsStripped}
 use Rattle.logos_token.specs.Faults.{Fault}
 use Rattle.logos_token.specs.Tokens.{TokenList}
 
--- A part stands for the documentation and the attributes of a file itself, in front of all other
--- parts.
+-- A part replaces the documentation and the attributes of a file itself, before all other parts.
 pub record IsInnerPart (text : List ℕ) (parts : List Replacement) (part : Replacement) : Type 0 where
   pub starts : part.span.from ≡ 0
   pub some : 0 < part.span.to
@@ -44,7 +43,7 @@ pub record IsBefore (to : ℕ) (parts : List Replacement) : Type 0 where
   pub some : 0 < to
   pub before : to ≤ first.span.from
 
--- Parts after one in the place of what comes first.
+-- Parts after one that replaces the front of a file.
 pub record HasFront (front : PlainFront) (parts whole : List Replacement) : Type 0 where
   pub part : Replacement
   pub are : whole ≡ part ∷ parts

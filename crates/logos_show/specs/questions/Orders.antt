@@ -111,6 +111,7 @@ question_value questions.Examples = examples
 question_value (questions.Inputs most) = inputs most
 question_value (questions.Comparison other) = comparison other.now
 
+-- The view of an order.
 abbrev pub order_value : ShowOrder → OrderValue
 order_value order = record { file = order.file.now; question = question_value order.question; settings = settings_value order.settings; style = order.style }
 
