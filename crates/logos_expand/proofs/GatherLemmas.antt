@@ -18,8 +18,8 @@ use Rattle.logos_expand.specs.Expanding.{IsExpansion, IsExpanded, IsFileOf, IsUn
 use Rattle.logos_tables.specs.Shapes.{config_of}
 use Rattle.logos_text.specs.Fronts.{AroundValue}
 use Rattle.logos_expand.specs.Expanding.Replaces.{ended as r_ended, stays as r_stays, yields as r_gives}
-use Rattle.logos_expand.specs.Heads.{IsFileWith}
-use Rattle.logos_expand.specs.inside.Steps.{AddsRefusal, AreFaultsOf, GathersOne, IsExpansionBy}
+use Rattle.logos_expand.specs.Heads.{IsHeaded}
+use Rattle.logos_expand.specs.inside.Steps.{AddsRefusal, AreFaultsOf, GathersOne, IsExpansionBy, IsPut}
 use Rattle.logos_expand.specs.Gathering.{AreRefused, Gathers, GathersAll}
 use Rattle.logos_expand.specs.Gathering.AreRefused.{whole, lexers}
 use Rattle.logos_expand.specs.Gathering.Gathers.{ended as g_ended, stays as g_stays, yields as g_gives, refuses as g_refuses}
@@ -141,17 +141,17 @@ expanded_all shape text bytes found gathered a g e b = record {
 }
 
 -- a file as it was made, by whether there are parts
-pub bare_file : (shape : Shape) (text : List ℕ) (parts : List Replacement) (bytes : List ℕ) (empty : Bool) → empty ≡ (length parts == 0) → empty ≡ true → bytes ≡ replaced text 0 parts → IsFileOf shape text parts bytes
+pub bare_file : (shape : Shape) (text : List ℕ) (parts : List Replacement) (bytes : List ℕ) (empty : Bool) → empty ≡ (length parts == 0) → empty ≡ true → bytes ≡ replaced text 0 parts → IsPut shape text parts bytes
 bare_file shape text [] bytes empty e t r = r
 bare_file shape text (part ∷ parts) bytes empty e t r = absurd (let z : length (part ∷ parts) ≡ 0 = eqb-true _ _ (sym e ∙ t) in omega (arith, z))
 
-pub headed_file : (shape : Shape) (text : List ℕ) (parts : List Replacement) (bytes : List ℕ) (empty : Bool) → empty ≡ (length parts == 0) → empty ≡ false → IsFileWith shape (replaced text 0 parts) bytes → IsFileOf shape text parts bytes
+pub headed_file : (shape : Shape) (text : List ℕ) (parts : List Replacement) (bytes : List ℕ) (empty : Bool) → empty ≡ (length parts == 0) → empty ≡ false → IsHeaded shape (replaced text 0 parts) bytes → IsPut shape text parts bytes
 headed_file shape text [] bytes empty e f w = absurd (let z : empty ≡ true = e in cc)
 headed_file shape text (part ∷ parts) bytes empty e f w = w
 
 pub headed_all : {A E : Type 0} (f : A → List ℕ) (result : Result A E) (shape : Shape) (text : List ℕ) (parts : List Replacement) (made_of : List ℕ) (empty : Bool) → empty ≡ (length parts == 0) → empty ≡ false → made_of ≡ replaced text 0 parts →
-    IfOk result (λ made. IsFileWith shape made_of (f made)) → IfOk result (λ made. IsFileOf shape text parts (f made))
-headed_all f (Ok made) shape text parts made_of empty e n w h = headed_file shape text parts (f made) empty e n (subst (λ (bytes : List ℕ). IsFileWith shape bytes (f made)) w h)
+    IfOk result (λ made. IsHeaded shape made_of (f made)) → IfOk result (λ made. IsPut shape text parts (f made))
+headed_all f (Ok made) shape text parts made_of empty e n w h = headed_file shape text parts (f made) empty e n (subst (λ (bytes : List ℕ). IsHeaded shape bytes (f made)) w h)
 headed_all f (Err error) shape text parts made_of empty e n w h = tt
 
 -- the refusals of a file, of which there are some
