@@ -58,7 +58,11 @@ fn push_mode(page: &mut Page, one: NamedLexer<'_, '_>)
 fn mode_text(is_utf8: bool) -> &'static str
     ensures { result.now ≡ (if is_utf8 then codes " reads UTF-8\n" else codes " reads any bytes\n") }
 {
-    if is_utf8 { " reads UTF-8\n" } else { " reads any bytes\n" }
+    if is_utf8 {
+        " reads UTF-8\n"
+    } else {
+        " reads any bytes\n"
+    }
 }
 
 /// Appends an input on which two lexers differ, and their first findings there.

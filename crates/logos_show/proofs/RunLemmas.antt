@@ -1,16 +1,44 @@
 -- The lexers of files, and the answers about them.
-use Rattle.std.proofs.Common.{◌≡◌, ℕ, Bool, List, [], Option, Result, Ok, Err, IfOk, OnOk, subst}
+use Rattle.std.proofs.Common.{◌≡◌, ℕ, Bool, List, [], Option, Result, Ok, Err, IfOk, OnOk, Fits, w8, get_or, subst}
+use Rattle.std.proofs.Math.Facts.{Fits-lt-pow}
+use Rattle.std.proofs.lemmas.Grind.{get_or_default_zero}
 use Rattle.logos_automaton.specs.Faults.{AllStart}
+use Rattle.logos_code.specs.Code.{CodeValue}
+use Rattle.logos_codegen.specs.Given.{IsGiven}
+use Rattle.logos_codegen.specs.Source.{IsAccepted}
+use Rattle.logos_enum.specs.Values.{Slice}
 use Rattle.logos_graph.specs.GraphOf.{IsGraphOf}
 use Rattle.logos_graph.specs.View.{GraphValue, rules_of}
 use Rattle.logos_hir.specs.Text.{IsBytes}
 use Rattle.logos_lines.specs.declared.location.Location.{Location}
 use Rattle.logos_report.specs.Locations.{SourceValue}
+use Rattle.logos_rust_file.specs.declared.finder.FoundEnum.{FoundEnum}
 use Rattle.logos_answers.proofs.ExampleLemmas.{all_start}
-use Rattle.logos_show.specs.Runs.{ComparesFiles, ComparesTo, IsLexerIn, PrintsInputsAs, PrintsMatchesAs, ShowsInputsOf, ShowsMatchesOf, is_json, name_in}
+use Rattle.logos_show.specs.Choices.{IsLexerOf}
+use Rattle.logos_show.specs.Parts.{IsPartAt}
+use Rattle.logos_show.specs.Runs.{ComparesFiles, ComparesTo, IsLexerIn, PrintsInputsAs, PrintsMatchesAs, ShowsInputsOf, ShowsMatchesOf, is_json, name_in, shape}
 use Rattle.logos_show.specs.Verdicts.{PrintsVerdict}
 use Rattle.logos_show.specs.declared.replies.Agreement.{Agreement}
 use Rattle.logos_show.specs.questions.Orders.{OrderValue}
+
+-- the elements of a slice of bytes are bytes
+pub are_bytes : (bytes : List ℕ) → ((i : ℕ) → Fits w8 (get_or bytes i 0)) → IsBytes bytes
+are_bytes bytes h = λ k d l. rw (get_or_default_zero bytes k d l) (Fits-lt-pow (h k))
+
+-- a lexer that was made of a requested enum
+pub lexer_made : {text : List ℕ} {name : Option (List ℕ)} {one : FoundEnum} {source : List ℕ} {graph : GraphValue} {code : CodeValue} {ident : Slice} {export : Option (List ℕ)} → IsLexerOf text name one → IsPartAt text one.span source →
+    IsAccepted source (rules_of graph.leaves) graph.utf8 → IsGiven source shape graph code ident export → IsLexerIn text name graph
+lexer_made {text} {name} {one} {source} {graph} {code} {ident} {export} chosen part accepted given = record {
+  one = one;
+  chosen = chosen;
+  source = source;
+  part = part;
+  accepted = accepted;
+  code = code;
+  ident = ident;
+  export = export;
+  given = given;
+}
 
 module _ (order : OrderValue) (old new : Option (List ℕ)) {T E : Type 0} (agreement : T → Agreement) where
   -- a lexer, compared with that of a file

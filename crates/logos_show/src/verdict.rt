@@ -9,9 +9,7 @@ use logos_answers::{
 };
 use logos_host::{Failure, print_bytes};
 use logos_page::Page;
-use logos_records::{
-    JsonLines, push_difference_record, push_modes_record, push_same_record,
-};
+use logos_records::{JsonLines, push_difference_record, push_modes_record, push_same_record};
 use std::alloc::{AllocError, Global};
 use std::io::Write;
 
@@ -167,7 +165,11 @@ fn push_compared_record(
     match compared {
         Compared::Same => push_same_record(lines),
         Compared::OtherMode => {
-            push_modes_record(lines, pair.one.graph.utf8_mode(), pair.other.graph.utf8_mode())
+            push_modes_record(
+                lines,
+                pair.one.graph.utf8_mode(),
+                pair.other.graph.utf8_mode(),
+            )
         }
         Compared::Differ(input) => return push_findings(alloc, lines, pair, input),
     }
