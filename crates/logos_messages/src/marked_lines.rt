@@ -1,6 +1,7 @@
 //! Lines of a file, and the columns of a span in them. Used by `spans`.
 
-ghost use Rattle.std.specs.Prelude.{◌≡◌, ◌≤◌, [], ◌∷◌};
+ghost use Rattle.std.specs.Prelude.{◌≡◌, ◌≤◌, [], ◌∷◌, length};
+ghost use Rattle.std.specs.Str.{chars};
 ghost use Rattle.logos_messages.specs.Imports.{Gains, YieldsLineList, YieldsLines, first_column, last_column, marked_tokens};
 
 use logos_json::JsonLines;
@@ -76,8 +77,15 @@ fn last_column(reach: Reach, number: usize, text: &str) -> usize
     if number == reach.last.line {
         reach.last.column
     } else {
-        text.chars().count().saturating_add(1)
+        char_count(text).saturating_add(1)
     }
+}
+
+/// Returns the number of characters of a text.
+fn char_count(text: &str) -> usize
+    ensures { result ≡ length (chars text.now) }
+{
+    text.chars().count()
 }
 
 /// Appends a line with the columns of a span in it.
