@@ -6,8 +6,8 @@
   parameters.py --names   prints those functions too
 
 No function may have more than six parameters, and no crate more than ten functions with five or
-more, but for `logos_show` and for the program of tests/calls, which only answers rows. Each bound counts once for each
-crate. The last line is `parameters: N passed, M failed`."""
+more, but for `logos_show` and for the program of tests/calls, which only answers rows. Each bound
+counts once for each crate. The last line is `parameters: N passed, M failed`."""
 import re
 
 from common import finish, has_option, read, sources
