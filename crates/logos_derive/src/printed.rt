@@ -173,7 +173,7 @@ fn front_of(leaf: &CodeLeaf<'_>) -> &'static str {
     match (&leaf.callback, &leaf.kind) {
         (Some(_), VariantKind::Unit(_)) => "( cb_result , | ( ) | ",
         (Some(_), _) => "( cb_result , ",
-        (None, VariantKind::Unit(_)) => "{ CallbackResult :: Emit ( ",
+        (None, VariantKind::Unit(_)) => " => { CallbackResult :: Emit ( ",
         (None, _) => "{ let token = ",
     }
 }
