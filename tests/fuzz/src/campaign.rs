@@ -13,7 +13,7 @@ use std::panic::{AssertUnwindSafe, catch_unwind};
 use std::path::Path;
 use std::time::{Duration, Instant};
 
-/// The time that one case may take. A slower one is a finding of the kind `slow`.
+/// The processor time that one case may take, with the definition. A slower one is a finding of the kind `slow`.
 const LONGEST: Duration = Duration::from_secs(5);
 
 /// The time that is taken to make a finding small.
@@ -40,7 +40,7 @@ pub struct Campaign<'f> {
 
 /// Runs a case. A panic is wrong, too, and so is a long time.
 pub fn run(case: &Case) -> Result<Verdict, Wrong> {
-    let begun = Instant::now();
+    let begun = processor_time();
     coverage::reset();
     let verdict = catch_unwind(AssertUnwindSafe(|| check(case))).unwrap_or_else(|panic| {
         let text = panic.downcast_ref::<String>().cloned();
@@ -51,13 +51,21 @@ pub fn run(case: &Case) -> Result<Verdict, Wrong> {
         })
     });
     coverage::hold();
+    let time = processor_time().saturating_sub(begun);
     match verdict {
-        Ok(_) if begun.elapsed() > LONGEST => Err(Wrong {
+        Ok(_) if time > LONGEST => Err(Wrong {
             kind: "slow".to_string(),
-            text: format!("{} ms", begun.elapsed().as_millis()),
+            text: format!("{} ms", time.as_millis()),
         }),
         other => other,
     }
+}
+
+/// Returns the processor time of this process, or 0 where the system does not say.
+fn processor_time() -> Duration {
+    let text = fs::read_to_string("/proc/self/schedstat").unwrap_or_default();
+    let nanoseconds = text.split(' ').next().and_then(|it| it.parse().ok());
+    Duration::from_nanos(nanoseconds.unwrap_or_default())
 }
 
 impl Campaign<'_> {

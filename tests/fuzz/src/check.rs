@@ -252,7 +252,13 @@ fn compare(
     };
     match munch.items(&mut FUEL.clone()) {
         Err(Stop::Fuel) => Ok(()),
-        Err(ambiguous) => wrong("ambiguous", format!("accepted, but {ambiguous:?}")),
+        Err(Stop::Ambiguous {
+            leaves,
+            span: [from, to],
+        }) => {
+            let text = format!("accepted, but the leaves {leaves:?} match {from}..{to}");
+            wrong("ambiguous", text)
+        }
         Ok(wanted) if wanted == lexed => {
             verdict.is_compared = true;
             Ok(())

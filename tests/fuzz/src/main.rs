@@ -9,6 +9,20 @@
 //! new to the file of the corpus, and writes findings to a folder. `small` writes those cases of a
 //! corpus to a file that show most, smallest first, up to a number of bytes. `replay` runs cases.
 //! The last line of `run` and `replay` is `N passed, M failed`.
+//!
+//! A source goes to `generate`. If it is accepted, the input goes to `Lexer` and to the scan by
+//! chunks, and both have to find the items of maximal munch by the definition, which knows neither
+//! automaton nor graph nor code. The trees of the leaves are the library's, so how patterns are read
+//! is not compared. Compared are also `NotUtf8`, the number of states that an attempt enters, that
+//! an accepted source is not ambiguous on a span of the input, and the faults `EmptyMatch` and
+//! `NoUniversalStart`. A panic, an overflow or more than five processor seconds for one case is a
+//! finding, too. A source that is refused for other reasons is only run, with the spans of its
+//! faults. Not compared are the sets of `Disambiguation`, the Rust text, and inputs for which the
+//! definition would take more than 2,000,000 steps.
+//!
+//! With one seed, on one build, the order of cases is the same. How many are run depends on the
+//! time. `LOGOS_MEMORY` bounds the memory of the library: 256 MiB if it is not set. The rows of a
+//! corpus have no wanted answers, since the definition computes them.
 
 mod campaign;
 mod check;

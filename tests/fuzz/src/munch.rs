@@ -37,12 +37,10 @@ pub struct Found {
 pub enum Stop {
     /// The definition would take too long.
     Fuel,
-    /// The definition refuses the leaves: these two match one span with one priority.
+    /// The definition refuses the leaves: two match one span with the highest priority there.
     Ambiguous {
-        first: usize,
-        second: usize,
-        from: usize,
-        to: usize,
+        leaves: [usize; 2],
+        span: [usize; 2],
     },
 }
 
@@ -181,10 +179,8 @@ impl Munch<'_> {
         match leaves.iter().find(others) {
             None => Ok(Some(first)),
             Some(&second) => Err(Stop::Ambiguous {
-                first,
-                second,
-                from,
-                to,
+                leaves: [first, second],
+                span: [from, to],
             }),
         }
     }
