@@ -4,10 +4,12 @@ use crate::coverage;
 use crate::munch::{Answer, Found, Munch, Rule, Stop, answer, is_passable, leads, rule};
 use logos_codegen::generator::Config;
 use logos_codegen::leaf::{Leaf, LeafId, VariantKind};
+use logos_codegen::logos_derive::derive;
 use logos_codegen::logos_hir::hir::Hir;
 use logos_codegen::logos_parser::analysis::analyze;
 use logos_codegen::logos_scan::fold::folded::Folded;
 use logos_codegen::logos_scan::items::items_by_chunks;
+use logos_codegen::logos_tables::Shape;
 use logos_codegen::logos_token::error::{Errors, FaultCode};
 use logos_codegen::machine::{Action, Item, Lexer};
 use logos_codegen::{Generated, Refusal, generate, strip_attributes};
@@ -62,6 +64,9 @@ pub fn check(case: &Case) -> Result<Verdict, Wrong> {
         use_state_machine_codegen: case.source.len() % 2 == 0,
     };
     let _ = strip_attributes(Global, &case.source);
+    if case.source.len() % 3 == 0 {
+        check_derivation(&case.source)?;
+    }
     let mut verdict = Verdict {
         facts: Vec::new(),
         is_accepted: false,
@@ -77,6 +82,20 @@ pub fn check(case: &Case) -> Result<Verdict, Wrong> {
         Err(Refusal::Errors(errors)) => check_refused(&case.source, &errors, &mut verdict)?,
     }
     Ok(verdict)
+}
+
+/// Checks that the macro has an implementation or an error for a source.
+fn check_derivation(source: &str) -> Result<(), Wrong> {
+    let Ok(made) = derive(Global, source, Shape::Tables) else {
+        return Ok(());
+    };
+    match made.implementation.is_none() && made.diagnostics.is_empty() {
+        true => wrong(
+            "derivation",
+            "neither an implementation nor an error".to_string(),
+        ),
+        false => Ok(()),
+    }
 }
 
 /// Checks that no leaf of an accepted source is one that is refused, and prints its text.

@@ -60,6 +60,7 @@ fn a_pattern_above_a_token() {
 
 #[test]
 fn a_priority_of_zero() {
+    // The name of the second variant is a beginning of that of the first.
     #[derive(Logos, Debug, PartialEq)]
     enum Token {
         #[regex(".", priority = 0)]
