@@ -13,7 +13,8 @@ use std::panic::{AssertUnwindSafe, catch_unwind};
 use std::path::Path;
 use std::time::{Duration, Instant};
 
-/// The processor time that one case may take, with the definition. A slower one is a finding of the kind `slow`.
+/// The processor time that one case may take, with the definition. A slower one is a finding of the
+/// kind `slow`.
 const LONGEST: Duration = Duration::from_secs(5);
 
 /// The time that is taken to make a finding small.
