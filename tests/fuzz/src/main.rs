@@ -13,8 +13,8 @@
 //! A source goes to `generate`. If it is accepted, the input goes to `Lexer` and to the scan by
 //! chunks, and both have to find the items of maximal munch by the definition, which knows neither
 //! automaton nor graph nor code. The trees of the leaves are the library's, so how patterns are
-//! read is not compared. Compared are also `NotUtf8`, the number of states that an attempt enters, that
-//! an accepted source is not ambiguous on a span of the input, and the faults `EmptyMatch` and
+//! read is not compared. Compared are also `NotUtf8`, the number of states that an attempt enters,
+//! that an accepted source is not ambiguous on a span of the input, and the faults `EmptyMatch` and
 //! `NoUniversalStart`. A panic, an overflow or more than five processor seconds for one case is a
 //! finding, too. A source that is refused for other reasons is only run, with the spans of its
 //! faults. Not compared are the sets of `Disambiguation`, the Rust text, and inputs for which the
