@@ -14,14 +14,13 @@ pub(crate) const CHUNK: usize = BLOCKS * BLOCK;
 /// The bytes of a word, which has a bit for each of them, and the words of a chunk.
 pub(crate) const WORD: usize = 64;
 const WORDS: usize = CHUNK / WORD;
-/// Fewer bytes than these are not worth a walk.
-pub(crate) const FEWEST: usize = 256;
 /// So many bytes before a block are looked at to guess its place, and so many for a line end.
 const NEAR: usize = 32;
 const FAR: usize = 384;
+/// Fewer bytes than these are not worth a part of their own.
+const LEAST_PART: usize = 2 * NEAR;
 
 /// What the walk over a chunk has found.
-#[derive(Clone)]
 pub(crate) struct Chunk {
     /// The entry of each byte.
     trace: [u32; CHUNK],
@@ -52,12 +51,6 @@ impl Chunk {
         ends: [0; WORDS],
         tokens: [0; WORDS],
     };
-
-    /// Returns the entries from a byte on.
-    #[inline(always)]
-    pub(crate) fn entries(&self, at: usize) -> &[u32] {
-        self.trace.get(at..).unwrap_or_default()
-    }
 
     /// Returns the leaf of the entry of a byte.
     #[inline(always)]
@@ -116,15 +109,16 @@ impl Chunk {
         };
         guesses[0] = place;
         let places = walk_blocks::<T>(input, &mut self.trace, guesses);
-        let walked = self.repair::<T>(input, guesses, places);
+        let walked = self.repair::<T>(input, BLOCK, guesses, places);
         self.set_bits(0, CHUNK);
         Walked { looked, ..walked }
     }
 
-    /// Walks again over the blocks whose places were not guessed, as far as that changes something.
+    /// Walks again over the blocks, of `size` bytes each, whose places were not guessed, as far as that changes something.
     fn repair<'s, T: Tables<'s>>(
         &mut self,
-        input: &[u8; CHUNK],
+        input: &[u8],
+        size: usize,
         guesses: [u32; BLOCKS],
         places: [u32; BLOCKS],
     ) -> Walked {
@@ -135,7 +129,7 @@ impl Chunk {
             missed: false,
         };
         for k in 1..BLOCKS {
-            let (from, to) = (k * BLOCK, (k + 1) * BLOCK);
+            let (from, to) = (k * size, (k + 1) * size);
             let mut place = places[k];
             if walked.place != guesses[k] {
                 let (at, there) = self.walk_again::<T>(input, from..to, walked.place);
@@ -150,18 +144,30 @@ impl Chunk {
         walked
     }
 
-    /// Walks over the last bytes of an input, fewer than a chunk has, and returns the place after
-    /// them.
-    pub(crate) fn walk_rest<'s, T: Tables<'s>>(&mut self, rest: &[u8], place: u32) -> u32 {
-        let mut place = place;
-        for (entry, byte) in self.trace.iter_mut().zip(rest) {
-            *entry = step::<T>(*byte, place);
-            place = *entry & PLACE;
+    /// Walks over fewer bytes than a chunk has: in as many parts at once, and the last ones singly.
+    pub(crate) fn walk_rest<'s, T: Tables<'s>>(&mut self, rest: &[u8], place: u32) -> Walked {
+        let size = rest.len() / BLOCKS;
+        let mut walked = Walked {
+            place,
+            again: 0,
+            looked: 0,
+            missed: false,
+        };
+        let mut done = 0;
+        if size >= LEAST_PART {
+            let guesses = guess_parts::<T>(rest, size, place);
+            let places = walk_parts::<T>(rest, &mut self.trace, size, guesses);
+            walked = self.repair::<T>(rest, size, guesses, places);
+            done = BLOCKS * size;
+        }
+        for (entry, byte) in self.trace.iter_mut().zip(rest).skip(done) {
+            *entry = step::<T>(*byte, walked.place);
+            walked.place = *entry & PLACE;
         }
         let end = rest.len().next_multiple_of(WORD).min(CHUNK);
         self.trace[rest.len().min(end)..end].fill(0);
         self.set_bits(0, rest.len());
-        place
+        walked
     }
 
     /// Walks over some bytes again from a place, until the trace has the same place. Returns where,
@@ -266,6 +272,42 @@ fn walk_blocks<'s, T: Tables<'s>>(
             }
         }
     }
+    places.map(|place| place & PLACE)
+}
+
+/// Walks over parts of `size` bytes at once, each from its place, and returns the places after them.
+#[inline(never)]
+fn walk_parts<'s, T: Tables<'s>>(
+    rest: &[u8],
+    trace: &mut [u32; CHUNK],
+    size: usize,
+    places: [u32; BLOCKS],
+) -> [u32; BLOCKS] {
+    let mut places = places;
+    let parts: [&[u8]; BLOCKS] = core::array::from_fn(|k| &rest[k * size..(k + 1) * size]);
+    let mut traces = trace.chunks_exact_mut(size);
+    let traces: [&mut [u32]; BLOCKS] = core::array::from_fn(|_| traces.next().expect("a part"));
+    for at in 0..size {
+        for k in 0..BLOCKS {
+            let entry = step::<T>(parts[k][at], places[k]);
+            traces[k][at] = entry;
+            places[k] = entry;
+        }
+    }
+    places.map(|place| place & PLACE)
+}
+
+/// Guesses the places of parts of `size` bytes but the first, as [`guess_places`] does.
+fn guess_parts<'s, T: Tables<'s>>(rest: &[u8], size: usize, first: u32) -> [u32; BLOCKS] {
+    let mut places = [T::ROOT; BLOCKS];
+    for at in size - NEAR..size {
+        for k in 1..BLOCKS {
+            let byte = rest[(k - 1) * size + at];
+            let entry = step::<T>(byte, places[k]);
+            places[k] = if byte == b'\n' { T::ROOT } else { entry };
+        }
+    }
+    places[0] = first;
     places.map(|place| place & PLACE)
 }
 

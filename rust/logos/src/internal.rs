@@ -6,7 +6,7 @@ pub use crate::loops::Ranges as _Ranges;
 use crate::loops::{Mask, Ranges};
 use crate::run::Run;
 use crate::source::Chunk;
-use crate::{Filter, FilterResult, Lexer, Logos, Skip, Source};
+use crate::{Filter, FilterResult, Lexer, Logos, Skip, Source, Way};
 pub use Tables as _Tables;
 
 /// What a text calls on its lexer.
@@ -94,6 +94,15 @@ pub trait Tables<'source>: Logos<'source> {
     fn run(lexer: &mut Lexer<'source, Self>) -> Option<Result<Self, Self::Error>> {
         Self::lex_on(lexer)
     }
+}
+
+/// Returns the lexer as one that looks ahead everywhere, or nowhere. Tests compare these.
+pub fn looking<'source, Token: Tables<'source>>(
+    mut lexer: Lexer<'source, Token>,
+    everywhere: bool,
+) -> Lexer<'source, Token> {
+    lexer.set_way(if everywhere { Way::Always } else { Way::Never });
+    lexer
 }
 
 /// What becomes of a match.

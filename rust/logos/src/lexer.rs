@@ -1,5 +1,9 @@
 //! Lexers: runs of a printed text over an input.
 
+#[cfg(feature = "std")]
+use crate::ahead::Ahead;
+#[cfg(not(feature = "std"))]
+use crate::alone::Ahead;
 use crate::scan::{Scan, Scanner};
 use crate::{Logos, Source};
 use core::fmt;
@@ -8,12 +12,26 @@ use core::ops::{Deref, DerefMut, Range};
 /// A part of an input, in byte offsets.
 pub type Span = Range<usize>;
 
+/// When a lexer looks ahead.
+#[derive(Clone, Copy, Debug, PartialEq, Eq)]
+pub enum Way {
+    /// Where that pays.
+    ByRule,
+    /// Nowhere.
+    Never,
+    /// Everywhere.
+    Always,
+    /// Everywhere, and it finds those items alone that are the same whatever follows the input.
+    Part,
+}
+
 /// A run of a lexer over an input. As an iterator it yields each token, or the error that stands in
 /// its place.
 pub struct Lexer<'source, Token: Logos<'source>> {
     source: &'source Token::Source,
     start: usize,
     end: usize,
+    pub(crate) ahead: Ahead,
     /// The state that callbacks can read and change.
     pub extras: Token::Extras,
 }
@@ -33,6 +51,7 @@ impl<'source, Token: Logos<'source>> Lexer<'source, Token> {
             source,
             start: 0,
             end: 0,
+            ahead: Ahead::new(0, source.len()),
             extras,
         }
     }
@@ -67,6 +86,7 @@ impl<'source, Token: Logos<'source>> Lexer<'source, Token> {
         let end = self.end.checked_add(n);
         let is_end = |end: &usize| *end <= self.source.len() && self.source.is_boundary(*end);
         self.end = end.filter(is_end).expect("Invalid Lexer bump");
+        self.ahead.forget();
     }
 
     /// Returns a lexer for another enum at the same place of the same input.
@@ -79,6 +99,7 @@ impl<'source, Token: Logos<'source>> Lexer<'source, Token> {
             source: self.source,
             start: self.start,
             end: self.end,
+            ahead: self.ahead.anew(self.end, self.source.len()),
             extras: self.extras.into(),
         }
     }
@@ -88,25 +109,34 @@ impl<'source, Token: Logos<'source>> Lexer<'source, Token> {
         SpannedIter { lexer: self }
     }
 
-    /// Returns an iterator over the tokens that follow, with their places, by chunks of the input:
-    /// the items of [`Lexer::spanned`]. [`Iterator::for_each`] and [`Iterator::fold`] are mostly
-    /// faster than calls of `next`.
+    /// Returns an iterator over the tokens that follow, with their places: the items of
+    /// [`Lexer::spanned`].
     pub fn scan(self) -> Scanner<'source, Token>
     where
         Token: Scan<'source>,
     {
-        Scanner::new(self, false)
+        Scanner::new(self)
     }
 
     /// Returns an iterator over those items that are the same whatever follows the input, of which
     /// more is to come. At its end [`Lexer::remainder`] is what the next part has to begin with.
     ///
     /// That holds for callbacks that read their match alone: others see the part and not the rest.
-    pub fn scan_part(self) -> Scanner<'source, Token>
+    pub fn scan_part(mut self) -> Scanner<'source, Token>
     where
         Token: Scan<'source>,
     {
-        Scanner::new(self, true)
+        self.set_way(Way::Part);
+        Scanner::new(self)
+    }
+
+    /// Changes when the lexer looks ahead.
+    pub(crate) fn set_way(&mut self, way: Way) {
+        self.ahead = match way {
+            Way::ByRule => Ahead::new(self.end, self.source.len()),
+            Way::Never => Ahead::NONE,
+            Way::Always | Way::Part => Ahead::by_way(way),
+        };
     }
 
     /// Sets where the token begins to where the last one ended.
@@ -122,6 +152,7 @@ impl<'source, Token: Logos<'source>> Lexer<'source, Token> {
         self.end
     }
 
+    #[cfg(feature = "std")]
     pub(crate) fn set_span(&mut self, span: Span) {
         (self.start, self.end) = (span.start, span.end);
     }
@@ -141,6 +172,7 @@ impl<'source, Token: Logos<'source>> Lexer<'source, Token> {
 impl<'source, Token: Logos<'source>> Iterator for Lexer<'source, Token> {
     type Item = Result<Token, Token::Error>;
 
+    #[inline]
     fn next(&mut self) -> Option<Self::Item> {
         self.begin();
         Token::lex(self)
@@ -156,6 +188,7 @@ where
             source: self.source,
             start: self.start,
             end: self.end,
+            ahead: self.ahead.anew(self.end, self.source.len()),
             extras: self.extras.clone(),
         }
     }
@@ -183,6 +216,7 @@ pub struct SpannedIter<'source, Token: Logos<'source>> {
 impl<'source, Token: Logos<'source>> Iterator for SpannedIter<'source, Token> {
     type Item = (Result<Token, Token::Error>, Span);
 
+    #[inline]
     fn next(&mut self) -> Option<Self::Item> {
         let item = self.lexer.next()?;
         Some((item, self.lexer.span()))

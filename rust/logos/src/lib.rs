@@ -22,8 +22,14 @@
 #[cfg(feature = "std")]
 extern crate std;
 
+#[cfg(feature = "std")]
+mod ahead;
+#[cfg(not(feature = "std"))]
+mod alone;
+#[cfg(feature = "std")]
 mod chunk;
 mod data;
+#[cfg_attr(not(feature = "std"), allow(dead_code))]
 mod folded;
 #[allow(missing_docs)]
 pub mod internal;
@@ -33,8 +39,12 @@ mod rows;
 mod run;
 mod scan;
 pub mod source;
+#[cfg(feature = "std")]
 mod walk;
+#[cfg(feature = "std")]
+mod word;
 
+pub(crate) use lexer::Way;
 pub use lexer::{Lexer, Span, SpannedIter};
 #[cfg(feature = "export_derive")]
 pub use logos_derive::Logos;

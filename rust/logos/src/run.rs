@@ -1,10 +1,28 @@
 //! The loop over match attempts, by the tables of a lexer. `Logos::lex` of generated code calls it.
 
+#[cfg(feature = "std")]
+use crate::ahead::Next;
 use crate::data::END;
-use crate::internal::{CallbackResult, LexerInternal, Tables};
+use crate::internal::{CallbackResult, Tables};
 use crate::loops::Loops;
 use crate::rows::{AGAIN, CLOSES, ENDS, FORTH, NEVER, NOWHERE, NUMBERS, SINGLY, STAYS, VARIES};
-use crate::Lexer;
+#[cfg(not(feature = "std"))]
+use crate::Way;
+use crate::{Lexer, Source};
+
+/// What a lexer that looks ahead has next.
+#[cfg(feature = "std")]
+pub(crate) enum Look<Token> {
+    /// A token for which nothing is called.
+    Token(Token),
+    /// A match of the leaf with this number, which is where the lexer is. If no leaf has the number
+    /// it is an error.
+    Leaf(usize),
+    /// Something that another look tells.
+    Again,
+    /// Nothing.
+    End,
+}
 
 /// The loop and its steps. These are functions of the enum: so the compiler puts them beside its
 /// `lex`, and can make that a part of the one which calls it.
@@ -181,10 +199,105 @@ pub(crate) trait Run<'source>: Loops<'source> {
     /// Finds the next token, or the error that is in its place.
     #[inline(always)]
     fn lex_on(lex: &mut Lexer<'source, Self>) -> Option<Result<Self, Self::Error>> {
+        loop {
+            #[cfg(not(feature = "std"))]
+            let leaf = Self::attempt(lex)?;
+            #[cfg(feature = "std")]
+            let leaf = if lex.ahead.is_plain(lex.end()) {
+                Self::attempt(lex)?
+            } else {
+                match Self::look(lex) {
+                    Look::Token(token) => return Some(Ok(token)),
+                    Look::Leaf(leaf) => leaf,
+                    Look::Again => continue,
+                    Look::End => return None,
+                }
+            };
+            if leaf >= Self::LEAVES {
+                let end = lex.end().max(lex.start() + 1);
+                return Some(Err(Self::error_to(lex, end)));
+            }
+            if let Some(token) = Self::plain(leaf) {
+                return Some(Ok(token));
+            }
+            let end = lex.end();
+            let result = Self::act(lex, leaf);
+            if lex.end() != end {
+                lex.ahead.forget();
+            }
+            match result {
+                CallbackResult::Emit(token) => return Some(Ok(token)),
+                CallbackResult::Skip => lex.begin(),
+                CallbackResult::Error(error) => return Some(Err(error)),
+                CallbackResult::DefaultError => return Some(Err(Self::error(lex))),
+            }
+        }
+    }
+
+    /// Takes what the lexer has found ahead of itself.
+    #[cfg(feature = "std")]
+    #[inline(always)]
+    fn look(lex: &mut Lexer<'source, Self>) -> Look<Self> {
+        if let Some((leaf, span)) = lex.ahead.token() {
+            let token = Self::plain(leaf);
+            lex.ahead.pass();
+            lex.set_span(span);
+            return token.map_or(Look::Leaf(leaf), Look::Token);
+        }
+        if lex.ahead.next_word() {
+            return Look::Again;
+        }
         let bytes = Self::bytes(lex.source());
-        let mut start = lex.offset();
+        let (ahead, next) = lex.ahead.take().go_on::<Self>(bytes, lex.end());
+        lex.ahead = ahead;
+        match next {
+            Next::Word => Look::Again,
+            Next::Attempts(start) => {
+                lex.set_span(start..start);
+                Look::Again
+            }
+            Next::Match(leaf, span) => {
+                lex.set_span(span);
+                Look::Leaf(leaf)
+            }
+            Next::End(end) => {
+                lex.set_span(end..end);
+                Look::End
+            }
+        }
+    }
+
+    /// Returns whether the match that begins at a position is the same one whatever follows the
+    /// input: whether a byte ends the attempt.
+    #[cfg(not(feature = "std"))]
+    #[cold]
+    fn is_sure(bytes: &[u8], start: usize) -> bool {
+        let (mut state, mut at) = (Self::START, start);
+        while let Some(byte) = bytes.get(at) {
+            let next = Self::step(state, *byte);
+            at += 1;
+            match next {
+                CLOSES..NOWHERE => return at < bytes.len(),
+                ENDS.. => return true,
+                STAYS.. => {}
+                _ => state = next,
+            }
+        }
+        false
+    }
+
+    /// Finds the next match by attempts, and returns its leaf, or a number that no leaf has: then
+    /// the lexer ends where the attempt is over. Returns nothing at the end of the input.
+    #[inline(always)]
+    fn attempt(lex: &mut Lexer<'source, Self>) -> Option<usize> {
+        let bytes = Self::bytes(lex.source());
+        let mut start = lex.start();
         'attempts: loop {
             let byte = bytes.get(start)?;
+            #[cfg(not(feature = "std"))]
+            if lex.ahead.way == Way::Part && !Self::is_sure(bytes, start) {
+                return None;
+            }
             let (mut entry, mut at, mut state) = (Self::first_step(*byte), start + 1, Self::START);
             // The leaf, and where its match ends. Each way is a branch: the next attempt need not
             // wait for the entry to know where it begins.
@@ -198,8 +311,8 @@ pub(crate) trait Run<'source>: Loops<'source> {
                         break 'found ((entry & NUMBERS) as usize, at - 1);
                     }
                     if entry < CLOSES {
-                        lex.end(at - 1);
-                        lex.trivia();
+                        lex.set_end(at - 1);
+                        lex.begin();
                         start = at - 1;
                         continue 'attempts;
                     }
@@ -208,37 +321,22 @@ pub(crate) trait Run<'source>: Loops<'source> {
                     }
                 }
                 if (CLOSES..NOWHERE).contains(&entry) {
-                    lex.end(at);
-                    lex.trivia();
+                    lex.set_end(at);
+                    lex.begin();
                     start = at;
                     continue 'attempts;
                 }
-                let (leaf, end) = Self::match_before(bytes, start, state, entry, at - 1);
-                if leaf >= Self::LEAVES {
-                    return Some(Err(Self::error_to(lex, end.max(start + 1))));
-                }
-                (leaf, end)
+                Self::match_before(bytes, start, state, entry, at - 1)
             };
-            lex.end(end);
-            if let Some(token) = Self::plain(leaf) {
-                return Some(Ok(token));
-            }
-            match Self::act(lex, leaf) {
-                CallbackResult::Emit(token) => return Some(Ok(token)),
-                CallbackResult::Skip => {
-                    lex.trivia();
-                    start = lex.offset();
-                }
-                CallbackResult::Error(error) => return Some(Err(error)),
-                CallbackResult::DefaultError => return Some(Err(Self::error(lex))),
-            }
+            lex.set_end(end);
+            return Some(leaf);
         }
     }
 
     /// Makes the error that ends at the first boundary from a position on.
     #[inline(always)]
     fn error_to(lex: &mut Lexer<'source, Self>, end: usize) -> Self::Error {
-        lex.end_to_boundary(end);
+        lex.set_end(lex.source().find_boundary(end));
         Self::error(lex)
     }
 }
