@@ -10,17 +10,18 @@ use crate::rows::{AGAIN, CLOSES, ENDS, FORTH, NEVER, NOWHERE, NUMBERS, SINGLY, S
 use crate::Way;
 use crate::{Lexer, Source};
 
-/// What a lexer that looks ahead has next.
-#[cfg(feature = "std")]
-pub(crate) enum Look<Token> {
+/// What a lexer has found, which is where it is.
+pub(crate) enum Found<Token> {
     /// A token for which nothing is called.
     Token(Token),
-    /// A match of the leaf with this number, which is where the lexer is. If no leaf has the number
-    /// it is an error.
+    /// A match of another leaf.
     Leaf(usize),
-    /// Something that another look tells.
-    Again,
-    /// Nothing.
+    /// No match: an error is in its place.
+    Error,
+    /// What it found is still to be taken.
+    #[cfg(feature = "std")]
+    Nothing,
+    /// The end of the input.
     End,
 }
 
@@ -201,25 +202,21 @@ pub(crate) trait Run<'source>: Loops<'source> {
     fn lex_on(lex: &mut Lexer<'source, Self>) -> Option<Result<Self, Self::Error>> {
         loop {
             #[cfg(not(feature = "std"))]
-            let leaf = Self::attempt(lex)?;
+            let found = Self::attempt(lex);
             #[cfg(feature = "std")]
-            let leaf = if lex.ahead.is_plain(lex.end()) {
-                Self::attempt(lex)?
+            let found = if lex.ahead.is_plain(lex.end()) {
+                Self::attempt(lex)
             } else {
-                match Self::look(lex) {
-                    Look::Token(token) => return Some(Ok(token)),
-                    Look::Leaf(leaf) => leaf,
-                    Look::Again => continue,
-                    Look::End => return None,
-                }
+                Self::look(lex)
             };
-            if leaf >= Self::LEAVES {
-                let end = lex.end().max(lex.start() + 1);
-                return Some(Err(Self::error_to(lex, end)));
-            }
-            if let Some(token) = Self::plain(leaf) {
-                return Some(Ok(token));
-            }
+            let leaf = match found {
+                Found::Token(token) => return Some(Ok(token)),
+                Found::Leaf(leaf) => leaf,
+                Found::Error => return Some(Err(Self::error(lex))),
+                #[cfg(feature = "std")]
+                Found::Nothing => continue,
+                Found::End => return None,
+            };
             let end = lex.end();
             let result = Self::act(lex, leaf);
             if lex.end() != end {
@@ -237,34 +234,59 @@ pub(crate) trait Run<'source>: Loops<'source> {
     /// Takes what the lexer has found ahead of itself.
     #[cfg(feature = "std")]
     #[inline(always)]
-    fn look(lex: &mut Lexer<'source, Self>) -> Look<Self> {
+    fn look(lex: &mut Lexer<'source, Self>) -> Found<Self> {
         if let Some((leaf, span)) = lex.ahead.token() {
             let token = Self::plain(leaf);
             lex.ahead.pass();
             lex.set_span(span);
-            return token.map_or(Look::Leaf(leaf), Look::Token);
+            return token.map_or(Found::Leaf(leaf), Found::Token);
         }
         if lex.ahead.next_word() {
-            return Look::Again;
+            return Found::Nothing;
         }
         let bytes = Self::bytes(lex.source());
         let (ahead, next) = lex.ahead.take().go_on::<Self>(bytes, lex.end());
         lex.ahead = ahead;
         match next {
-            Next::Word => Look::Again,
+            Next::Word => Found::Nothing,
             Next::Attempts(start) => {
                 lex.set_span(start..start);
-                Look::Again
+                Found::Nothing
             }
             Next::Match(leaf, span) => {
                 lex.set_span(span);
-                Look::Leaf(leaf)
+                Self::found(lex, leaf)
             }
             Next::End(end) => {
                 lex.set_span(end..end);
-                Look::End
+                Found::End
             }
         }
+    }
+
+    /// Tells what a match is that the walk over the input does not know.
+    #[cfg(feature = "std")]
+    #[inline(always)]
+    fn found(lex: &mut Lexer<'source, Self>, leaf: usize) -> Found<Self> {
+        if leaf >= Self::LEAVES {
+            Self::end_error(lex, lex.end());
+            return Found::Error;
+        }
+        Self::plain_apart(leaf).map_or(Found::Leaf(leaf), Found::Token)
+    }
+
+    /// Does what [`Tables::plain`] does, out of line: there it is a look into a table, and no jump.
+    #[cfg(feature = "std")]
+    #[inline(never)]
+    fn plain_apart(leaf: usize) -> Option<Self> {
+        Self::plain(leaf)
+    }
+
+    /// Ends an error, whose attempt is over at a position, at the first boundary from there on.
+    #[inline(always)]
+    fn end_error(lex: &mut Lexer<'source, Self>, over: usize) {
+        let end = over.max(lex.start() + 1);
+        lex.set_end(lex.source().find_boundary(end));
     }
 
     /// Returns whether the match that begins at a position is the same one whatever follows the
@@ -286,17 +308,18 @@ pub(crate) trait Run<'source>: Loops<'source> {
         false
     }
 
-    /// Finds the next match by attempts, and returns its leaf, or a number that no leaf has: then
-    /// the lexer ends where the attempt is over. Returns nothing at the end of the input.
+    /// Finds the next match by attempts.
     #[inline(always)]
-    fn attempt(lex: &mut Lexer<'source, Self>) -> Option<usize> {
+    fn attempt(lex: &mut Lexer<'source, Self>) -> Found<Self> {
         let bytes = Self::bytes(lex.source());
         let mut start = lex.start();
         'attempts: loop {
-            let byte = bytes.get(start)?;
+            let Some(byte) = bytes.get(start) else {
+                return Found::End;
+            };
             #[cfg(not(feature = "std"))]
             if lex.ahead.way == Way::Part && !Self::is_sure(bytes, start) {
-                return None;
+                return Found::End;
             }
             let (mut entry, mut at, mut state) = (Self::first_step(*byte), start + 1, Self::START);
             // The leaf, and where its match ends. Each way is a branch: the next attempt need not
@@ -326,18 +349,16 @@ pub(crate) trait Run<'source>: Loops<'source> {
                     start = at;
                     continue 'attempts;
                 }
-                Self::match_before(bytes, start, state, entry, at - 1)
+                let (leaf, end) = Self::match_before(bytes, start, state, entry, at - 1);
+                if leaf >= Self::LEAVES {
+                    Self::end_error(lex, end);
+                    return Found::Error;
+                }
+                (leaf, end)
             };
             lex.set_end(end);
-            return Some(leaf);
+            return Self::plain(leaf).map_or(Found::Leaf(leaf), Found::Token);
         }
-    }
-
-    /// Makes the error that ends at the first boundary from a position on.
-    #[inline(always)]
-    fn error_to(lex: &mut Lexer<'source, Self>, end: usize) -> Self::Error {
-        lex.set_end(lex.source().find_boundary(end));
-        Self::error(lex)
     }
 }
 
