@@ -25,6 +25,11 @@ pub(crate) enum Found<Token> {
     End,
 }
 
+/// Says to the compiler that match attempts are to have the registers.
+#[cfg(feature = "std")]
+#[cold]
+fn away() {}
+
 /// The loop and its steps. These are functions of the enum: so the compiler puts them beside its
 /// `lex`, and can make that a part of the one which calls it.
 pub(crate) trait Run<'source>: Loops<'source> {
@@ -207,6 +212,7 @@ pub(crate) trait Run<'source>: Loops<'source> {
             let found = if lex.ahead.is_plain(lex.end()) {
                 Self::attempt(lex)
             } else {
+                away();
                 Self::look(lex)
             };
             let leaf = match found {
