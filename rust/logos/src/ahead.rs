@@ -124,14 +124,6 @@ impl Ahead {
         core::mem::replace(self, Ahead::NONE)
     }
 
-    /// Finds out how the lexer goes on after the last item, which ended at a byte offset.
-    #[inline(never)]
-    pub(crate) fn go_on<'s, T: Tables<'s>>(self, bytes: &[u8], end: usize) -> (Ahead, Next) {
-        let mut ahead = self;
-        let next = ahead.next::<T>(bytes, end);
-        (ahead, next)
-    }
-
     #[inline(always)]
     fn next<'s, T: Tables<'s>>(&mut self, bytes: &[u8], end: usize) -> Next {
         let was_plain = core::mem::replace(&mut self.plain_to, 0) != 0;
@@ -157,12 +149,11 @@ impl Ahead {
             room.is_moved = true;
             return Next::Match(leaf, start..end);
         }
-        self.refill::<T>(bytes)
+        T::refill(self, bytes)
     }
 
     /// Walks over the next chunk, if that pays.
-    #[cold]
-    #[inline(never)]
+    #[inline(always)]
     fn refill<'s, T: Tables<'s>>(&mut self, bytes: &[u8]) -> Next {
         let Some(room) = &mut self.room else {
             return Next::End(0);
@@ -191,3 +182,23 @@ impl Ahead {
         Next::Attempts(from)
     }
 }
+
+/// What is called out of line. These are functions of the enum: so the compiler puts them beside its
+/// `lex`, and each table once into a program.
+pub(crate) trait Looks<'source>: Tables<'source> {
+    /// Finds out how a lexer goes on after the last item, which ended at a byte offset.
+    #[inline(never)]
+    fn go_on(mut ahead: Ahead, bytes: &[u8], end: usize) -> (Ahead, Next) {
+        let next = ahead.next::<Self>(bytes, end);
+        (ahead, next)
+    }
+
+    /// See [`Ahead::refill`].
+    #[cold]
+    #[inline(never)]
+    fn refill(ahead: &mut Ahead, bytes: &[u8]) -> Next {
+        ahead.refill::<Self>(bytes)
+    }
+}
+
+impl<'source, T: Tables<'source>> Looks<'source> for T {}

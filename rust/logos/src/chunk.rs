@@ -95,6 +95,7 @@ impl Chunk {
 
     /// Walks over all bytes of a chunk from a place on. The blocks but the first begin where it is
     /// guessed: by lines or by few bytes, and from `start` on after a line end.
+    #[inline]
     pub(crate) fn walk<'s, T: Tables<'s>>(
         &mut self,
         input: &[u8; CHUNK],
@@ -103,18 +104,19 @@ impl Chunk {
         by_lines: bool,
     ) -> Walked {
         let (mut guesses, looked) = if by_lines {
-            guess_by_lines::<T>(input, start)
+            T::guess_by_lines(input, start)
         } else {
             (guess_places::<T>(input, BLOCK - NEAR, start), 0)
         };
         guesses[0] = place;
-        let places = walk_blocks::<T>(input, &mut self.trace, guesses);
+        let places = T::walk_blocks(input, &mut self.trace, guesses);
         let walked = self.repair::<T>(input, BLOCK, guesses, places);
         self.set_bits(0, CHUNK);
         Walked { looked, ..walked }
     }
 
     /// Walks again over the blocks, of `size` bytes each, whose places were not guessed, as far as that changes something.
+    #[inline]
     fn repair<'s, T: Tables<'s>>(
         &mut self,
         input: &[u8],
@@ -145,6 +147,7 @@ impl Chunk {
     }
 
     /// Walks over fewer bytes than a chunk has: in as many parts at once, and the last ones singly.
+    #[inline]
     pub(crate) fn walk_rest<'s, T: Tables<'s>>(&mut self, rest: &[u8], place: u32) -> Walked {
         let size = rest.len() / BLOCKS;
         let mut walked = Walked {
@@ -156,7 +159,7 @@ impl Chunk {
         let mut done = 0;
         if size >= LEAST_PART {
             let guesses = guess_parts::<T>(rest, size, place);
-            let places = walk_parts::<T>(rest, &mut self.trace, size, guesses);
+            let places = T::walk_parts(rest, &mut self.trace, size, guesses);
             walked = self.repair::<T>(rest, size, guesses, places);
             done = BLOCKS * size;
         }
@@ -172,6 +175,7 @@ impl Chunk {
 
     /// Walks over some bytes again from a place, until the trace has the same place. Returns where,
     /// and the place there.
+    #[inline]
     pub(crate) fn walk_again<'s, T: Tables<'s>>(
         &mut self,
         input: &[u8],
@@ -215,6 +219,73 @@ fn entered(trace: &[u32; WORD]) -> usize {
     entered as usize
 }
 
+/// What is called out of line. These are functions of the enum: so the compiler puts them beside its
+/// `lex`, and each table once into a program.
+trait Blocks<'source>: Tables<'source> {
+    /// Walks over all blocks at once, each from its place, and returns the places after them.
+    #[inline(never)]
+    fn walk_blocks(
+        input: &[u8; CHUNK],
+        trace: &mut [u32; CHUNK],
+        places: [u32; BLOCKS],
+    ) -> [u32; BLOCKS] {
+        let mut places = places;
+        let blocks: [&[u8; BLOCK]; BLOCKS] =
+            core::array::from_fn(|k| input[k * BLOCK..].first_chunk().expect("a block"));
+        for at in (0..BLOCK).step_by(STEPS) {
+            let part: Option<&mut [u32; CHUNK - BLOCK + STEPS]> = trace[at..].first_chunk_mut();
+            // The compiler does not see where the part begins: so each store is at a fixed distance
+            // from it. Many processors have more units for these than for stores with an index.
+            let part = core::hint::black_box(part.expect("a part"));
+            for n in 0..STEPS {
+                for k in 0..BLOCKS {
+                    let entry = step::<Self>(blocks[k][at + n], places[k]);
+                    part[k * BLOCK + n] = entry;
+                    places[k] = entry;
+                }
+            }
+        }
+        places.map(|place| place & PLACE)
+    }
+
+    /// Walks over parts of `size` bytes at once, each from its place, and returns the places after them.
+    #[inline(never)]
+    fn walk_parts(
+        rest: &[u8],
+        trace: &mut [u32; CHUNK],
+        size: usize,
+        places: [u32; BLOCKS],
+    ) -> [u32; BLOCKS] {
+        let mut places = places;
+        let parts: [&[u8]; BLOCKS] = core::array::from_fn(|k| &rest[k * size..(k + 1) * size]);
+        let mut traces = trace.chunks_exact_mut(size);
+        let traces: [&mut [u32]; BLOCKS] = core::array::from_fn(|_| traces.next().expect("a part"));
+        for at in 0..size {
+            for k in 0..BLOCKS {
+                let entry = step::<Self>(parts[k][at], places[k]);
+                traces[k][at] = entry;
+                places[k] = entry;
+            }
+        }
+        places.map(|place| place & PLACE)
+    }
+
+    /// Guesses those places by more bytes: from the last line end on before each block.
+    #[cold]
+    #[inline(never)]
+    fn guess_by_lines(input: &[u8; CHUNK], start: u32) -> Guesses {
+        let mut from = BLOCK - NEAR;
+        for k in 1..BLOCKS {
+            let window = input[k * BLOCK - FAR..].first_chunk();
+            from = from.min(BLOCK - FAR + last_line_end(window.expect("a window")));
+        }
+        let looked = (BLOCKS - 1) * (BLOCK - from);
+        (guess_places::<Self>(input, from, start), looked)
+    }
+}
+
+impl<'source, T: Tables<'source>> Blocks<'source> for T {}
+
 /// Gathers the flags of the entries of a word: of each half those of every fourth entry stand in a
 /// number, four bits apart. It is called and writes to memory, so that the compiler makes vectors.
 #[inline(never)]
@@ -249,55 +320,8 @@ fn step<'s, T: Tables<'s>>(byte: u8, place: u32) -> u32 {
     T::entry_of(byte, place)
 }
 
-/// Walks over all blocks at once, each from its place, and returns the places after them.
-#[inline(never)]
-fn walk_blocks<'s, T: Tables<'s>>(
-    input: &[u8; CHUNK],
-    trace: &mut [u32; CHUNK],
-    places: [u32; BLOCKS],
-) -> [u32; BLOCKS] {
-    let mut places = places;
-    let blocks: [&[u8; BLOCK]; BLOCKS] =
-        core::array::from_fn(|k| input[k * BLOCK..].first_chunk().expect("a block"));
-    for at in (0..BLOCK).step_by(STEPS) {
-        let part: Option<&mut [u32; CHUNK - BLOCK + STEPS]> = trace[at..].first_chunk_mut();
-        // The compiler does not see where the part begins: so each store is at a fixed distance
-        // from it. Many processors have more units for these than for stores with an index.
-        let part = core::hint::black_box(part.expect("a part"));
-        for n in 0..STEPS {
-            for k in 0..BLOCKS {
-                let entry = step::<T>(blocks[k][at + n], places[k]);
-                part[k * BLOCK + n] = entry;
-                places[k] = entry;
-            }
-        }
-    }
-    places.map(|place| place & PLACE)
-}
-
-/// Walks over parts of `size` bytes at once, each from its place, and returns the places after them.
-#[inline(never)]
-fn walk_parts<'s, T: Tables<'s>>(
-    rest: &[u8],
-    trace: &mut [u32; CHUNK],
-    size: usize,
-    places: [u32; BLOCKS],
-) -> [u32; BLOCKS] {
-    let mut places = places;
-    let parts: [&[u8]; BLOCKS] = core::array::from_fn(|k| &rest[k * size..(k + 1) * size]);
-    let mut traces = trace.chunks_exact_mut(size);
-    let traces: [&mut [u32]; BLOCKS] = core::array::from_fn(|_| traces.next().expect("a part"));
-    for at in 0..size {
-        for k in 0..BLOCKS {
-            let entry = step::<T>(parts[k][at], places[k]);
-            traces[k][at] = entry;
-            places[k] = entry;
-        }
-    }
-    places.map(|place| place & PLACE)
-}
-
 /// Guesses the places of parts of `size` bytes but the first, as [`guess_places`] does.
+#[inline]
 fn guess_parts<'s, T: Tables<'s>>(rest: &[u8], size: usize, first: u32) -> [u32; BLOCKS] {
     let mut places = [T::ROOT; BLOCKS];
     for at in size - NEAR..size {
@@ -325,19 +349,6 @@ fn guess_places<'s, T: Tables<'s>>(input: &[u8; CHUNK], from: usize, start: u32)
         }
     }
     places.map(|place| place & PLACE)
-}
-
-/// Guesses those places by more bytes: from the last line end on before each block.
-#[cold]
-#[inline(never)]
-fn guess_by_lines<'s, T: Tables<'s>>(input: &[u8; CHUNK], start: u32) -> Guesses {
-    let mut from = BLOCK - NEAR;
-    for k in 1..BLOCKS {
-        let window = input[k * BLOCK - FAR..].first_chunk();
-        from = from.min(BLOCK - FAR + last_line_end(window.expect("a window")));
-    }
-    let looked = (BLOCKS - 1) * (BLOCK - from);
-    (guess_places::<T>(input, from, start), looked)
 }
 
 /// Returns which byte of a window is the last line end, or the first of the last few bytes if none

@@ -1,7 +1,7 @@
 //! The loop over match attempts, by the tables of a lexer. `Logos::lex` of generated code calls it.
 
 #[cfg(feature = "std")]
-use crate::ahead::Next;
+use crate::ahead::{Looks, Next};
 use crate::data::END;
 use crate::internal::{CallbackResult, Tables};
 use crate::loops::Loops;
@@ -251,7 +251,7 @@ pub(crate) trait Run<'source>: Loops<'source> {
             return Found::Nothing;
         }
         let bytes = Self::bytes(lex.source());
-        let (ahead, next) = lex.ahead.take().go_on::<Self>(bytes, lex.end());
+        let (ahead, next) = Self::go_on(lex.ahead.take(), bytes, lex.end());
         lex.ahead = ahead;
         match next {
             Next::Word => Found::Nothing,

@@ -141,6 +141,7 @@ impl Walk {
 
     /// Walks over the next chunk, after the match that ended at a byte offset. Returns the tokens of
     /// its first word.
+    #[inline]
     pub(crate) fn walk<'s, T: Tables<'s>>(&mut self, bytes: &[u8], start: usize) -> u64 {
         self.base += self.len;
         self.first = self.place;
@@ -158,6 +159,7 @@ impl Walk {
 
     /// Walks over a whole chunk. Of both kinds of guesses the one is made that costs less. What is
     /// known of the other gets less, so that it is made again at times.
+    #[inline]
     fn walk_chunk<'s, T: Tables<'s>>(&mut self, input: &[u8; CHUNK]) {
         let start = if self.missed {
             self.place
@@ -174,6 +176,7 @@ impl Walk {
     }
 
     /// Walks over fewer bytes than a chunk has.
+    #[inline]
     fn walk_rest<'s, T: Tables<'s>>(&mut self, rest: &[u8]) {
         let walked = self.chunk.walk_rest::<T>(rest, self.place);
         (self.len, self.place) = (rest.len(), walked.place);
@@ -182,6 +185,7 @@ impl Walk {
 
     /// Returns the leaf of the try that is over at a byte of the chunk and began at a byte offset,
     /// and where its match ends; or a number that no leaf has, and where the try is over.
+    #[inline]
     pub(crate) fn found_at<'s, T: Tables<'s>>(
         &mut self,
         bytes: &[u8],
@@ -210,6 +214,7 @@ impl Walk {
     }
 
     /// Lets the next match begin at a byte offset. Returns the tokens of its word.
+    #[inline]
     pub(crate) fn begin_at<'s, T: Tables<'s>>(&mut self, bytes: &[u8], start: usize) -> u64 {
         let root = <T as Folded>::ROOT;
         let at = start.wrapping_sub(self.base);
