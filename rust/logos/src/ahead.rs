@@ -167,17 +167,16 @@ impl Ahead {
             }
             return self.attempts(start, usize::MAX);
         }
+        self.tokens = room.walk::<T>(bytes, start);
         match room.plain_to() {
             Some(to) if way == Way::ByRule => self.attempts(start, to),
-            _ => {
-                self.tokens = room.walk::<T>(bytes, start);
-                Next::Word
-            }
+            _ => Next::Word,
         }
     }
 
     /// Lets match attempts find the items from one byte offset to another.
     fn attempts(&mut self, from: usize, to: usize) -> Next {
+        self.forget();
         self.plain_to = to;
         Next::Attempts(from)
     }

@@ -195,6 +195,14 @@ impl Chunk {
         (range.end, place)
     }
 
+    /// Returns how many entries up to a byte ask.
+    pub(crate) fn asks(&self, to: usize) -> usize {
+        let words = self.ends.iter().zip(&self.tokens).take(to.div_ceil(WORD));
+        words
+            .map(|(ends, tokens)| (tokens & !ends).count_ones() as usize)
+            .sum()
+    }
+
     /// Counts, in one of so many words up to a byte: the bytes of these words, the matches that end
     /// there, and the states that are entered.
     pub(crate) fn sample(&self, to: usize, one_of: usize) -> [usize; 3] {

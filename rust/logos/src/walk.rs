@@ -18,6 +18,12 @@ const ASK: usize = 400;
 const TRY: usize = 400;
 const MATCH: usize = 39;
 const ENTER: usize = 19;
+/// Walks lose where matches have fewer bytes in the mean.
+const SHORTEST: usize = 2;
+/// The chunks that match attempts go through where walks are not worth their time: the fewest, and
+/// the most after several times in a row.
+const FEWEST_PLAIN: usize = 4;
+const MOST_PLAIN: usize = 64;
 /// The bits of so many bytes are set one by one.
 const FEW: usize = 6;
 /// One of so many words is looked at to tell whether walks are worth their time.
@@ -41,8 +47,10 @@ pub(crate) struct Walk {
     len: usize,
     first: u32,
     place: u32,
-    /// What was to be done twice in the chunk, and what the last walks gained.
+    /// What was to be done twice in the chunk, what moves of the lexer cost since the walk over it,
+    /// and what the last walks gained.
     cost: usize,
+    moves: usize,
     gain: isize,
     /// How many chunks are not walked where walks are not worth their time.
     plain: usize,
@@ -70,6 +78,7 @@ pub(crate) fn new_room(way: Way) -> Room {
         first: 0,
         place: 0,
         cost: 0,
+        moves: 0,
         gain: 0,
         plain: 0,
         missed: false,
@@ -192,7 +201,6 @@ impl Walk {
         cut: usize,
         start: usize,
     ) -> (usize, usize) {
-        self.cost += ASK;
         let end = self.base + cut;
         let leaf = self.chunk.leaf(cut).unwrap_or_default();
         if leaf != 0 {
@@ -207,7 +215,7 @@ impl Walk {
             Last::Never => (usize::MAX, end),
             Last::Back(leaf, bytes) => (leaf, end - bytes),
             Last::Varies => {
-                self.cost += TRY;
+                self.moves += TRY;
                 T::try_again(bytes, start)
             }
         }
@@ -228,7 +236,10 @@ impl Walk {
         if to == self.len {
             self.place = place;
         }
-        self.cost += AGAIN * (to - at);
+        self.moves += AGAIN * (to - at);
+        if self.cut.is_none() {
+            self.moves += ASK;
+        }
         if to - at <= FEW {
             self.chunk.set_few_bits(at, to);
         } else {
@@ -246,27 +257,30 @@ impl Walk {
         (self.word, self.is_moved) = (Word::empty(start), false);
     }
 
-    /// Tells by the walk over the chunk, and by those before, whether walks are worth their time. If
-    /// they are not, returns up to which byte offset match attempts are to find the items.
+    /// Tells by the walk over the chunk, and by those before, whether it is worth its time to take
+    /// the tokens of this one. If it is not, returns up to which byte offset match attempts are to
+    /// find the items.
     pub(crate) fn plain_to(&mut self) -> Option<usize> {
-        if self.len == 0 {
-            return None;
-        }
         let sampled = if self.len < CHUNK {
             SAMPLED / 6
         } else {
             SAMPLED
         };
         let [bytes, ends, entered] = self.chunk.sample(self.len, sampled);
-        let lexer = sampled * (MATCH * ends + ENTER * entered);
-        let walk = sampled * STEP * bytes + self.cost;
+        let lexer = if ends > bytes / SHORTEST {
+            0
+        } else {
+            sampled * (MATCH * ends + ENTER * entered)
+        };
+        let asks = ASK * self.chunk.asks(self.len);
+        let walk = sampled * STEP * bytes + self.cost + asks + core::mem::take(&mut self.moves);
         self.gain = self.gain / 8 * 7 + lexer as isize - walk as isize;
         if self.gain > 0 {
             self.plain /= 2;
             return None;
         }
         (self.gain, self.tries) = (0, true);
-        self.plain = (2 * self.plain).clamp(2, 64);
+        self.plain = (2 * self.plain).clamp(FEWEST_PLAIN, MOST_PLAIN);
         Some(self.end() + self.plain * CHUNK)
     }
 }

@@ -35,8 +35,8 @@ fn compare_all(text: &str, extras: usize) {
 
 #[test]
 fn lexers_that_look_ahead_find_what_others_do() {
-    for n in 0..150 {
-        compare_all(&text(n * n % 9001, n as u64), 0);
+    for n in 0..50 {
+        compare_all(&text(n * n * 9 % 9001, n as u64), 0);
     }
 }
 
@@ -50,7 +50,7 @@ fn long_runs_and_errors_are_found() {
         "a1".repeat(35_000),
     ];
     let all = texts.concat();
-    for text in texts.iter().chain([&all, &all.repeat(4)]) {
+    for text in texts.iter().chain([&all]) {
         compare_all(text, 0);
     }
 }
@@ -162,8 +162,8 @@ fn move_along(mut both: Both<'_, 8>, seed: u64) {
 
 #[test]
 fn lexers_that_are_moved_go_on_as_others_do() {
-    for seed in 1..40 {
-        let text = text(6000 + 300 * seed, seed as u64);
+    for seed in 1..10 {
+        let text = text(6000 + 1000 * seed, seed as u64);
         let lexers = [
             ByBytes::lexer(&text),
             looking(ByBytes::lexer(&text), true),
@@ -194,7 +194,7 @@ fn each_token_can_be_bumped() {
 fn folding_goes_on_where_a_lexer_is() {
     let text = [text(3000, 10), "a ".repeat(20_000), "a".repeat(70_000)].concat();
     let wanted: Vec<_> = ByHand::lexer(&text).collect();
-    for count in (0..wanted.len()).step_by(997) {
+    for count in (0..wanted.len()).step_by(4999) {
         let (mut lexer, mut found) = (ByBytes::lexer(&text), vec![]);
         lexer.by_ref().take(count).for_each(drop);
         lexer.for_each(|item| found.push(item.map(Token::by_hand)));
