@@ -8,22 +8,12 @@ use crate::loops::Loops;
 use crate::rows::{AGAIN, CLOSES, ENDS, FORTH, NEVER, NOWHERE, NUMBERS, SINGLY, STAYS, VARIES};
 #[cfg(not(feature = "std"))]
 use crate::Way;
-use crate::{Lexer, Source};
+use crate::{Lexer, Logos, Source};
+use core::ops::ControlFlow::{self, Break, Continue};
 
-/// What a lexer has found, which is where it is.
-pub(crate) enum Found<Token> {
-    /// A token for which nothing is called.
-    Token(Token),
-    /// A match of another leaf.
-    Leaf(usize),
-    /// No match: an error is in its place.
-    Error,
-    /// What it found is still to be taken.
-    #[cfg(feature = "std")]
-    Nothing,
-    /// The end of the input.
-    End,
-}
+/// The next item, or nothing at the end of the input; or else how a lexer goes on.
+type Step<'source, Token, Next> =
+    ControlFlow<Option<Result<Token, <Token as Logos<'source>>::Error>>, Next>;
 
 /// Says to the compiler that match attempts are to have the registers.
 #[cfg(feature = "std")]
@@ -206,58 +196,72 @@ pub(crate) trait Run<'source>: Loops<'source> {
     #[inline(always)]
     fn lex_on(lex: &mut Lexer<'source, Self>) -> Option<Result<Self, Self::Error>> {
         loop {
-            #[cfg(not(feature = "std"))]
-            let found = Self::attempt(lex);
             #[cfg(feature = "std")]
-            let found = if lex.ahead.is_plain(lex.end()) {
-                Self::attempt(lex)
-            } else {
+            if !lex.ahead.is_plain(lex.end()) {
                 away();
-                Self::look(lex)
-            };
-            let leaf = match found {
-                Found::Token(token) => return Some(Ok(token)),
-                Found::Leaf(leaf) => leaf,
-                Found::Error => return Some(Err(Self::error(lex))),
-                #[cfg(feature = "std")]
-                Found::Nothing => continue,
-                Found::End => return None,
-            };
-            let end = lex.end();
-            let result = Self::act(lex, leaf);
-            if lex.end() != end {
-                lex.ahead.forget();
+                match Self::look(lex) {
+                    Break(item) => return item,
+                    Continue(None) => continue,
+                    Continue(Some(leaf)) => match Self::act_on(lex, leaf) {
+                        Break(item) => return item,
+                        Continue(()) => continue,
+                    },
+                }
             }
-            match result {
-                CallbackResult::Emit(token) => return Some(Ok(token)),
-                CallbackResult::Skip => lex.begin(),
-                CallbackResult::Error(error) => return Some(Err(error)),
-                CallbackResult::DefaultError => return Some(Err(Self::error(lex))),
+            match Self::attempt(lex) {
+                Break(item) => return item,
+                Continue(leaf) => {
+                    if let Break(item) = Self::act_on(lex, leaf) {
+                        return item;
+                    }
+                }
             }
         }
+    }
+
+    /// Does what is to be done with a match of a leaf that is not a token at once.
+    #[inline(always)]
+    fn act_on(lex: &mut Lexer<'source, Self>, leaf: usize) -> Step<'source, Self, ()> {
+        let end = lex.end();
+        let result = Self::act(lex, leaf);
+        if lex.end() != end {
+            lex.ahead.forget();
+        }
+        Break(Some(match result {
+            CallbackResult::Emit(token) => Ok(token),
+            CallbackResult::Skip => {
+                lex.begin();
+                return Continue(());
+            }
+            CallbackResult::Error(error) => Err(error),
+            CallbackResult::DefaultError => Err(Self::error(lex)),
+        }))
     }
 
     /// Takes what the lexer has found ahead of itself.
     #[cfg(feature = "std")]
     #[inline(always)]
-    fn look(lex: &mut Lexer<'source, Self>) -> Found<Self> {
+    fn look(lex: &mut Lexer<'source, Self>) -> Step<'source, Self, Option<usize>> {
         if let Some((leaf, span)) = lex.ahead.token() {
             let token = Self::plain(leaf);
             lex.ahead.pass();
             lex.set_span(span);
-            return token.map_or(Found::Leaf(leaf), Found::Token);
+            return match token {
+                Some(token) => Break(Some(Ok(token))),
+                None => Continue(Some(leaf)),
+            };
         }
         if lex.ahead.next_word() {
-            return Found::Nothing;
+            return Continue(None);
         }
         let bytes = Self::bytes(lex.source());
         let (ahead, next) = Self::go_on(lex.ahead.take(), bytes, lex.end());
         lex.ahead = ahead;
         match next {
-            Next::Word => Found::Nothing,
+            Next::Word => Continue(None),
             Next::Attempts(start) => {
                 lex.set_span(start..start);
-                Found::Nothing
+                Continue(None)
             }
             Next::Match(leaf, span) => {
                 lex.set_span(span);
@@ -265,7 +269,7 @@ pub(crate) trait Run<'source>: Loops<'source> {
             }
             Next::End(end) => {
                 lex.set_span(end..end);
-                Found::End
+                Break(None)
             }
         }
     }
@@ -273,12 +277,14 @@ pub(crate) trait Run<'source>: Loops<'source> {
     /// Tells what a match is that the walk over the input does not know.
     #[cfg(feature = "std")]
     #[inline(always)]
-    fn found(lex: &mut Lexer<'source, Self>, leaf: usize) -> Found<Self> {
+    fn found(lex: &mut Lexer<'source, Self>, leaf: usize) -> Step<'source, Self, Option<usize>> {
         if leaf >= Self::LEAVES {
-            Self::end_error(lex, lex.end());
-            return Found::Error;
+            return Break(Some(Err(Self::error_to(lex, lex.end()))));
         }
-        Self::plain_apart(leaf).map_or(Found::Leaf(leaf), Found::Token)
+        match Self::plain_apart(leaf) {
+            Some(token) => Break(Some(Ok(token))),
+            None => Continue(Some(leaf)),
+        }
     }
 
     /// Does what [`Tables::plain`] does, out of line: there it is a look into a table, and no jump.
@@ -288,11 +294,13 @@ pub(crate) trait Run<'source>: Loops<'source> {
         Self::plain(leaf)
     }
 
-    /// Ends an error, whose attempt is over at a position, at the first boundary from there on.
+    /// Makes the error of an attempt that is over at a position. It ends at the first boundary from
+    /// there on.
     #[inline(always)]
-    fn end_error(lex: &mut Lexer<'source, Self>, over: usize) {
+    fn error_to(lex: &mut Lexer<'source, Self>, over: usize) -> Self::Error {
         let end = over.max(lex.start() + 1);
         lex.set_end(lex.source().find_boundary(end));
+        Self::error(lex)
     }
 
     /// Returns whether the match that begins at a position is the same one whatever follows the
@@ -314,18 +322,18 @@ pub(crate) trait Run<'source>: Loops<'source> {
         false
     }
 
-    /// Finds the next match by attempts.
+    /// Finds the next item by attempts, or a match of a leaf with which more is to be done.
     #[inline(always)]
-    fn attempt(lex: &mut Lexer<'source, Self>) -> Found<Self> {
+    fn attempt(lex: &mut Lexer<'source, Self>) -> Step<'source, Self, usize> {
         let bytes = Self::bytes(lex.source());
         let mut start = lex.start();
         'attempts: loop {
             let Some(byte) = bytes.get(start) else {
-                return Found::End;
+                return Break(None);
             };
             #[cfg(not(feature = "std"))]
             if lex.ahead.way == Way::Part && !Self::is_sure(bytes, start) {
-                return Found::End;
+                return Break(None);
             }
             let (mut entry, mut at, mut state) = (Self::first_step(*byte), start + 1, Self::START);
             // The leaf, and where its match ends. Each way is a branch: the next attempt need not
@@ -357,13 +365,15 @@ pub(crate) trait Run<'source>: Loops<'source> {
                 }
                 let (leaf, end) = Self::match_before(bytes, start, state, entry, at - 1);
                 if leaf >= Self::LEAVES {
-                    Self::end_error(lex, end);
-                    return Found::Error;
+                    return Break(Some(Err(Self::error_to(lex, end))));
                 }
                 (leaf, end)
             };
             lex.set_end(end);
-            return Self::plain(leaf).map_or(Found::Leaf(leaf), Found::Token);
+            return match Self::plain(leaf) {
+                Some(token) => Break(Some(Ok(token))),
+                None => Continue(leaf),
+            };
         }
     }
 }
