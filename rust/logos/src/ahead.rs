@@ -182,8 +182,8 @@ impl Ahead {
     }
 }
 
-/// What is called out of line. These are functions of the enum: so the compiler puts them beside its
-/// `lex`, and each table once into a program.
+/// What is called out of line. These are functions of the enum: so the compiler puts them beside
+/// its `lex`, and each table once into a program.
 pub(crate) trait Looks<'source>: Tables<'source> {
     /// Finds out how a lexer goes on after the last item, which ended at a byte offset.
     #[inline(never)]

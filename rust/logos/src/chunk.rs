@@ -115,7 +115,8 @@ impl Chunk {
         Walked { looked, ..walked }
     }
 
-    /// Walks again over the blocks, of `size` bytes each, whose places were not guessed, as far as that changes something.
+    /// Walks again over the blocks, of `size` bytes each, whose places were not guessed, as far as
+    /// that changes something.
     #[inline]
     fn repair<'s, T: Tables<'s>>(
         &mut self,
@@ -227,8 +228,8 @@ fn entered(trace: &[u32; WORD]) -> usize {
     entered as usize
 }
 
-/// What is called out of line. These are functions of the enum: so the compiler puts them beside its
-/// `lex`, and each table once into a program.
+/// What is called out of line. These are functions of the enum: so the compiler puts them beside
+/// its `lex`, and each table once into a program.
 trait Blocks<'source>: Tables<'source> {
     /// Walks over all blocks at once, each from its place, and returns the places after them.
     #[inline(never)]
@@ -256,7 +257,8 @@ trait Blocks<'source>: Tables<'source> {
         places.map(|place| place & PLACE)
     }
 
-    /// Walks over parts of `size` bytes at once, each from its place, and returns the places after them.
+    /// Walks over parts of `size` bytes at once, each from its place, and returns the places after
+    /// them.
     #[inline(never)]
     fn walk_parts(
         rest: &[u8],

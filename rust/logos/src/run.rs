@@ -312,11 +312,14 @@ pub(crate) trait Run<'source>: Loops<'source> {
         while let Some(byte) = bytes.get(at) {
             let next = Self::step(state, *byte);
             at += 1;
-            match next {
-                CLOSES..NOWHERE => return at < bytes.len(),
-                ENDS.. => return true,
-                STAYS.. => {}
-                _ => state = next,
+            if (CLOSES..NOWHERE).contains(&next) {
+                return at < bytes.len();
+            }
+            if next >= ENDS {
+                return true;
+            }
+            if next < STAYS {
+                state = next;
             }
         }
         false

@@ -148,8 +148,8 @@ impl Walk {
         self.cut
     }
 
-    /// Walks over the next chunk, after the match that ended at a byte offset. Returns the tokens of
-    /// its first word.
+    /// Walks over the next chunk, after the match that ended at a byte offset. Returns the tokens
+    /// of its first word.
     #[inline]
     pub(crate) fn walk<'s, T: Tables<'s>>(&mut self, bytes: &[u8], start: usize) -> u64 {
         self.base += self.len;
