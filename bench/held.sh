@@ -19,8 +19,9 @@
 #
 # The variable OTHER names the folder `src` of another version of rust/logos to measure beside this
 # one, whose lexers are then `other`. KEEP names a folder in which programs are kept for the next
-# time, CLI a `logos_cli`, SIZE the bytes of a text, and BEFORE words in front of each program that is
-# measured, such as `chrt -f 1 taskset -c 3`. JOBS is how many compilers run at once, two without it.
+# time, CLI a `logos_cli`, SIZE the bytes of a text, and BEFORE words in front of each program that
+# is measured, such as `chrt -f 1 taskset -c 3`. JOBS is how many compilers run at once, two without
+# it.
 #
 # It needs rustc, cargo, gcc and python3; flex, re2c and ragel where they are found. All are
 # compiled so that no jump crosses 32 bytes. A shape for which rustc takes more than 60 processor
@@ -52,7 +53,7 @@ compile_runtime() {
         --cfg 'feature="std"' -o "$room/$1/liblogos.rlib" "$2/lib.rs"
 }
 
-# FOLDER OUT RUNTIME WORD..: compiles the program in a folder, if that takes no longer than a minute.
+# FOLDER OUT RUNTIME WORD..: compiles the program in a folder, if that takes at most a minute.
 compile_rust() {
     local folder=$1 out=$2
     [ ! -e "$room/$out" ] || [ "$room/$out" -ot "$room/$3/liblogos.rlib" ] || return 0

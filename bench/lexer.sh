@@ -3,8 +3,8 @@
 # and in the program that INSTALLED names, beside scanners of the same rules: those that flex (-CF
 # and -Cf) and re2c (-b and -g) make, and, where rustc is found, what it makes of the Rust text of
 # these rules, over `rust/logos`: in both shapes of `logos gen`, and as tables. Their `scan`, which
-# is the lexer with places, is measured by `for_each` and, as `loop`, by a loop. What has `.placed` in its name reads the places of the
-# items too: without, rustc leaves out what finds them. A run lexes a text three times and until
+# is the lexer with spans, is measured by `for_each` and, as `loop`, by a loop. What has `.placed` in
+# its name reads the spans of the items too: without, rustc leaves out what finds them. A run lexes a text three times and until
 # that took a quarter of a second, and a short one very often. Of the runs, taken in turns, the
 # fastest of each counts; the first argument says how many, ten without it. Further arguments name
 # the texts that are measured, instead of all.

@@ -2,8 +2,8 @@
 
   table.py FOLDER RUNS NAME..
 
-FOLDER has for each NAME a text, NAME.text, and programs, NAME.WAY. The variable BEFORE has the words
-in front of each program."""
+FOLDER has for each NAME a text, NAME.text, and programs, NAME.WAY. The variable BEFORE has the
+words in front of each program."""
 import math
 import os
 import pathlib

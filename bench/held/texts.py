@@ -1,8 +1,8 @@
 """Writes a text to the standard output: as many bytes as the first argument says, of the kind that
 the second one names: one of `rules.py`, or `examples/NAME` for an input of examples/lexers.
 
-A text is made from a fixed seed, and nothing in it is repeated as a whole. An input of examples/lexers
-is there again and again, each time with other words and numbers."""
+A text is made from a fixed seed, and nothing in it is repeated as a whole. An input of
+examples/lexers is there again and again, each time with other words and numbers."""
 import pathlib
 import random
 import re
