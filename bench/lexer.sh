@@ -1,13 +1,13 @@
 #!/usr/bin/env bash
-# Measures lexers on texts of 32 MiB: `Lexer` and, as `chunks`, a run by chunks, in a proved build,
-# and in the program that INSTALLED names, beside scanners of the same rules: those that flex (-CF
-# and -Cf) and re2c (-b and -g) make, and, where rustc is found, what it makes of the Rust text of
-# these rules, over `rust/logos`: in both shapes of `logos gen`, and as tables. Their `scan`, which
-# is the lexer with spans, is measured by `for_each` and, as `loop`, by a loop. What has `.placed` in
-# its name reads the spans of the items too: without, rustc leaves out what finds them. A run lexes a text three times and until
-# that took a quarter of a second, and a short one very often. Of the runs, taken in turns, the
-# fastest of each counts; the first argument says how many, ten without it. Further arguments name
-# the texts that are measured, instead of all.
+# Measures lexers on texts of 32 MiB: `Lexer` and, as `chunks`, a run by chunks, in a proved
+# build, and in the program that INSTALLED names, beside scanners of the same rules: those that
+# flex (-CF and -Cf) and re2c (-b and -g) make, and, where rustc is found, what it makes of the
+# Rust text of these rules, over `rust/logos`: in both shapes of `logos gen`, and as tables. Their
+# `scan`, which is the lexer with spans, is measured by `for_each` and, as `loop`, by a loop. What
+# has `.placed` in its name reads the spans of the items too: without, rustc leaves out what finds
+# them. A run lexes a text three times and until that took a quarter of a second, and a short one
+# very often. Of the runs, taken in turns, the fastest of each counts; the first argument says how
+# many, ten without it. Further arguments name the texts that are measured, instead of all.
 #
 # Constants of the runtime and of the library are fitted on these texts. bench/held.sh has lexers
 # and texts on which nothing is fitted.
