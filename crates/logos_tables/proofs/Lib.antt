@@ -1,4 +1,5 @@
 pub mod AddLemmas
+pub mod ByteLemmas
 pub mod ClassLemmas
 pub mod HoldLemmas
 pub mod MarkLemmas

@@ -1,5 +1,5 @@
 -- Steps of states.
-use Rattle.std.proofs.Common.{◌≡◌, ℕ, ◌+◌, ◌<◌, ◌==◌, ◌*◌, Bool, true, false, List, Option, Some, None, IfSome, slice_index, refl, sym, ◌∙◌, ap, arith}
+use Rattle.std.proofs.Common.{◌≡◌, ℕ, ◌<◌, Option, Some, None, IfSome, arith}
 
 -- a state that is named exists
 pub some_named : (target : Option ℕ) (state count : ℕ) → target ≡ Some state → IfSome target (λ s. s < count) → state < count

@@ -1,4 +1,4 @@
-use Rattle.std.proofs.Common.{◌≡◌, ℕ, ◌++◌, string_bytes}
+use Rattle.std.proofs.Common.{◌≡◌, ◌++◌, string_bytes}
 use Rattle.logos_tables.specs.Texts.{entry_text}
 use Rattle.logos_tables.proofs.bytes.push_entry.Given as goal
 

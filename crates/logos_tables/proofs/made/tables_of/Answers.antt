@@ -1,4 +1,4 @@
-use Rattle.std.proofs.Common.{◌<◌, arith, length}
+use Rattle.std.proofs.Common.{arith}
 use Rattle.logos_tables.proofs.made.tables_of.Goals as goal
 
 pub returns : goal.returns
