@@ -8,8 +8,13 @@ length of its source to standard error, too. Cargo builds `logos_cli` of the cop
 expands a file in each shape. The file is read once, and each enum at most three times: a lexer for
 its code, and for what stays of it and its warnings, and any other enum for its warnings. All else
 that is read is text that was printed, which is compared with what it has to spell. The last line is
-`N passed, M failed`.""" import os import re import shutil import subprocess import sys import
-tempfile
+`N passed, M failed`."""
+import os
+import re
+import shutil
+import subprocess
+import sys
+import tempfile
 
 ROOT = os.path.dirname(os.path.dirname(os.path.abspath(__file__)))
 SHAPES = ["tables", "tailcall", "state_machine"]

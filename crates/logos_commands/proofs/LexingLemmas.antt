@@ -1,6 +1,6 @@
 -- What lexing an input by an accepted source shows of the two, and the lines that are written of
 -- its items.
-use Rattle.std.proofs.Common.{◌≡◌, ◌∙◌, sym, ap, subst, ℕ, List, [], ◌∷◌, ◌++◌, append_assoc, append-nil, Option, Bool, Result, Ok, Err, IfErr, OnOk, IsTrue, IsUtf8}
+use Rattle.std.proofs.Common.{◌≡◌, ◌∙◌, sym, ap, subst, ℕ, List, [], ◌∷◌, ◌++◌, append_assoc, append-nil, Option, Bool, Result, Ok, Err, IfErr, OnOk, IsTrue, IsUtf8, inr}
 use Rattle.std.proofs.KnownBytes.{Appends-trans}
 use Rattle.std.specs.Io.KnownBytes.{Appends}
 use Rattle.logos_automaton.specs.Munch.{Rule}

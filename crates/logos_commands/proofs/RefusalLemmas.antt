@@ -1,5 +1,5 @@
 -- Failures for refusals.
-use Rattle.std.proofs.Common.{◌≡◌, ◌≢◌, ℕ, List, ◌∷◌, [], Result, Ok, Err, Option, IfErr, arith, refl}
+use Rattle.std.proofs.Common.{◌≡◌, ◌≢◌, ℕ, List, ◌∷◌, [], Result, Ok, Err, Option, IfErr, arith, inl, inr, refl}
 use Rattle.logos_token.specs.Faults.{Fault}
 use Rattle.logos_enum.specs.Values.{Slice}
 use Rattle.logos_host.specs.Failures.{status_of}

@@ -1,5 +1,5 @@
 -- The requests that the arguments of `logos` make.
-use Rattle.std.specs.Prelude.{◌∷◌, [], ℕ, List, Option, Some, None, true, false, if◌then◌else◌, option_map, bytes_eq, codes}
+use Rattle.std.specs.Prelude.{◌∷◌, [], ℕ, List, Option, Some, None, true, if◌then◌else◌, option_map, bytes_eq, codes}
 use Rattle.logos_code.specs.declared.code.Config.{Config}
 use Rattle.logos_code.specs.Shapes.{shape_named}
 use Rattle.logos_options.specs.Options.{word_of}

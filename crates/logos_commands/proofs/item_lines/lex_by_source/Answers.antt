@@ -1,3 +1,4 @@
+use Rattle.std.proofs.Common.{inl}
 use Rattle.logos_graph.specs.View.{rules_of}
 use Rattle.logos_generator.proofs.InputLemmas.{are_bytes}
 use Rattle.logos_commands.proofs.LexingLemmas.{printed_items, refused}
