@@ -9,7 +9,7 @@ use crate::inputs::yield_inputs;
 use crate::items::lex;
 use crate::matches::{FilePoint, show_matches};
 use crate::pages::{Form, PageStyle, Shown, shown_of};
-use crate::questions::{Question, ShowOrder, ShowRequest, request_of};
+use crate::questions::{Question, RequestKind, ShowOrder, ShowRequest, request_of};
 use crate::refusals::write_note;
 use crate::replies::{Agreement, write_agreement};
 use crate::stream::lex_stream;
@@ -141,10 +141,16 @@ fn carry_out<'w, F: ComparableFiles, C: Clock + StandardInput, O: Write, E: Writ
         (request_value request.entry) files.old files.new agreement (O.contents out.old)
         (O.contents out.new)) }
 {
-    match request {
-        ShowRequest::Help => as_same(print_help(Program::Show, HELP, out)),
-        ShowRequest::Version => as_same(print_version(VERSION, files, out)),
-        ShowRequest::Show(order) => {
+    match request.kind {
+        RequestKind::Help => as_same(print_help(Program::Show, HELP, out)),
+        RequestKind::Version => as_same(print_version(VERSION, files, out)),
+        RequestKind::Show(asked) => {
+            let order = ShowOrder {
+                file: asked.file,
+                question: asked.question,
+                settings: request.settings,
+                style: asked.style,
+            };
             let showing = Showing {
                 alloc,
                 format: order.style.format,

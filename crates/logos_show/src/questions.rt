@@ -1,7 +1,7 @@
 //! The request of `logos_show`, read from its arguments.
 
 ghost use Rattle.std.specs.Prelude.{◌≡◌, IfErr, IfOk, Some, map, option_map, string_bytes};
-ghost use Rattle.logos_show.specs.questions.Imports.{arguments_value, requested, inputs_given, matches_given, number_named, option_value, order_given, location_named, question_given, question_named, question_value, request_given, request_value, status_of};
+ghost use Rattle.logos_show.specs.questions.Imports.{arguments_value, requested, inputs_given, kind_value, matches_given, number_named, option_value, order_given, location_named, question_given, question_named, question_value, request_given, request_value, status_of};
 
 use logos_answers::{location_by_word, number_by_text};
 use logos_host::Failure;
@@ -11,15 +11,34 @@ use logos_options::{
     style_given,
 };
 
-/// A request.
+/// A request, with the given settings.
 #[derive(Clone, Copy)]
-pub enum ShowRequest<'w> {
-    Help,
-    Version,
-    Show(ShowOrder<'w>),
+pub struct ShowRequest<'w> {
+    pub kind: RequestKind<'w>,
+    /// The given settings. They are not in a variant of the kind, since the borrow checker does not
+    /// cover a variant that holds their array.
+    pub settings: Settings<'w>,
 }
 
-/// A file, and the question about its lexers.
+/// The kind of a request.
+#[derive(Clone, Copy)]
+pub enum RequestKind<'w> {
+    Help,
+    Version,
+    Show(FileQuestion<'w>),
+}
+
+/// A question about the lexers of a file.
+#[derive(Clone, Copy)]
+pub struct FileQuestion<'w> {
+    /// The path of the file.
+    pub file: &'w str,
+    pub question: Question<'w>,
+    /// The style of messages.
+    pub style: MessageStyle,
+}
+
+/// A file, and the question about its lexers, with the given settings.
 #[derive(Clone, Copy)]
 pub struct ShowOrder<'w> {
     /// The path of the file.
@@ -73,17 +92,33 @@ fn request_given(arguments: Arguments<'_>) -> Result<ShowRequest<'_>, Failure<'_
     ensures misuse { IfErr result (λ failure. (request_given (arguments_value arguments.entry)
         (arguments_value arguments.entry).text ≡ None) × (status_of failure ≡ 2)) }
 {
+    let settings = arguments.settings;
+    match kind_given(arguments) {
+        Ok(kind) => Ok(ShowRequest { kind, settings }),
+        Err(failure) => Err(failure),
+    }
+}
+
+/// Returns the kind of the request of arguments.
+fn kind_given(arguments: Arguments<'_>) -> Result<RequestKind<'_>, Failure<'_>>
+    ensures requested { IfOk result (λ kind. request_given (arguments_value arguments.entry)
+        (arguments_value arguments.entry).text
+        ≡ Some (kind_value kind (arguments_value arguments.entry).settings)) }
+    ensures misuse { IfErr result (λ failure. (request_given (arguments_value arguments.entry)
+        (arguments_value arguments.entry).text ≡ None) × (status_of failure ≡ 2)) }
+{
     match arguments.text {
-        Some(OptionName::Version) => Ok(ShowRequest::Version),
-        Some(_) => Ok(ShowRequest::Help),
+        Some(OptionName::Version) => Ok(RequestKind::Version),
+        Some(_) => Ok(RequestKind::Help),
         None => order_given(arguments),
     }
 }
 
-/// Returns the file to show.
-fn order_given(arguments: Arguments<'_>) -> Result<ShowRequest<'_>, Failure<'_>>
-    ensures requested { IfOk result (λ request. order_given (arguments_value arguments.entry)
-        (arguments_value arguments.entry).first ≡ Some (request_value request)) }
+/// Returns the file to show, with a question.
+fn order_given(arguments: Arguments<'_>) -> Result<RequestKind<'_>, Failure<'_>>
+    ensures requested { IfOk result (λ kind. order_given (arguments_value arguments.entry)
+        (arguments_value arguments.entry).first
+        ≡ Some (kind_value kind (arguments_value arguments.entry).settings)) }
     ensures misuse { IfErr result (λ failure. (order_given (arguments_value arguments.entry)
         (arguments_value arguments.entry).first ≡ None) × (status_of failure ≡ 2)) }
 {
@@ -95,10 +130,9 @@ fn order_given(arguments: Arguments<'_>) -> Result<ShowRequest<'_>, Failure<'_>>
         Err(failure) => return Err(failure),
     };
     match question_given(arguments.question, arguments.second) {
-        Ok(question) => Ok(ShowRequest::Show(ShowOrder {
+        Ok(question) => Ok(RequestKind::Show(FileQuestion {
             file,
             question,
-            settings: arguments.settings,
             style,
         })),
         Err(failure) => Err(failure),

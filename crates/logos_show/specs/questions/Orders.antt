@@ -12,8 +12,9 @@ use Rattle.logos_options.specs.declared.program.Program.TheVariants as programs
 use Rattle.logos_show.specs.declared.questions.ShowOrder.{ShowOrder}
 use Rattle.logos_show.specs.declared.questions.Question.{Question}
 use Rattle.logos_show.specs.declared.questions.Question.TheVariants as questions
+use Rattle.logos_show.specs.declared.questions.RequestKind.{RequestKind}
+use Rattle.logos_show.specs.declared.questions.RequestKind.TheVariants.{Help, Version, Show}
 use Rattle.logos_show.specs.declared.questions.ShowRequest.{ShowRequest}
-use Rattle.logos_show.specs.declared.questions.ShowRequest.TheVariants.{Help, Version, Show}
 
 -- A question about the lexers of a file: their leaves; the items of an input, given by its path;
 -- the matches from a location of an input; examples for each leaf; at most a number of inputs that
@@ -115,8 +116,12 @@ question_value (questions.Comparison other) = comparison other.now
 abbrev pub order_value : ShowOrder → OrderValue
 order_value order = record { file = order.file.now; question = question_value order.question; settings = settings_value order.settings; style = order.style }
 
+-- The view of a kind of request, with these settings.
+abbrev pub kind_value : RequestKind → List (Option (List ℕ)) → Requested
+kind_value Help settings = requests_help
+kind_value Version settings = requests_version
+kind_value (Show asked) settings = requests_showing (record { file = asked.file.now; question = question_value asked.question; settings = settings; style = asked.style })
+
 -- The view of a request.
 abbrev pub request_value : ShowRequest → Requested
-request_value Help = requests_help
-request_value Version = requests_version
-request_value (Show order) = requests_showing (order_value order)
+request_value request = kind_value request.kind (settings_value request.settings)
