@@ -28,6 +28,7 @@ fail() {
 # Prints the files that have to stand in the folder.
 wanted_files() {
     local name shape
+    echo README.md
     echo run.sh
     for name in $sources; do
         echo "$name.rs"
@@ -56,5 +57,5 @@ for name in $sources; do
         compare "$name" "$shape"
     done
 done
-echo "texts: $compared printed texts are the stored ones, word for word"
+echo "expected_rust: $compared generated texts are the stored ones, word for word"
 echo "$compared passed, 0 failed"

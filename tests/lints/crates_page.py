@@ -10,6 +10,9 @@ Each crate stands in one room. No crate uses one of a later room, nor one furthe
 The libraries of a crate are those that its `.rt` and `.antt` files cite, as `NAME::` or
 `Rattle.NAME.`, apart from comments: none is missing and none is idle.
 
+`CONTRIBUTING.md` states how many crates depend on some of them, as ``43 crates for `NAME` `` or
+``32 for `NAME` ``: each of these numbers is compared, and `--write` writes it.
+
 What a crate is for is the first paragraph of the comment at the top of its `src/lib.rt` or
 `src/main.rt`. "Used by" are the crates that name it. The last line is
 `crates_page: N passed, M failed`: a crate counts as one, and so does the page."""
@@ -21,6 +24,8 @@ import textwrap
 from common import ROOT, finish, has_option, read
 
 PAGE = f"{ROOT}/crates/README.md"
+GUIDE = f"{ROOT}/CONTRIBUTING.md"
+COUNT = re.compile(r"(\d+)( (?:crates )?for\s+`(logos_\w+)`)")
 LEAST = 50
 WIDTH = 100
 HEAD = """\
@@ -105,6 +110,21 @@ def users(found):
     return used
 
 
+def above(used, name):
+    """Returns the crates that depend on a crate."""
+    met, ahead = set(), [name]
+    while ahead:
+        ahead.extend(set(used.get(ahead.pop(), [])) - met)
+        met.update(ahead)
+    return met
+
+
+def with_counts(text, found):
+    """Returns the text with the number of crates that depend on each crate of which it states one."""
+    used = users(found)
+    return COUNT.sub(lambda it: f"{len(above(used, it[3]))}{it[2]}", text)
+
+
 def page(found):
     """Returns the text of the page."""
     used = users(found)
@@ -123,9 +143,11 @@ def main():
     is_written = has_option("--write")
     found = rooms()
     text = page(found)
+    guide = with_counts(read(GUIDE), found)
     if is_written:
-        with open(PAGE, "w", encoding="utf-8") as out:
-            out.write(text)
+        for path, made in ((PAGE, text), (GUIDE, guide)):
+            with open(path, "w", encoding="utf-8") as out:
+                out.write(made)
     named = [name for _, _, crates in found for name in crates]
     faults = [f"{name} is in no room of crates.txt" for name in sorted(os.listdir(f"{ROOT}/crates"))
               if os.path.isdir(f"{ROOT}/crates/{name}/src") and name not in named]
@@ -134,6 +156,8 @@ def main():
     faults += [*order_faults(found), *library_faults(found)]
     if not os.path.exists(PAGE) or read(PAGE) != text:
         faults.append("crates/README.md is not what the crates give: run crates_page.py --write")
+    if not COUNT.search(guide) or read(GUIDE) != guide:
+        faults.append("CONTRIBUTING.md states other numbers of crates: run crates_page.py --write")
     finish("crates_page", max(len(named) + 1 - len(faults), 0), faults, LEAST)
 
 

@@ -6,8 +6,8 @@
   parameters.py --names   prints those functions too
 
 No function may have more than six parameters, and no crate more than ten functions with five or
-more, but for the program of tests/calls, which only answers rows. Each bound counts once for each
-crate. The last line is `parameters: N passed, M failed`."""
+more, but for `logos_show` and for the program of tests/calls, which only answers rows. Each bound
+counts once for each crate. The last line is `parameters: N passed, M failed`."""
 import re
 
 from common import finish, has_option, read, sources
@@ -15,6 +15,9 @@ from common import finish, has_option, read, sources
 MANY = 5
 MOST = 6
 IN_A_CRATE = 10
+# Contracts of `logos_show` follow files, clock, errors and output to the exit status. They cannot
+# follow a `&mut` inside a struct, so these are parameters of their own.
+IN_SHOW = 25
 TESTS = "tests/calls"
 
 
@@ -70,7 +73,7 @@ def main():
             print("".join(f"    {name} {count}\n" for name, count in many), end="")
         for bound in (
             max((count for _, count in found), default=0) <= MOST or f"{crate} has a function with more than {MOST} parameters",
-            len(many) <= IN_A_CRATE or crate == TESTS or f"{crate} has {len(many)} functions with {MANY} parameters or more",
+            len(many) <= (IN_SHOW if crate == "logos_show" else IN_A_CRATE) or crate == TESTS or f"{crate} has {len(many)} functions with {MANY} parameters or more",
         ):
             passed += bound is True
             failed += [] if bound is True else [bound]

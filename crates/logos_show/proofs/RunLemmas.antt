@@ -1,16 +1,45 @@
 -- The lexers of files, and the answers about them.
-use Rattle.std.proofs.Common.{◌≡◌, ℕ, Bool, List, [], Option, Result, Ok, Err, IfOk, OnOk, subst}
+use Rattle.std.proofs.Common.{◌≡◌, ℕ, Bool, List, [], Option, Some, Result, Ok, Err, IfOk, OnOk, Fits, w8, get_or, subst}
+use Rattle.std.proofs.Math.Facts.{Fits-lt-pow}
+use Rattle.std.proofs.lemmas.Grind.{get_or_default_zero}
 use Rattle.logos_automaton.specs.Faults.{AllStart}
+use Rattle.logos_code.specs.Code.{CodeValue}
+use Rattle.logos_codegen.specs.Given.{IsGiven}
+use Rattle.logos_codegen.specs.Source.{IsAccepted}
+use Rattle.logos_enum.specs.Values.{Slice}
 use Rattle.logos_graph.specs.GraphOf.{IsGraphOf}
 use Rattle.logos_graph.specs.View.{GraphValue, rules_of}
 use Rattle.logos_hir.specs.Text.{IsBytes}
 use Rattle.logos_lines.specs.declared.location.Location.{Location}
 use Rattle.logos_report.specs.Locations.{SourceValue}
+use Rattle.logos_rust_file.specs.declared.finder.FoundEnum.{FoundEnum}
 use Rattle.logos_answers.proofs.ExampleLemmas.{all_start}
-use Rattle.logos_show.specs.Runs.{ComparesFiles, ComparesTo, IsLexerIn, PrintsInputsAs, PrintsMatchesAs, ShowsInputsOf, ShowsMatchesOf, is_json, name_in}
+use Rattle.logos_show.specs.Answers.{PrintsAgreement}
+use Rattle.logos_show.specs.Choices.{IsLexerOf}
+use Rattle.logos_show.specs.Parts.{IsPartAt}
+use Rattle.logos_show.specs.Runs.{Answers, ComparesFiles, ComparesTo, Expects, IsLexerIn, PrintsInputsAs, PrintsMatchesAs, ShowsInputsOf, ShowsMatchesOf, is_json, name_in, shape}
 use Rattle.logos_show.specs.Verdicts.{PrintsVerdict}
 use Rattle.logos_show.specs.declared.replies.Agreement.{Agreement}
 use Rattle.logos_show.specs.questions.Orders.{OrderValue}
+
+-- the elements of a slice of bytes are bytes
+pub are_bytes : (bytes : List ℕ) → ((i : ℕ) → Fits w8 (get_or bytes i 0)) → IsBytes bytes
+are_bytes bytes h = λ k d l. rw (get_or_default_zero bytes k d l) (Fits-lt-pow (h k))
+
+-- a lexer that was made of a requested enum
+pub lexer_made : {text : List ℕ} {name : Option (List ℕ)} {one : FoundEnum} {source : List ℕ} {graph : GraphValue} {code : CodeValue} {ident : Slice} {export : Option (List ℕ)} → IsLexerOf text name one → IsPartAt text one.span source →
+    IsAccepted source (rules_of graph.leaves) graph.utf8 → IsGiven source shape graph code ident export → IsLexerIn text name graph
+lexer_made {text} {name} {one} {source} {graph} {code} {ident} {export} chosen part accepted given = record {
+  one = one;
+  chosen = chosen;
+  source = source;
+  part = part;
+  accepted = accepted;
+  code = code;
+  ident = ident;
+  export = export;
+  given = given;
+}
 
 module _ (order : OrderValue) (old new : Option (List ℕ)) {T E : Type 0} (agreement : T → Agreement) where
   -- a lexer, compared with that of a file
@@ -46,8 +75,20 @@ module _ (order : OrderValue) (text : List ℕ) (graph : GraphValue) (l : IsLexe
   pub matches_shown : (input : List ℕ) → IsBytes input → (location : Location) (json : Bool) → json ≡ is_json order → (result : Result T E) →
       OnOk result (IsGraphOf graph.leaves graph.utf8 graph → AllStart (rules_of graph.leaves) → IsBytes input → PrintsMatchesAs json graph input location old new) →
       OnOk result (ShowsMatchesOf order text input location old new)
-  matches_shown input bytes location json is (Ok x) h =
+  matches_shown input are location json is (Ok x) h =
       let of_leaves = l.given.of_source.of_leaves in
-      let printed = h of_leaves (all_start graph of_leaves l.given.of_source.faultless) bytes in
+      let printed = h of_leaves (all_start graph of_leaves l.given.of_source.faultless) are in
       record { graph = graph; of_text = l; printed = subst (λ j. PrintsMatchesAs j graph input location old new) is printed }
-  matches_shown input bytes location json is (Err e) h = tt
+  matches_shown input are location json is (Err e) h = tt
+
+-- an answer that is compared with the stored one
+pub expected : {F : Type 0} (yields : F → List ℕ → List ℕ → F → Type 0) (order : OrderValue) (path : List ℕ) (files read after : F) (stored first made : List ℕ) (outcome : Agreement) → yields files path stored read → first ≡ [] →
+    Answers yields order read after outcome (Some first) (Some made) → (old new : Option (List ℕ)) (given answer : List ℕ) → given ≡ stored → answer ≡ made → {E : Type 0} (result : Result Agreement E) →
+    IfOk result (λ agreement. PrintsAgreement path given answer agreement old new) → IfOk result (λ agreement. Expects yields order path files after agreement old new)
+expected yields order path files read after stored first made outcome y e answers old new given answer same is (Ok agreement) h = record {
+  bytes = stored;
+  after = read;
+  given = y;
+  holds = (made, outcome, subst (λ bytes. Answers yields order read after outcome (Some bytes) (Some made)) e answers, subst (λ bytes. PrintsAgreement path bytes made agreement old new) same (subst (λ bytes. PrintsAgreement path given bytes agreement old new) is h));
+}
+expected yields order path files read after stored first made outcome y e answers old new given answer same is (Err x) h = tt

@@ -40,12 +40,7 @@ pub(crate) fn show_matches<'w, F: Files, O: Write, E: Write>(
         (O.contents out.old) (O.contents out.new))) }
 {
     let bytes = read_bytes(point.path, files)?;
-    let point = InputPoint {
-        path: point.path,
-        bytes: bytes.as_slice(),
-        location: point.location,
-    };
-    matches_by_file(task, source, point, err, out)?;
+    matches_by_file(task, source, point, &bytes, err, out)?;
     Ok(Agreement::Same)
 }
 
@@ -53,19 +48,27 @@ pub(crate) fn show_matches<'w, F: Files, O: Write, E: Write>(
 fn matches_by_file<'w, O: Write, E: Write>(
     task: Task<'w>,
     source: &Source<'_>,
-    point: InputPoint<'w, '_>,
+    point: FilePoint<'w>,
+    bytes: &[u8],
     err: &mut E,
     out: &mut O,
 ) -> Result<(), Failure<'w>>
     ensures failed { IfErr result IsNoMisuse }
     ensures printed { OnOk result (ShowsMatchesOf (order_value task.entry.order) source.now.text
-        point.entry.bytes.now point.entry.location (O.contents out.old) (O.contents out.new)) }
+        bytes.now point.entry.location (O.contents out.old) (O.contents out.new)) }
 {
     let alloc = task.showing.alloc;
     let one = lexer_in(alloc, task, source, err)?;
     let part = part_of(source, one);
     match generate(alloc, text_of(source, one), SHAPE) {
-        Ok(made) => matches_by_graph(alloc, &made.graph, point, is_json(task.order), out),
+        Ok(made) => {
+            let input = InputPoint {
+                path: point.path,
+                bytes,
+                location: point.location,
+            };
+            matches_by_graph(alloc, &made.graph, input, is_json(task.order), out)
+        }
         Err(refusal) => Err(refused(alloc, part, task.showing, refusal)),
     }
 }
