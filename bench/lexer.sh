@@ -1,13 +1,16 @@
 #!/usr/bin/env bash
-# Measures lexers on texts of 32 MiB: `Lexer` and, as `chunks`, a run by chunks, in a proved build,
-# and in the program that INSTALLED names, beside scanners of the same rules: those that flex and
-# re2c make, and, where rustc is found, what it makes of the Rust text of these rules, over
-# `rust/logos`: in both shapes of `logos gen`, and as tables. Their `scan` is measured by
-# `for_each` and, as `loop`, by a loop. What has `.placed` in its name reads the places of the
-# items too: without, rustc leaves out what finds them. A run lexes a text three times and until
-# that took a quarter of a second, and a short one very often. Of the runs, taken in turns, the
-# fastest of each counts; the first argument says how many, ten without it. Further arguments name
-# the texts that are measured, instead of all.
+# Measures lexers on texts of 32 MiB: `Lexer` and, as `chunks`, a run by chunks, in a proved
+# build, and in the program that INSTALLED names, beside scanners of the same rules: those that
+# flex (-CF and -Cf) and re2c (-b and -g) make, and, where rustc is found, what it makes of the
+# Rust text of these rules, over `rust/logos`: in both shapes of `logos gen`, and as tables. Their
+# `scan`, which is the lexer with spans, is measured by `for_each` and, as `loop`, by a loop. What
+# has `.placed` in its name reads the spans of the items too: without, rustc leaves out what finds
+# them. A run lexes a text three times and until that took a quarter of a second, and a short one
+# very often. Of the runs, taken in turns, the fastest of each counts; the first argument says how
+# many, ten without it. Further arguments name the texts that are measured, instead of all.
+#
+# Constants of the runtime and of the library are fitted on these texts. bench/held.sh has lexers
+# and texts on which nothing is fitted.
 #
 # bench/lexer/text.py makes sixteen of the texts, bench/lexer/files.py those of files on this
 # machine. A text of which it has too few files is left out, and a shape for which rustc takes more
@@ -55,6 +58,7 @@ made=(program json log prose words blanks operators sql css template access iplo
 texts=(json_files rust python css_files c asm iplog xml program log json prose sql css template)
 texts+=(markdown toml httplog graphql mustache access words blanks operators)
 lines=(program json log prose)
+in_c=(flex-CF flex-Cf re2c-b re2c-g)
 if [ $# -gt 1 ]; then
     texts=("${@:2}")
     lines=()
@@ -86,11 +90,15 @@ make_text() {
 
 # NAME: compiles the scanners of flex and re2c for these rules.
 compile_c() {
-    local encoding=(--utf8) path
+    local encoding=(--utf8) path flag scanner
     [[ ! $1 =~ ^(program|access|iplog|httplog)$ ]] || encoding=()
-    flex -CF -o "$copy/$1.flex.c" "$bench/lexer/flex/$1.l"
-    re2c "${encoding[@]}" -o "$copy/$1.re2c.c" "$bench/lexer/re2c/$1.re"
-    for scanner in flex re2c; do
+    for flag in -CF -Cf; do
+        flex "$flag" -o "$copy/$1.flex$flag.c" "$bench/lexer/flex/$1.l"
+    done
+    for flag in -b -g; do
+        re2c "$flag" "${encoding[@]}" -o "$copy/$1.re2c$flag.c" "$bench/lexer/re2c/$1.re"
+    done
+    for scanner in "${in_c[@]}"; do
         path="$keep/$1.$scanner.$(sum "$copy/$1.$scanner.c" "$bench"/lexer/*.h)"
         [ -e "$path" ] || gcc -O2 -Wa,-mbranches-within-32B-boundaries -I "$bench/lexer" -o "$path" "$copy/$1.$scanner.c"
         ln -s "$path" "$copy/$1.$scanner"
@@ -179,7 +187,7 @@ for text in "${texts[@]}"; do
 done
 texts=("${here[@]}")
 mapfile -t enums < <(for text in "${texts[@]}"; do echo "${rules[$text]:-$text}"; done | sort -u)
-others=(flex re2c)
+others=("${in_c[@]}")
 if command -v rustc > /dev/null; then
     others+=(tailcall state_machine tables scan loop {tailcall,state_machine,scan,loop}.placed)
     { cat "$bench"/../rust/logos/src/*.rs; rustc --version; } > "$copy/runtime"
@@ -229,7 +237,7 @@ for text in "${texts[@]}"; do
     for length in 64 1024; do
         python3 "$bench/lexer/short.py" "$length" "$copy/$text.text" > "$copy/$text.$length"
         for ((run = 0; run < runs; run++)); do
-            for scanner in lexer installed flex re2c tailcall state_machine tables; do
+            for scanner in lexer installed "${in_c[@]}" tailcall state_machine tables; do
                 measure "$text" "$scanner" "$copy/$text.$length" $((6000000 / length)) | sed "s/ / $length /"
             done
         done

@@ -10,7 +10,7 @@ import math
 import sys
 
 OWN = ["lexer", "chunks"]
-OTHERS = ["flex", "re2c", "tailcall", "state_machine"]
+OTHERS = ["flex-CF", "flex-Cf", "re2c-b", "re2c-g", "tailcall", "state_machine"]
 SHAPES = ["tailcall", "state_machine"]
 TABLES = ["tables", "scan", "loop"]
 PLACED = ["scan.placed", "loop.placed"]

@@ -8,6 +8,8 @@
 #
 # - accepted: the packages of accepted/ are built, and print what their files `expected` hold, in
 #   each shape.
+# - users_tables, users_tailcall, users_state_machine: the lexers of the package users/ find the items
+#   that its tests want, in this shape; in that of tables by `scan`, too.
 # - refused: each source of the table `refused` has the errors that are written in it.
 # - features: the features of the package `logos` are there: one chooses the shape, and one prints
 #   the implementations.
@@ -110,6 +112,18 @@ accept() {
         compare "$name in the shape $1" "$package/expected" "$room/found"
         rm -f "$CARGO_TARGET_DIR/debug/$name"
     done
+}
+
+# Runs the tests of the package users/ in a shape.
+use() {
+    local words=(--offline --quiet --lib --manifest-path "$room/users/Cargo.toml") good bad
+    [ -d "$room/users" ] || lay_out users
+    [ "$1" = tables ] && words+=(--features scan)
+    LOGOS_SHAPE=$1 cargo test "${words[@]}" > "$room/found" 2>&1
+    read -r good bad < <(sed -n 's/^test result: .* \([0-9]*\) passed; \([0-9]*\) failed;.*/\1 \2/p' "$room/found")
+    [ "${bad:-1}" = 0 ] || { echo "derive: users in the shape $1"; tail -n 60 "$room/found"; }
+    passed=$((passed + ${good:-0}))
+    failed=$((failed + ${bad:-1}))
 }
 
 # Compares the errors of the table of refused sources.
@@ -292,6 +306,7 @@ group() {
 made_from > "$room/made_from"
 for shape in tailcall state_machine tables; do
     group "$shape" 12 accept "$shape"
+    group "users_$shape" 210 use "$shape"
 done
 group refused 42 refuse
 group features 4 feature

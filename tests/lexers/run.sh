@@ -88,7 +88,7 @@ arm() {
     local source='std::str::from_utf8(&bytes).expect("UTF-8")'
     [ "$3" = text ] || source='&bytes'
     printf '"%s" => print(&mut out, &bytes, logos::Lexer::<expanded::%s::%s>::new(%s).spanned()),\n' "$1" "$1" "$2" "$source"
-    [ -z "${4:-}" ] || printf '"%s_scan" => print(&mut out, &bytes, <expanded::%s::%s as logos::Scan>::scan(%s)),\n' "${1%_tables}" "$1" "$2" "$source"
+    [ -z "${4:-}" ] || printf '"%s_scan" => print(&mut out, &bytes, logos::internal::looking(logos::Lexer::<expanded::%s::%s>::new(%s), true).scan()),\n' "${1%_tables}" "$1" "$2" "$source"
 }
 
 # Writes the names of the files, sources and results, that rustfmt changes.

@@ -120,7 +120,7 @@ def above(used, name):
 
 
 def with_counts(text, found):
-    """Returns the text with the number of crates that depend on each crate of which it states one."""
+    """Returns the text with the number of crates above each crate of which it states one."""
     used = users(found)
     return COUNT.sub(lambda it: f"{len(above(used, it[3]))}{it[2]}", text)
 

@@ -23,7 +23,8 @@ NOT_YET = "different things, of which one has to get another name"
 STAYS = {
     "Config": ("code graph", "the options of a generator and of a graph, both public"),
     "Note": ("derive layout", "a line under a diagnostic, and a comment in a text that is laid out, both public"),
-    "Piece": ("derive lexeme", "a part of a source in its implementation, which is public, and the value of a part of a string"),
+    "Lexer": ("causes machine", "an accepted source with what was generated from it, and a code on an input, both public"),
+    "Piece": ("lexeme text", "the value of a part of a string, and a part of a source in its generated code, which is public"),
     "Literal": ("pattern token", "a literal of a source, and one that spells a pattern, both public"),
 }
 

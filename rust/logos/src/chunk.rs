@@ -15,15 +15,13 @@ pub(crate) const CHUNK: usize = BLOCKS * BLOCK;
 /// chunk.
 pub(crate) const WORD: usize = 64;
 const WORDS: usize = CHUNK / WORD;
-/// The minimum number of bytes for which a walk pays off.
-pub(crate) const FEWEST: usize = 256;
-/// The number of bytes before a block that are examined to guess its state, and the number that are
-/// examined for a line end.
+/// So many bytes before a block are looked at to guess its place, and so many for a line end.
 const NEAR: usize = 32;
 const FAR: usize = 384;
+/// Fewer bytes than these are not worth a part of their own.
+const LEAST_PART: usize = 2 * NEAR;
 
-/// The results of the walk over a chunk.
-#[derive(Clone)]
+/// What the walk over a chunk has found.
 pub(crate) struct Chunk {
     /// The entry of each byte.
     trace: [u32; CHUNK],
@@ -55,12 +53,6 @@ impl Chunk {
         ends: [0; WORDS],
         tokens: [0; WORDS],
     };
-
-    /// Returns the entries from a byte on.
-    #[inline(always)]
-    pub(crate) fn entries(&self, at: usize) -> &[u32] {
-        self.trace.get(at..).unwrap_or_default()
-    }
 
     /// Returns the leaf of the entry of a byte.
     #[inline(always)]
@@ -103,8 +95,9 @@ impl Chunk {
         }
     }
 
-    /// Processes all bytes of a chunk from row position `place` on. The states of the blocks except
-    /// the first are guessed, by lines or from few bytes, and after a line end from `start`.
+    /// Walks over all bytes of a chunk from a place on. The blocks but the first begin where it is
+    /// guessed: by lines or by few bytes, and from `start` on after a line end.
+    #[inline]
     pub(crate) fn walk<'s, T: Tables<'s>>(
         &mut self,
         input: &[u8; CHUNK],
@@ -113,21 +106,24 @@ impl Chunk {
         by_lines: bool,
     ) -> Walked {
         let (mut guesses, looked) = if by_lines {
-            guess_by_lines::<T>(input, start)
+            T::guess_by_lines(input, start)
         } else {
             (guess_places::<T>(input, BLOCK - NEAR, start), 0)
         };
         guesses[0] = place;
-        let places = walk_blocks::<T>(input, &mut self.trace, guesses);
-        let walked = self.repair::<T>(input, guesses, places);
+        let places = T::walk_blocks(input, &mut self.trace, guesses);
+        let walked = self.repair::<T>(input, BLOCK, guesses, places);
         self.set_bits(0, CHUNK);
         Walked { looked, ..walked }
     }
 
-    /// Processes again the blocks whose states were guessed wrong, until their entries agree.
+    /// Walks again over the blocks, of `size` bytes each, whose places were not guessed, as far as
+    /// that changes something.
+    #[inline]
     fn repair<'s, T: Tables<'s>>(
         &mut self,
-        input: &[u8; CHUNK],
+        input: &[u8],
+        size: usize,
         guesses: [u32; BLOCKS],
         places: [u32; BLOCKS],
     ) -> Walked {
@@ -138,7 +134,7 @@ impl Chunk {
             missed: false,
         };
         for k in 1..BLOCKS {
-            let (from, to) = (k * BLOCK, (k + 1) * BLOCK);
+            let (from, to) = (k * size, (k + 1) * size);
             let mut place = places[k];
             if walked.place != guesses[k] {
                 let (at, there) = self.walk_again::<T>(input, from..to, walked.place);
@@ -153,22 +149,36 @@ impl Chunk {
         walked
     }
 
-    /// Processes the last bytes of an input, which are shorter than a chunk, and returns the row
-    /// position after them.
-    pub(crate) fn walk_rest<'s, T: Tables<'s>>(&mut self, rest: &[u8], place: u32) -> u32 {
-        let mut place = place;
-        for (entry, byte) in self.trace.iter_mut().zip(rest) {
-            *entry = step::<T>(*byte, place);
-            place = *entry & PLACE;
+    /// Walks over fewer bytes than a chunk has: in as many parts at once, and the last ones singly.
+    #[inline]
+    pub(crate) fn walk_rest<'s, T: Tables<'s>>(&mut self, rest: &[u8], place: u32) -> Walked {
+        let size = rest.len() / BLOCKS;
+        let mut walked = Walked {
+            place,
+            again: 0,
+            looked: 0,
+            missed: false,
+        };
+        let mut done = 0;
+        if size >= LEAST_PART {
+            let guesses = guess_parts::<T>(rest, size, place);
+            let places = T::walk_parts(rest, &mut self.trace, size, guesses);
+            walked = self.repair::<T>(rest, size, guesses, places);
+            done = BLOCKS * size;
+        }
+        for (entry, byte) in self.trace.iter_mut().zip(rest).skip(done) {
+            *entry = step::<T>(*byte, walked.place);
+            walked.place = *entry & PLACE;
         }
         let end = rest.len().next_multiple_of(WORD).min(CHUNK);
         self.trace[rest.len().min(end)..end].fill(0);
         self.set_bits(0, rest.len());
-        place
+        walked
     }
 
-    /// Processes some bytes again from a row position, until the trace has the same row position.
-    /// Returns the offset and the row position there.
+    /// Walks over some bytes again from a place, until the trace has the same place. Returns where,
+    /// and the place there.
+    #[inline]
     pub(crate) fn walk_again<'s, T: Tables<'s>>(
         &mut self,
         input: &[u8],
@@ -188,8 +198,16 @@ impl Chunk {
         (range.end, place)
     }
 
-    /// Samples one of `one_of` words up to a byte: returns the number of bytes of these words, of
-    /// the matches that end there, and of the states that are entered.
+    /// Returns how many entries up to a byte ask.
+    pub(crate) fn asks(&self, to: usize) -> usize {
+        let words = self.ends.iter().zip(&self.tokens).take(to.div_ceil(WORD));
+        words
+            .map(|(ends, tokens)| (tokens & !ends).count_ones() as usize)
+            .sum()
+    }
+
+    /// Counts, in one of so many words up to a byte: the bytes of these words, the matches that end
+    /// there, and the states that are entered.
     pub(crate) fn sample(&self, to: usize, one_of: usize) -> [usize; 3] {
         let mut sums = [0; 3];
         for word in (0..(to / WORD).min(WORDS)).step_by(one_of) {
@@ -212,9 +230,76 @@ fn entered(trace: &[u32; WORD]) -> usize {
     entered as usize
 }
 
-/// Gathers the flags of the entries of a word: for each half a number with the flags of every
-/// fourth entry, four bits apart. It is not inlined and writes to memory, so that the compiler
-/// vectorizes it.
+/// What is called out of line. These are functions of the enum: so the compiler puts them beside
+/// its `lex`, and each table once into a program.
+trait Blocks<'source>: Tables<'source> {
+    /// Walks over all blocks at once, each from its place, and returns the places after them.
+    #[inline(never)]
+    fn walk_blocks(
+        input: &[u8; CHUNK],
+        trace: &mut [u32; CHUNK],
+        places: [u32; BLOCKS],
+    ) -> [u32; BLOCKS] {
+        let mut places = places;
+        let blocks: [&[u8; BLOCK]; BLOCKS] =
+            core::array::from_fn(|k| input[k * BLOCK..].first_chunk().expect("a block"));
+        for at in (0..BLOCK).step_by(STEPS) {
+            let part: Option<&mut [u32; CHUNK - BLOCK + STEPS]> = trace[at..].first_chunk_mut();
+            // The compiler does not see where the part begins: so each store is at a fixed distance
+            // from it. Many processors have more units for these than for stores with an index.
+            let part = core::hint::black_box(part.expect("a part"));
+            for n in 0..STEPS {
+                for k in 0..BLOCKS {
+                    let entry = step::<Self>(blocks[k][at + n], places[k]);
+                    part[k * BLOCK + n] = entry;
+                    places[k] = entry;
+                }
+            }
+        }
+        places.map(|place| place & PLACE)
+    }
+
+    /// Walks over parts of `size` bytes at once, each from its place, and returns the places after
+    /// them.
+    #[inline(never)]
+    fn walk_parts(
+        rest: &[u8],
+        trace: &mut [u32; CHUNK],
+        size: usize,
+        places: [u32; BLOCKS],
+    ) -> [u32; BLOCKS] {
+        let mut places = places;
+        let parts: [&[u8]; BLOCKS] = core::array::from_fn(|k| &rest[k * size..(k + 1) * size]);
+        let mut traces = trace.chunks_exact_mut(size);
+        let traces: [&mut [u32]; BLOCKS] = core::array::from_fn(|_| traces.next().expect("a part"));
+        for at in 0..size {
+            for k in 0..BLOCKS {
+                let entry = step::<Self>(parts[k][at], places[k]);
+                traces[k][at] = entry;
+                places[k] = entry;
+            }
+        }
+        places.map(|place| place & PLACE)
+    }
+
+    /// Guesses those places by more bytes: from the last line end on before each block.
+    #[cold]
+    #[inline(never)]
+    fn guess_by_lines(input: &[u8; CHUNK], start: u32) -> Guesses {
+        let mut from = BLOCK - NEAR;
+        for k in 1..BLOCKS {
+            let window = input[k * BLOCK - FAR..].first_chunk();
+            from = from.min(BLOCK - FAR + last_line_end(window.expect("a window")));
+        }
+        let looked = (BLOCKS - 1) * (BLOCK - from);
+        (guess_places::<Self>(input, from, start), looked)
+    }
+}
+
+impl<'source, T: Tables<'source>> Blocks<'source> for T {}
+
+/// Gathers the flags of the entries of a word: of each half those of every fourth entry stand in a
+/// number, four bits apart. It is called and writes to memory, so that the compiler makes vectors.
 #[inline(never)]
 fn gather(trace: &[u32; WORD], to: &mut [u32; 8]) {
     let (low, high) = trace.split_at(WORD / 2);
@@ -247,30 +332,18 @@ fn step<'s, T: Tables<'s>>(byte: u8, place: u32) -> u32 {
     T::entry_of(byte, place)
 }
 
-/// Processes all blocks at once, each from its row position, and returns the row positions after
-/// them.
-#[inline(never)]
-fn walk_blocks<'s, T: Tables<'s>>(
-    input: &[u8; CHUNK],
-    trace: &mut [u32; CHUNK],
-    places: [u32; BLOCKS],
-) -> [u32; BLOCKS] {
-    let mut places = places;
-    let blocks: [&[u8; BLOCK]; BLOCKS] =
-        core::array::from_fn(|k| input[k * BLOCK..].first_chunk().expect("a block"));
-    for at in (0..BLOCK).step_by(STEPS) {
-        let part: Option<&mut [u32; CHUNK - BLOCK + STEPS]> = trace[at..].first_chunk_mut();
-        // The compiler must not see where the part begins: then each store has a fixed distance
-        // from it. Many processors have more units for these than for stores with an index.
-        let part = core::hint::black_box(part.expect("a part"));
-        for n in 0..STEPS {
-            for k in 0..BLOCKS {
-                let entry = step::<T>(blocks[k][at + n], places[k]);
-                part[k * BLOCK + n] = entry;
-                places[k] = entry;
-            }
+/// Guesses the places of parts of `size` bytes but the first, as [`guess_places`] does.
+#[inline]
+fn guess_parts<'s, T: Tables<'s>>(rest: &[u8], size: usize, first: u32) -> [u32; BLOCKS] {
+    let mut places = [T::ROOT; BLOCKS];
+    for at in size - NEAR..size {
+        for k in 1..BLOCKS {
+            let byte = rest[(k - 1) * size + at];
+            let entry = step::<T>(byte, places[k]);
+            places[k] = if byte == b'\n' { T::ROOT } else { entry };
         }
     }
+    places[0] = first;
     places.map(|place| place & PLACE)
 }
 
@@ -290,21 +363,8 @@ fn guess_places<'s, T: Tables<'s>>(input: &[u8; CHUNK], from: usize, start: u32)
     places.map(|place| place & PLACE)
 }
 
-/// Guesses these row positions from more bytes: from the last line end before each block on.
-#[cold]
-#[inline(never)]
-fn guess_by_lines<'s, T: Tables<'s>>(input: &[u8; CHUNK], start: u32) -> Guesses {
-    let mut from = BLOCK - NEAR;
-    for k in 1..BLOCKS {
-        let window = input[k * BLOCK - FAR..].first_chunk();
-        from = from.min(BLOCK - FAR + last_line_end(window.expect("a window")));
-    }
-    let looked = (BLOCKS - 1) * (BLOCK - from);
-    (guess_places::<T>(input, from, start), looked)
-}
-
-/// Returns the index of the last line end in a window, or of the first of the last few bytes if
-/// there is none.
+/// Returns which byte of a window is the last line end, or the first of the last few bytes if none
+/// is.
 fn last_line_end(window: &[u8; FAR]) -> usize {
     for (n, eight) in window.chunks_exact(8).enumerate().rev() {
         let ends = line_ends(eight);

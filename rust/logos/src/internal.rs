@@ -6,7 +6,7 @@ pub use crate::loops::Ranges as _Ranges;
 use crate::loops::{Mask, Ranges};
 use crate::run::Run;
 use crate::source::Chunk;
-use crate::{Filter, FilterResult, Lexer, Logos, Skip, Source};
+use crate::{Filter, FilterResult, Lexer, Logos, Skip, Source, Way};
 pub use Tables as _Tables;
 
 /// The methods of a lexer that generated code calls.
@@ -96,7 +96,16 @@ pub trait Tables<'source>: Logos<'source> {
     }
 }
 
-/// The outcome of a match.
+/// Returns the lexer as one that looks ahead everywhere, or nowhere. Tests compare these.
+pub fn looking<'source, Token: Tables<'source>>(
+    mut lexer: Lexer<'source, Token>,
+    everywhere: bool,
+) -> Lexer<'source, Token> {
+    lexer.set_way(if everywhere { Way::Always } else { Way::Never });
+    lexer
+}
+
+/// What becomes of a match.
 pub enum CallbackResult<'source, Token: Logos<'source>> {
     Emit(Token),
     Error(Token::Error),

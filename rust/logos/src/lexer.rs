@@ -1,5 +1,9 @@
 //! Lexers: runs of generated code over an input.
 
+#[cfg(feature = "std")]
+use crate::ahead::Ahead;
+#[cfg(not(feature = "std"))]
+use crate::alone::Ahead;
 use crate::scan::{Scan, Scanner};
 use crate::{Logos, Source};
 use core::fmt;
@@ -8,11 +12,26 @@ use core::ops::{Deref, DerefMut, Range};
 /// A part of an input, in byte offsets.
 pub type Span = Range<usize>;
 
-/// A run of a lexer over an input. As an iterator it yields each token, or the error instead of it.
+/// When a lexer looks ahead.
+#[derive(Clone, Copy, Debug, PartialEq, Eq)]
+pub enum Way {
+    /// Where that pays.
+    ByRule,
+    /// Nowhere.
+    Never,
+    /// Everywhere.
+    Always,
+    /// Everywhere, and it finds those items alone that are the same whatever follows the input.
+    Part,
+}
+
+/// A run of a lexer over an input. As an iterator it yields each token, or the error that stands in
+/// its place.
 pub struct Lexer<'source, Token: Logos<'source>> {
     source: &'source Token::Source,
     start: usize,
     end: usize,
+    pub(crate) ahead: Ahead,
     /// The state that callbacks can read and change.
     pub extras: Token::Extras,
 }
@@ -32,6 +51,7 @@ impl<'source, Token: Logos<'source>> Lexer<'source, Token> {
             source,
             start: 0,
             end: 0,
+            ahead: Ahead::new(0, source.len()),
             extras,
         }
     }
@@ -66,6 +86,7 @@ impl<'source, Token: Logos<'source>> Lexer<'source, Token> {
         let end = self.end.checked_add(n);
         let is_end = |end: &usize| *end <= self.source.len() && self.source.is_boundary(*end);
         self.end = end.filter(is_end).expect("Invalid Lexer bump");
+        self.ahead.forget();
     }
 
     /// Returns a lexer for another enum at the same offset of the same input.
@@ -78,6 +99,7 @@ impl<'source, Token: Logos<'source>> Lexer<'source, Token> {
             source: self.source,
             start: self.start,
             end: self.end,
+            ahead: self.ahead.anew(self.end, self.source.len()),
             extras: self.extras.into(),
         }
     }
@@ -87,26 +109,34 @@ impl<'source, Token: Logos<'source>> Lexer<'source, Token> {
         SpannedIter { lexer: self }
     }
 
-    /// Returns an iterator over the remaining tokens, with their spans, by chunks of the input. The
-    /// items are those of [`Lexer::spanned`]. [`Iterator::for_each`] and [`Iterator::fold`] are
-    /// mostly faster than calls of `next`.
+    /// Returns an iterator over the tokens that follow, with their places: the items of
+    /// [`Lexer::spanned`].
     pub fn scan(self) -> Scanner<'source, Token>
     where
         Token: Scan<'source>,
     {
-        Scanner::new(self, false)
+        Scanner::new(self)
     }
 
     /// Returns an iterator over the items that do not depend on the bytes after this part of the
     /// input. At its end [`Lexer::remainder`] is the text with which the next part has to begin.
     ///
-    /// This requires callbacks that read only their match: others would see the part without the
-    /// rest.
-    pub fn scan_part(self) -> Scanner<'source, Token>
+    /// That holds for callbacks that read their match alone: others see the part and not the rest.
+    pub fn scan_part(mut self) -> Scanner<'source, Token>
     where
         Token: Scan<'source>,
     {
-        Scanner::new(self, true)
+        self.set_way(Way::Part);
+        Scanner::new(self)
+    }
+
+    /// Changes when the lexer looks ahead.
+    pub(crate) fn set_way(&mut self, way: Way) {
+        self.ahead = match way {
+            Way::ByRule => Ahead::new(self.end, self.source.len()),
+            Way::Never => Ahead::NONE,
+            Way::Always | Way::Part => Ahead::by_way(way),
+        };
     }
 
     /// Sets the start of the token to the end of the last one.
@@ -122,6 +152,7 @@ impl<'source, Token: Logos<'source>> Lexer<'source, Token> {
         self.end
     }
 
+    #[cfg(feature = "std")]
     pub(crate) fn set_span(&mut self, span: Span) {
         (self.start, self.end) = (span.start, span.end);
     }
@@ -141,6 +172,7 @@ impl<'source, Token: Logos<'source>> Lexer<'source, Token> {
 impl<'source, Token: Logos<'source>> Iterator for Lexer<'source, Token> {
     type Item = Result<Token, Token::Error>;
 
+    #[inline]
     fn next(&mut self) -> Option<Self::Item> {
         self.begin();
         Token::lex(self)
@@ -156,6 +188,7 @@ where
             source: self.source,
             start: self.start,
             end: self.end,
+            ahead: self.ahead.anew(self.end, self.source.len()),
             extras: self.extras.clone(),
         }
     }
@@ -183,6 +216,7 @@ pub struct SpannedIter<'source, Token: Logos<'source>> {
 impl<'source, Token: Logos<'source>> Iterator for SpannedIter<'source, Token> {
     type Item = (Result<Token, Token::Error>, Span);
 
+    #[inline]
     fn next(&mut self) -> Option<Self::Item> {
         let item = self.lexer.next()?;
         Some((item, self.lexer.span()))

@@ -1,18 +1,18 @@
 //! Lexers from enums: `#[derive(Logos)]`, and the runtime of the generated lexers.
 //!
-//! An enum implements [`Logos`] through the derive macro, or through generated code that the
-//! program `logos_cli` prints. [`Logos::lexer`] returns a lexer for an input, which is an iterator
-//! over tokens. [`Scan::scan`], for lexers of the shape `tables`, is an iterator over tokens with
-//! their spans, by chunks of the input.
+//! An enum implements [`Logos`] by the derive macro, or by generated code that the program
+//! `logos_cli` prints. [`Logos::lexer`] begins a run over an input, and the run is an iterator over
+//! tokens. Where the lexer is tables, the run looks ahead by chunks of the input where that pays.
+//! A `for` loop is as fast as `for_each` if the run stays in registers: where `next` is called from
+//! one place, and no function that is not inlined takes the run.
 //!
 //! # Features
 //!
 //! - `export_derive`, on by default: the derive macro.
-//! - `std`, on by default: a [`Scanner`] keeps its lookahead in a box instead of in itself.
-//!   Everything else needs only `core`.
-//! - `state_machine_codegen`: the derive macro generates the shape `state_machine` instead of
-//!   `tables`.
-//! - `debug`: the derive macro prints the implementations to standard error.
+//! - `std`, on by default: a [`Lexer`] looks ahead, and keeps what it found in a box. Nothing else
+//!   needs more than `core`.
+//! - `state_machine_codegen`: the derive macro prints the shape `state_machine`, not `tables`.
+//! - `debug`: the derive macro prints the implementations on standard error.
 //! - `forbid_unsafe`: [`Source`] has no unsafe methods. This crate has no unsafe code either way.
 
 #![no_std]
@@ -23,8 +23,14 @@
 #[cfg(feature = "std")]
 extern crate std;
 
+#[cfg(feature = "std")]
+mod ahead;
+#[cfg(not(feature = "std"))]
+mod alone;
+#[cfg(feature = "std")]
 mod chunk;
 mod data;
+#[cfg_attr(not(feature = "std"), allow(dead_code))]
 mod folded;
 #[allow(missing_docs)]
 pub mod internal;
@@ -34,8 +40,12 @@ mod rows;
 mod run;
 mod scan;
 pub mod source;
+#[cfg(feature = "std")]
 mod walk;
+#[cfg(feature = "std")]
+mod word;
 
+pub(crate) use lexer::Way;
 pub use lexer::{Lexer, Span, SpannedIter};
 #[cfg(feature = "export_derive")]
 pub use logos_derive::Logos;

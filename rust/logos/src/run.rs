@@ -1,11 +1,25 @@
 //! The loop over match attempts, with the tables of a lexer. Called by `Logos::lex` of generated
 //! code.
 
+#[cfg(feature = "std")]
+use crate::ahead::{Looks, Next};
 use crate::data::END;
-use crate::internal::{CallbackResult, LexerInternal, Tables};
+use crate::internal::{CallbackResult, Tables};
 use crate::loops::Loops;
 use crate::rows::{AGAIN, CLOSES, ENDS, FORTH, NEVER, NOWHERE, NUMBERS, SINGLY, STAYS, VARIES};
-use crate::Lexer;
+#[cfg(not(feature = "std"))]
+use crate::Way;
+use crate::{Lexer, Logos, Source};
+use core::ops::ControlFlow::{self, Break, Continue};
+
+/// The next item, or nothing at the end of the input; or else how a lexer goes on.
+type Step<'source, Token, Next> =
+    ControlFlow<Option<Result<Token, <Token as Logos<'source>>::Error>>, Next>;
+
+/// Says to the compiler that match attempts are to have the registers.
+#[cfg(feature = "std")]
+#[cold]
+fn away() {}
 
 /// The loop and its steps. These are functions of the enum, so that the compiler places them next
 /// to its `lex` and can inline that into its caller.
@@ -182,10 +196,149 @@ pub(crate) trait Run<'source>: Loops<'source> {
     /// Finds the next token, or the error instead of it.
     #[inline(always)]
     fn lex_on(lex: &mut Lexer<'source, Self>) -> Option<Result<Self, Self::Error>> {
+        loop {
+            #[cfg(feature = "std")]
+            if !lex.ahead.is_plain(lex.end()) {
+                away();
+                match Self::look(lex) {
+                    Break(item) => return item,
+                    Continue(None) => continue,
+                    Continue(Some(leaf)) => match Self::act_on(lex, leaf) {
+                        Break(item) => return item,
+                        Continue(()) => continue,
+                    },
+                }
+            }
+            match Self::attempt(lex) {
+                Break(item) => return item,
+                Continue(leaf) => {
+                    if let Break(item) = Self::act_on(lex, leaf) {
+                        return item;
+                    }
+                }
+            }
+        }
+    }
+
+    /// Does what is to be done with a match of a leaf that is not a token at once.
+    #[inline(always)]
+    fn act_on(lex: &mut Lexer<'source, Self>, leaf: usize) -> Step<'source, Self, ()> {
+        let end = lex.end();
+        let result = Self::act(lex, leaf);
+        if lex.end() != end {
+            lex.ahead.forget();
+        }
+        Break(Some(match result {
+            CallbackResult::Emit(token) => Ok(token),
+            CallbackResult::Skip => {
+                lex.begin();
+                return Continue(());
+            }
+            CallbackResult::Error(error) => Err(error),
+            CallbackResult::DefaultError => Err(Self::error(lex)),
+        }))
+    }
+
+    /// Takes what the lexer has found ahead of itself.
+    #[cfg(feature = "std")]
+    #[inline(always)]
+    fn look(lex: &mut Lexer<'source, Self>) -> Step<'source, Self, Option<usize>> {
+        if let Some((leaf, span)) = lex.ahead.token() {
+            let token = Self::plain(leaf);
+            lex.ahead.pass();
+            lex.set_span(span);
+            return match token {
+                Some(token) => Break(Some(Ok(token))),
+                None => Continue(Some(leaf)),
+            };
+        }
+        if lex.ahead.next_word() {
+            return Continue(None);
+        }
         let bytes = Self::bytes(lex.source());
-        let mut start = lex.offset();
+        let (ahead, next) = Self::go_on(lex.ahead.take(), bytes, lex.end());
+        lex.ahead = ahead;
+        match next {
+            Next::Word => Continue(None),
+            Next::Attempts(start) => {
+                lex.set_span(start..start);
+                Continue(None)
+            }
+            Next::Match(leaf, span) => {
+                lex.set_span(span);
+                Self::found(lex, leaf)
+            }
+            Next::End(end) => {
+                lex.set_span(end..end);
+                Break(None)
+            }
+        }
+    }
+
+    /// Tells what a match is that the walk over the input does not know.
+    #[cfg(feature = "std")]
+    #[inline(always)]
+    fn found(lex: &mut Lexer<'source, Self>, leaf: usize) -> Step<'source, Self, Option<usize>> {
+        if leaf >= Self::LEAVES {
+            return Break(Some(Err(Self::error_to(lex, lex.end()))));
+        }
+        match Self::plain_apart(leaf) {
+            Some(token) => Break(Some(Ok(token))),
+            None => Continue(Some(leaf)),
+        }
+    }
+
+    /// Does what [`Tables::plain`] does, out of line: there it is a look into a table, and no jump.
+    #[cfg(feature = "std")]
+    #[inline(never)]
+    fn plain_apart(leaf: usize) -> Option<Self> {
+        Self::plain(leaf)
+    }
+
+    /// Makes the error of an attempt that is over at a position. It ends at the first boundary from
+    /// there on.
+    #[inline(always)]
+    fn error_to(lex: &mut Lexer<'source, Self>, over: usize) -> Self::Error {
+        let end = over.max(lex.start() + 1);
+        lex.set_end(lex.source().find_boundary(end));
+        Self::error(lex)
+    }
+
+    /// Returns whether the match that begins at a position is the same one whatever follows the
+    /// input: whether a byte ends the attempt.
+    #[cfg(not(feature = "std"))]
+    #[cold]
+    fn is_sure(bytes: &[u8], start: usize) -> bool {
+        let (mut state, mut at) = (Self::START, start);
+        while let Some(byte) = bytes.get(at) {
+            let next = Self::step(state, *byte);
+            at += 1;
+            if (CLOSES..NOWHERE).contains(&next) {
+                return at < bytes.len();
+            }
+            if next >= ENDS {
+                return true;
+            }
+            if next < STAYS {
+                state = next;
+            }
+        }
+        false
+    }
+
+    /// Finds the next item by attempts, or a match of a leaf with which more is to be done.
+    #[inline(always)]
+    fn attempt(lex: &mut Lexer<'source, Self>) -> Step<'source, Self, usize> {
+        let bytes = Self::bytes(lex.source());
+        let mut start = lex.start();
         'attempts: loop {
-            let byte = bytes.get(start)?;
+            let Some(byte) = bytes.get(start) else {
+                return Break(None);
+            };
+            #[cfg(not(feature = "std"))]
+            if lex.ahead.way == Way::Part && !Self::is_sure(bytes, start) {
+                return Break(None);
+            }
             let (mut entry, mut at, mut state) = (Self::first_step(*byte), start + 1, Self::START);
             // The leaf and the end of its match. Each case is a branch, so that the next attempt
             // does not wait for the entry to know its start.
@@ -199,8 +352,8 @@ pub(crate) trait Run<'source>: Loops<'source> {
                         break 'found ((entry & NUMBERS) as usize, at - 1);
                     }
                     if entry < CLOSES {
-                        lex.end(at - 1);
-                        lex.trivia();
+                        lex.set_end(at - 1);
+                        lex.begin();
                         start = at - 1;
                         continue 'attempts;
                     }
@@ -209,38 +362,23 @@ pub(crate) trait Run<'source>: Loops<'source> {
                     }
                 }
                 if (CLOSES..NOWHERE).contains(&entry) {
-                    lex.end(at);
-                    lex.trivia();
+                    lex.set_end(at);
+                    lex.begin();
                     start = at;
                     continue 'attempts;
                 }
                 let (leaf, end) = Self::match_before(bytes, start, state, entry, at - 1);
                 if leaf >= Self::LEAVES {
-                    return Some(Err(Self::error_to(lex, end.max(start + 1))));
+                    return Break(Some(Err(Self::error_to(lex, end))));
                 }
                 (leaf, end)
             };
-            lex.end(end);
-            if let Some(token) = Self::plain(leaf) {
-                return Some(Ok(token));
-            }
-            match Self::act(lex, leaf) {
-                CallbackResult::Emit(token) => return Some(Ok(token)),
-                CallbackResult::Skip => {
-                    lex.trivia();
-                    start = lex.offset();
-                }
-                CallbackResult::Error(error) => return Some(Err(error)),
-                CallbackResult::DefaultError => return Some(Err(Self::error(lex))),
-            }
+            lex.set_end(end);
+            return match Self::plain(leaf) {
+                Some(token) => Break(Some(Ok(token))),
+                None => Continue(leaf),
+            };
         }
-    }
-
-    /// Makes the error that ends at the first boundary at or after a position.
-    #[inline(always)]
-    fn error_to(lex: &mut Lexer<'source, Self>, end: usize) -> Self::Error {
-        lex.end_to_boundary(end);
-        Self::error(lex)
     }
 }
 

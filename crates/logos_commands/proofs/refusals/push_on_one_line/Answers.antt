@@ -17,12 +17,12 @@ more cs n c text whole h is =
 
 pub loop-character-preserved : goal.loop-character-preserved
 loop-character-preserved c =
-    let t = YieldsList-turn (YieldsList-from_chars c.args.message.now c.utf8.value cc) c.loop-character.yielded _ c.loop-character.yielded_by _ _ c.in-Some.character c.in-Some.is c.next.ensures.steps in
+    let t = YieldsList-turn (YieldsList-from_chars c.args.message.now c.utf8.message cc) c.loop-character.yielded _ c.loop-character.yielded_by _ _ c.in-Some.character c.in-Some.is c.next.ensures.steps in
     rw (c.in_ok-push_character.ensures, length_push c.loop-character.yielded c.in-Some.character)
     (more (chars c.args.message.now) (length c.loop-character.yielded) c.in-Some.character (string_bytes c.loop-character.text) _ t c.loop-character.invariant)
 
 pub returns : goal.returns
 returns c =
-    let t = YieldsList-end (YieldsList-from_chars c.args.message.now c.utf8.value cc) c.loop-character.yielded _ c.loop-character.yielded_by _ _ c.in-None.is c.next.ensures.steps in
+    let t = YieldsList-end (YieldsList-from_chars c.args.message.now c.utf8.message cc) c.loop-character.yielded _ c.loop-character.yielded_by _ _ c.in-None.is c.next.ensures.steps in
     let none = at_drop_all (flat_map line_character) (chars c.args.message.now) (length c.loop-character.yielded) (omega (arith, t.1)) in
     sym (ap (λ ls. string_bytes c.loop-character.text ++ ls) none ∙ append-nil (string_bytes c.loop-character.text)) ∙ c.loop-character.invariant
