@@ -59,10 +59,11 @@ pub fn expand<'w>(
     ensures done { IfOk result (λ made. IsExpanded shape source.now.text made.bytes.items) }
     ensures denied { IfErr result (FailsFor showing.format showing.denies shape source.now) }
 {
-    match read_file(showing.alloc, source.text()) {
-        Ok(file) => expand_enums(source, shape, showing, &file),
-        Err(refusal) => Err(refused_whole(source, showing, refusal)),
-    }
+    let file = match read_file(showing.alloc, source.text()) {
+        Ok(file) => file,
+        Err(refusal) => return Err(refused_whole(source, showing, refusal)),
+    };
+    expand_enums(source, shape, showing, &file)
 }
 
 /// Returns the refusal of a file that cannot be read into tokens.

@@ -53,7 +53,8 @@ pub(crate) fn printed_with(
     site: Site<'_, '_>,
     made: &Generated<'_>,
 ) -> Result<String, Memory>
-    ensures { IfOk result (λ text. IsPrintedWith site.entry.shape made.now.code
+    ensures { IfOk result (λ text.
+        IsPrintedWith site.entry.shape (around_made made.now) made.now.code
         (tokens_of left.entry) (string_bytes text)) }
 {
     let lexer = lexer_text(alloc, site.shape, made)?;
