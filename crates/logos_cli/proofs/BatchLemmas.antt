@@ -1,8 +1,8 @@
 -- Files that are expanded one after another.
-use Rattle.std.proofs.Common.{◌≡◌, ◌≢◌, ◌⊎◌, ◌≤◌, ◌<◌, ◌+◌, All, Contains, drop, drop-cons, get_or, length, map, ℕ, zero, suc, List, [], ◌∷◌, ◌++◌, Option, Some, None, Bool, true, false, IsTrue, IfSome, inl, inr, refl, sym, subst, ap, ◌∙◌, arith, append-nil, append_assoc, length-append, true≢false}
+use Rattle.std.proofs.Common.{◌≡◌, ◌≢◌, ◌⊎◌, ◌≤◌, ◌<◌, ◌+◌, All, Contains, drop, drop-cons, get_or, length, map, ℕ, zero, suc, List, [], ◌∷◌, ◌++◌, Option, Some, None, Bool, true, false, IsTrue, inl, inr, refl, sym, subst, ap, ◌∙◌, arith, append-nil, append_assoc, length-append, true≢false}
 use Rattle.std.proofs.lemmas.List.{drop_all, get_or-map}
 use Rattle.std.proofs.lemmas.List.Elements.{All-cons, All-map, All-nil, All-same, All-weaker}
-use Rattle.std.proofs.KnownBytes.{Appends-trans, Keeps-refl, Keeps-trans}
+use Rattle.std.proofs.KnownBytes.{Appends-trans, Keeps-trans}
 use Rattle.std.specs.Io.KnownBytes.{Appends, Keeps}
 use Rattle.logos_host.specs.declared.comparison.Occurrence.{Occurrence}
 use Rattle.logos_text.specs.Occurrence.{OccurInOrder}

@@ -1,5 +1,5 @@
 -- Why a run fails, and what is said of that.
-use Rattle.std.proofs.Common.{◌≡◌, ◌≢◌, ◌⊎◌, ◌≤◌, ℕ, List, [], ◌++◌, Option, Bool, Result, Ok, Err, IfErr, IfSome, IsTrue, inl, inr, refl, subst, arith, string_bytes}
+use Rattle.std.proofs.Common.{◌≡◌, ◌≢◌, ◌⊎◌, ◌≤◌, ℕ, List, [], ◌++◌, Option, Some, None, Bool, Result, Ok, Err, IfErr, IfSome, IsTrue, inl, inr, refl, subst, arith, string_bytes}
 use Rattle.std.proofs.KnownBytes.{Appends-trans}
 use Rattle.std.specs.Io.KnownBytes.{Appends}
 use Rattle.logos_host.specs.declared.comparison.Occurrence.{Occurrence}
@@ -81,6 +81,11 @@ written_after Shown failure is_warned is_written old middle new (inl e) s w t = 
 written_after Shown failure is_warned is_written old middle new (inr r) s w t =
     let m = message_shown Shown failure r.1 in
     (m.0, m.1, λ b. let a = t b in let front = w a.0 in (front.0, Appends-trans old middle new front.0 m.0 front.1 (subst (λ x. Appends middle new x) (m.2 a.1.0) a.1.1)))
+
+-- a refusal whose text shows something, and what is known of that text
+pub shown_only : {A : Type 0} (Shown Known : A → List ℕ → Type 0) (found : Option A) → IfSome found (λ one. (shown : List ℕ) × Shown one shown × Known one shown) → IfSome found (λ one. (shown : List ℕ) × Shown one shown)
+shown_only Shown Known None h = tt
+shown_only Shown Known (Some one) h = (h.0, h.1)
 
 module _ {F : Type 0} (yields makes : F → List ℕ → List ℕ → F → Type 0) (finds : F → List ℕ → List ℕ → Occurrence → F → Type 0) (order : OrderValue) where
   -- the file that was read has faults

@@ -1,5 +1,5 @@
 -- The request of `logos_cli`, read from its arguments.
-use Rattle.std.specs.Prelude.{ℕ, ◌&&◌, ◌==◌, ◌-◌, ◌++◌, List, Bool, true, false, Option, Some, None, if◌then◌else◌, option_map, bytes_eq, codes, is_some, length, map, not, slice_index, string_bytes}
+use Rattle.std.specs.Prelude.{ℕ, ◌&&◌, ◌==◌, ◌-◌, ◌++◌, List, Bool, Option, Some, None, if◌then◌else◌, option_map, bytes_eq, codes, length, map, not, slice_index, string_bytes}
 use Rattle.logos_code.specs.Shapes.{shape_named as code_named}
 use Rattle.logos_host.specs.Paths.{file_name}
 use Rattle.logos_host.specs.declared.color.Color.{Color}
