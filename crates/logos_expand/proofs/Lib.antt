@@ -1,3 +1,2 @@
 pub mod GatherLemmas
-pub mod PartLemmas
 pub mod ShownLemmas
