@@ -1,5 +1,5 @@
 -- What the enums of a file give, one after another.
-use Rattle.std.proofs.Common.{◌≡◌, ◌==◌, ◌≤◌, ◌<◌, ◌+◌, ℕ, suc, Bool, List, [], ◌∷◌, ◌++◌, append_assoc, true, false, IfOk, OnOk, Option, Result, Ok, Err, map, length, get_or, drop, string_bytes, refl, sym, ap, ◌∙◌, arith, eqb-true, subst}
+use Rattle.std.proofs.Common.{◌≡◌, ◌==◌, ◌≤◌, ◌<◌, ◌+◌, ℕ, suc, Bool, List, [], ◌∷◌, ◌++◌, append_assoc, true, false, IfOk, OnOk, Option, Result, Ok, Err, map, min, length, get_or, drop, string_bytes, refl, sym, ap, ◌∙◌, arith, eqb-true, subst}
 use Rattle.std.proofs.lemmas.List.{append-nil}
 use Rattle.std.proofs.Math.Seq.{drop-cons}
 use Rattle.std.proofs.Math.ListN.{drop_of_length-le}
@@ -21,7 +21,7 @@ use Rattle.logos_expand.specs.Expanding.Replaces.{ended as r_ended, stays as r_s
 use Rattle.logos_expand.specs.Heads.{headed}
 use Rattle.logos_layout.specs.Inner.{IsWithoutInner}
 use Rattle.logos_expand.specs.inside.Steps.{AddsRefusal, AreFaultsOf, GathersOne, IsExpansionBy}
-use Rattle.logos_expand.specs.Gathering.{AreRefused, Gathers, GathersAll}
+use Rattle.logos_expand.specs.Gathering.{AreRefused, Gathers, GathersAll, errors_in, errors_of}
 use Rattle.logos_expand.specs.Gathering.AreRefused.{whole, lexers}
 use Rattle.logos_expand.specs.Gathering.Gathers.{ended as g_ended, stays as g_stays, yields as g_gives, refuses as g_refuses}
 use Rattle.logos_rust_file.specs.declared.finder.FoundEnum.{FoundEnum}
@@ -238,3 +238,23 @@ wraps (Err error) f h = tt
 pub some_left : {A : Type 0} {n : ℕ} (items : List A) → n ≡ length items → (n == 0) ≡ false → 0 < length items
 some_left {n = n} [] e h = absurd (let z : (n == 0) ≡ true = rw e refl in cc)
 some_left (item ∷ items) e h = omega arith
+
+-- ---- the number of errors
+
+errors_left : (parts : List Refused) (i : ℕ) (d : Refused) → i < length parts → errors_in (drop i parts) ≡ errors_of (get_or parts i d) + errors_in (drop (i + 1) parts)
+errors_left parts i d l =
+    let k : suc i ≡ i + 1 = omega arith in
+    ap errors_in (drop-cons parts i d l ∙ ap (λ n. get_or parts i d ∷ drop n parts) k)
+
+-- with one part more, the errors of those that are left complete all
+pub one_more : (parts : List Refused) (i : ℕ) (d : Refused) (count new errors most : ℕ) → i < length parts → errors ≡ errors_of (get_or parts i d) → new ≡ min (count + errors) most →
+    min (count + errors_in (drop i parts)) most ≡ min (errors_in parts) most → min (new + errors_in (drop (i + 1) parts)) most ≡ min (errors_in parts) most
+one_more parts i d count new errors most l e n h =
+    let left = errors_left parts i d l in
+    omega (arith, left, e, n, h)
+
+-- none is left
+pub all_counted : (parts : List Refused) (i count most : ℕ) → length parts ≤ i → count ≤ most → min (count + errors_in (drop i parts)) most ≡ min (errors_in parts) most → count ≡ min (errors_in parts) most
+all_counted parts i count most l few h =
+    let left : errors_in (drop i parts) ≡ 0 = ap errors_in (drop_of_length-le parts l) in
+    omega (arith, left, few, h)

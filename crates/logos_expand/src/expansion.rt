@@ -1,7 +1,7 @@
 //! Expands the derive of the lexers in a file. Called by `logos_cli`.
 
-ghost use Rattle.std.specs.Prelude.{◌≡◌, ◌≤◌, ◌++◌, All, IfErr, IfOk, IfSome, IsTrue, OnOk, length, map, string_bytes};
-ghost use Rattle.logos_expand.specs.Views.{IsRefused, AreInOrder, IsFoundCut, found_span, part_span, AreEnumsOf, OccurInOrder, Refuses, IsExpanded, IsExpansion, IsUnreadable, AreRefused, EndsWithLines, FailsFor, GathersAll, ShowsRefused, refused_texts, AddsRefusal, GathersOne, HasSets, IsExpansionBy, around_made, sizes_of, Spells, SpellsEnum, tokens_of};
+ghost use Rattle.std.specs.Prelude.{◌≡◌, ◌<◌, ◌≤◌, ◌++◌, ◌^◌, ◌-◌, All, IfErr, IfOk, IfSome, IsTrue, OnOk, length, map, min, string_bytes};
+ghost use Rattle.logos_expand.specs.Views.{IsRefused, AreInOrder, IsFoundCut, found_span, part_span, AreEnumsOf, OccurInOrder, Refuses, IsExpanded, IsExpansion, IsUnreadable, AreRefused, AreReportLines, FailsFor, GathersAll, ShowsRefused, errors_in, report_texts, AddsRefusal, GathersOne, HasSets, IsExpansionBy, around_made, sizes_of, Spells, SpellsEnum, tokens_of};
 ghost use Rattle.logos_expand.specs.Views.{IsFileOf, IsPlainly, IsWithoutInner};
 
 use crate::head::with_head;
@@ -140,7 +140,8 @@ fn accepted_file<'w>(
 
 /// Returns the refusal of a file for its warnings, which are denied.
 fn denied_file<'w>(source: &Source<'_>, showing: Showing, warned: &[Warning]) -> Failure<'w>
-    requires { IsTrue showing.denies }
+    requires denies { IsTrue showing.denies }
+    requires some { 0 < length warned.now }
     ensures { (shape : Shape) → FailsFor showing.format showing.denies shape source.now result }
 {
     match denial_text(source, showing, warned) {
@@ -149,7 +150,7 @@ fn denied_file<'w>(source: &Source<'_>, showing: Showing, warned: &[Warning]) ->
     }
 }
 
-/// Returns a file that has these tokens with parts replaced. If there are any, its first line states
+/// Returns a file that has these tokens with parts replaced. If there are any, its first line says
 /// that it is generated, and its own documentation and attributes are plain comments.
 fn expanded_file(
     alloc: Global,
@@ -395,7 +396,7 @@ fn fault_lines(
     refused: &[Refused],
     warned: &[Warning],
 ) -> Result<Vec<u8>, Memory>
-    ensures { IfOk result (λ lines. EndsWithLines source.now refused.now lines.items) }
+    ensures { IfOk result (λ lines. AreReportLines source.now refused.now lines.items) }
 {
     let mut lines = warning_lines(alloc, source, warned)?;
     push_refused_messages(alloc, &mut lines, source, refused)?;
@@ -412,7 +413,7 @@ fn refusal_text(
     warned: &[Warning],
 ) -> Result<String, AllocError>
     ensures { IfOk result (λ text. OccurInOrder
-        (refused_texts showing.is_colored source.now refused.now) (string_bytes text)) }
+        (report_texts showing.is_colored source.now refused.now) (string_bytes text)) }
 {
     let mut page = Page::new(showing.alloc, showing.is_colored);
     push_warned(&mut page, source, warned);
@@ -421,8 +422,10 @@ fn refusal_text(
     page.finish()
 }
 
-/// Returns how many of these faults are errors.
-fn count_refused(refused: &[Refused]) -> usize {
+/// Returns how many of these faults are errors, saturating at the greatest number.
+fn count_refused(refused: &[Refused]) -> usize
+    ensures { result ≡ min (errors_in refused.now) (2 ^ 64 - 1) }
+{
     let mut count: usize = 0;
     for one in refused {
         count = count.saturating_add(count_errors(&one.errors, &one.clues));

@@ -28,7 +28,7 @@ after_inner (also (doc text span) rest) = if is_inner text then Some rest else N
 after_inner (also (punctuation character spacing span) rest) = if character == 35 then after_mark rest else None
 after_inner run = None
 
--- The second run is what follows in the first one after inner documentation comments and attributes
+-- The second run is the rest of the first one after inner documentation comments and attributes
 -- that come first in it.
 pub data FollowsInner (run : TokenList) : TokenList → Type 0 where
   begun : FollowsInner run run
@@ -41,8 +41,8 @@ pub record IsInnerText (text : List ℕ) : Type 0 where
   pub are : FollowsInner tokens none
 
 -- The second text is the first one, except that a prefix that spells only inner documentation
--- comments and attributes is replaced by one that spells nothing. It spells what follows them in
--- the first text: its tokens print as those do.
+-- comments and attributes is replaced by one that spells nothing. Its tokens print as those do that
+-- come after them in the first text.
 pub record IsPlainly (text made : List ℕ) : Type 0 where
   pub front : List ℕ
   pub plain : List ℕ

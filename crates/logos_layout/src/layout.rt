@@ -33,9 +33,9 @@ pub struct Setting<'n> {
 /// after the braces of blocks, after commas between braces, after attributes and comments, and
 /// where the text has a line end. Short braces stay on one line.
 ///
-/// The last token is braces, and ends the lines. A text of which this cannot be said, because it
-/// cannot be read into tokens, is longer than 16,777,216 bytes in lines, or ends otherwise, is
-/// returned unchanged, with LF after it.
+/// The lines end with the last token, a group in braces. A text that ends otherwise, that cannot be
+/// read into tokens, or that is longer than 16,777,216 bytes in lines, is returned unchanged, with
+/// LF after it.
 ///
 /// # Errors
 ///
