@@ -20,7 +20,7 @@ use Rattle.logos_show.specs.Parts.{IsPartAt}
 use Rattle.logos_show.specs.Runs.{Answers, ComparesFiles, ComparesTo, Expects, IsLexerIn, PrintsInputsAs, PrintsMatchesAs, ShowsInputsOf, ShowsMatchesOf, is_json, name_in, shape}
 use Rattle.logos_show.specs.Verdicts.{PrintsVerdict}
 use Rattle.logos_show.specs.declared.replies.Agreement.{Agreement}
-use Rattle.logos_show.specs.questions.Orders.{OrderValue}
+use Rattle.logos_questions.specs.Orders.{OrderValue}
 
 -- the elements of a slice of bytes are bytes
 pub are_bytes : (bytes : List ℕ) → ((i : ℕ) → Fits w8 (get_or bytes i 0)) → IsBytes bytes

@@ -1,4 +1,3 @@
-pub mod questions
 pub mod Answers
 pub mod Choices
 pub mod Orders

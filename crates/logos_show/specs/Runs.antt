@@ -20,7 +20,7 @@ use Rattle.logos_show.specs.Parts.{IsPartAt}
 use Rattle.logos_show.specs.Verdicts.{PrintsVerdict}
 use Rattle.logos_show.specs.declared.replies.Agreement.{Agreement}
 use Rattle.logos_show.specs.declared.replies.Agreement.TheVariants.{Same}
-use Rattle.logos_show.specs.questions.Orders.{OrderValue, QuestionValue, Requested, comparison, examples, inputs, items, leaves, matches, requests_help, requests_showing, requests_version}
+use Rattle.logos_questions.specs.Orders.{OrderValue, QuestionValue, Requested, comparison, examples, inputs, items, leaves, matches, requests_help, requests_showing, requests_version}
 
 -- The shape of the code of the lexers.
 abbrev pub shape : Config

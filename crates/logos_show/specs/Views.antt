@@ -7,4 +7,4 @@ pub use Rattle.logos_show.specs.Answers.{PrintsAgreement, PrintsInputRecords, Pr
 pub use Rattle.logos_show.specs.Choices.{IsLexerOf, IsNextChoice, IsTaken, chosen_first, first_near, name_requested, taken}
 pub use Rattle.logos_show.specs.Runs.{Answers, AnswersAbout, AnswersOrExpects, ComparesFiles, ComparesTo, Expects, IsFulfilled, IsLexerIn, PrintsInputsAs, PrintsMatchesAs, ShowsInputsOf, ShowsMatchesOf, expected_in, is_json, name_in}
 pub use Rattle.logos_show.specs.Verdicts.{IsVerdictRecord, IsVerdictText, PrintsVerdict, PutsVerdict, ShowsVerdict, ShowsVerdictText, agreement_of, difference_object}
-pub use Rattle.logos_show.specs.questions.Orders.{order_value, question_value, request_value}
+pub use Rattle.logos_questions.specs.Orders.{order_value, question_value, request_value}

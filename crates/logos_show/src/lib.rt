@@ -10,7 +10,6 @@ mod lexers;
 mod matches;
 mod pages;
 mod program;
-mod questions;
 mod refusals;
 mod replies;
 mod stream;

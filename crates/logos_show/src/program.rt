@@ -9,7 +9,6 @@ use crate::inputs::yield_inputs;
 use crate::items::lex;
 use crate::matches::{FilePoint, show_matches};
 use crate::pages::{Form, PageStyle, Shown, shown_of};
-use crate::questions::{Question, RequestKind, ShowOrder, ShowRequest, request_of};
 use crate::refusals::write_note;
 use crate::replies::{Agreement, write_agreement};
 use crate::stream::lex_stream;
@@ -19,6 +18,7 @@ use logos_options::{
     HelpText, OptionName, Program, STANDARD_INPUT, path_by_word, print_help, print_version,
     with_nearest,
 };
+use logos_questions::{Question, RequestKind, ShowOrder, ShowRequest, request_of};
 use logos_report::Source;
 use std::alloc::Global;
 use std::io::{Input as StandardInput, IsTerminal, Write};

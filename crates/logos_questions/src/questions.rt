@@ -1,7 +1,7 @@
 //! The request of `logos_show`, read from its arguments.
 
 ghost use Rattle.std.specs.Prelude.{◌≡◌, IfErr, IfOk, Some, map, option_map, string_bytes};
-ghost use Rattle.logos_show.specs.questions.Imports.{arguments_value, requested, inputs_given, kind_value, matches_given, number_named, option_value, order_given, location_named, question_given, question_named, question_value, request_given, request_value, status_of};
+ghost use Rattle.logos_questions.specs.Imports.{arguments_value, requested, inputs_given, kind_value, matches_given, number_named, option_value, order_given, location_named, question_given, question_named, question_value, request_given, request_value, status_of};
 
 use logos_answers::{location_by_word, number_by_text};
 use logos_host::Failure;

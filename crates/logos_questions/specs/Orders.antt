@@ -9,12 +9,12 @@ use Rattle.logos_options.specs.declared.message_style.MessageStyle.{MessageStyle
 use Rattle.logos_options.specs.declared.options.OptionName.{OptionName}
 use Rattle.logos_options.specs.declared.options.OptionName.TheVariants as options
 use Rattle.logos_options.specs.declared.program.Program.TheVariants as programs
-use Rattle.logos_show.specs.declared.questions.ShowOrder.{ShowOrder}
-use Rattle.logos_show.specs.declared.questions.Question.{Question}
-use Rattle.logos_show.specs.declared.questions.Question.TheVariants as questions
-use Rattle.logos_show.specs.declared.questions.RequestKind.{RequestKind}
-use Rattle.logos_show.specs.declared.questions.RequestKind.TheVariants.{Help, Version, Show}
-use Rattle.logos_show.specs.declared.questions.ShowRequest.{ShowRequest}
+use Rattle.logos_questions.specs.declared.questions.ShowOrder.{ShowOrder}
+use Rattle.logos_questions.specs.declared.questions.Question.{Question}
+use Rattle.logos_questions.specs.declared.questions.Question.TheVariants as questions
+use Rattle.logos_questions.specs.declared.questions.RequestKind.{RequestKind}
+use Rattle.logos_questions.specs.declared.questions.RequestKind.TheVariants.{Help, Version, Show}
+use Rattle.logos_questions.specs.declared.questions.ShowRequest.{ShowRequest}
 
 -- A question about the lexers of a file: their leaves; the items of an input, given by its path;
 -- the matches from a location of an input; examples for each leaf; at most a number of inputs that
