@@ -4,9 +4,9 @@
   pages.py
 
 A line of prose has at most 100 columns; rows of tables, blocks of code and lines of one long word
-are left out. `LINES` and `WORDS` say how long a page may be, and `ALL_WORDS` how long all are
-together but the page that is made and those of wrong bodies: a word is what stands between blanks
-and has a letter or a digit, in blocks of code too. Each path of a crate in backticks has to be there,
+are left out. `LINES` and `WORDS` are the limits of single pages, and `ALL_WORDS` is that of all
+pages together, except the page that is made and those of wrong bodies. A word is a run of
+characters without blanks that has a letter or a digit, also in blocks of code. Each path of a crate in backticks has to be there,
 each page and heading to which a link leads, and each function of the walk in `docs/MAP.md` in its
 file, once on that page. Each page counts as one, and so does each path, link and function. The last
 line is `pages: N passed, M failed`."""
