@@ -11,11 +11,11 @@ use std::alloc::{AllocError, Global};
 const DRAWN: usize = 60;
 
 /// The maximum number of ranges of an edge that are shown beside it.
-const RANGES: usize = 3;
+const RANGES: usize = 2;
 
 /// The distance between columns, and the one between rows.
 const WIDE: usize = 170;
-const HIGH: usize = 90;
+const HIGH: usize = 100;
 
 /// The margin around the drawing.
 const MARGIN: usize = 70;
@@ -23,14 +23,27 @@ const MARGIN: usize = 70;
 /// The radius of a state.
 const RADIUS: usize = 20;
 
-/// The distance of the middle of an arc that goes back from the states that it connects.
+/// The distance of the middle of an arc from the states that it connects.
 const DEEP: usize = 60;
+
+/// The distance of a label from the state to which its edge leads to the right.
+const BEFORE: usize = 66;
 
 /// A point of a drawing.
 #[derive(Clone, Copy)]
 struct Dot {
     x: usize,
     y: usize,
+}
+
+/// The form of an edge: to the right, from a state to itself, to another state of its column, or to
+/// the left.
+#[derive(Clone, Copy)]
+enum Bend {
+    Forward,
+    Loop,
+    Aside,
+    Back,
 }
 
 /// Appends the section with the drawing of a graph, or why there is none.
@@ -144,15 +157,28 @@ fn push_edges(html: &mut Html, layers: &Layers, number: usize, state: &StateData
     }
 }
 
+/// Returns the form of an edge between two points.
+fn bend_of(from: Dot, to: Dot) -> Bend {
+    if from.x < to.x {
+        return Bend::Forward;
+    }
+    if to.x < from.x {
+        return Bend::Back;
+    }
+    if from.y == to.y {
+        return Bend::Loop;
+    }
+    Bend::Aside
+}
+
 /// Appends the line of an edge.
 fn push_line(html: &mut Html, from: Dot, to: Dot, head: &'static str) {
     html.push_markup(head);
-    if from.x < to.x {
-        push_forward(html, from, to);
-    } else if (from.x == to.x) & (from.y == to.y) {
-        push_loop(html, from);
-    } else {
-        push_back(html, from, to);
+    match bend_of(from, to) {
+        Bend::Forward => push_forward(html, from, to),
+        Bend::Loop => push_loop(html, from),
+        Bend::Aside => push_aside(html, from, to),
+        Bend::Back => push_back(html, from, to),
     }
     html.push_markup("\" marker-end=\"url(#head)\"/>\n");
 }
@@ -175,7 +201,15 @@ fn push_loop(html: &mut Html, at: Dot) {
     push_point(html, " ", at.x.saturating_add(10), top);
 }
 
-/// Appends the curve of an edge to the left, or to another state of the same column.
+/// Appends the curve of an edge to another state of the same column.
+fn push_aside(html: &mut Html, from: Dot, to: Dot) {
+    push_point(html, "M", from.x.saturating_add(RADIUS), from.y);
+    push_point(html, " C", from.x.saturating_add(DEEP), from.y);
+    push_point(html, " ", to.x.saturating_add(DEEP), to.y);
+    push_point(html, " ", to.x.saturating_add(RADIUS + 2), to.y);
+}
+
+/// Appends the curve of an edge to the left.
 fn push_back(html: &mut Html, from: Dot, to: Dot) {
     let deep = from.y.max(to.y).saturating_add(DEEP);
     push_point(html, "M", from.x, from.y.saturating_add(RADIUS));
@@ -194,21 +228,23 @@ fn push_point(html: &mut Html, head: &'static str, x: usize, y: usize) {
 
 /// Returns the point of the label of an edge.
 fn label_between(from: Dot, to: Dot) -> Dot {
-    if from.x < to.x {
-        return Dot {
-            x: middle(from.x, to.x),
-            y: middle(from.y, to.y).saturating_sub(4),
-        };
-    }
-    if (from.x == to.x) & (from.y == to.y) {
-        return Dot {
+    match bend_of(from, to) {
+        Bend::Forward => Dot {
+            x: to.x.saturating_sub(BEFORE),
+            y: to.y.saturating_sub(5),
+        },
+        Bend::Loop => Dot {
             x: from.x,
             y: from.y.saturating_sub(RADIUS + 26),
-        };
-    }
-    Dot {
-        x: middle(from.x, to.x),
-        y: from.y.max(to.y).saturating_add(DEEP - 8),
+        },
+        Bend::Aside => Dot {
+            x: from.x.saturating_add(DEEP),
+            y: middle(from.y, to.y),
+        },
+        Bend::Back => Dot {
+            x: middle(from.x, to.x),
+            y: from.y.max(to.y).saturating_add(DEEP - 16),
+        },
     }
 }
 

@@ -23,7 +23,7 @@ entered. Sets of bytes are written as in a pattern.</p>
     push_cut(html, states.len());
     html.push_markup(
         "<div class=\"box\" role=\"region\" aria-label=\"Table of states\" tabindex=\"0\">
-<table>
+<table class=\"s\">
 <thead>
 <tr><th scope=\"col\">State</th><th scope=\"col\">Mark</th><th scope=\"col\">Edges</th></tr>
 </thead>

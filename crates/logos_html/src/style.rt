@@ -26,6 +26,7 @@ body {
 }
 h1, h2 { line-height: 1.2; }
 h2 { margin-top: 2rem; }
+h1 code { font-size: 1em; }
 a { color: var(--link); }
 nav ul { display: flex; flex-wrap: wrap; gap: .25rem 1.25rem; margin: 0; padding: 0; list-style: none; }
 code, pre { font: .9rem/1.6 ui-monospace, monospace; }
@@ -38,9 +39,11 @@ th, td {
   vertical-align: top;
 }
 td { max-width: 30rem; }
+table:not(.s) td:nth-child(4) { min-width: 14rem; }
 td code { overflow-wrap: anywhere; }
 thead th { background: var(--c7); white-space: nowrap; }
-td ul { margin: 0; padding: 0; list-style: none; }
+td ul { display: flex; flex-wrap: wrap; gap: 0 1.5rem; margin: 0; padding: 0; list-style: none; }
+.s td:last-child { width: 100%; max-width: none; }
 .n { text-align: right; white-space: nowrap; }
 .o { color: var(--faint); font-size: .85rem; }
 pre { margin: 0; padding: .75rem; white-space: pre-wrap; overflow-wrap: anywhere; }
@@ -54,7 +57,7 @@ th .k { padding: .05rem .4rem; }
   background: var(--bad); color: var(--bad-ink); font-weight: bold;
   text-decoration: underline wavy; text-underline-offset: .2rem;
 }
-.e::before { content: \"\\26A0\"; margin-right: .1rem; text-decoration: none; display: inline-block; }
+.e::before { content: \"\\26A0\"; margin-right: .1rem; }
 pre .k:hover, pre .e:hover { outline: 2px solid var(--faint); }
 :focus-visible, :target { outline: 3px solid var(--link); outline-offset: 1px; }
 [aria-label]:is(.k, .e):is(:hover, :focus)::after {
