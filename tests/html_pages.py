@@ -345,19 +345,22 @@ def write(path, data):
     return path
 
 
-def look_at(source, text, data, room):
+def look_at(source, text, data, room, is_first):
+    """Looks at the page of a lexer and a text, and at its tables if it is its first page."""
     name = f"{os.path.basename(source)} with {os.path.basename(text)}" if text else os.path.basename(source)
     page, raw = page_of(source, text, f"{room}/page.html")
     look_at_form(page, raw, name)
     if text:
         look_at_items(page, data, source, text, name)
+    if not is_first:
+        return
     states = look_at_tables(page, source, name)
     if len(states) < LISTED and re.match(r"#\[", open(source, encoding="utf-8").read()) and "Other" not in open(source, encoding="utf-8").read():
         look_at_diagram(states, source, name)
 
 
 def look_at_markup(room):
-    """Compares the elements of pages of texts and sources with markup with those of harmless ones."""
+    """Compares the elements of pages of texts with markup with those of harmless ones."""
     lines = write(f"{room}/lines.rs", LINES)
     harmless = "".join(c if c in "\n" else "a" for c in NASTY)
     one, _ = page_of(lines, write(f"{room}/i", NASTY), f"{room}/page.html")
@@ -419,12 +422,12 @@ def main():
         for source in sorted(glob.glob(f"{ROOT}/examples/lexers/*.rs")):
             text = source.removesuffix(".rs") + ".input"
             with open(text, "rb") as it:
-                look_at(source, text, it.read(), room)
+                look_at(source, text, it.read(), room, True)
         for name, (source, texts) in TEXTS.items():
             at = write(f"{room}/{name}.rs", source)
-            look_at(at, None, None, room)
+            look_at(at, None, None, room, True)
             for number, data in enumerate(texts):
-                look_at(at, write(f"{room}/{number}", data), data, room)
+                look_at(at, write(f"{room}/{number}", data), data, room, False)
         look_at_markup(room)
         look_at_files(room)
         look_by_browser(room)

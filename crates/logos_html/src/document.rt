@@ -92,7 +92,9 @@ fn push_head(html: &mut Html, page: LexerPage<'_, '_>, has_input: bool) {
 
 /// Appends the links to the sections.
 fn push_navigation(html: &mut Html, has_input: bool) {
-    html.push_markup("<nav aria-label=\"Sections\">\n<ul>\n<li><a href=\"#leaves\">Leaves</a></li>\n");
+    html.push_markup(
+        "<nav aria-label=\"Sections\">\n<ul>\n<li><a href=\"#leaves\">Leaves</a></li>\n",
+    );
     if has_input {
         html.push_markup("<li><a href=\"#text\">Text</a></li>\n");
     }
@@ -156,7 +158,7 @@ fn push_input_head(html: &mut Html, input: PageInput<'_>, end: usize) {
     html.push_text(input.path);
     html.push_markup(
         "</code> in the colors of the leaves. Bytes that no leaf matches are red, underlined and
-marked by a sign. An item shows its leaf, its place and its priority while it has the focus or the
+marked by a sign. An item shows its leaf, its priority and its span while it has the focus or the
 pointer. Skipped bytes have no color. <a class=\"skip\" href=\"#states\">Skip the text</a></p>
 ",
     );
@@ -183,15 +185,14 @@ fn push_rest(alloc: Global, html: &mut Html, graph: &Graph<'_>) -> Result<(), Al
     let states = states_of(alloc, graph)?;
     push_states(html, graph, &states);
     push_drawing(alloc, html, graph, &states)?;
-    html.push_markup("</main>\n<footer>Made by <code>logos_show --html</code>.</footer>\n</body>\n</html>\n");
+    html.push_markup(
+        "</main>\n<footer>Made by <code>logos_show --html</code>.</footer>\n</body>\n</html>\n",
+    );
     Ok(())
 }
 
 /// Returns the states of a graph.
-fn states_of<'g>(
-    alloc: Global,
-    graph: &'g Graph<'_>,
-) -> Result<Vec<&'g StateData>, AllocError> {
+fn states_of<'g>(alloc: Global, graph: &'g Graph<'_>) -> Result<Vec<&'g StateData>, AllocError> {
     let mut states = Vec::new(alloc);
     for state in graph.iter_states() {
         states.push(graph.get_state(state))?;

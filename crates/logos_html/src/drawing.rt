@@ -2,7 +2,7 @@
 
 use crate::classes::push_class;
 use crate::html::Html;
-use crate::layers::{Layers, Place, layers_of};
+use crate::layers::{Layers, Cell, layers_of};
 use logos_answers::name_at;
 use logos_graph::graph::{Graph, StateData, StateType};
 use std::alloc::{AllocError, Global};
@@ -15,6 +15,7 @@ const RANGES: usize = 2;
 
 /// The distance between columns, and the one between rows.
 const WIDE: usize = 170;
+
 const HIGH: usize = 100;
 
 /// The margin around the drawing.
@@ -107,7 +108,7 @@ table of states has the same edges as text.</p>
 
 /// Appends the beginning of the drawing, with its size, its name and the heads of its arrows.
 fn push_frame(html: &mut Html, layers: &Layers, count: usize) {
-    let end = dot_at(Place {
+    let end = dot_at(Cell {
         column: layers.columns.saturating_sub(1),
         row: layers.rows.saturating_sub(1),
     });
@@ -125,18 +126,18 @@ markerHeight=\"8\" orient=\"auto\"><path d=\"M0 0L8 4L0 8z\"/></marker></defs>
     );
 }
 
-/// Returns the point of a place.
-fn dot_at(place: Place) -> Dot {
+/// Returns the point of a cell.
+fn dot_at(cell: Cell) -> Dot {
     Dot {
-        x: MARGIN.saturating_add(WIDE.saturating_mul(place.column)),
-        y: MARGIN.saturating_add(HIGH.saturating_mul(place.row)),
+        x: MARGIN.saturating_add(WIDE.saturating_mul(cell.column)),
+        y: MARGIN.saturating_add(HIGH.saturating_mul(cell.row)),
     }
 }
 
 /// Returns the point of a state.
 fn dot_of(layers: &Layers, state: usize) -> Dot {
-    match layers.places.get(state) {
-        Some(place) => dot_at(*place),
+    match layers.cells.get(state) {
+        Some(cell) => dot_at(*cell),
         None => Dot { x: 0, y: 0 },
     }
 }

@@ -1,7 +1,7 @@
 //! The first items of an input. Used by `document`.
 
 ghost use Rattle.std.specs.Prelude.{◌≡◌, IfErr, IfOk, IsTrue, IsUtf8, map};
-ghost use Rattle.logos_html.specs.Views.{Begins, IsNoMisuse, TakesMatches, answers_of, emits, item_of};
+ghost use Rattle.logos_html.specs.Views.{Begins, IsNoMisuse, TakesMatches, answers_of, emits, end_of, item_of, start_of};
 
 use logos_code::action::Action;
 use logos_code::code::Code;
@@ -64,7 +64,10 @@ fn next_items<'i, C: Fn(LeafId, &[u8]) -> Action>(
 }
 
 /// Returns the span of an item.
-pub(crate) fn span_of(item: Item<'_>) -> Span {
+pub(crate) fn span_of(item: Item<'_>) -> Span
+    ensures from { result.from ≡ start_of (item_of item.entry) }
+    ensures to { result.to ≡ end_of (item_of item.entry) }
+{
     match item {
         Item::Token { span, .. } => span,
         Item::Error { span, .. } => span,

@@ -1,4 +1,4 @@
-//! The places of states in a drawing: the column of a state is its distance from the root. Used by
+//! The cells of states in a drawing: the column of a state is its distance from the root. Used by
 //! `drawing`.
 
 use logos_graph::graph::StateData;
@@ -8,22 +8,22 @@ use std::cmp::max;
 /// The column of a state that is not reached yet.
 const UNREACHED: usize = usize::MAX;
 
-/// The place of a state: its column, and its row in that column.
+/// The cell of a state: its column, and its row in that column.
 #[derive(Clone, Copy)]
-pub(crate) struct Place {
+pub(crate) struct Cell {
     pub(crate) column: usize,
     pub(crate) row: usize,
 }
 
-/// The places of all states, and the numbers of columns and rows.
+/// The cells of all states, and the numbers of columns and rows.
 #[derive(Drop)]
 pub(crate) struct Layers {
-    pub(crate) places: Vec<Place>,
+    pub(crate) cells: Vec<Cell>,
     pub(crate) columns: usize,
     pub(crate) rows: usize,
 }
 
-/// Returns the places of all states of a graph.
+/// Returns the cells of all states of a graph.
 ///
 /// # Errors
 ///
@@ -32,13 +32,13 @@ pub(crate) fn layers_of(alloc: Global, states: &[&StateData]) -> Result<Layers, 
     let columns = columns_of(alloc, states)?;
     let mut filled = vec![in alloc; 0; states.len()]?;
     let mut layers = Layers {
-        places: Vec::new(alloc),
+        cells: Vec::new(alloc),
         columns: 0,
         rows: 0,
     };
     for column in &columns {
         let row = next_row(&mut filled, *column);
-        add_place(&mut layers, *column, row)?;
+        add_cell(&mut layers, *column, row)?;
     }
     Ok(layers)
 }
@@ -53,9 +53,9 @@ fn next_row(filled: &mut [usize], column: usize) -> usize {
     0
 }
 
-/// Adds the place of the next state.
-fn add_place(layers: &mut Layers, column: usize, row: usize) -> Result<(), AllocError> {
-    layers.places.push(Place { column, row })?;
+/// Adds the cell of the next state.
+fn add_cell(layers: &mut Layers, column: usize, row: usize) -> Result<(), AllocError> {
+    layers.cells.push(Cell { column, row })?;
     layers.columns = max(layers.columns, column.saturating_add(1));
     layers.rows = max(layers.rows, row.saturating_add(1));
     Ok(())

@@ -18,8 +18,8 @@ use Rattle.logos_show.specs.declared.questions.ShowRequest.{ShowRequest}
 
 -- A question about the lexers of a file: their leaves; the items of an input, given by its path;
 -- the matches from a location of an input; examples for each leaf; at most a number of inputs that
--- together take all edges; whether the lexer of another file, given by its path, is equivalent; or a
--- page, written to an argument, with an optional input.
+-- together take all edges; whether the lexer of another file, given by its path, is equivalent; or
+-- a page, written to an argument, with an optional input.
 pub data QuestionValue : Type 0 where
   leaves : QuestionValue
   items : (input : List ℕ) → QuestionValue
