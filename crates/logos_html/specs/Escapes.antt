@@ -1,5 +1,5 @@
 -- Text in a page, and how a browser reads it.
-use Rattle.std.specs.Prelude.{ℕ, List, [], ◌∷◌, ◌++◌, ◌==◌, ◌||◌, not, Bool, IsTrue, chars, codes, if◌then◌else◌}
+use Rattle.std.specs.Prelude.{◌≡◌, ℕ, List, [], ◌∷◌, ◌++◌, ◌==◌, ◌||◌, not, Bool, true, chars, codes, if◌then◌else◌}
 use Rattle.std.specs.List.{flat_map}
 use Rattle.logos_page.specs.Shown.{shown_char}
 
@@ -39,5 +39,5 @@ pub data IsReference : List ℕ → ℕ → Type 0 where
 -- byte, which is no markup, as itself.
 pub data ReadsAs : List ℕ → List ℕ → Type 0 where
   ends : ReadsAs [] []
-  itself : (byte : ℕ) (html text : List ℕ) → IsTrue (is_plain byte) → ReadsAs html text → ReadsAs (byte ∷ html) (byte ∷ text)
+  itself : (byte : ℕ) (html text : List ℕ) → is_plain byte ≡ true → ReadsAs html text → ReadsAs (byte ∷ html) (byte ∷ text)
   reference : (name : List ℕ) (c : ℕ) (html text : List ℕ) → IsReference name c → ReadsAs html text → ReadsAs (name ++ html) (c ∷ text)
