@@ -6,10 +6,10 @@
 A line of prose has at most 100 columns; rows of tables, blocks of code and lines of one long word
 are left out. `LINES` and `WORDS` are the limits of single pages, and `ALL_WORDS` is that of all
 pages together, except the page that is made and those of wrong bodies. A word is a run of
-characters without blanks that has a letter or a digit, also in blocks of code. Each path of a crate in backticks has to be there,
-each page and heading to which a link leads, and each function of the walk in `docs/MAP.md` in its
-file, once on that page. Each page counts as one, and so does each path, link and function. The last
-line is `pages: N passed, M failed`."""
+characters without blanks that has a letter or a digit, also in blocks of code. Each path of a crate
+in backticks has to be there, each page and heading to which a link leads, and each function of the
+walk in `docs/MAP.md` in its file, once on that page. Each page counts as one, and so does each
+path, link and function. The last line is `pages: N passed, M failed`."""
 import os
 import re
 
@@ -21,7 +21,7 @@ LEAST = 200
 # The most lines of a page, the most words of one, and of all to be read.
 LINES = {"README.md": 110, "docs/MAP.md": 220}
 WORDS = {"docs/GUIDE.md": 4500}
-ALL_WORDS = 45000
+ALL_WORDS = 45500
 MADE = "crates/README.md"
 # The most functions of the walk.
 WALK = 42

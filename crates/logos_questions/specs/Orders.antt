@@ -18,7 +18,8 @@ use Rattle.logos_questions.specs.declared.questions.ShowRequest.{ShowRequest}
 
 -- A question about the lexers of a file: their leaves; the items of an input, given by its path;
 -- the matches from a location of an input; examples for each leaf; at most a number of inputs that
--- together take all edges; or whether the lexer of another file, given by its path, is equivalent.
+-- together take all edges; whether the lexer of another file, given by its path, is equivalent; or
+-- a page, written to an argument, with an optional input.
 pub data QuestionValue : Type 0 where
   leaves : QuestionValue
   items : (input : List ℕ) → QuestionValue
@@ -26,6 +27,7 @@ pub data QuestionValue : Type 0 where
   examples : QuestionValue
   inputs : (most : ℕ) → QuestionValue
   comparison : (other : List ℕ) → QuestionValue
+  page : (to : List ℕ) → (input : Option (List ℕ)) → QuestionValue
 
 -- A file: its path, the question about its lexers, the given settings, and the style of messages.
 pub record OrderValue : Type 0 where
@@ -67,6 +69,7 @@ abbrev pub question_named : OptionName → List ℕ → Option (List ℕ) → Op
 question_named options.Compare word input = comparison_given input
 question_named options.Inputs word input = inputs_given (number_named word) input
 question_named options.At word input = matches_given (location_named word) input
+question_named options.Html word input = Some (page word input)
 question_named option word input = examples_given input
 
 -- The question about a file. Without an option a second path requests its items.
@@ -111,6 +114,7 @@ question_value (questions.Matches input location) = matches input.now location
 question_value questions.Examples = examples
 question_value (questions.Inputs most) = inputs most
 question_value (questions.Comparison other) = comparison other.now
+question_value (questions.Page to input) = page to.now (option_map (λ path. path.now) input)
 
 -- The view of an order.
 abbrev pub order_value : ShowOrder → OrderValue

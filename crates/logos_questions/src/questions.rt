@@ -66,6 +66,9 @@ pub enum Question<'w> {
     Inputs(usize),
     /// Whether the lexer of the file at this path is equivalent.
     Comparison(&'w str),
+    /// A page, written to this argument, about a lexer and about the input at a path, if one is
+    /// given.
+    Page(&'w str, Option<&'w str>),
 }
 
 /// Reads the arguments of `logos_show`.
@@ -173,6 +176,7 @@ fn question_named<'w>(
         (OptionName::Compare, Some(other)) => Ok(Question::Comparison(other)),
         (OptionName::Inputs, input) => inputs_given(one.value, input),
         (OptionName::At, input) => matches_given(one.value, input),
+        (OptionName::Html, input) => Ok(Question::Page(one.value, input)),
         (_, None) => Ok(Question::Examples),
         (_, Some(input)) => Err(misuse("`--examples` takes no input, not", input)),
     }

@@ -8,6 +8,7 @@ mod inputs;
 mod items;
 mod lexers;
 mod matches;
+mod page_files;
 mod pages;
 mod program;
 mod refusals;

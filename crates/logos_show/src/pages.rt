@@ -315,7 +315,7 @@ fn push_leaves(
 }
 
 /// Returns the rows of the leaves of an enum.
-fn rows_of<'l>(
+pub(crate) fn rows_of<'l>(
     alloc: Global,
     one: EnumInFile<'_, 'l>,
     made: &'l Generated<'_>,

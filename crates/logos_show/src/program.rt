@@ -8,6 +8,7 @@ use crate::comparison::compare;
 use crate::inputs::yield_inputs;
 use crate::items::lex;
 use crate::matches::{FilePoint, show_matches};
+use crate::page_files::{PageOrder, write_page};
 use crate::pages::{Form, PageStyle, Shown, shown_of};
 use crate::refusals::write_note;
 use crate::replies::{Agreement, write_agreement};
@@ -30,6 +31,7 @@ usage: logos_show FILE [INPUT] [--enum NAME] [--color always|never|auto]
        logos_show FILE --examples
        logos_show FILE --inputs N
        logos_show OLD NEW --compare
+       logos_show FILE [INPUT] --html PAGE
 ";
 
 const HELP: HelpText = HelpText {
@@ -255,6 +257,9 @@ fn answer_about<'w, F: Files, C: Clock + StandardInput, O: Write, E: Write>(
             show_matches(task, source, point, files, err, out)
         }
         Question::Inputs(most) => yield_inputs(task, source, most, err, out),
+        Question::Page(to, input) => {
+            as_same(write_page(task, source, PageOrder { to, input }, files, err, out))
+        }
         Question::Items(_) => as_same(lex_any(task, source, files, clock, err, out)),
         Question::Leaves | Question::Examples => as_same(show(task, source, err, out)),
     }
