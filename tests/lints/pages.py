@@ -21,7 +21,7 @@ LEAST = 200
 # The most lines of a page, the most words of one, and of all to be read.
 LINES = {"README.md": 110, "docs/MAP.md": 220}
 WORDS = {"docs/GUIDE.md": 4500}
-ALL_WORDS = 45500
+ALL_WORDS = 45000
 MADE = "crates/README.md"
 # The most functions of the walk.
 WALK = 42
