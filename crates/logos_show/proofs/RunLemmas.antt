@@ -14,12 +14,12 @@ use Rattle.logos_lines.specs.declared.location.Location.{Location}
 use Rattle.logos_report.specs.Locations.{SourceValue}
 use Rattle.logos_rust_file.specs.declared.finder.FoundEnum.{FoundEnum}
 use Rattle.logos_answers.proofs.ExampleLemmas.{all_start}
-use Rattle.logos_show.specs.Answers.{PrintsAgreement}
+use Rattle.logos_replies.specs.Answers.{PrintsAgreement}
 use Rattle.logos_show.specs.Choices.{IsLexerOf}
 use Rattle.logos_show.specs.Parts.{IsPartAt}
 use Rattle.logos_show.specs.Runs.{Answers, ComparesFiles, ComparesTo, Expects, IsLexerIn, PrintsInputsAs, PrintsMatchesAs, ShowsInputsOf, ShowsMatchesOf, is_json, name_in, shape}
-use Rattle.logos_show.specs.Verdicts.{PrintsVerdict}
-use Rattle.logos_show.specs.declared.replies.Agreement.{Agreement}
+use Rattle.logos_replies.specs.Verdicts.{PrintsVerdict}
+use Rattle.logos_replies.specs.declared.replies.Agreement.{Agreement}
 use Rattle.logos_questions.specs.Orders.{OrderValue}
 
 -- the elements of a slice of bytes are bytes

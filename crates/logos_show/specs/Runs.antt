@@ -14,12 +14,12 @@ use Rattle.logos_options.specs.Paths.{path_named}
 use Rattle.logos_options.specs.declared.options.OptionName.TheVariants as options
 use Rattle.logos_report.specs.Locations.{SourceValue}
 use Rattle.logos_rust_file.specs.declared.finder.FoundEnum.{FoundEnum}
-use Rattle.logos_show.specs.Answers.{PrintsAgreement, PrintsInputRecords, PrintsInputs, PrintsMatchRecords, PrintsMatches}
+use Rattle.logos_replies.specs.Answers.{PrintsAgreement, PrintsInputRecords, PrintsInputs, PrintsMatchRecords, PrintsMatches}
 use Rattle.logos_show.specs.Choices.{IsLexerOf}
 use Rattle.logos_show.specs.Parts.{IsPartAt}
-use Rattle.logos_show.specs.Verdicts.{PrintsVerdict}
-use Rattle.logos_show.specs.declared.replies.Agreement.{Agreement}
-use Rattle.logos_show.specs.declared.replies.Agreement.TheVariants.{Same}
+use Rattle.logos_replies.specs.Verdicts.{PrintsVerdict}
+use Rattle.logos_replies.specs.declared.replies.Agreement.{Agreement}
+use Rattle.logos_replies.specs.declared.replies.Agreement.TheVariants.{Same}
 use Rattle.logos_questions.specs.Orders.{OrderValue, QuestionValue, Requested, comparison, examples, inputs, items, leaves, matches, page, requests_help, requests_showing, requests_version}
 
 -- The shape of the code of the lexers.

@@ -12,9 +12,7 @@ mod page_files;
 mod pages;
 mod program;
 mod refusals;
-mod replies;
 mod stream;
-mod verdict;
 
 use logos_host::{Disk, arguments};
 use program::run_with;

@@ -11,7 +11,6 @@ use crate::matches::{FilePoint, show_matches};
 use crate::page_files::{PageOrder, write_page};
 use crate::pages::{Form, PageStyle, Shown, shown_of};
 use crate::refusals::write_note;
-use crate::replies::{Agreement, write_agreement};
 use crate::stream::lex_stream;
 use logos_file_warnings::Showing;
 use logos_host::{ComparableFiles, Failure, Files, print_bytes, read_bytes, read_text, report};
@@ -20,6 +19,7 @@ use logos_options::{
     with_nearest,
 };
 use logos_questions::{Question, RequestKind, ShowOrder, ShowRequest, request_of};
+use logos_replies::{Agreement, write_agreement};
 use logos_report::Source;
 use std::alloc::Global;
 use std::io::{Input as StandardInput, IsTerminal, Write};

@@ -1,5 +1,5 @@
-use Rattle.logos_show.proofs.VerdictLemmas.{difference_shown}
-use Rattle.logos_show.proofs.verdict.push_compared.Goals as goal
+use Rattle.logos_replies.proofs.VerdictLemmas.{difference_shown}
+use Rattle.logos_replies.proofs.verdict.push_compared.Goals as goal
 
 pub returns-in-Differ : goal.returns-in-Differ
 returns-in-Differ c =

@@ -16,8 +16,8 @@ use Rattle.logos_page.specs.Shown.{shown_text}
 use Rattle.logos_pattern.specs.declared.leaf.Leaf.{Leaf}
 use Rattle.logos_records.specs.Inputs.{AreInputRecords}
 use Rattle.logos_records.specs.Matches.{AreMatchRecords}
-use Rattle.logos_show.specs.declared.replies.Agreement.{Agreement}
-use Rattle.logos_show.specs.declared.replies.Agreement.TheVariants.{Different, Same}
+use Rattle.logos_replies.specs.declared.replies.Agreement.{Agreement}
+use Rattle.logos_replies.specs.declared.replies.Agreement.TheVariants.{Different, Same}
 
 -- The line with a point.
 abbrev pub location_line : Location → List ℕ

@@ -1,4 +1,4 @@
-use Rattle.logos_show.proofs.verdict.compare_with.Goals as goal
+use Rattle.logos_replies.proofs.verdict.compare_with.Goals as goal
 
 -- the verdict is that of the comparison, and its text is written
 pub returns-clause-judged : goal.returns-clause-judged

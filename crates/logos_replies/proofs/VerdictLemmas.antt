@@ -4,7 +4,7 @@ use Rattle.logos_answers.specs.Differences.{difference_line}
 use Rattle.logos_answers.specs.declared.comparison.Compared.{Compared}
 use Rattle.logos_graph.specs.View.{GraphValue}
 use Rattle.logos_page.specs.Pages.{Gains, PageValue}
-use Rattle.logos_show.specs.Verdicts.{IsVerdictText, ShowsVerdictText}
+use Rattle.logos_replies.specs.Verdicts.{IsVerdictText, ShowsVerdictText}
 
 -- the line with the input on which two lexers differ, and their findings
 pub difference_shown : (one other : GraphValue) (path other_path : List ℕ) (verdict : Compared) (input given : List ℕ) → given ≡ input → (old new : PageValue) →

@@ -1,9 +1,8 @@
 //! Answers to questions about lexers. Used by `inputs`, `matches` and `program`.
 
 ghost use Rattle.std.specs.Prelude.{◌≡◌, IfErr, IfOk, OnOk};
-ghost use Rattle.logos_show.specs.Views.{AllStart, Gains, IsBytes, IsGraphOf, rules_of, IsNoMisuse, PrintsAgreement, PrintsInputRecords, PrintsInputs, PrintsMatchRecords, PrintsMatches, location_line};
+ghost use Rattle.logos_replies.specs.Views.{AllStart, Gains, IsBytes, IsGraphOf, rules_of, IsNoMisuse, PrintsAgreement, PrintsInputRecords, PrintsInputs, PrintsMatchRecords, PrintsMatches, location_line};
 
-use crate::refusals::refusal_of;
 use logos_answers::{offset_of, push_agreement, push_inputs, push_matches};
 use logos_codegen::graph::Graph;
 use logos_host::{Failure, print_bytes};
@@ -15,17 +14,17 @@ use std::io::Write;
 
 /// The outcome of a comparison.
 #[derive(Clone, Copy)]
-pub(crate) enum Agreement {
+pub enum Agreement {
     Same,
     Different,
 }
 
 /// A point of an input: the path and the bytes of the input, and the point.
 #[derive(Clone, Copy)]
-pub(crate) struct InputPoint<'w, 'i> {
-    pub(crate) path: &'w str,
-    pub(crate) bytes: &'i [u8],
-    pub(crate) location: Location,
+pub struct InputPoint<'w, 'i> {
+    pub path: &'w str,
+    pub bytes: &'i [u8],
+    pub location: Location,
 }
 
 /// Writes the matches from a point of an input, as lines of text.
@@ -34,7 +33,7 @@ pub(crate) struct InputPoint<'w, 'i> {
 ///
 /// Returns `Refused` if the input does not have the point, `Output` if writing fails, and `Memory`
 /// if memory runs out.
-pub(crate) fn write_matches<O: Write>(
+pub fn write_matches<O: Write>(
     alloc: Global,
     graph: &Graph<'_>,
     point: InputPoint<'_, '_>,
@@ -62,7 +61,7 @@ pub(crate) fn write_matches<O: Write>(
 ///
 /// Returns `Refused` if the input does not have the point, `Output` if writing fails, and `Memory`
 /// if memory runs out.
-pub(crate) fn write_match_records<O: Write>(
+pub fn write_match_records<O: Write>(
     alloc: Global,
     graph: &Graph<'_>,
     point: InputPoint<'_, '_>,
@@ -113,7 +112,7 @@ fn no_location(alloc: Global, path: &str, location: Location) -> Failure<'static
 /// # Errors
 ///
 /// Returns `Output` if writing fails, and `Memory` if memory runs out.
-pub(crate) fn write_inputs<O: Write>(
+pub fn write_inputs<O: Write>(
     alloc: Global,
     graph: &Graph<'_>,
     most: usize,
@@ -138,7 +137,7 @@ pub(crate) fn write_inputs<O: Write>(
 /// # Errors
 ///
 /// Returns `Output` if writing fails, and `Memory` if memory runs out.
-pub(crate) fn write_input_records<O: Write>(
+pub fn write_input_records<O: Write>(
     alloc: Global,
     graph: &Graph<'_>,
     most: usize,
@@ -174,7 +173,7 @@ fn note_of_cut(alloc: Global, most: usize, count: usize) -> Result<String, Alloc
 /// # Errors
 ///
 /// Returns `Output` if writing fails, and `Memory` if memory runs out.
-pub(crate) fn write_agreement<O: Write>(
+pub fn write_agreement<O: Write>(
     alloc: Global,
     path: &str,
     stored: &[u8],
@@ -193,4 +192,14 @@ pub(crate) fn write_agreement<O: Write>(
         return Ok(Agreement::Same);
     }
     Ok(Agreement::Different)
+}
+
+/// Returns the refusal with a text, or `Memory` if memory ran out for it.
+pub fn refusal_of<E: Drop>(text: Result<String, E>) -> Failure<'static>
+    ensures { IsNoMisuse result }
+{
+    match text {
+        Ok(text) => Failure::Refused(text),
+        Err(_) => Failure::Memory,
+    }
 }

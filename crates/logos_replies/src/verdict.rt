@@ -1,7 +1,7 @@
 //! The verdict on two lexers. Used by `comparison`.
 
 ghost use Rattle.std.specs.Prelude.{◌≡◌, ◌∷◌, [], IfErr, IfOk, OnOk, string_bytes};
-ghost use Rattle.logos_show.specs.Views.{Finding, IsGraphOf, IsNoMisuse, IsVerdictRecord, IsVerdictText, PrintsVerdict, Puts, PutsVerdict, ShowsVerdict, ShowsVerdictText, agreement_of, difference_object, status_of};
+ghost use Rattle.logos_replies.specs.Views.{Finding, IsGraphOf, IsNoMisuse, IsVerdictRecord, IsVerdictText, PrintsVerdict, Puts, PutsVerdict, ShowsVerdict, ShowsVerdictText, agreement_of, difference_object, status_of};
 
 use crate::replies::Agreement;
 use logos_answers::{
@@ -15,18 +15,18 @@ use std::io::Write;
 
 /// Two lexers that are compared, and whether the answer is JSON.
 #[derive(Clone, Copy)]
-pub(crate) struct Pair<'m, 's, 't> {
-    pub(crate) one: NamedLexer<'m, 's>,
-    pub(crate) other: NamedLexer<'m, 't>,
-    pub(crate) is_json: bool,
+pub struct Pair<'m, 's, 't> {
+    pub one: NamedLexer<'m, 's>,
+    pub other: NamedLexer<'m, 't>,
+    pub is_json: bool,
 }
 
 /// The result of comparing two lexers.
 #[derive(Drop)]
-pub(crate) struct Judgment {
-    pub(crate) agreement: Agreement,
+pub struct Judgment {
+    pub agreement: Agreement,
     /// A note about callbacks, which may be empty.
-    pub(crate) note: String,
+    pub note: String,
 }
 
 /// Writes whether two lexers are equivalent, and returns that. If they differ, writes a shortest
@@ -35,7 +35,7 @@ pub(crate) struct Judgment {
 /// # Errors
 ///
 /// Returns `Output` if writing fails, and `Memory` if memory runs out.
-pub(crate) fn compare_with<O: Write>(
+pub fn compare_with<O: Write>(
     alloc: Global,
     pair: Pair<'_, '_, '_>,
     out: &mut O,

@@ -12,8 +12,8 @@ use Rattle.logos_json.specs.Lines.{AreLines, LinesValue, Puts}
 use Rattle.logos_json.specs.Members.{bool_member, bytes_member, object}
 use Rattle.logos_page.specs.Pages.{Gains, PageValue}
 use Rattle.logos_records.specs.Comparing.{finding_member, mode_member}
-use Rattle.logos_show.specs.declared.replies.Agreement.{Agreement}
-use Rattle.logos_show.specs.declared.replies.Agreement.TheVariants.{Different, Same}
+use Rattle.logos_replies.specs.declared.replies.Agreement.{Agreement}
+use Rattle.logos_replies.specs.declared.replies.Agreement.TheVariants.{Different, Same}
 
 -- The outcome of a comparison: only lexers that find the same everywhere agree.
 abbrev pub agreement_of : Compared → Agreement
