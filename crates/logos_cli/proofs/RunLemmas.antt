@@ -97,7 +97,7 @@ module _ {F : Type 0} (yields makes : F → List ℕ → List ℕ → F → Type
 
   -- the file was read and expanded, and the result delivered
   pub carried_out : (files between after : F) (bytes : List ℕ) (old new : Option (List ℕ)) →
-      Reads yields files order.input (λ text read. (between ≡ read) × IsExpanded order.shape text bytes) → IsDelivered yields makes finds order order.output bytes between after old new →
+      Reads yields files order.input (λ text read. (between ≡ read) × IsExpanded order.shape order.input text bytes) → IsDelivered yields makes finds order order.output bytes between after old new →
       IsCarriedOut yields makes finds order files after old new
   carried_out files between after bytes old new r d = record {
     bytes = r.bytes;
@@ -107,7 +107,7 @@ module _ {F : Type 0} (yields makes : F → List ℕ → List ℕ → F → Type
   }
 
   -- or it was only to be compared, and another file has other bytes
-  pub denied_check : (files between after : F) (bytes shown : List ℕ) → Reads yields files order.input (λ text read. (between ≡ read) × IsExpanded order.shape text bytes) →
+  pub denied_check : (files between after : F) (bytes shown : List ℕ) → Reads yields files order.input (λ text read. (between ≡ read) × IsExpanded order.shape order.input text bytes) →
       IsTrue order.is_check × IfSome order.output (λ path. IsOther finds path bytes between after) → IsDeniedOrder yields makes finds order files after shown
   denied_check files between after bytes shown r d = record {
     bytes = r.bytes;

@@ -43,7 +43,7 @@ module _ {F : Type 0} (yields makes : F → List ℕ → List ℕ → F → Type
   -- The file is read and expanded, and the result was delivered as requested.
   abbrev pub IsCarriedOut : OrderValue → F → F → Option (List ℕ) → Option (List ℕ) → Type 0
   IsCarriedOut order files after old new =
-      Reads yields files order.input (λ text read. (bytes : List ℕ) × IsExpanded order.shape text bytes × IsDelivered order order.output bytes read after old new)
+      Reads yields files order.input (λ text read. (bytes : List ℕ) × IsExpanded order.shape order.input text bytes × IsDelivered order order.output bytes read after old new)
 
   -- Files are read and expanded one after another, and each result was delivered as requested.
   abbrev pub AreCarriedOut : List OrderValue → F → F → Option (List ℕ) → Option (List ℕ) → Type 0
@@ -63,7 +63,7 @@ module _ {F : Type 0} (yields makes : F → List ℕ → List ℕ → F → Type
   abbrev pub IsDeniedOrder : OrderValue → F → F → List ℕ → Type 0
   IsDeniedOrder order files after shown =
       Reads yields files order.input (λ text read. ((after ≡ read) × IsCause order.format order.denies order.shape (record { path = order.input; text = text }) shown)
-      ⊎ (IsTrue order.is_check × ((bytes : List ℕ) × IsExpanded order.shape text bytes × IfSome order.output (λ path. IsOther finds path bytes read after))))
+      ⊎ (IsTrue order.is_check × ((bytes : List ℕ) × IsExpanded order.shape order.input text bytes × IfSome order.output (λ path. IsOther finds path bytes read after))))
 
   -- The order for a file is fulfilled, or refused with a text.
   abbrev pub EndsOne : OrderValue → F → F → List (List ℕ) → Type 0

@@ -233,7 +233,8 @@ fn expansion_of<'w, F: ComparableFiles>(
 ) -> Result<Expansion, Failure<'w>>
     ensures done { IfOk result (λ made. Reads F.read_yields files.old (order_value order.entry).input
         (λ text read. (files.new ≡ read)
-        × IsExpanded (order_value order.entry).shape text made.bytes.items)) }
+        × IsExpanded (order_value order.entry).shape (order_value order.entry).input text
+        made.bytes.items)) }
     ensures denied { IfErr result (FailsBy (IsRefusedFor (IsDeniedOrder F.read_yields F.write_makes
         F.compare_finds (order_value order.entry) files.old files.new))) }
 {

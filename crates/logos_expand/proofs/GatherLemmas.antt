@@ -1,5 +1,5 @@
 -- What the enums of a file give, one after another.
-use Rattle.std.proofs.Common.{◌≡◌, ◌==◌, ◌≤◌, ◌<◌, ◌+◌, ℕ, suc, Bool, List, [], ◌∷◌, ◌++◌, append_assoc, true, false, IfOk, OnOk, Option, Result, Ok, Err, map, length, get_or, drop, string_bytes, refl, sym, ap, ◌∙◌, arith, eqb-true, subst}
+use Rattle.std.proofs.Common.{◌≡◌, ◌==◌, ◌≤◌, ◌<◌, ◌+◌, ℕ, suc, Bool, List, [], ◌∷◌, ◌++◌, append_assoc, true, false, IfOk, OnOk, Option, Result, Ok, Err, map, min, length, get_or, drop, string_bytes, refl, sym, ap, ◌∙◌, arith, eqb-true, subst}
 use Rattle.std.proofs.lemmas.List.{append-nil}
 use Rattle.std.proofs.Math.Seq.{drop-cons}
 use Rattle.std.proofs.Math.ListN.{drop_of_length-le}
@@ -18,9 +18,10 @@ use Rattle.logos_expand.specs.Expanding.{IsExpansion, IsExpanded, IsFileOf, IsUn
 use Rattle.logos_tables.specs.Shapes.{config_of}
 use Rattle.logos_text.specs.Fronts.{AroundValue}
 use Rattle.logos_expand.specs.Expanding.Replaces.{ended as r_ended, stays as r_stays, yields as r_gives}
-use Rattle.logos_expand.specs.Heads.{IsHeaded}
-use Rattle.logos_expand.specs.inside.Steps.{AddsRefusal, AreFaultsOf, GathersOne, IsExpansionBy, IsPut}
-use Rattle.logos_expand.specs.Gathering.{AreRefused, Gathers, GathersAll}
+use Rattle.logos_expand.specs.Heads.{headed}
+use Rattle.logos_layout.specs.Inner.{IsWithoutInner}
+use Rattle.logos_expand.specs.inside.Steps.{AddsRefusal, AreFaultsOf, GathersOne, IsExpansionBy}
+use Rattle.logos_expand.specs.Gathering.{AreRefused, Gathers, GathersAll, errors_in, errors_of}
 use Rattle.logos_expand.specs.Gathering.AreRefused.{whole, lexers}
 use Rattle.logos_expand.specs.Gathering.Gathers.{ended as g_ended, stays as g_stays, yields as g_gives, refuses as g_refuses}
 use Rattle.logos_rust_file.specs.declared.finder.FoundEnum.{FoundEnum}
@@ -130,9 +131,9 @@ replaces_all shape text _ _ _ (g_gives d s x g) e = r_gives d s x (replaces_all 
 replaces_all shape text _ _ _ (g_refuses d s x k g) e = absurd cc
 
 -- the result of a file without faults
-pub expanded_all : (shape : Shape) (text bytes : List ℕ) (found : List FoundEnum) (gathered : Gathered) → AreEnumsOf text found → GathersAll shape text found gathered → gathered.refused.items ≡ [] →
-    IsFileOf shape text gathered.parts.items bytes → IsExpanded shape text bytes
-expanded_all shape text bytes found gathered a g e b = record {
+pub expanded_all : (shape : Shape) (path text bytes : List ℕ) (found : List FoundEnum) (gathered : Gathered) → AreEnumsOf text found → GathersAll shape text found gathered → gathered.refused.items ≡ [] →
+    IsFileOf shape path text gathered.parts.items bytes → IsExpanded shape path text bytes
+expanded_all shape path text bytes found gathered a g e b = record {
   found = found;
   parts = gathered.parts.items;
   are = a;
@@ -141,18 +142,19 @@ expanded_all shape text bytes found gathered a g e b = record {
 }
 
 -- a file as it was made, by whether there are parts
-pub bare_file : (shape : Shape) (text : List ℕ) (parts : List Replacement) (bytes : List ℕ) (empty : Bool) → empty ≡ (length parts == 0) → empty ≡ true → bytes ≡ replaced text 0 parts → IsPut shape text parts bytes
-bare_file shape text [] bytes empty e t r = r
-bare_file shape text (part ∷ parts) bytes empty e t r = absurd (let z : length (part ∷ parts) ≡ 0 = eqb-true _ _ (sym e ∙ t) in omega (arith, z))
+pub bare_file : (shape : Shape) (path text : List ℕ) (parts : List Replacement) (bytes : List ℕ) (empty : Bool) → empty ≡ (length parts == 0) → empty ≡ true → bytes ≡ replaced text 0 parts → IsFileOf shape path text parts bytes
+bare_file shape path text [] bytes empty e t r = r
+bare_file shape path text (part ∷ parts) bytes empty e t r = absurd (let z : length (part ∷ parts) ≡ 0 = eqb-true _ _ (sym e ∙ t) in omega (arith, z))
 
-pub headed_file : (shape : Shape) (text : List ℕ) (parts : List Replacement) (bytes : List ℕ) (empty : Bool) → empty ≡ (length parts == 0) → empty ≡ false → IsHeaded shape (replaced text 0 parts) bytes → IsPut shape text parts bytes
-headed_file shape text [] bytes empty e f w = absurd (let z : empty ≡ true = e in cc)
-headed_file shape text (part ∷ parts) bytes empty e f w = w
+pub headed_file : (shape : Shape) (path text : List ℕ) (parts : List Replacement) (body bytes : List ℕ) (empty : Bool) → empty ≡ (length parts == 0) → empty ≡ false → IsWithoutInner (replaced text 0 parts) body → bytes ≡ headed shape path body →
+    IsFileOf shape path text parts bytes
+headed_file shape path text [] body bytes empty e f w h = absurd (let z : empty ≡ true = e in cc)
+headed_file shape path text (part ∷ parts) body bytes empty e f w h = record { body = body; is_body = w; is = h }
 
-pub headed_all : {A E : Type 0} (f : A → List ℕ) (result : Result A E) (shape : Shape) (text : List ℕ) (parts : List Replacement) (made_of : List ℕ) (empty : Bool) → empty ≡ (length parts == 0) → empty ≡ false → made_of ≡ replaced text 0 parts →
-    IfOk result (λ made. IsHeaded shape made_of (f made)) → IfOk result (λ made. IsPut shape text parts (f made))
-headed_all f (Ok made) shape text parts made_of empty e n w h = headed_file shape text parts (f made) empty e n (subst (λ (bytes : List ℕ). IsHeaded shape bytes (f made)) w h)
-headed_all f (Err error) shape text parts made_of empty e n w h = tt
+pub headed_all : {A E : Type 0} (f : A → List ℕ) (result : Result A E) (shape : Shape) (path text : List ℕ) (parts : List Replacement) (made_of body : List ℕ) (empty : Bool) → empty ≡ (length parts == 0) → empty ≡ false →
+    made_of ≡ replaced text 0 parts → IsWithoutInner made_of body → IfOk result (λ made. f made ≡ headed shape path body) → IfOk result (λ made. IsFileOf shape path text parts (f made))
+headed_all f (Ok made) shape path text parts made_of body empty e n w i h = headed_file shape path text parts body (f made) empty e n (subst (λ (bytes : List ℕ). IsWithoutInner bytes body) w i) h
+headed_all f (Err error) shape path text parts made_of body empty e n w i h = tt
 
 -- the refusals of a file, of which there are some
 pub lexers_refused : (shape : Shape) (text : List ℕ) (found : List FoundEnum) (gathered : Gathered) → AreEnumsOf text found → GathersAll shape text found gathered → 0 < length gathered.refused.items →
@@ -236,3 +238,23 @@ wraps (Err error) f h = tt
 pub some_left : {A : Type 0} {n : ℕ} (items : List A) → n ≡ length items → (n == 0) ≡ false → 0 < length items
 some_left {n = n} [] e h = absurd (let z : (n == 0) ≡ true = rw e refl in cc)
 some_left (item ∷ items) e h = omega arith
+
+-- ---- the number of errors
+
+errors_left : (parts : List Refused) (i : ℕ) (d : Refused) → i < length parts → errors_in (drop i parts) ≡ errors_of (get_or parts i d) + errors_in (drop (i + 1) parts)
+errors_left parts i d l =
+    let k : suc i ≡ i + 1 = omega arith in
+    ap errors_in (drop-cons parts i d l ∙ ap (λ n. get_or parts i d ∷ drop n parts) k)
+
+-- with one part more, the errors of those that are left complete all
+pub one_more : (parts : List Refused) (i : ℕ) (d : Refused) (count new errors most : ℕ) → i < length parts → errors ≡ errors_of (get_or parts i d) → new ≡ min (count + errors) most →
+    min (count + errors_in (drop i parts)) most ≡ min (errors_in parts) most → min (new + errors_in (drop (i + 1) parts)) most ≡ min (errors_in parts) most
+one_more parts i d count new errors most l e n h =
+    let left = errors_left parts i d l in
+    omega (arith, left, e, n, h)
+
+-- none is left
+pub all_counted : (parts : List Refused) (i count most : ℕ) → length parts ≤ i → count ≤ most → min (count + errors_in (drop i parts)) most ≡ min (errors_in parts) most → count ≡ min (errors_in parts) most
+all_counted parts i count most l few h =
+    let left : errors_in (drop i parts) ≡ 0 = ap errors_in (drop_of_length-le parts l) in
+    omega (arith, left, few, h)

@@ -1,3 +1,1 @@
 pub mod GatherLemmas
-pub mod PartLemmas
-pub mod ShownLemmas

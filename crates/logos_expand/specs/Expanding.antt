@@ -81,19 +81,19 @@ pub data Replaces (shape : Shape) (text : List ℕ) : List FoundEnum → List Re
   yields : {one : FoundEnum} {part : Replacement} {rest : List FoundEnum} {parts : List Replacement} →
       one.derives ≡ true → part.span ≡ one.span → IsExpansion shape (text_at text one) (string_bytes part.text) → Replaces shape text rest parts → Replaces shape text (one ∷ rest) (part ∷ parts)
 
--- A file with parts replaced. It has no first line if there are none.
-abbrev pub IsFileOf : Shape → List ℕ → List Replacement → List ℕ → Type 0
-IsFileOf shape text [] bytes = bytes ≡ replaced text 0 []
-IsFileOf shape text (part ∷ parts) bytes = IsFileWith shape (replaced text 0 (part ∷ parts)) bytes
+-- A file at a path with parts replaced. It has no first line if there are none.
+abbrev pub IsFileOf : Shape → List ℕ → List ℕ → List Replacement → List ℕ → Type 0
+IsFileOf shape path text [] bytes = bytes ≡ replaced text 0 []
+IsFileOf shape path text (part ∷ parts) bytes = IsFileWith shape path (replaced text 0 (part ∷ parts)) bytes
 
--- These bytes are the file with the derive of its lexers expanded, and with all other bytes
--- unchanged, optionally after a first line that names its origin.
-pub record IsExpanded (shape : Shape) (text bytes : List ℕ) : Type 0 where
+-- These bytes are the file at a path with the derive of its lexers expanded, and with all other
+-- bytes unchanged, after a first line that names its origin, if it can have one.
+pub record IsExpanded (shape : Shape) (path text bytes : List ℕ) : Type 0 where
   pub found : List FoundEnum
   pub parts : List Replacement
   pub are : AreEnumsOf text found
   pub replaces : Replaces shape text found parts
-  pub is : IsFileOf shape text parts bytes
+  pub is : IsFileOf shape path text parts bytes
 
 -- The file cannot be read into tokens, and this is its one fault.
 abbrev pub IsUnreadable : List ℕ → List Fault → Type 0

@@ -1,8 +1,8 @@
 //! Expands the derive of the lexers in a file. Called by `logos_cli`.
 
-ghost use Rattle.std.specs.Prelude.{◌≡◌, ◌≤◌, ◌++◌, All, IfErr, IfOk, IsTrue, OnOk, length, map, string_bytes};
-ghost use Rattle.logos_expand.specs.Views.{IsRefused, AreInOrder, IsFoundCut, found_span, part_span, AreEnumsOf, OccurInOrder, Refuses, IsExpanded, IsExpansion, IsUnreadable, AreRefused, EndsWithLines, FailsFor, GathersAll, ShowsRefused, refused_texts, AddsRefusal, GathersOne, HasSets, IsExpansionBy, around_made, sizes_of, Spells, SpellsEnum, tokens_of};
-ghost use Rattle.logos_expand.specs.Views.{AddsInner, HasFront, IsBefore, IsPut};
+ghost use Rattle.std.specs.Prelude.{◌≡◌, ◌<◌, ◌≤◌, ◌++◌, ◌^◌, ◌-◌, All, IfErr, IfOk, IfSome, IsTrue, OnOk, length, map, min, string_bytes};
+ghost use Rattle.logos_expand.specs.Views.{IsRefused, AreInOrder, IsFoundCut, found_span, part_span, AreEnumsOf, OccurInOrder, Refuses, IsExpanded, IsExpansion, IsUnreadable, AreRefused, AreReportLines, FailsFor, GathersAll, ShowsRefused, errors_in, report_texts, AddsRefusal, GathersOne, HasSets, IsExpansionBy, around_made, sizes_of, Spells, SpellsEnum, tokens_of};
+ghost use Rattle.logos_expand.specs.Views.{IsFileOf, IsPlainly, IsWithoutInner};
 
 use crate::head::with_head;
 use crate::printer::{Site, printed_with};
@@ -15,7 +15,7 @@ use logos_file_warnings::{
 };
 use logos_help::add_helps;
 use logos_host::{Failure, MessageFormat};
-use logos_layout::{PlainFront, plain_front};
+use logos_layout::{has_inner, without_inner};
 use logos_messages::push_refused_messages;
 use logos_page::Page;
 use logos_report::{
@@ -56,7 +56,7 @@ pub fn expand<'w>(
     shape: Shape,
     showing: Showing,
 ) -> Result<Expansion, Failure<'w>>
-    ensures done { IfOk result (λ made. IsExpanded shape source.now.text made.bytes.items) }
+    ensures done { IfOk result (λ made. IsExpanded shape source.now.path source.now.text made.bytes.items) }
     ensures denied { IfErr result (FailsFor showing.format showing.denies shape source.now) }
 {
     let file = match read_file(showing.alloc, source.text()) {
@@ -89,7 +89,7 @@ fn expand_enums<'w>(
     requires enums { AreEnumsOf source.now.text file.now.found.items }
     requires order { AreInOrder 0 (map found_span file.now.found.items) (length source.now.text) }
     requires cut { All (IsFoundCut source.now.text) file.now.found.items }
-    ensures done { IfOk result (λ made. IsExpanded shape source.now.text made.bytes.items) }
+    ensures done { IfOk result (λ made. IsExpanded shape source.now.path source.now.text made.bytes.items) }
     ensures denied { IfErr result (FailsFor showing.format showing.denies shape source.now) }
 {
     let mut warned = Vec::new(showing.alloc);
@@ -103,8 +103,8 @@ fn expand_enums<'w>(
     add_passed(file.stream.run(), &file.found, &mut warned)?;
     add_missing(showing, &file.found, &mut warned)?;
     if gathered.refused.is_empty() {
-        let parts = with_inner(source.text(), file.stream.run(), gathered.parts)?;
-        return accepted_file(source, shape, showing, &parts, &warned);
+        let tokens = file.stream.run();
+        return accepted_file(source, shape, showing, tokens, &gathered.parts, &warned);
     }
     Err(refused_file(source, showing, &gathered.refused, &warned))
 }
@@ -115,74 +115,33 @@ fn has_import(source: &Source<'_>) -> bool {
     text.contains("::Logos") | text.contains("logos::{") | text.contains("::*")
 }
 
-/// Returns the parts of a file that has these tokens, with plain comments for the documentation and
-/// the attributes of the file itself, if it has parts and these come before them.
-fn with_inner(
-    text: &str,
-    tokens: Tokens<'_, '_>,
-    parts: Vec<Replacement>,
-) -> Result<Vec<Replacement>, Memory>
-    requires { AreInOrder 0 (map part_span parts.items) (length text.now) }
-    ensures { IfOk result (λ whole. AddsInner text.now parts.items whole.items) }
-{
-    let alloc = *parts.allocator();
-    match plain_front(alloc, text, tokens)? {
-        Some(front) if is_before(front.to, &parts) => with_front(alloc, front, parts),
-        _ => Ok(parts),
-    }
-}
-
-/// Returns whether an offset that is not 0 is not after the first of some parts.
-fn is_before(to: usize, parts: &[Replacement]) -> bool
-    ensures { IsTrue result → IsBefore to parts.now }
-{
-    match parts.first() {
-        Some(part) => (0 < to) & (to <= part.span.from),
-        None => false,
-    }
-}
-
-/// Returns parts after plain comments for the front of a file.
-fn with_front(
-    alloc: Global,
-    front: PlainFront,
-    parts: Vec<Replacement>,
-) -> Result<Vec<Replacement>, Memory>
-    ensures { IfOk result (λ whole. HasFront front parts.items whole.items) }
-{
-    let PlainFront { to, text } = front;
-    let span = Span { from: 0, to };
-    let mut parts = parts;
-    let mut whole = Vec::new(alloc);
-    whole.push(Replacement { span, text })?;
-    whole.append(&mut parts)?;
-    Ok(whole)
-}
-
-/// Returns a file with parts replaced, unless its warnings are denied.
+/// Returns a file that has these tokens with parts replaced, unless its warnings are denied.
 fn accepted_file<'w>(
     source: &Source<'_>,
     shape: Shape,
     showing: Showing,
+    tokens: Tokens<'_, '_>,
     parts: &[Replacement],
     warned: &[Warning],
 ) -> Result<Expansion, Failure<'w>>
     requires { AreInOrder 0 (map part_span parts.now) (length source.now.text) }
-    ensures done { IfOk result (λ made. IsPut shape source.now.text parts.now made.bytes.items) }
+    ensures done { IfOk result (λ made.
+        IsFileOf shape source.now.path source.now.text parts.now made.bytes.items) }
     ensures denied { IfErr result (FailsFor showing.format showing.denies shape source.now) }
 {
     if showing.denies && !warned.is_empty() {
         return Err(denied_file(source, showing, warned));
     }
     Ok(Expansion {
-        bytes: expanded_file(showing.alloc, source, shape, parts)?,
+        bytes: expanded_file(showing.alloc, source, shape, tokens, parts)?,
         warnings: warning_text(source, showing, warned, parts.is_empty())?,
     })
 }
 
 /// Returns the refusal of a file for its warnings, which are denied.
 fn denied_file<'w>(source: &Source<'_>, showing: Showing, warned: &[Warning]) -> Failure<'w>
-    requires { IsTrue showing.denies }
+    requires denies { IsTrue showing.denies }
+    requires some { 0 < length warned.now }
     ensures { (shape : Shape) → FailsFor showing.format showing.denies shape source.now result }
 {
     match denial_text(source, showing, warned) {
@@ -191,22 +150,53 @@ fn denied_file<'w>(source: &Source<'_>, showing: Showing, warned: &[Warning]) ->
     }
 }
 
-/// Returns a file with parts replaced. If there are any, its first line states that it is
-/// generated.
+/// Returns a file that has these tokens with parts replaced. If there are any, its first line says
+/// that it is generated, and its own documentation and attributes are plain comments.
 fn expanded_file(
     alloc: Global,
     source: &Source<'_>,
     shape: Shape,
+    tokens: Tokens<'_, '_>,
     parts: &[Replacement],
 ) -> Result<Vec<u8>, Memory>
     requires { AreInOrder 0 (map part_span parts.now) (length source.now.text) }
-    ensures { IfOk result (λ made. IsPut shape source.now.text parts.now made.items) }
+    ensures { IfOk result (λ made.
+        IsFileOf shape source.now.path source.now.text parts.now made.items) }
 {
     let bytes = replace(alloc, source.text(), parts)?;
     if parts.is_empty() {
         return Ok(bytes);
     }
-    with_head(alloc, source.path(), shape, &bytes)
+    let body = plain_file(alloc, bytes, tokens)?;
+    with_head(alloc, source.path(), shape, &body)
+}
+
+/// Returns a file with plain comments for its own documentation and attributes, if it begins with
+/// such. These are the tokens of the file before parts of it were replaced.
+fn plain_file(alloc: Global, bytes: Vec<u8>, tokens: Tokens<'_, '_>) -> Result<Vec<u8>, Memory>
+    ensures { IfOk result (λ body. IsWithoutInner bytes.entry.items body.items) }
+{
+    if !has_inner(tokens) {
+        return Ok(bytes);
+    }
+    match plain_bytes(alloc, &bytes)? {
+        Some(body) => Ok(body),
+        None => Ok(bytes),
+    }
+}
+
+/// Returns a file with plain comments for the documentation and the attributes of the file itself.
+/// `None` if it cannot have them.
+fn plain_bytes(alloc: Global, bytes: &[u8]) -> Result<Option<Vec<u8>>, Memory>
+    ensures { IfOk result (λ found. IfSome found (λ body. IsPlainly bytes.now body.items)) }
+{
+    let Ok(text) = str::from_utf8(bytes) else {
+        return Ok(None);
+    };
+    match without_inner(alloc, text)? {
+        Some(plain) => Ok(Some(plain.into_bytes())),
+        None => Ok(None),
+    }
 }
 
 /// Returns the replacements of these enums of a file, and the faults of those that are refused.
@@ -406,7 +396,7 @@ fn fault_lines(
     refused: &[Refused],
     warned: &[Warning],
 ) -> Result<Vec<u8>, Memory>
-    ensures { IfOk result (λ lines. EndsWithLines source.now refused.now lines.items) }
+    ensures { IfOk result (λ lines. AreReportLines source.now refused.now lines.items) }
 {
     let mut lines = warning_lines(alloc, source, warned)?;
     push_refused_messages(alloc, &mut lines, source, refused)?;
@@ -423,7 +413,7 @@ fn refusal_text(
     warned: &[Warning],
 ) -> Result<String, AllocError>
     ensures { IfOk result (λ text. OccurInOrder
-        (refused_texts showing.is_colored source.now refused.now) (string_bytes text)) }
+        (report_texts showing.is_colored source.now refused.now) (string_bytes text)) }
 {
     let mut page = Page::new(showing.alloc, showing.is_colored);
     push_warned(&mut page, source, warned);
@@ -432,8 +422,10 @@ fn refusal_text(
     page.finish()
 }
 
-/// Returns how many of these faults are errors.
-fn count_refused(refused: &[Refused]) -> usize {
+/// Returns how many of these faults are errors, saturating at the greatest number.
+fn count_refused(refused: &[Refused]) -> usize
+    ensures { result ≡ min (errors_in refused.now) (2 ^ 64 - 1) }
+{
     let mut count: usize = 0;
     for one in refused {
         count = count.saturating_add(count_errors(&one.errors, &one.clues));

@@ -1,7 +1,7 @@
 //! The first line of an expanded file. Used by `expansion` and `logos_cli`.
 
 ghost use Rattle.std.specs.Prelude.{◌≡◌, ◌++◌, IfOk, OnOk, string_bytes};
-ghost use Rattle.logos_expand.specs.Views.{IsHead, IsHeaded, code_name, head_text, is_plain, is_printable, line_text, shape_name, shown_name};
+ghost use Rattle.logos_expand.specs.Views.{code_name, head_of, head_text, headed, is_byte_order_mark, is_plain, is_printable, is_script_mark, line_text, may_follow_line, shape_name, shown_name};
 
 use logos_host::file_name;
 use logos_tables::Shape;
@@ -16,7 +16,7 @@ pub(crate) fn with_head(
     shape: Shape,
     body: &[u8],
 ) -> Result<Vec<u8>, Memory>
-    ensures { IfOk result (λ made. IsHeaded shape body.now made.items) }
+    ensures { IfOk result (λ made. made.items ≡ headed shape path.now body.now) }
 {
     let head = head_of(alloc, path, shape, body)?;
     let mut made = head.into_bytes();
@@ -26,10 +26,10 @@ pub(crate) fn with_head(
 
 /// Returns the first line of a file with these bytes, or nothing if it cannot have one.
 fn head_of(alloc: Global, path: &str, shape: Shape, bytes: &[u8]) -> Result<String, Memory>
-    ensures { IfOk result (λ head. IsHead shape (string_bytes head)) }
+    ensures { IfOk result (λ head. string_bytes head ≡ head_of shape path.now bytes.now) }
 {
     let mut text = String::new(alloc);
-    if !is_headed(bytes) {
+    if !may_follow_line(bytes) {
         return Ok(text);
     }
     push_head(&mut text, file_name(path), shape)?;
@@ -37,12 +37,31 @@ fn head_of(alloc: Global, path: &str, shape: Shape, bytes: &[u8]) -> Result<Stri
 }
 
 /// Returns whether a line can be inserted before these bytes of a file.
-fn is_headed(bytes: &[u8]) -> bool {
+fn may_follow_line(bytes: &[u8]) -> bool
+    ensures { result ≡ may_follow_line bytes.now }
+{
     match bytes {
-        [0xEF, 0xBB, 0xBF, ..] => false,
-        [b'#', b'!', next, ..] => *next == b'[',
+        [first, second, third, ..] => {
+            !(is_byte_order_mark(*first, *second, *third)
+                | is_script_mark(*first, *second, *third))
+        }
         _ => true,
     }
+}
+
+/// Returns whether three bytes are U+FEFF in UTF-8.
+fn is_byte_order_mark(first: u8, second: u8, third: u8) -> bool
+    ensures { result ≡ is_byte_order_mark first second third }
+{
+    (first == 0xEF) & ((second == 0xBB) & (third == 0xBF))
+}
+
+/// Returns whether three bytes begin a line that names the program for a script: `#!`, without `[`
+/// after it.
+fn is_script_mark(first: u8, second: u8, third: u8) -> bool
+    ensures { result ≡ is_script_mark first second third }
+{
+    (first == b'#') & ((second == b'!') & (third != b'['))
 }
 
 /// Appends the first line of a file that was made from the file with this name.

@@ -1,8 +1,8 @@
 //! Collects and formats the warnings of a file. Called by `logos_cli`, `logos_expand` and
 //! `logos_show`.
 
-ghost use Rattle.std.specs.Prelude.{◌≡◌, IfOk, [], string_bytes};
-ghost use Rattle.logos_page.specs.Pages.{Shows};
+ghost use Rattle.std.specs.Prelude.{◌≡◌, ◌++◌, IfOk, [], codes, string_bytes};
+ghost use Rattle.logos_file_warnings.specs.Imports.{AreWarnings, OccurInOrder, Shows, ShowsWarnings, shown_of, warnings_texts};
 
 use logos_causes::{Lexer, accepted_warnings};
 use logos_host::MessageFormat;
@@ -138,7 +138,7 @@ fn spans_of(alloc: Global, found: &[FoundEnum]) -> Result<Vec<Span>, AllocError>
 
 /// Appends the warnings of a file.
 pub fn push_warned(page: &mut Page, source: &Source<'_>, warned: &[Warning])
-    ensures { Shows [] page.old page.new }
+    ensures { Shows (warnings_texts page.old.is_colored source.now 0 warned.now) page.old page.new }
 {
     push_warnings(page, Part { source, offset: 0 }, warned);
 }
@@ -150,25 +150,51 @@ pub fn warning_text(
     showing: Showing,
     warned: &[Warning],
     is_missing: bool,
-) -> Result<Vec<u8>, Memory> {
+) -> Result<Vec<u8>, Memory>
+    ensures { IfOk result (λ text. ShowsWarnings showing.format source.now warned.now text.items) }
+{
     match showing.format {
-        MessageFormat::Human => {
-            let mut page = Page::new(showing.alloc, showing.is_colored);
-            push_warned(&mut page, source, warned);
-            push_missing(&mut page, source, is_missing);
-            Ok(page.finish()?.into_bytes())
-        }
+        MessageFormat::Human => match warning_report(source, showing, warned, is_missing) {
+            Ok(report) => Ok(report.into_bytes()),
+            Err(AllocError) => Err(Memory),
+        },
         MessageFormat::Json => warning_lines(showing.alloc, source, warned),
     }
 }
 
+/// Returns the report of the warnings of a file. `is_missing` is whether none of its enums derives
+/// `Logos`, which is a line of the report.
+fn warning_report(
+    source: &Source<'_>,
+    showing: Showing,
+    warned: &[Warning],
+    is_missing: bool,
+) -> Result<String, AllocError>
+    ensures { IfOk result (λ report. OccurInOrder
+        (warnings_texts showing.is_colored source.now 0 warned.now) (string_bytes report)) }
+{
+    let mut page = Page::new(showing.alloc, showing.is_colored);
+    push_warned(&mut page, source, warned);
+    push_missing(&mut page, source, is_missing);
+    page.finish()
+}
+
 /// Appends that no enum of a file derives `Logos`, if `is_missing` is set.
-fn push_missing(page: &mut Page, source: &Source<'_>, is_missing: bool) {
+fn push_missing(page: &mut Page, source: &Source<'_>, is_missing: bool)
+    ensures { Shows [] page.old page.new }
+{
     if is_missing {
-        page.push("warning: no enum in ");
-        page.push_shown(source.path());
-        page.push(" derives `Logos`\n");
+        push_missing_line(page, source);
     }
+}
+
+/// Appends that no enum of a file derives `Logos`.
+fn push_missing_line(page: &mut Page, source: &Source<'_>)
+    ensures { Shows [] page.old page.new }
+{
+    page.push("warning: no enum in ");
+    page.push_shown(source.path());
+    page.push(" derives `Logos`\n");
 }
 
 /// Returns a line of JSON for each warning.
@@ -176,7 +202,9 @@ pub fn warning_lines(
     alloc: Global,
     source: &Source<'_>,
     warned: &[Warning],
-) -> Result<Vec<u8>, Memory> {
+) -> Result<Vec<u8>, Memory>
+    ensures { IfOk result (λ lines. AreWarnings source.now 0 (shown_of warned.now) lines.items) }
+{
     let mut lines = Vec::new(alloc);
     push_warning_messages(alloc, &mut lines, Part { source, offset: 0 }, warned)?;
     Ok(lines)
@@ -187,11 +215,24 @@ pub fn denial_text(
     source: &Source<'_>,
     showing: Showing,
     warned: &[Warning],
-) -> Result<String, Memory> {
-    let mut text = text_of(warning_text(source, showing, warned, false)?)?;
-    if let MessageFormat::Human = showing.format {
-        text.push_str("error: warnings are denied by `--deny-warnings`\n")?;
+) -> Result<String, Memory>
+    ensures { IfOk result (λ text. ShowsWarnings showing.format source.now warned.now
+        (string_bytes text)) }
+{
+    let text = text_of(warning_text(source, showing, warned, false)?)?;
+    match showing.format {
+        MessageFormat::Human => denied(text),
+        MessageFormat::Json => Ok(text),
     }
+}
+
+/// Returns a report of warnings with the line that they are denied.
+fn denied(report: String) -> Result<String, Memory>
+    ensures { IfOk result (λ text. string_bytes text ≡ string_bytes report.entry
+        ++ codes "error: warnings are denied by `--deny-warnings`\n") }
+{
+    let mut text = report;
+    text.push_str("error: warnings are denied by `--deny-warnings`\n")?;
     Ok(text)
 }
 

@@ -9,3 +9,5 @@ mod StripEnums
 mod OccurAlike
 mod BuilderLaws
 mod BranchLaws
+mod ShortReports
+mod VariantSums

@@ -4,8 +4,9 @@
 //!
 //! No code calls these functions: the contract of each is a proved law.
 
-ghost use Rattle.std.specs.Prelude.{◌≡◌, ◌<◌, ◌≤◌, ◌↔◌, ℕ, ◌+◌, ◌^◌, Bool, List, Ok, Option, IfSome};
+ghost use Rattle.std.specs.Prelude.{◌≡◌, ◌<◌, ◌≤◌, ◌↔◌, ℕ, suc, ◌+◌, ◌-◌, ◌^◌, ◌++◌, min, Bool, List, Ok, Option, IfSome};
 ghost use Rattle.logos_laws.specs.readings.Imports.{EnumValue, Piece, Reads, TokenList, pieces, stripped, in_file, moved, OccurInReport, OccurInText, ArePieces, EnumStays, IsBytes, Matches, MatchesInOrder, SomeMatches, Tree, repetition, trees, alternation_of, concat_of, repetition_of};
+ghost use Rattle.logos_laws.specs.readings.Imports.{AreFew, AreOfVariant, CodeLeaf, HaveNoSets, Refused, SourceValue, all_faults, all_lines, code_variant, lines_from, refused_texts, variant_line};
 
 /// The pieces of an argument are its first piece, and then the pieces of the tokens after that
 /// piece and its comma.
@@ -54,4 +55,23 @@ pub fn builders_change_no_match()
         (bytes : List ℕ) (from to : ℕ) → IfSome most (λ m. least ≤ m) →
         Matches (repetition_of least most greedy body) bytes from to
         ↔ Matches (repetition least most greedy body) bytes from to }
+{}
+
+/// A report in which at most 50 faults have the same code, and in which no set of ambiguous leaves
+/// has a clue, has the lines of each fault, in order, and no others.
+pub fn short_reports_are_whole()
+    ensures { (is_colored : Bool) (source : SourceValue) (parts : List Refused) →
+        HaveNoSets parts → AreFew (all_faults parts) →
+        refused_texts is_colored source parts ≡ all_lines is_colored source parts }
+{}
+
+/// If some leaves in turn are all those of a variant from the first of them on, the next line of
+/// the totals has the sum of their numbers of items, if that is not zero and fits into 64 bits.
+/// The lines after it are those of the leaves after them.
+pub fn totals_are_sums()
+    ensures { (leaves : List CodeLeaf) (counts : List ℕ) (from size last total left : ℕ) →
+        AreOfVariant leaves counts from size last total →
+        lines_from leaves counts from 0 (size + left)
+        ≡ variant_line (code_variant leaves last) (min total (2 ^ 64 - 1))
+        ++ lines_from leaves counts (suc last) 0 left }
 {}

@@ -1,6 +1,8 @@
 -- The documentation and the attributes of a file itself, as plain comments.
-use Rattle.std.specs.Prelude.{◌≡◌, ◌⊎◌, ℕ, ◌==◌, if◌then◌else◌, Bool, false, length, List, ◌∷◌, ◌++◌, Option, Some, None}
+use Rattle.std.specs.Prelude.{◌≡◌, ◌⊎◌, ℕ, ◌==◌, if◌then◌else◌, Bool, false, List, ◌∷◌, ◌++◌, Option, Some, None}
+use Rattle.logos_layout.specs.Layout.{ArePrinted}
 use Rattle.logos_lexeme.specs.declared.lexeme.Delimiter.TheVariants.{Bracket}
+use Rattle.logos_token.specs.Printing.{printed}
 use Rattle.logos_token.specs.Spelling.{Spells}
 use Rattle.logos_token.specs.Tokens.{TokenList, punctuation, doc, group, none, also}
 
@@ -26,29 +28,21 @@ after_inner (also (doc text span) rest) = if is_inner text then Some rest else N
 after_inner (also (punctuation character spacing span) rest) = if character == 35 then after_mark rest else None
 after_inner run = None
 
--- All these tokens are inner documentation comments and attributes.
-pub data AreInner : TokenList → Type 0 where
-  ended : AreInner none
-  next : {run rest : TokenList} → after_inner run ≡ Some rest → AreInner rest → AreInner run
+-- The second run is the rest of the first one after inner documentation comments and attributes
+-- that come first in it.
+pub data FollowsInner (run : TokenList) : TokenList → Type 0 where
+  begun : FollowsInner run run
+  next : {rest after : TokenList} → FollowsInner run rest → after_inner rest ≡ Some after → FollowsInner run after
 
 -- A text spells only inner documentation comments and attributes.
 pub record IsInnerText (text : List ℕ) : Type 0 where
   pub tokens : TokenList
   pub spelled : Spells text tokens
-  pub are : AreInner tokens
-
--- A text begins with inner documentation comments and attributes alone, up to an offset, and a
--- plain text that replaces them spells nothing.
-pub record IsPlainFront (text : List ℕ) (to : ℕ) (plain : List ℕ) : Type 0 where
-  pub front : List ℕ
-  pub rest : List ℕ
-  pub is : text ≡ front ++ rest
-  pub ends : length front ≡ to
-  pub inner : IsInnerText front
-  pub bare : Spells plain none
+  pub are : FollowsInner tokens none
 
 -- The second text is the first one, except that a prefix that spells only inner documentation
--- comments and attributes is replaced by one that spells nothing.
+-- comments and attributes is replaced by one that spells nothing. Its tokens print as those do that
+-- come after them in the first text.
 pub record IsPlainly (text made : List ℕ) : Type 0 where
   pub front : List ℕ
   pub plain : List ℕ
@@ -57,6 +51,11 @@ pub record IsPlainly (text made : List ℕ) : Type 0 where
   pub made_is : made ≡ plain ++ rest
   pub inner : IsInnerText front
   pub bare : Spells plain none
+  pub tokens : TokenList
+  pub after : TokenList
+  pub spelled : Spells text tokens
+  pub follows : FollowsInner tokens after
+  pub again : ArePrinted made (printed after)
 
 -- The second text is the first one with its inner documentation and attributes as plain comments,
 -- or the first one unchanged.

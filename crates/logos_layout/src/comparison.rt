@@ -1,4 +1,4 @@
-//! Compares the tokens of two texts. Used by `layout` and `writer`.
+//! Compares the tokens of two texts. Used by `layout`, `inner_attributes` and `writer`.
 
 ghost use Rattle.std.specs.Prelude.{IfOk, IfSome, IsTrue, string_bytes};
 ghost use Rattle.logos_layout.specs.Imports.{ArePrinted, SpellsSame};

@@ -2,47 +2,66 @@
 //! `logos_expand`.
 
 ghost use Rattle.std.specs.Prelude.{◌≡◌, ◌<◌, IfOk, IfSome, IsTrue, MatchOption, None, Some, string_bytes};
-ghost use Rattle.logos_layout.specs.Imports.{AreInner, IsInnerText, IsPlainFront, Spells, after_brackets, after_inner, after_mark, count_of, is_inner, none, tokens_of};
+ghost use Rattle.logos_layout.specs.Imports.{FollowsInner, IsInnerText, IsPlainly, Spells, after_brackets, after_inner, after_mark, count_of, is_inner, none, tokens_of};
 
+use crate::comparison::prints_as;
 use crate::plain_comments::plain_text;
 use logos_token::error::Memory;
-use logos_token::token::{Delimiter, TokenError, TokenTree, Tokens, tokenize};
+use logos_token::token::{Delimiter, TokenError, TokenTree, Tokens, print, tokenize};
 use std::alloc::Global;
 
-/// Plain comments that replace the documentation and the attributes of a file itself.
-#[derive(Drop)]
-pub struct PlainFront {
-    /// Where these end in the file, in bytes.
-    pub to: usize,
-    /// The comments.
-    pub text: String,
+/// Returns whether inner documentation or inner attributes come first in a Rust file with these
+/// tokens.
+pub fn has_inner(tokens: Tokens<'_, '_>) -> bool {
+    read_inner(tokens).0 > 0
 }
 
-/// Returns plain comments for the inner documentation and the inner attributes that come first in a
-/// Rust file with these tokens: `//!` is `//`, `/*!` is `/*`, and `#![..]` is put into `/* */`. So
-/// another file can include it.
+/// Returns a Rust file with plain comments for the inner documentation and the inner attributes
+/// that come first in it: `//!` is `//`, `/*!` is `/*`, and `#![..]` is put into `/* */`. So
+/// another file can include it. It has the tokens that come after them.
 ///
-/// `None` if nothing of this kind comes first, or if the attributes would end these comments.
+/// `None` if the file cannot be read into tokens, if nothing of this kind comes first, or if the
+/// attributes would end these comments.
 ///
 /// # Errors
 ///
 /// Returns `Memory` if memory runs out.
-pub fn plain_front(
+pub fn without_inner(alloc: Global, file: &str) -> Result<Option<String>, Memory>
+    ensures { IfOk result (λ found. IfSome found
+        (λ made. IsPlainly file.now (string_bytes made))) }
+{
+    match tokenize(alloc, file) {
+        Ok(stream) => without_front(alloc, file, stream.run()),
+        Err(TokenError::Memory) => Err(Memory),
+        Err(_) => Ok(None),
+    }
+}
+
+/// Returns a file that has these tokens with plain comments for those that are about the file
+/// itself, like `without_inner`.
+fn without_front(
     alloc: Global,
     file: &str,
     tokens: Tokens<'_, '_>,
-) -> Result<Option<PlainFront>, Memory>
+) -> Result<Option<String>, Memory>
+    requires { Spells file.now (tokens_of tokens) }
     ensures { IfOk result (λ found. IfSome found
-        (λ front. IsPlainFront file.now front.to (string_bytes front.text))) }
+        (λ made. IsPlainly file.now (string_bytes made))) }
 {
-    let to = read_inner(tokens).0;
-    let Some((front, _)) = file.split_at_checked(to) else {
+    let (to, after) = read_inner(tokens);
+    let Some((front, rest)) = file.split_at_checked(to) else {
         return Ok(None);
     };
-    match plain_comments(alloc, front)? {
-        Some(text) => Ok(Some(PlainFront { to, text })),
-        None => Ok(None),
+    let Some(plain) = plain_comments(alloc, front)? else {
+        return Ok(None);
+    };
+    let mut made = plain;
+    made.push_str(rest)?;
+    let printed = print(alloc, after)?;
+    if prints_as(alloc, made.as_str(), printed.as_str())? {
+        return Ok(Some(made));
     }
+    Ok(None)
 }
 
 /// Returns the plain comments that replace a text of inner documentation comments and attributes.
@@ -66,7 +85,7 @@ fn is_inner_text(alloc: Global, text: &str) -> Result<bool, Memory>
     ensures { IfOk result (λ is. IsTrue is → IsInnerText text.now) }
 {
     match tokenize(alloc, text) {
-        Ok(stream) => Ok(read_inner(stream.run()).1),
+        Ok(stream) => Ok(is_all_inner(stream.run())),
         Err(TokenError::Memory) => Err(Memory),
         Err(_) => Ok(false),
     }
@@ -83,10 +102,17 @@ fn is_bare(alloc: Global, text: &str) -> Result<bool, Memory>
     }
 }
 
+/// Returns whether a run has only inner documentation comments and attributes.
+fn is_all_inner(run: Tokens<'_, '_>) -> bool
+    ensures { IsTrue result → FollowsInner (tokens_of run.entry) none }
+{
+    read_inner(run).1.is_empty()
+}
+
 /// Returns the byte offset at which the leading inner documentation comments and attributes of a
-/// run end, and whether they are all of it.
-fn read_inner(run: Tokens<'_, '_>) -> (usize, bool)
-    ensures { IsTrue result.1 → AreInner (tokens_of run.entry) }
+/// run end, or 0 if there are none, and the tokens after them.
+fn read_inner<'t, 's>(run: Tokens<'t, 's>) -> (usize, Tokens<'t, 's>)
+    ensures { FollowsInner (tokens_of run.entry) (tokens_of result.1) }
 {
     let mut rest = run;
     let mut end = 0;
@@ -94,7 +120,7 @@ fn read_inner(run: Tokens<'_, '_>) -> (usize, bool)
         end = to;
         rest = next;
     }
-    (end, rest.is_empty())
+    (end, rest)
 }
 
 /// Returns the byte offset at which the first inner documentation comment or attribute ends, and

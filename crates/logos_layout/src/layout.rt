@@ -4,6 +4,7 @@ ghost use Rattle.std.specs.Prelude.{IfOk, string_bytes};
 ghost use Rattle.logos_layout.specs.Imports.{IsLaidOut};
 
 use crate::comparison::spell_same;
+use crate::ends::is_closed;
 use crate::line_breaks::lines_of;
 use logos_token::error::Memory;
 use std::alloc::Global;
@@ -32,8 +33,9 @@ pub struct Setting<'n> {
 /// after the braces of blocks, after commas between braces, after attributes and comments, and
 /// where the text has a line end. Short braces stay on one line.
 ///
-/// A text that cannot be read into tokens, or is longer than 16,777,216 bytes in lines, is returned
-/// unchanged.
+/// The lines end with the last token, a group in braces. A text that ends otherwise, that cannot be
+/// read into tokens, or that is longer than 16,777,216 bytes in lines, is returned unchanged, with
+/// LF after it.
 ///
 /// # Errors
 ///
@@ -42,15 +44,20 @@ pub fn lay_out(alloc: Global, text: &str, setting: Setting<'_>) -> Result<String
     ensures { IfOk result (λ laid. IsLaidOut text.now (string_bytes laid)) }
 {
     let laid = lines_of(alloc, text, setting)?;
-    if spell_same(alloc, text, laid.as_str())? {
+    if !spell_same(alloc, text, laid.as_str())? {
+        return unchanged(alloc, text);
+    }
+    if is_closed(alloc, laid.as_str())? {
         return Ok(laid);
     }
     unchanged(alloc, text)
 }
 
-/// Returns a text unchanged.
+/// Returns a text unchanged, with LF after it.
 fn unchanged(alloc: Global, text: &str) -> Result<String, Memory>
     ensures { IfOk result (λ laid. IsLaidOut text.now (string_bytes laid)) }
 {
-    Ok(String::from_str(alloc, text)?)
+    let mut laid = String::from_str(alloc, text)?;
+    laid.push_str("\n")?;
+    Ok(laid)
 }

@@ -7,6 +7,7 @@ mod blanks;
 mod classes;
 mod comparison;
 mod conditions;
+mod ends;
 mod inner_attributes;
 mod kept_lexemes;
 mod layout;
@@ -19,6 +20,6 @@ mod without_derive;
 mod writer;
 
 pub use conditions::push_conditions;
-pub use inner_attributes::{PlainFront, plain_front};
+pub use inner_attributes::{has_inner, without_inner};
 pub use layout::{Note, Setting, lay_out};
 pub use writer::write_left;

@@ -1,5 +1,5 @@
 -- The steps of gathering the results of the enums of a file.
-use Rattle.std.specs.Prelude.{◌≡◌, ℕ, ◌<◌, ◌≤◌, Bool, List, [], ◌∷◌, ◌++◌, length, map, string_bytes}
+use Rattle.std.specs.Prelude.{◌≡◌, ℕ, Bool, List, [], ◌∷◌, ◌++◌}
 use Rattle.logos_code.specs.Code.{CodeValue}
 use Rattle.logos_tables.specs.declared.shape.Shape.{Shape}
 use Rattle.logos_expand.specs.declared.expansion.Gathered.{Gathered}
@@ -10,51 +10,14 @@ use Rattle.logos_expand.specs.Expanding.{IsGuarded, under}
 use Rattle.logos_tables.specs.Shapes.{IsShown}
 use Rattle.logos_text.specs.Fronts.{AroundValue}
 use Rattle.logos_expand.specs.Gathering.{Gathers}
-use Rattle.logos_expand.specs.Heads.{IsHeaded}
-use Rattle.logos_layout.specs.declared.inner_attributes.PlainFront.{PlainFront}
-use Rattle.logos_layout.specs.Inner.{IsPlainFront}
 use Rattle.logos_layout.specs.Layout.{IsLaidOut}
 use Rattle.logos_rust_file.specs.declared.finder.FoundEnum.{FoundEnum}
 use Rattle.logos_rust_file.specs.declared.replacement.Replacement.{Replacement}
-use Rattle.logos_rust_file.specs.Replacing.{AreInOrder, part_span, replaced}
 use Rattle.logos_rust_file.specs.Handed.{Refusal}
 use Rattle.logos_rust_file.specs.Handed as refusals
 use Rattle.logos_rust_file.specs.Handed.{IsStripped}
 use Rattle.logos_token.specs.Faults.{Fault}
 use Rattle.logos_token.specs.Tokens.{TokenList}
-
--- A part replaces the documentation and the attributes of a file itself, before all other parts.
-pub record IsInnerPart (text : List ℕ) (parts : List Replacement) (part : Replacement) : Type 0 where
-  pub starts : part.span.from ≡ 0
-  pub some : 0 < part.span.to
-  pub plain : IsPlainFront text part.span.to (string_bytes part.text)
-  pub order : AreInOrder part.span.to (map part_span parts) (length text)
-
--- Such a part was added to those of a file, or none.
-pub data AddsInner (text : List ℕ) (parts : List Replacement) : List Replacement → Type 0 where
-  same : AddsInner text parts parts
-  added : {first : Replacement} {rest : List Replacement} {part : Replacement} → parts ≡ first ∷ rest → IsInnerPart text parts part → AddsInner text parts (part ∷ parts)
-
--- The first of some parts begins at an offset that is not 0, or after it.
-pub record IsBefore (to : ℕ) (parts : List Replacement) : Type 0 where
-  pub first : Replacement
-  pub rest : List Replacement
-  pub are : parts ≡ first ∷ rest
-  pub some : 0 < to
-  pub before : to ≤ first.span.from
-
--- Parts after one that replaces the front of a file.
-pub record HasFront (front : PlainFront) (parts whole : List Replacement) : Type 0 where
-  pub part : Replacement
-  pub are : whole ≡ part ∷ parts
-  pub starts : part.span.from ≡ 0
-  pub ends : part.span.to ≡ front.to
-  pub text : string_bytes part.text ≡ string_bytes front.text
-
--- A file with these parts replaced, which has no first line if there are none.
-abbrev pub IsPut : Shape → List ℕ → List Replacement → List ℕ → Type 0
-IsPut shape text [] bytes = bytes ≡ replaced text 0 []
-IsPut shape text (part ∷ parts) bytes = IsHeaded shape (replaced text 0 (part ∷ parts)) bytes
 
 -- One more enum was gathered: its result was appended.
 pub record GathersOne (shape : Shape) (text : List ℕ) (one : FoundEnum) (old new : Gathered) : Type 0 where
