@@ -80,7 +80,7 @@ enum Bytes {
 """
 LINES = """#[derive(Logos)]
 enum Lines {
-    #[regex("[^\\n]+")]
+    #[regex("[^\\n]+", allow_greedy = true)]
     Line,
     #[token("\\n")]
     End,

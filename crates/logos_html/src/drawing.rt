@@ -2,7 +2,7 @@
 
 use crate::classes::push_class;
 use crate::html::Html;
-use crate::layers::{Layers, Cell, layers_of};
+use crate::layers::{Cell, Layers, layers_of};
 use logos_answers::name_at;
 use logos_graph::graph::{Graph, StateData, StateType};
 use std::alloc::{AllocError, Global};

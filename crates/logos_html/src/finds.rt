@@ -26,7 +26,7 @@ pub(crate) fn first_items<'i>(
 ) -> Result<Vec<Item<'i>>, Failure<'static>>
     ensures text { IfOk result (λ items. IsTrue code.now.utf8 → IsUtf8 input.now) }
     ensures items { IfOk result (λ items.
-        Begins code.now emits input.now 0 (map item_of items.items)) }
+        Begins code.now emits input.now 0 most (map item_of items.items)) }
     ensures failed { IfErr result IsNoMisuse }
 {
     let emit = |_leaf: LeafId, _slice: &[u8]| Action::Emit;
@@ -50,7 +50,7 @@ fn next_items<'i, C: Fn(LeafId, &[u8]) -> Action>(
 ) -> Result<Vec<Item<'i>>, AllocError>
     requires { TakesMatches C.Fn lexer.old.code lexer.old.callback }
     ensures { IfOk result (λ items. Begins lexer.old.code (answers_of C.Fn lexer.old.callback)
-        lexer.old.input lexer.old.to (map item_of items.items)) }
+        lexer.old.input lexer.old.to most (map item_of items.items)) }
 {
     let mut items = Vec::new(alloc);
     while let Some(item) = lexer.next() {

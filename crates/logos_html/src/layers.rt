@@ -44,7 +44,7 @@ pub(crate) fn layers_of(alloc: Global, states: &[&StateData]) -> Result<Layers, 
 }
 
 /// Returns the number of states in a column, and adds one to it.
-fn next_row(filled: &mut [usize], column: usize) -> usize {
+fn next_row(filled: &mut Vec<usize>, column: usize) -> usize {
     if column < filled.len() {
         let row = filled[column];
         filled[column] = row.saturating_add(1);
@@ -74,7 +74,7 @@ fn columns_of(alloc: Global, states: &[&StateData]) -> Result<Vec<usize>, AllocE
 
 /// Reaches the targets of the edges of the state that was reached at this number, if there is one.
 fn reach_next(
-    columns: &mut [usize],
+    columns: &mut Vec<usize>,
     reached: &mut Vec<usize>,
     states: &[&StateData],
     at: usize,
@@ -113,7 +113,7 @@ fn column_at(columns: &[usize], state: usize) -> usize {
 
 /// Reaches a state in a column, if it was not reached before.
 fn reach(
-    columns: &mut [usize],
+    columns: &mut Vec<usize>,
     reached: &mut Vec<usize>,
     state: usize,
     column: usize,

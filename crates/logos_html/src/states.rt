@@ -11,7 +11,7 @@ const LISTED: usize = 1000;
 /// The maximum number of ranges of an edge that are shown.
 const RANGES: usize = 12;
 
-/// Appends the section of the states of a graph, of which there are `count`.
+/// Appends the section of the states of a graph.
 pub(crate) fn push_states(html: &mut Html, graph: &Graph<'_>, states: &[&StateData]) {
     html.push_markup(
         "<section id=\"states\" aria-labelledby=\"states-title\">
@@ -30,8 +30,8 @@ entered. Sets of bytes are written as in a pattern.</p>
 <tbody>
 ",
     );
-    for number in 0..states.len().min(LISTED) {
-        push_state(html, graph, number, states[number]);
+    for number in 0..states.len() {
+        push_listed(html, graph, number, states[number]);
     }
     html.push_markup("</tbody>\n</table>\n</div>\n</section>\n");
 }
@@ -44,6 +44,13 @@ fn push_cut(html: &mut Html, count: usize) {
         html.push_markup(" of ");
         html.push_number(count);
         html.push_markup(" states are listed.</p>\n");
+    }
+}
+
+/// Appends the row of a state, if it is listed.
+fn push_listed(html: &mut Html, graph: &Graph<'_>, number: usize, state: &StateData) {
+    if number < LISTED {
+        push_state(html, graph, number, state);
     }
 }
 
