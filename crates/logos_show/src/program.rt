@@ -21,7 +21,7 @@ use logos_options::{
 use logos_questions::{Question, RequestKind, ShowOrder, ShowRequest, request_of};
 use logos_replies::{Agreement, write_agreement};
 use logos_report::Source;
-use std::alloc::Global;
+use std::alloc::{AllocError, Global};
 use std::io::{Input as StandardInput, IsTerminal, Write};
 use std::time::Clock;
 
@@ -230,8 +230,14 @@ fn answer<'w, F: Files, C: Clock + StandardInput, O: Write, E: Write>(
         files.old files.new agreement (O.contents out.old) (O.contents out.new)) }
 {
     let path = task.order.file;
-    let text = read_text(path, files)?;
-    let source = Source::new(task.showing.alloc, path, text.as_str())?;
+    let text = match read_text(path, files) {
+        Ok(text) => text,
+        Err(failure) => return Err(failure),
+    };
+    let source = match Source::new(task.showing.alloc, path, text.as_str()) {
+        Ok(source) => source,
+        Err(AllocError) => return Err(Failure::Memory),
+    };
     answer_about(task, &source, files, clock, err, out)
 }
 
