@@ -8,8 +8,7 @@ use crate::errors::errors_of;
 use crate::warnings::warnings_of;
 use logos_causes::{Explained, Lexer, accepted_warnings, explain_enum};
 use logos_codegen::{Generated, Refusal, generate};
-use logos_help::add_helps;
-use logos_report::{Part, Source};
+use logos_report::{Helps, Part, Source};
 use logos_tables::{Shape, config_of, lexer_text};
 use logos_text::Sink;
 use logos_token::error::{Errors, Memory};
@@ -28,19 +27,24 @@ pub struct Derivation {
 
 /// Returns the derivation of the enum that a source spells. An enum without faults is accepted: it
 /// has an implementation in this shape, and no errors. One with faults is refused, with at least
-/// one error. Both may have warnings.
+/// one error, and the helps for it. Both may have warnings.
 ///
 /// # Errors
 ///
 /// Returns `Memory` if memory runs out.
-pub fn derive(alloc: Global, source: &str, shape: Shape) -> Result<Derivation, Memory>
+pub fn derive<H: Helps>(
+    alloc: Global,
+    source: &str,
+    shape: Shape,
+    helps: &H,
+) -> Result<Derivation, Memory>
     // The text is that of the lexer of the source, with the pieces in it, or the errors are those
     // for the faults of the source.
     ensures { IfOk result (IsDerivation shape source.now) }
 {
     match generate(alloc, source, config_of(shape)) {
         Ok(made) => accepted(alloc, source, shape, &made),
-        Err(Refusal::Errors(errors)) => refused(alloc, source, &errors),
+        Err(Refusal::Errors(errors)) => refused(alloc, source, &errors, helps),
         Err(Refusal::Memory) => Err(Memory),
     }
 }
@@ -90,11 +94,16 @@ fn warnings_with(
 }
 
 /// Returns the derivation of a refused source, which has these faults.
-fn refused(alloc: Global, source: &str, errors: &Errors) -> Result<Derivation, Memory>
+fn refused<H: Helps>(
+    alloc: Global,
+    source: &str,
+    errors: &Errors,
+    helps: &H,
+) -> Result<Derivation, Memory>
     ensures { IfOk result (IsRefusedFor source.now errors.now) }
 {
     let mut known = explain_enum(alloc, source, Origin::Macro)?;
-    let diagnostics = diagnostics_of(alloc, source, errors, &mut known)?;
+    let diagnostics = diagnostics_of(alloc, source, errors, helps, &mut known)?;
     Ok(Derivation {
         implementation: None,
         diagnostics,
@@ -102,10 +111,11 @@ fn refused(alloc: Global, source: &str, errors: &Errors) -> Result<Derivation, M
 }
 
 /// Returns the errors and then the warnings for a refused source, given its explanation.
-fn diagnostics_of(
+fn diagnostics_of<H: Helps>(
     alloc: Global,
     source: &str,
     errors: &Errors,
+    helps: &H,
     known: &mut Explained,
 ) -> Result<Vec<Diagnostic>, Memory>
     ensures { IfOk result (λ diagnostics. HasErrors (sizes_of known.old.clues) errors.now
@@ -116,7 +126,7 @@ fn diagnostics_of(
         source: &text,
         offset: 0,
     };
-    add_helps(part, errors, &mut known.clues)?;
+    helps.add(part, errors, &mut known.clues)?;
     let mut diagnostics = errors_of(alloc, part, errors.list(), &known.clues)?;
     let mut warnings = warnings_of(alloc, &known.warnings)?;
     diagnostics.append(&mut warnings)?;

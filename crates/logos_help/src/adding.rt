@@ -5,9 +5,19 @@ ghost use Rattle.logos_report.specs.Views.{sizes_of};
 
 use crate::codes::help_for;
 use crate::sight::Sight;
-use logos_report::{Clues, Part};
+use logos_report::{Clues, Helps, Part};
 use logos_token::error::{Errors, Memory, SpannedError};
 use logos_token::token::Span;
+
+/// The helps of this crate, for callers that take any.
+#[derive(Clone, Copy)]
+pub struct FaultHelps;
+
+impl Helps for FaultHelps {
+    fn add(&self, part: Part<'_, '_>, errors: &Errors, clues: &mut Clues) -> Result<(), Memory> {
+        add_helps(part, errors, clues)
+    }
+}
 
 /// Adds to `clues` the help for each of the faults of a part of a file, in order. Reports show it
 /// under the fault.

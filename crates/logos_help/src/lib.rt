@@ -9,6 +9,6 @@ mod patterns;
 mod sight;
 mod sights;
 
-pub use adding::add_helps;
+pub use adding::{FaultHelps, add_helps};
 pub use codes::help_for;
 pub use sight::Sight;

@@ -33,6 +33,7 @@ rows =
     ∷ row options.Json (codes "--json") None false Setting false true
     ∷ row options.Expect (codes "--expect") None true Setting false true
     ∷ row options.Compare (codes "--compare") None false Question false true
+    ∷ row options.Html (codes "--html") None true Question false true
     ∷ row options.Color (codes "--color") None true Setting true true
     ∷ row options.DenyWarnings (codes "--deny-warnings") None false Setting true true
     ∷ row options.MessageFormat (codes "--message-format") None true Setting true true
@@ -52,11 +53,12 @@ number options.Inputs = 6
 number options.Json = 7
 number options.Expect = 8
 number options.Compare = 9
-number options.Color = 10
-number options.DenyWarnings = 11
-number options.MessageFormat = 12
-number options.Help = 13
-number options.Version = 14
+number options.Html = 10
+number options.Color = 11
+number options.DenyWarnings = 12
+number options.MessageFormat = 13
+number options.Help = 14
+number options.Version = 15
 
 -- The row of an option.
 abbrev pub row_of : OptionName → OptionRowValue

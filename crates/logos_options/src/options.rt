@@ -17,6 +17,7 @@ pub enum OptionName {
     Json,
     Expect,
     Compare,
+    Html,
     Color,
     DenyWarnings,
     MessageFormat,
@@ -25,7 +26,7 @@ pub enum OptionName {
 }
 
 /// The number of options.
-pub(crate) const OPTIONS: usize = 15;
+pub(crate) const OPTIONS: usize = 16;
 
 /// The effect of an option.
 #[derive(Clone, Copy, Debug, PartialEq, Eq)]
@@ -181,6 +182,19 @@ pub(crate) const ROWS: [OptionRow; OPTIONS] = [
         show: Some(
             "      --compare     print whether the lexers of two files find the same, or a
                     shortest text on which they do not; status 1 if they differ
+",
+        ),
+    },
+    OptionRow {
+        option: OptionName::Html,
+        word: "--html",
+        letter: None,
+        has_value: true,
+        role: OptionRole::Question,
+        cli: None,
+        show: Some(
+            "      --html PAGE   write a page about the lexer to the file PAGE: its leaves, its
+                    states, and INPUT with its items marked; `-` prints it
 ",
         ),
     },

@@ -8,6 +8,7 @@ mod fault_set;
 mod faults;
 mod file_report;
 mod frame;
+mod helps;
 mod notes;
 mod pattern_caret;
 mod sets;
@@ -23,6 +24,7 @@ pub use faults::{
 };
 pub use file_report::{FaultListing, Refused, count_in, push_refused, seen_in};
 pub use frame::{push_frame, push_location};
+pub use helps::Helps;
 pub use notes::push_put_in;
 pub use pattern_caret::{PutIn, caret_span, put_in};
 pub use source::{Part, Source};

@@ -1,3 +1,2 @@
 pub mod ChoiceLemmas
 pub mod RunLemmas
-pub mod VerdictLemmas

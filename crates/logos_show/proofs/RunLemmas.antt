@@ -1,5 +1,5 @@
 -- The lexers of files, and the answers about them.
-use Rattle.std.proofs.Common.{◌≡◌, ℕ, Bool, List, [], Option, Some, Result, Ok, Err, IfOk, OnOk, Fits, w8, get_or, subst}
+use Rattle.std.proofs.Common.{◌≡◌, ℕ, Bool, List, [], Option, Some, Result, Ok, Err, IfOk, OnOk, Fits, w8, get_or, refl, subst}
 use Rattle.std.proofs.Math.Facts.{Fits-lt-pow}
 use Rattle.std.proofs.lemmas.Grind.{get_or_default_zero}
 use Rattle.logos_automaton.specs.Faults.{AllStart}
@@ -10,17 +10,18 @@ use Rattle.logos_enum.specs.Values.{Slice}
 use Rattle.logos_graph.specs.GraphOf.{IsGraphOf}
 use Rattle.logos_graph.specs.View.{GraphValue, rules_of}
 use Rattle.logos_hir.specs.Text.{IsBytes}
+use Rattle.logos_host.specs.Reading.{Reads}
 use Rattle.logos_lines.specs.declared.location.Location.{Location}
 use Rattle.logos_report.specs.Locations.{SourceValue}
 use Rattle.logos_rust_file.specs.declared.finder.FoundEnum.{FoundEnum}
 use Rattle.logos_answers.proofs.ExampleLemmas.{all_start}
-use Rattle.logos_show.specs.Answers.{PrintsAgreement}
+use Rattle.logos_replies.specs.Answers.{PrintsAgreement}
 use Rattle.logos_show.specs.Choices.{IsLexerOf}
 use Rattle.logos_show.specs.Parts.{IsPartAt}
-use Rattle.logos_show.specs.Runs.{Answers, ComparesFiles, ComparesTo, Expects, IsLexerIn, PrintsInputsAs, PrintsMatchesAs, ShowsInputsOf, ShowsMatchesOf, is_json, name_in, shape}
-use Rattle.logos_show.specs.Verdicts.{PrintsVerdict}
-use Rattle.logos_show.specs.declared.replies.Agreement.{Agreement}
-use Rattle.logos_show.specs.questions.Orders.{OrderValue}
+use Rattle.logos_show.specs.Runs.{Answers, AnswersAbout, ComparesFiles, ComparesTo, Expects, IsLexerIn, PrintsInputsAs, PrintsMatchesAs, ShowsInputsOf, ShowsMatchesOf, is_json, name_in, shape}
+use Rattle.logos_replies.specs.Verdicts.{PrintsVerdict}
+use Rattle.logos_replies.specs.declared.replies.Agreement.{Agreement}
+use Rattle.logos_questions.specs.Orders.{OrderValue}
 
 -- the elements of a slice of bytes are bytes
 pub are_bytes : (bytes : List ℕ) → ((i : ℕ) → Fits w8 (get_or bytes i 0)) → IsBytes bytes
@@ -92,3 +93,33 @@ expected yields order path files read after stored first made outcome y e answer
   holds = (made, outcome, subst (λ bytes. Answers yields order read after outcome (Some bytes) (Some made)) e answers, subst (λ bytes. PrintsAgreement path bytes made agreement old new) same (subst (λ bytes. PrintsAgreement path given bytes agreement old new) is h));
 }
 expected yields order path files read after stored first made outcome y e answers old new given answer same is (Err x) h = tt
+
+module _ {F : Type 0} (yields : F → List ℕ → List ℕ → F → Type 0) (order : OrderValue) (files read : F) (text shown : List ℕ) (same : shown ≡ text) (old new : Option (List ℕ)) {E : Type 0} (result : Result Agreement E) where
+  -- a lexer, compared with that of a file that was read
+  pub compared_reading : (file : SourceValue) (path : List ℕ) → yields files path text read → (other : SourceValue) → other ≡ record { path = path; text = shown } →
+      IfOk result (λ agreement. ComparesFiles order file other agreement old new) →
+      IfOk result (λ agreement. Reads yields files path (λ bytes after. (read ≡ after) × ComparesFiles order file (record { path = path; text = bytes }) agreement old new))
+  compared_reading file path given other is h = compared result h where
+    compared : (r : Result Agreement E) → IfOk r (λ agreement. ComparesFiles order file other agreement old new) →
+        IfOk r (λ agreement. Reads yields files path (λ bytes after. (read ≡ after) × ComparesFiles order file (record { path = path; text = bytes }) agreement old new))
+    compared (Ok agreement) k = record {
+      bytes = text;
+      after = read;
+      given = given;
+      holds = (refl, subst (λ (t : List ℕ). ComparesFiles order file (record { path = path; text = t }) agreement old new) same (subst (λ (s : SourceValue). ComparesFiles order file s agreement old new) is k));
+    }
+    compared (Err error) k = tt
+
+  -- an answer about a file that was read
+  pub answered_reading : (after : F) → yields files order.file text read → (source : SourceValue) → source ≡ record { path = order.file; text = shown } →
+      IfOk result (λ agreement. AnswersAbout yields order order.question source read after agreement old new) → IfOk result (λ agreement. Answers yields order files after agreement old new)
+  answered_reading after given source is h = answered result h where
+    answered : (r : Result Agreement E) → IfOk r (λ agreement. AnswersAbout yields order order.question source read after agreement old new) → IfOk r (λ agreement. Answers yields order files after agreement old new)
+    answered (Ok agreement) k = record {
+      bytes = text;
+      after = read;
+      given = given;
+      holds = subst (λ (t : List ℕ). AnswersAbout yields order order.question (record { path = order.file; text = t }) read after agreement old new) same
+          (subst (λ (s : SourceValue). AnswersAbout yields order order.question s read after agreement old new) is k);
+    }
+    answered (Err error) k = tt

@@ -1,9 +1,6 @@
-pub mod questions
-pub mod Answers
 pub mod Choices
 pub mod Orders
 pub mod Parts
-pub mod Verdicts
 pub mod Runs
 pub mod Imports
 pub mod Views

@@ -14,13 +14,13 @@ use Rattle.logos_options.specs.Paths.{path_named}
 use Rattle.logos_options.specs.declared.options.OptionName.TheVariants as options
 use Rattle.logos_report.specs.Locations.{SourceValue}
 use Rattle.logos_rust_file.specs.declared.finder.FoundEnum.{FoundEnum}
-use Rattle.logos_show.specs.Answers.{PrintsAgreement, PrintsInputRecords, PrintsInputs, PrintsMatchRecords, PrintsMatches}
+use Rattle.logos_replies.specs.Answers.{PrintsAgreement, PrintsInputRecords, PrintsInputs, PrintsMatchRecords, PrintsMatches}
 use Rattle.logos_show.specs.Choices.{IsLexerOf}
 use Rattle.logos_show.specs.Parts.{IsPartAt}
-use Rattle.logos_show.specs.Verdicts.{PrintsVerdict}
-use Rattle.logos_show.specs.declared.replies.Agreement.{Agreement}
-use Rattle.logos_show.specs.declared.replies.Agreement.TheVariants.{Same}
-use Rattle.logos_show.specs.questions.Orders.{OrderValue, QuestionValue, Requested, comparison, examples, inputs, items, leaves, matches, requests_help, requests_showing, requests_version}
+use Rattle.logos_replies.specs.Verdicts.{PrintsVerdict}
+use Rattle.logos_replies.specs.declared.replies.Agreement.{Agreement}
+use Rattle.logos_replies.specs.declared.replies.Agreement.TheVariants.{Same}
+use Rattle.logos_questions.specs.Orders.{OrderValue, QuestionValue, Requested, comparison, examples, inputs, items, leaves, matches, page, requests_help, requests_showing, requests_version}
 
 -- The shape of the code of the lexers.
 abbrev pub shape : Config
@@ -87,8 +87,8 @@ pub record ShowsInputsOf (order : OrderValue) (text : List ℕ) (most : ℕ) (ol
   pub printed : PrintsInputsAs (is_json order) graph most old new
 
 module _ {F : Type 0} (yields : F → List ℕ → List ℕ → F → Type 0) where
-  -- The question about a file is answered. Nothing is claimed about answers on leaves, items and
-  -- examples.
+  -- The question about a file is answered. Nothing is claimed about answers on leaves, items,
+  -- examples and pages.
   abbrev pub AnswersAbout : OrderValue → QuestionValue → SourceValue → F → F → Agreement → Option (List ℕ) → Option (List ℕ) → Type 0
   AnswersAbout order (comparison other) file files after agreement old new =
       Reads yields files other (λ text read. (after ≡ read) × ComparesFiles order file (record { path = other; text = text }) agreement old new)
@@ -98,6 +98,7 @@ module _ {F : Type 0} (yields : F → List ℕ → List ℕ → F → Type 0) wh
   AnswersAbout order leaves file files after agreement old new = agreement ≡ Same
   AnswersAbout order (items input) file files after agreement old new = agreement ≡ Same
   AnswersAbout order examples file files after agreement old new = agreement ≡ Same
+  AnswersAbout order (page to input) file files after agreement old new = agreement ≡ Same
 
   -- The file is read, and the question about it is answered.
   abbrev pub Answers : OrderValue → F → F → Agreement → Option (List ℕ) → Option (List ℕ) → Type 0

@@ -4,11 +4,12 @@ ghost use Rattle.std.specs.Prelude.{◌≡◌, IfErr, IfOk, IfSome, option_map};
 ghost use Rattle.logos_show.specs.Views.{IsLexerOf, IsNextChoice, IsNoMisuse, IsTaken, chosen_first, first_near, name_requested, taken};
 
 use crate::program::Task;
-use crate::refusals::{refusal_of, refused, write_note};
+use crate::refusals::{refused, write_note};
 use logos_codegen::error::Memory;
 use logos_host::Failure;
 use logos_options::OptionName;
 use logos_page::Page;
+use logos_replies::refusal_of;
 use logos_report::{Part, Source};
 use logos_rust_file::{FoundEnum, enums_in, path_of};
 use std::alloc::Global;

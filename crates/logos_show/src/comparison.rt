@@ -7,13 +7,13 @@ use crate::choice::lexer_in;
 use crate::lexers::{SHAPE, part_of};
 use crate::program::{Task, is_json};
 use crate::refusals::{refused, text_of, write_note};
-use crate::replies::Agreement;
-use crate::verdict::{Judgment, Pair, compare_with};
 use logos_answers::NamedLexer;
 use logos_codegen::{Generated, generate};
 use logos_host::{Failure, Files, read_text};
+use logos_replies::{Agreement, Judgment, Pair, compare_with};
 use logos_report::Source;
 use logos_rust_file::FoundEnum;
+use std::alloc::AllocError;
 use std::io::Write;
 
 /// Writes whether the lexer of another file is equivalent, and returns that.
@@ -31,11 +31,33 @@ pub(crate) fn compare<'w, F: Files, O: Write, E: Write>(
         (record { path = other.now; text = text }) agreement (O.contents out.old)
         (O.contents out.new))) }
 {
-    let other_text = read_text(other, files)?;
-    let other_source = Source::new(task.showing.alloc, other, other_text.as_str())?;
-    let Judgment { agreement, note } = compare_files(task, source, &other_source, err, out)?;
-    write_note(err, note.as_bytes());
-    Ok(agreement)
+    let other_text = match read_text(other, files) {
+        Ok(text) => text,
+        Err(failure) => return Err(failure),
+    };
+    let other_source = match Source::new(task.showing.alloc, other, other_text.as_str()) {
+        Ok(source) => source,
+        Err(AllocError) => return Err(Failure::Memory),
+    };
+    compare_sources(task, source, &other_source, err, out)
+}
+
+/// Writes whether the lexers of two files are equivalent, and a note to standard error, and returns
+/// that.
+fn compare_sources<'w, O: Write, E: Write>(
+    task: Task<'w>,
+    source: &Source<'_>,
+    other: &Source<'_>,
+    err: &mut E,
+    out: &mut O,
+) -> Result<Agreement, Failure<'w>>
+    ensures failed { IfErr result IsNoMisuse }
+    ensures judged { IfOk result (λ agreement. ComparesFiles (order_value task.entry.order) source.now
+        other.now agreement (O.contents out.old) (O.contents out.new)) }
+{
+    let judgment = compare_files(task, source, other, err, out)?;
+    write_note(err, judgment.note.as_bytes());
+    Ok(judgment.agreement)
 }
 
 /// Writes whether the lexers of two files are equivalent, and returns that with a note.

@@ -8,13 +8,11 @@ mod inputs;
 mod items;
 mod lexers;
 mod matches;
+mod page_files;
 mod pages;
 mod program;
-mod questions;
 mod refusals;
-mod replies;
 mod stream;
-mod verdict;
 
 use logos_host::{Disk, arguments};
 use program::run_with;

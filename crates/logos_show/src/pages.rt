@@ -5,7 +5,7 @@ ghost use Rattle.logos_show.specs.Orders.{IsNoMisuse};
 
 use crate::choice::has_name;
 use crate::lexers::SHAPE;
-use crate::refusals::{refusal_of, refused, refused_with, text_of};
+use crate::refusals::{refused, refused_with, text_of};
 use logos_answers::{push_costs, push_examples, push_rows};
 use logos_causes::{Explained, Lexer, explain_enum};
 use logos_codegen::error::Memory;
@@ -22,6 +22,7 @@ use logos_page::Page;
 use logos_records::{
     JsonLines, NamedGraph, push_cost_record, push_example_records, push_leaf_records,
 };
+use logos_replies::refusal_of;
 use logos_report::{Part, Source, Warning};
 use logos_rust_file::{FoundEnum, read_file};
 use logos_warnings::Origin;
@@ -315,7 +316,7 @@ fn push_leaves(
 }
 
 /// Returns the rows of the leaves of an enum.
-fn rows_of<'l>(
+pub(crate) fn rows_of<'l>(
     alloc: Global,
     one: EnumInFile<'_, 'l>,
     made: &'l Generated<'_>,

@@ -8,10 +8,9 @@ use crate::comparison::compare;
 use crate::inputs::yield_inputs;
 use crate::items::lex;
 use crate::matches::{FilePoint, show_matches};
+use crate::page_files::{PageOrder, write_page};
 use crate::pages::{Form, PageStyle, Shown, shown_of};
-use crate::questions::{Question, RequestKind, ShowOrder, ShowRequest, request_of};
 use crate::refusals::write_note;
-use crate::replies::{Agreement, write_agreement};
 use crate::stream::lex_stream;
 use logos_file_warnings::Showing;
 use logos_host::{ComparableFiles, Failure, Files, print_bytes, read_bytes, read_text, report};
@@ -19,8 +18,10 @@ use logos_options::{
     HelpText, OptionName, Program, STANDARD_INPUT, path_by_word, print_help, print_version,
     with_nearest,
 };
+use logos_questions::{Question, RequestKind, ShowOrder, ShowRequest, request_of};
+use logos_replies::{Agreement, write_agreement};
 use logos_report::Source;
-use std::alloc::Global;
+use std::alloc::{AllocError, Global};
 use std::io::{Input as StandardInput, IsTerminal, Write};
 use std::time::Clock;
 
@@ -30,6 +31,7 @@ usage: logos_show FILE [INPUT] [--enum NAME] [--color always|never|auto]
        logos_show FILE --examples
        logos_show FILE --inputs N
        logos_show OLD NEW --compare
+       logos_show FILE [INPUT] --html PAGE
 ";
 
 const HELP: HelpText = HelpText {
@@ -228,8 +230,14 @@ fn answer<'w, F: Files, C: Clock + StandardInput, O: Write, E: Write>(
         files.old files.new agreement (O.contents out.old) (O.contents out.new)) }
 {
     let path = task.order.file;
-    let text = read_text(path, files)?;
-    let source = Source::new(task.showing.alloc, path, text.as_str())?;
+    let text = match read_text(path, files) {
+        Ok(text) => text,
+        Err(failure) => return Err(failure),
+    };
+    let source = match Source::new(task.showing.alloc, path, text.as_str()) {
+        Ok(source) => source,
+        Err(AllocError) => return Err(Failure::Memory),
+    };
     answer_about(task, &source, files, clock, err, out)
 }
 
@@ -255,6 +263,9 @@ fn answer_about<'w, F: Files, C: Clock + StandardInput, O: Write, E: Write>(
             show_matches(task, source, point, files, err, out)
         }
         Question::Inputs(most) => yield_inputs(task, source, most, err, out),
+        Question::Page(to, input) => {
+            as_same(write_page(task, source, PageOrder { to, input }, files, err, out))
+        }
         Question::Items(_) => as_same(lex_any(task, source, files, clock, err, out)),
         Question::Leaves | Question::Examples => as_same(show(task, source, err, out)),
     }

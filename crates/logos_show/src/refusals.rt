@@ -14,6 +14,7 @@ use logos_help::add_helps;
 use logos_host::{Failure, MessageFormat};
 use logos_messages::push_messages;
 use logos_page::Page;
+use logos_replies::refusal_of;
 use logos_report::{Part, Source, count_errors, push_faults, push_summary};
 use logos_rust_file::{FoundEnum, enums_in};
 use std::alloc::Global;
@@ -77,16 +78,6 @@ pub(crate) fn refused_with(
         return Failure::Memory;
     };
     refusal_of(refusal_text(part, showing, &errors, known))
-}
-
-/// Returns the refusal with a text, or `Memory` if memory ran out for it.
-pub(crate) fn refusal_of<E: Drop>(text: Result<String, E>) -> Failure<'static>
-    ensures { IsNoMisuse result }
-{
-    match text {
-        Ok(text) => Failure::Refused(text),
-        Err(_) => Failure::Memory,
-    }
 }
 
 /// Writes a note to standard error. If that fails, the note is lost.

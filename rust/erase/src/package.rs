@@ -5,7 +5,7 @@ use std::path::{Path, PathBuf};
 use std::{env, fs, io};
 
 /// The package `logos-codegen` contains these crates and those below them.
-pub const LIBRARY: [&str; 3] = ["logos_codegen", "logos_tables", "logos_derive"];
+pub const LIBRARY: [&str; 4] = ["logos_codegen", "logos_tables", "logos_help", "logos_derive"];
 
 /// A crate or a program that becomes a module of the package's root.
 pub struct Module<'a> {

@@ -3,6 +3,7 @@
 use crate::question::Question;
 use logos_codegen::logos_codegen::generator::Config;
 use logos_codegen::logos_derive as library;
+use logos_codegen::logos_help::FaultHelps;
 use logos_codegen::logos_tables::Shape;
 use logos_codegen::logos_token::token::Span;
 use rattle_std::alloc::{set_budget_of_program, Global};
@@ -89,7 +90,7 @@ pub fn set_budget() -> Result<(), Failure> {
 ///
 /// Returns a message if memory runs out, or if the library panics, which is a mistake in it.
 pub fn ask(question: &Question, shape: ShapeName) -> Result<Answer, Failure> {
-    let derive = || library::derive(Global, &question.text, shape.shape());
+    let derive = || library::derive(Global, &question.text, shape.shape(), &FaultHelps);
     match catch_unwind(AssertUnwindSafe(derive)) {
         Ok(Ok(derivation)) => Ok(answer(&derivation)),
         Ok(Err(_)) => Err(Failure(format!(

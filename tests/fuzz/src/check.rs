@@ -5,6 +5,7 @@ use crate::munch::{Answer, Found, Munch, Rule, Stop, answer, is_passable, leads,
 use logos_codegen::generator::Config;
 use logos_codegen::leaf::{Leaf, LeafId, VariantKind};
 use logos_codegen::logos_derive::derive;
+use logos_codegen::logos_help::FaultHelps;
 use logos_codegen::logos_hir::hir::Hir;
 use logos_codegen::logos_parser::analysis::analyze;
 use logos_codegen::logos_scan::fold::folded::Folded;
@@ -86,7 +87,7 @@ pub fn check(case: &Case) -> Result<Verdict, Wrong> {
 
 /// Checks that the macro has an implementation or an error for a source.
 fn check_derivation(source: &str) -> Result<(), Wrong> {
-    let Ok(made) = derive(Global, source, Shape::Tables) else {
+    let Ok(made) = derive(Global, source, Shape::Tables, &FaultHelps) else {
         return Ok(());
     };
     match made.implementation.is_none() && made.diagnostics.is_empty() {

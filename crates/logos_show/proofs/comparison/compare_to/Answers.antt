@@ -1,6 +1,6 @@
 use Rattle.logos_show.proofs.RunLemmas.{compared_to, lexer_made}
-use Rattle.logos_show.specs.declared.verdict.Judgment.{Judgment}
-use Rattle.logos_show.specs.questions.Orders.{order_value}
+use Rattle.logos_replies.specs.declared.verdict.Judgment.{Judgment}
+use Rattle.logos_questions.specs.Orders.{order_value}
 use Rattle.logos_show.proofs.comparison.compare_to.Goals as goal
 
 pub returns-in-Ok-clause-judged : goal.returns-in-Ok-clause-judged

@@ -1,5 +1,5 @@
 use Rattle.logos_show.proofs.RunLemmas.{inputs_shown, lexer_made}
-use Rattle.logos_show.specs.questions.Orders.{order_value}
+use Rattle.logos_questions.specs.Orders.{order_value}
 use Rattle.logos_show.proofs.inputs.inputs_by_file.Goals as goal
 
 pub returns-in-Ok-clause-printed : goal.returns-in-Ok-clause-printed

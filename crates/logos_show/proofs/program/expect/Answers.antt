@@ -1,5 +1,5 @@
 use Rattle.logos_show.proofs.RunLemmas.{expected}
-use Rattle.logos_show.specs.questions.Orders.{order_value}
+use Rattle.logos_questions.specs.Orders.{order_value}
 use Rattle.logos_show.proofs.program.expect.Goals as goal
 
 pub returns-clause-expected : goal.returns-clause-expected

@@ -1,0 +1,211 @@
+//! The request of `logos_show`, read from its arguments.
+
+ghost use Rattle.std.specs.Prelude.{◌≡◌, IfErr, IfOk, Some, map, option_map, string_bytes};
+ghost use Rattle.logos_questions.specs.Imports.{arguments_value, requested, inputs_given, kind_value, matches_given, number_named, option_value, order_given, location_named, question_given, question_named, question_value, request_given, request_value, status_of};
+
+use logos_answers::{location_by_word, number_by_text};
+use logos_host::Failure;
+use logos_lines::Location;
+use logos_options::{
+    Arguments, GivenOption, MessageStyle, OptionName, Program, Settings, arguments_of, misuse,
+    style_given,
+};
+
+/// A request, with the given settings.
+#[derive(Clone, Copy)]
+pub struct ShowRequest<'w> {
+    pub kind: RequestKind<'w>,
+    /// The given settings. They are not in a variant of the kind, since the borrow checker does not
+    /// cover a variant that holds their array.
+    pub settings: Settings<'w>,
+}
+
+/// The kind of a request.
+#[derive(Clone, Copy)]
+pub enum RequestKind<'w> {
+    Help,
+    Version,
+    Show(FileQuestion<'w>),
+}
+
+/// A question about the lexers of a file.
+#[derive(Clone, Copy)]
+pub struct FileQuestion<'w> {
+    /// The path of the file.
+    pub file: &'w str,
+    pub question: Question<'w>,
+    /// The style of messages.
+    pub style: MessageStyle,
+}
+
+/// A file, and the question about its lexers, with the given settings.
+#[derive(Clone, Copy)]
+pub struct ShowOrder<'w> {
+    /// The path of the file.
+    pub file: &'w str,
+    pub question: Question<'w>,
+    /// The given settings: whether the answer is JSON, the path of a stored answer to compare it
+    /// with, the name of an enum, and whether a file with warnings is refused.
+    pub settings: Settings<'w>,
+    /// The style of messages.
+    pub style: MessageStyle,
+}
+
+/// A question about the lexers of a file.
+#[derive(Clone, Copy)]
+pub enum Question<'w> {
+    /// Their leaves.
+    Leaves,
+    /// The items of the file at this path.
+    Items(&'w str),
+    /// The matches from a location of the file at this path.
+    Matches(&'w str, Location),
+    /// For each leaf an input that it finds, and one that it loses.
+    Examples,
+    /// At most this many inputs that together take all edges of a lexer's graph.
+    Inputs(usize),
+    /// Whether the lexer of the file at this path is equivalent.
+    Comparison(&'w str),
+    /// A page, written to this argument, about a lexer and about the input at a path, if one is
+    /// given.
+    Page(&'w str, Option<&'w str>),
+}
+
+/// Reads the arguments of `logos_show`.
+///
+/// # Errors
+///
+/// Returns `Misuse` or `UnknownOption` if they are invalid.
+pub fn request_of(arguments: &[String]) -> Result<ShowRequest<'_>, Failure<'_>>
+    ensures requested { IfOk result (λ request.
+        requested (map string_bytes arguments.now) ≡ Some (request_value request)) }
+    ensures misuse { IfErr result (λ failure.
+        (requested (map string_bytes arguments.now) ≡ None) × (status_of failure ≡ 2)) }
+{
+    match arguments_of(Program::Show, arguments) {
+        Ok(arguments) => request_given(arguments),
+        Err(failure) => Err(failure),
+    }
+}
+
+/// Returns the request of arguments.
+fn request_given(arguments: Arguments<'_>) -> Result<ShowRequest<'_>, Failure<'_>>
+    ensures requested { IfOk result (λ request. request_given (arguments_value arguments.entry)
+        (arguments_value arguments.entry).text ≡ Some (request_value request)) }
+    ensures misuse { IfErr result (λ failure. (request_given (arguments_value arguments.entry)
+        (arguments_value arguments.entry).text ≡ None) × (status_of failure ≡ 2)) }
+{
+    let settings = arguments.settings;
+    match kind_given(arguments) {
+        Ok(kind) => Ok(ShowRequest { kind, settings }),
+        Err(failure) => Err(failure),
+    }
+}
+
+/// Returns the kind of the request of arguments.
+fn kind_given(arguments: Arguments<'_>) -> Result<RequestKind<'_>, Failure<'_>>
+    ensures requested { IfOk result (λ kind. request_given (arguments_value arguments.entry)
+        (arguments_value arguments.entry).text
+        ≡ Some (kind_value kind (arguments_value arguments.entry).settings)) }
+    ensures misuse { IfErr result (λ failure. (request_given (arguments_value arguments.entry)
+        (arguments_value arguments.entry).text ≡ None) × (status_of failure ≡ 2)) }
+{
+    match arguments.text {
+        Some(OptionName::Version) => Ok(RequestKind::Version),
+        Some(_) => Ok(RequestKind::Help),
+        None => order_given(arguments),
+    }
+}
+
+/// Returns the file to show, with a question.
+fn order_given(arguments: Arguments<'_>) -> Result<RequestKind<'_>, Failure<'_>>
+    ensures requested { IfOk result (λ kind. order_given (arguments_value arguments.entry)
+        (arguments_value arguments.entry).first
+        ≡ Some (kind_value kind (arguments_value arguments.entry).settings)) }
+    ensures misuse { IfErr result (λ failure. (order_given (arguments_value arguments.entry)
+        (arguments_value arguments.entry).first ≡ None) × (status_of failure ≡ 2)) }
+{
+    let Some(file) = arguments.first else {
+        return Err(misuse("no file", ""));
+    };
+    let style = match style_given(&arguments.settings) {
+        Ok(style) => style,
+        Err(failure) => return Err(failure),
+    };
+    match question_given(arguments.question, arguments.second) {
+        Ok(question) => Ok(RequestKind::Show(FileQuestion {
+            file,
+            question,
+            style,
+        })),
+        Err(failure) => Err(failure),
+    }
+}
+
+/// Returns the question about a file, from the given option and the second path.
+fn question_given<'w>(
+    requested: Option<GivenOption<'w>>,
+    input: Option<&'w str>,
+) -> Result<Question<'w>, Failure<'w>>
+    ensures requested { IfOk result (λ question. question_given
+        (option_map option_value requested.entry) (option_map (λ path. path.now) input.entry)
+        ≡ Some (question_value question)) }
+    ensures misuse { IfErr result (λ failure. (question_given
+        (option_map option_value requested.entry) (option_map (λ path. path.now) input.entry)
+        ≡ None) × (status_of failure ≡ 2)) }
+{
+    match (requested, input) {
+        (None, None) => Ok(Question::Leaves),
+        (None, Some(input)) => Ok(Question::Items(input)),
+        (Some(one), input) => question_named(one, input),
+    }
+}
+
+/// Returns the question of an option, with an optional second path.
+fn question_named<'w>(
+    one: GivenOption<'w>,
+    input: Option<&'w str>,
+) -> Result<Question<'w>, Failure<'w>>
+    ensures requested { IfOk result (λ question. question_named one.entry.option one.entry.value.now
+        (option_map (λ path. path.now) input.entry) ≡ Some (question_value question)) }
+    ensures misuse { IfErr result (λ failure. (question_named one.entry.option one.entry.value.now
+        (option_map (λ path. path.now) input.entry) ≡ None) × (status_of failure ≡ 2)) }
+{
+    match (one.option, input) {
+        (OptionName::Compare, None) => Err(misuse("no second file for", one.option.word())),
+        (OptionName::Compare, Some(other)) => Ok(Question::Comparison(other)),
+        (OptionName::Inputs, input) => inputs_given(one.value, input),
+        (OptionName::At, input) => matches_given(one.value, input),
+        (OptionName::Html, input) => Ok(Question::Page(one.value, input)),
+        (_, None) => Ok(Question::Examples),
+        (_, Some(input)) => Err(misuse("`--examples` takes no input, not", input)),
+    }
+}
+
+/// Returns the question for inputs, whose maximum number is `word`. It takes no second path.
+fn inputs_given<'w>(word: &'w str, input: Option<&'w str>) -> Result<Question<'w>, Failure<'w>>
+    ensures requested { IfOk result (λ question. inputs_given (number_named word.now)
+        (option_map (λ path. path.now) input.entry) ≡ Some (question_value question)) }
+    ensures misuse { IfErr result (λ failure. (inputs_given (number_named word.now)
+        (option_map (λ path. path.now) input.entry) ≡ None) × (status_of failure ≡ 2)) }
+{
+    match (number_by_text(word), input) {
+        (None, _) => Err(misuse("`--inputs` is a number from 1 on, not", word)),
+        (Some(most), None) => Ok(Question::Inputs(most)),
+        (Some(_), Some(input)) => Err(misuse("`--inputs` takes no input, not", input)),
+    }
+}
+
+/// Returns the question for the matches from the line and column of an input that `word` names.
+fn matches_given<'w>(word: &'w str, input: Option<&'w str>) -> Result<Question<'w>, Failure<'w>>
+    ensures requested { IfOk result (λ question. matches_given (location_named word.now)
+        (option_map (λ path. path.now) input.entry) ≡ Some (question_value question)) }
+    ensures misuse { IfErr result (λ failure. (matches_given (location_named word.now)
+        (option_map (λ path. path.now) input.entry) ≡ None) × (status_of failure ≡ 2)) }
+{
+    match (location_by_word(word), input) {
+        (None, _) => Err(misuse("`--at` is LINE:COLUMN, not", word)),
+        (Some(_), None) => Err(misuse("no input for", OptionName::At.word())),
+        (Some(location), Some(input)) => Ok(Question::Matches(input, location)),
+    }
+}
