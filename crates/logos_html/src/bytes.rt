@@ -1,7 +1,7 @@
 //! Bytes as text in a page. Used by `spans`.
 
-ghost use Rattle.std.specs.Prelude.{◌≡◌, ◌%◌};
-ghost use Rattle.logos_html.specs.Imports.{Gains, byte_escape, escaped_byte, flowing_byte, flowing_bytes, flowing_char, flowing_others, flowing_text, hex_digit};
+ghost use Rattle.std.specs.Prelude.{◌≡◌, ◌<◌};
+ghost use Rattle.logos_html.specs.Imports.{Gains, byte_escape, flowing_byte, flowing_bytes, flowing_char, flowing_others, flowing_text, hex_digit};
 
 use crate::html::Html;
 use std::str;
