@@ -1,11 +1,21 @@
 """Makes sources, reads each with the plain reader, runs the program on it, and compares what both
 find.
 
-The words are the paths of the program and of the program of calls and, where just these sources are
-wanted, their seeds.
+  python3 tests/generated/main.py LOGOS CALLS [SEED ..]
+
+`logos` has to print the faults, the charts and the items that the reader finds, and the program of
+calls the same items of inputs that are cut into pieces at random. Where a pattern looks, the reader
+follows the printed chart byte by byte beside what is left of the patterns. At the first difference
+the script fails, with the seed and the source; it fails too where some kind of fault was met in no
+source, or some form of look or class in too few sources that are accepted. What the text of a
+pattern's fault says of its place and kind is left open.
+
+Seeds ask for those sources alone. Without them the program of calls answers the rows of `ROWS`,
+too.
 """
 
 import os
+import re
 import subprocess
 import sys
 import tempfile
@@ -13,9 +23,11 @@ from collections import Counter
 from concurrent.futures import ProcessPoolExecutor
 from itertools import zip_longest
 from random import Random
+
+sys.dont_write_bytecode = True
 from byte_sets import partners, runs_of_categories
 from charts import judge_chart
-from earlier import FOLDER, earlier, keep
+from earlier import FOLDER, HERE, earlier, keep
 from faults import texts
 from inputs import make_input
 from matching import TooLarge
@@ -34,6 +46,9 @@ CHARTS, ACCEPTED = 20, 2
 # The share of pieces that are wrong, by turns.
 WRONG = [0, 0.1, 0.25, 0, 0.5]
 
+
+# The scripts that write rows for the program of calls.
+ROWS = ('changed', 'automata', 'expressions')
 
 # In a quick test, what was asked for a source: program or calls, the words, the files, the input,
 # and the answer.
@@ -229,12 +244,41 @@ def judge_kept(program):
             expect(f'{source} as the reader has it', (1, [''], ended(Reading(source).lines())), found)
 
 
+def answer_rows(calls, name):
+    """Has the program of calls answer the rows of a script. Gives how many passed and failed."""
+    rows = earlier('rows', name)
+    if rows is None:
+        rows = subprocess.run([sys.executable, f'{HERE}/{name}.py'], stdout=subprocess.PIPE, check=True).stdout
+        keep('rows', name, rows)
+    done = subprocess.run([calls], input=rows, stdout=subprocess.PIPE, check=False)
+    lines = done.stdout.decode(errors='replace').split('\n')[:-1] or ['']
+    counts = re.fullmatch(r'(\d+) passed, (\d+) failed', lines[-1])
+    passed, failed = map(int, counts.groups()) if counts else (0, 0)
+    if done.returncode == 0 and passed:
+        print(f'generated: the rows of {name}.py are answered as the plain reader has it')
+    else:
+        print('\n'.join(lines[:20]), f'generated: some rows of {name}.py are not answered as the plain reader has it', sep='\n')
+        failed += 1
+    return passed, failed
+
+
 def main(program, calls, seeds):
+    """Compares all. Prints the counts, and gives the status."""
+    counts = [judge_sources(program, calls, seeds)]
+    if seeds == ALL and counts[0][0]:
+        counts += [answer_rows(calls, name) for name in ROWS]
+    passed, failed = map(sum, zip(*counts))
+    print(f'{passed} passed, {failed} failed')
+    return 1 if failed else 0
+
+
+def judge_sources(program, calls, seeds):
+    """Compares the sources of these seeds. Gives how many passed and failed."""
     try:
         judge_kept(program)
     except Difference as difference:
         print(f'generated: {difference}', file=sys.stderr)
-        return 1
+        return 0, 1
     codes, forms, refused, accepted, compared, streamed = Counter(), Counter(), 0, 0, 0, 0
     # What is looked up once for all sources is there before the workers are.
     partners()
@@ -244,7 +288,7 @@ def main(program, calls, seeds):
             if difference:
                 workers.shutdown(cancel_futures=True)
                 print(f'generated: {difference}', file=sys.stderr)
-                return 1
+                return 0, 1
             codes.update(found)
             forms.update(met)
             refused, accepted, compared, streamed = refused + bool(found), accepted + (not found), compared + comparisons, streamed + streams
@@ -254,14 +298,13 @@ def main(program, calls, seeds):
     missed += [form for form in FORMS if forms[form] < (CHARTS if form in LOOKS else ACCEPTED)]
     if missed and len(seeds) == len(ALL):
         print('generated: too few sources had', ', '.join(missed), file=sys.stderr)
-        return 1
+        return 0, 1
     print(f'generated: {refused} sources are refused and {accepted} accepted as the plain reader has it, in {compared} comparisons')
     print(f'generated: the items of {streamed} streams that are cut into pieces are those of the whole, for each of the {accepted} sources')
-    print(f'{refused + accepted + streamed} passed, 0 failed')
-    return 0
+    return refused + accepted + streamed, 0
 
 
 ALL = [*range(SOURCES), *PATTERNS, *WORDS]
 
 if __name__ == '__main__':
-    sys.exit(main(sys.argv[1], sys.argv[2], [int(seed) for seed in sys.argv[3:]] or ALL))
+    sys.exit(main(os.path.realpath(sys.argv[1]), os.path.realpath(sys.argv[2]), [int(seed) for seed in sys.argv[3:]] or ALL))
