@@ -47,8 +47,8 @@ def lay_out(folder, edits):
 
 def front_end(folder):
     """Returns what the compiler says of the crate, which it reads with the libraries below it as
-    sources, as far as the borrow checker. It is that of `rattle check --only ""`, and takes seconds,
-    where `rt check --only ""` first proves the libraries."""
+    sources, as far as the borrow checker. It is that of `rattle check --only ""`, and takes
+    seconds, where `rt check --only ""` first proves the libraries."""
     at, uses = crates.kit(), {**crates.libraries(), CRATE: USES}
     order = crates.in_order(uses, CRATE)
     kits = dict.fromkeys(["core", "std", *(it for name in order for it in uses[name] if it not in uses)])
