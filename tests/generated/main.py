@@ -18,16 +18,16 @@ import os
 import re
 import subprocess
 import sys
-import tempfile
 from collections import Counter
 from concurrent.futures import ProcessPoolExecutor
 from itertools import zip_longest
 from random import Random
 
 sys.dont_write_bytecode = True
+from asking import asked
 from byte_sets import partners, runs_of_categories
 from charts import judge_chart
-from earlier import FOLDER, HERE, earlier, keep
+from earlier import HERE, earlier, keep
 from faults import texts
 from inputs import make_input
 from matching import TooLarge
@@ -59,33 +59,20 @@ class Difference(Exception):
     """What the program answered in place of what the reader found."""
 
 
-def place():
-    """A folder in memory for what the programs read, if there is one."""
-    return '/dev/shm' if os.access('/dev/shm', os.W_OK) else None
-
-
-def answer(done):
-    return done.returncode, done.stdout, done.stderr
-
-
-def answers_as_before(programs, asked):
+def answers_as_before(programs, answers):
     """Whether the programs answer all that was asked for a source in the same way again."""
-    with tempfile.TemporaryDirectory(dir=place()) as room:
-        for number, words, files, given, wanted in asked:
-            for name, content in files.items():
-                write(f'{room}/{name}', content)
-            if answer(subprocess.run([programs[number], *words], cwd=room, input=given, capture_output=True, check=False)) != wanted:
-                return False
-    return True
+    return all(asked(programs[number], words, files, given) == wanted for number, words, files, given, wanted in answers)
 
 
-def run(program, room, *words):
+def run(program, files, *words):
     """The status, the lines of output and those of complaints."""
-    done = subprocess.run([program, *words], cwd=room, capture_output=True, check=False)
-    if FOLDER:
-        files = {name: read(f'{room}/{name}') for name in words if os.path.exists(f'{room}/{name}')}
-        ASKED.append((0, words, files, None, answer(done)))
-    return done.returncode, done.stdout.decode().split('\n'), done.stderr.decode().split('\n')
+    found = asked(program, words, files)
+    ASKED.append((0, words, files, None, found))
+    return split(found)
+
+
+def split(found):
+    return found[0], found[1].decode().split('\n'), found[2].decode().split('\n')
 
 
 def is_alike(line, found):
@@ -108,32 +95,20 @@ def ended(lines):
     return list(lines) + ['']
 
 
-def read(path):
-    with open(path, 'rb') as file:
-        return file.read()
-
-
-def write(path, content):
-    with open(path, 'wb') as file:
-        file.write(content)
-
-
-def compare(program, room, source, reading, inputs):
+def compare(program, source, reading, inputs):
     """Compares all that the program says of a source and these inputs, which it lexes in both
     shapes by turns. Gives the number of comparisons."""
-    write(f'{room}/source', source.encode())
-    faults = reading.lines()
+    files, faults = {'source': source.encode()}, reading.lines()
     if faults:
-        expect('mermaid', (1, [''], ended(faults)), run(program, room, 'mermaid', 'source'))
+        expect('mermaid', (1, [''], ended(faults)), run(program, files, 'mermaid', 'source'))
         return 1
-    compare_chart(reading, run(program, room, 'mermaid', 'source'))
+    compare_chart(reading, run(program, files, 'mermaid', 'source'))
     for number, text in enumerate(inputs):
-        write(f'{room}/input', text)
         items, wanted = reading.items(text), None
         if items is None:
             wanted = 1, [''], [f'NotUtf8 {valid_up_to(text)}', '']
         shape = ['--shape', 'tailcall'] if number % 2 else []
-        expect(f'lex of {text}', wanted or (0, ended(items), ['']), run(program, room, 'lex', 'source', 'input', *shape))
+        expect(f'lex of {text}', wanted or (0, ended(items), ['']), run(program, {**files, 'input': text}, 'lex', 'source', 'input', *shape))
     return len(inputs) + 1
 
 
@@ -159,9 +134,9 @@ def stream(calls, source, reading, inputs, random):
         requests.append(' '.join(map(str, words)).encode() + b'\n' + source.encode() + text)
         valid = valid_up_to(text) if reading.utf8 else len(text)
         wanted += [*reading.items(text[:valid]), f'{"end" if valid == len(text) else "NotUtf8"} {valid}']
-    done = subprocess.run([calls, 'streams'], input=b''.join(requests), capture_output=True, check=False)
-    ASKED.append((1, ('streams',), {}, b''.join(requests), answer(done)))
-    expect(f'streams of {inputs}', (0, ended(wanted), ['']), (done.returncode, done.stdout.decode().split('\n'), done.stderr.decode().split('\n')))
+    found = asked(calls, ('streams',), {}, b''.join(requests))
+    ASKED.append((1, ('streams',), {}, b''.join(requests), found))
+    expect(f'streams of {inputs}', (0, ended(wanted), ['']), split(found))
     return len(inputs)
 
 
@@ -221,14 +196,13 @@ def judge(program, calls, seed):
     # (for edits)
     keep('made', seed, (None if reading.faults.list else (source, reading.utf8, inputs),))
     forms = [] if reading.faults.list else [form for form in FORMS if MET[form]]
-    with tempfile.TemporaryDirectory(dir=place()) as room:
-        try:
-            compared = compare(program, room, source, reading, inputs)
-            streamed = 0 if reading.faults.list else stream(calls, source, reading, inputs, Random(seed))
-            if not reading.faults.list and not streamed:
-                raise Difference('no input is read as a stream')
-        except Difference as difference:
-            return [], 0, 0, [], f'seed {seed}: {difference}\n{source}'
+    try:
+        compared = compare(program, source, reading, inputs)
+        streamed = 0 if reading.faults.list else stream(calls, source, reading, inputs, Random(seed))
+        if not reading.faults.list and not streamed:
+            raise Difference('no input is read as a stream')
+    except Difference as difference:
+        return [], 0, 0, [], f'seed {seed}: {difference}\n{source}'
     found = [code for code, _, _ in reading.faults.list], compared, streamed, forms, None
     keep('generated', seed, (ASKED, found))
     return found
@@ -236,12 +210,10 @@ def judge(program, calls, seed):
 
 def judge_kept(program):
     """Compares the program with the lines that are written down, and the reader with them too."""
-    with tempfile.TemporaryDirectory(dir=place()) as room:
-        for source, faults in map(dict.values, table('kept').KEPT):
-            write(f'{room}/source', source.encode())
-            found = run(program, room, 'mermaid', 'source')
-            expect(source, (1, [''], ended(faults)), found)
-            expect(f'{source} as the reader has it', (1, [''], ended(Reading(source).lines())), found)
+    for source, faults in map(dict.values, table('kept').KEPT):
+        found = run(program, {'source': source.encode()}, 'mermaid', 'source')
+        expect(source, (1, [''], ended(faults)), found)
+        expect(f'{source} as the reader has it', (1, [''], ended(Reading(source).lines())), found)
 
 
 def answer_rows(calls, name):
