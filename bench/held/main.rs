@@ -5,8 +5,7 @@
 //! the sum of the ends of both, and the sum of the numbers of the tokens' variants, from 1 on.
 //!
 //! A loop takes the items with their places; with `--cfg folded` it is `for_each`, and with `--cfg
-//! parser` `next` is called from three places, as parsers do. With `--cfg scan` and the runtime of
-//! before, the items are those of `Token::scan`.
+//! parser` `next` is called from three places, as parsers do.
 
 #![allow(warnings)]
 
@@ -91,10 +90,7 @@ impl Hasher for Number {
 #[inline(never)]
 fn count(lexer: logos::Lexer<'static, Rules>) -> Sums {
     let mut sums = Sums::default();
-    #[cfg(not(scan))]
     let items = lexer.spanned();
-    #[cfg(scan)]
-    let items = lexer.scan();
     #[cfg(folded)]
     items.for_each(|(item, span)| sums.add(item, span.end));
     #[cfg(not(folded))]

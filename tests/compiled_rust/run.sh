@@ -2,31 +2,23 @@
 # Compiles the generated code that `logos gen` prints, and that `logos_cli --shape tables` prints,
 # and compares what it finds with `logos lex`.
 #
-# Each source of tests/compiled_rust/sources, and some from elsewhere in the repository, is
-# stripped, and its code is generated in all three shapes; the derive macro gets it as it is. rustc
-# compiles all of this at once over rust/logos, and what comes of each input of
-# tests/compiled_rust/inputs is compared, item by item; a source with inputs of its own in
-# tests/compiled_rust/own, NAME or NAME.ANYTHING, reads these alone. The lines of
-# tests/compiled_rust/rows are small sources: a name, an enum, and inputs, separated by tabs. A
-# source has at most one attribute on a variant, so that the index of a variant gives its leaf, and
-# each skip on a line of its own. A source with callbacks, values or parameters may have more; its
-# file in tests/compiled_rust/beside has the Rust items that it names, the type of its tokens and
-# the leaf of each. Its callbacks keep what they match, as `logos lex` does. Derives that rustc does
-# not know do nothing.
+# README.md lists the files. Each source, and some from elsewhere in the repository, is stripped, and
+# its code is generated in all three shapes; the derive macro gets it as it is. rustc compiles all of
+# this at once over rust/logos, and what comes of each input is compared, item by item. A source has
+# at most one attribute on a variant, so that the index of a variant gives its leaf, and each skip on
+# a line of its own; one with a file in `beside` may have more. Its callbacks keep what they match,
+# as `logos lex` does. Derives that rustc does not know do nothing.
 #
 # Callbacks of skips, callbacks that refuse what they match or leave it out, and the one that makes
-# errors are shown too. Of a source with a file of its name in tests/compiled_rust/skips the skips
-# stand in `skip(..)`, and `logos lex` gets each of them as a variant before the others, so that it
-# returns all matches in order, by the same leaves. The file, in sed's language, says what becomes
-# of these lines: `token` where a skip's callback prints that it was called, `made` before `error`
-# where the callback that makes errors prints it. Each prints where the lexer is, and `told`, in the
-# file beside, looks at the value of each error.
+# errors are shown too. Of a source with a file in `skips` the skips stand in `skip(..)`, and `logos
+# lex` gets each of them as a variant before the others, so that it returns all matches in order, by
+# the same leaves. The file says what becomes of these lines: `token` where a skip's callback prints
+# that it was called, `made` before `error` where the callback that makes errors prints it. Each
+# prints where the lexer is, and `told`, in the file in `beside`, looks at the value of each error.
 #
 # What `scan` finds by the tables of a source has to be what they find otherwise, in inputs made of
-# each input, whole and in parts.
-#
-# The tables of a source have to find in each beginning of an input, up to 512 bytes of it, what its
-# code finds there.
+# each input, whole and in parts. The tables have to find in each beginning of an input, up to 512
+# bytes of it, what the code of the source finds there.
 #
 # An input that is not UTF-8 has to be refused by each source that does not read bytes, and is then
 # compared no further. Which inputs and sources these are, and how many comparisons and refusals

@@ -87,7 +87,7 @@ run_all() {
     rows_of logos_cli expansion files rendering
     rows_of logos_show items questions records streams tables
     count python3 tests/rows/run.py calls "$room/bin/calls" tests/rows/calls/*.rows
-    count bash tests/generated/run.sh "$room/bin/logos" "$room/bin/calls" {0..29} {1000..1019} {2000..2009}
+    count python3 tests/generated/main.py "$room/bin/logos" "$room/bin/calls" {0..29} {1000..1019} {2000..2009}
     run_packages
 }
 

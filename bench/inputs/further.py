@@ -1,12 +1,55 @@
-"""The parts of further texts of `text.py`, and the letters of all."""
-LETTERS = "abcdefghijklmnopqrstuvwxyzABCDEFGHIJKLMNOPQRSTUVWXYZ_"
-LOWER = "abcdefghijklmnopqrstuvwxyz"
-DIGITS = "0123456789"
-MONTHS = "Jan Feb Mar Apr May Jun Jul Aug Sep Oct Nov Dec".split()
+"""Makers of parts of further texts, for `made.py`."""
+from .pieces import DIGITS, LETTERS, LOWER, MONTHS, blank, clock, path, quad, some
+
+# The words and the signs of languages, and how a comment begins.
+LANGUAGES = {
+    "rust_like": (
+        "as break const else enum fn for if impl in let loop match mod move mut pub ref return self"
+        " struct trait true type use where while",
+        "+ - * / = == != < <= > >= && || ! ( ) { } [ ] ; , . :: -> => & | .. : #",
+        "// ",
+    ),
+    "sql_unicode": (
+        "SELECT FROM WHERE GROUP ORDER HAVING LIMIT INSERT INTO VALUES UPDATE SET join left on and"
+        " or not as by in like null case when then else end",
+        "+ - * / = <> < <= > >= ( ) ; , . || ::",
+        "-- ",
+    ),
+    "python_like": (
+        "and as assert class def del elif else except for from if import in is lambda not or pass"
+        " raise return try while with yield None True",
+        "+ - * / ** // = == != < <= > >= ( ) { } [ ] : , . -> := % @ +=",
+        "# ",
+    ),
+}
+OTHERS = "\u00e4\u00f6\u00fc\u00e9\u00f1\u03b1\u03b2\u03bb\u0434\u0436\u044f\u4e2d\u6587\u540d"
 
 
-def some(rng, letters, least, most):
-    return "".join(rng.choices(letters, k=rng.randrange(least, most + 1)))
+def name(rng):
+    letters = LETTERS + OTHERS if rng.randrange(10) == 0 else LETTERS
+    return rng.choice(letters) + some(rng, letters + DIGITS, 0, 11)
+
+
+def language_token(rng, language):
+    kind = rng.randrange(100)
+    words, signs, comment = LANGUAGES[language]
+    if kind < 45:
+        return name(rng)
+    if kind < 60:
+        return rng.choice(words.split())
+    if kind < 68:
+        digits = some(rng, DIGITS, 1, 6)
+        return digits if rng.randrange(3) else digits + "." + some(rng, DIGITS, 1, 3)
+    if kind < 74:
+        quote = "'" if language == "sql_unicode" else '"'
+        return quote + some(rng, LETTERS + DIGITS + "      ", 0, 29) + quote
+    if kind < 76:
+        return comment + some(rng, LETTERS + "        ", 0, 49) + "\n"
+    return rng.choice(signs.split())
+
+
+def language_part(language):
+    return lambda rng: language_token(rng, language) + blank(rng)
 
 
 def words(rng, most):
@@ -14,8 +57,7 @@ def words(rng, most):
 
 
 def iplog_address(rng):
-    address = ".".join(str(rng.randrange(256)) for _ in range(4))
-    return address + rng.choice(["", "", "", f":{rng.randrange(65536)}", f"/{rng.randrange(8, 33)}"])
+    return quad(rng) + rng.choice(["", "", "", f":{rng.randrange(65536)}", f"/{rng.randrange(8, 33)}"])
 
 
 def iplog_value(rng):
@@ -27,7 +69,7 @@ def iplog_value(rng):
     if kind == 5:
         return f"0x{rng.randrange(1 << 24):x}"
     if kind == 6:
-        return "/" + "/".join(some(rng, LOWER + DIGITS, 2, 9) for _ in range(rng.randrange(1, 5)))
+        return path(rng)
     if kind == 7:
         return '"' + some(rng, LETTERS + "      ", 3, 40) + rng.choice(["", "", '\\"', "\u00e9"]) + '"'
     number = str(rng.randrange(10 ** rng.randrange(1, 7)))
@@ -41,10 +83,10 @@ def iplog_field(rng):
 
 
 def iplog(rng):
-    clock = f"{rng.randrange(24):02}:{rng.randrange(60):02}:{rng.randrange(60):02}"
+    at = clock(rng)
     month = rng.choice(MONTHS)
-    iso = f"2024-{rng.randrange(1, 13):02}-{rng.randrange(1, 29):02}T{clock}.{rng.randrange(1000):03}Z"
-    time = rng.choice([f"{month} {rng.randrange(1, 29):2} {clock}", iso])
+    iso = f"2024-{rng.randrange(1, 13):02}-{rng.randrange(1, 29):02}T{at}.{rng.randrange(1000):03}Z"
+    time = rng.choice([f"{month} {rng.randrange(1, 29):2} {at}", iso])
     process = f"{some(rng, LOWER, 3, 8)}[{rng.randrange(100000)}]:"
     level = rng.choice(["", "INFO ", "WARNING ", "ERR ", "NOTICE "])
     fields = rng.choice([" ", " ", ", "]).join(iplog_field(rng) for _ in range(rng.randrange(1, 8)))
@@ -55,10 +97,10 @@ def httplog(rng):
     address = ".".join(str(rng.randrange(1, 256)) for _ in range(4))
     if rng.randrange(6) == 0:
         address = ":".join(f"{rng.randrange(65536):x}" for _ in range(8))
-    clock = ":".join(f"{rng.randrange(most):02}" for most in (24, 60, 60))
-    date = f"[{rng.randrange(1, 29):02}/{rng.choice(MONTHS)}/2024:{clock} {rng.choice('+-')}0{rng.randrange(10)}00]"
-    path = "/" + "/".join(some(rng, LOWER + DIGITS, 1, 9) for _ in range(rng.randrange(1, 5)))
-    request = f'"{rng.choice(["GET", "GET", "POST", "HEAD", "BREW"])} {path} HTTP/{rng.choice(["1.1", "1.0", "2"])}"'
+    at = clock(rng)
+    date = f"[{rng.randrange(1, 29):02}/{rng.choice(MONTHS)}/2024:{at} {rng.choice('+-')}0{rng.randrange(10)}00]"
+    target = path(rng, 1)
+    request = f'"{rng.choice(["GET", "GET", "POST", "HEAD", "BREW"])} {target} HTTP/{rng.choice(["1.1", "1.0", "2"])}"'
     user = rng.choice(["-", "-", some(rng, LOWER, 3, 9), "r\u00e9n\u00e9"])
     agent = rng.choice(["-", words(rng, 6), words(rng, 3) + ' \\"' + words(rng, 2) + '\\"', "[" + words(rng, 2)])
     size = rng.choice(["-", str(rng.randrange(10 ** rng.randrange(1, 7)))])
@@ -132,4 +174,7 @@ def mustache(rng):
     return f'<{tag} class="{words(rng, 2)}">{words(rng, 6)}</{tag}>' + rng.choice(["", "\n", "\n  "])
 
 
-FURTHER = {"iplog": iplog, "httplog": httplog, "toml": toml, "graphql": graphql, "mustache": mustache}
+FURTHER = {
+    "iplog": iplog, "httplog": httplog, "toml": toml, "graphql": graphql, "mustache": mustache,
+    **{language: language_part(language) for language in LANGUAGES},
+}

@@ -1,11 +1,8 @@
-"""Writes a text to the standard output: as many bytes as the first argument says, and of the kind
-that the second one names.
-
-A page of about a mebibyte is made from a fixed seed and repeated; what is left is blanks."""
+"""Makes texts of the kinds in `PARTS`, from a fixed seed."""
 import random
-import sys
 
-from further import DIGITS, FURTHER, LETTERS, LOWER, some
+from .further import FURTHER
+from .pieces import DIGITS, LETTERS, LOWER, MONTHS, blank, clock, filled, path, quad, some
 
 PAGE = 1 << 20
 KEYWORDS = "if else while for return let fn break continue struct".split()
@@ -29,7 +26,7 @@ def program_token(rng):
 
 
 def program(rng):
-    return program_token(rng) + (" " if rng.randrange(20) < 17 else "\n" + " " * (4 * rng.randrange(5)))
+    return program_token(rng) + blank(rng)
 
 
 def json_text(rng):
@@ -62,18 +59,18 @@ def log_field(rng):
     kind = rng.randrange(5)
     name = some(rng, LOWER, 2, 8)
     if kind == 0:
-        return name + "=" + ".".join(str(rng.randrange(256)) for _ in range(4))
+        return name + "=" + quad(rng)
     if kind == 1:
         return name + "=" + str(rng.randrange(100000)) + rng.choice(["", "ms", "us", "kB"])
     if kind == 2:
-        return name + "=/" + "/".join(some(rng, LOWER + DIGITS, 2, 9) for _ in range(rng.randrange(1, 5)))
+        return name + "=" + path(rng)
     if kind == 3:
         return name + '="' + some(rng, LETTERS + "      ,.", 0, 40) + '"'
     return " ".join(some(rng, LOWER, 2, 9) for _ in range(rng.randrange(1, 6)))
 
 
 def log(rng):
-    time = f"2024-{rng.randrange(1, 13):02}-{rng.randrange(1, 29):02}T{rng.randrange(24):02}:{rng.randrange(60):02}:{rng.randrange(60):02}.{rng.randrange(1000):03}Z"
+    time = f"2024-{rng.randrange(1, 13):02}-{rng.randrange(1, 29):02}T{clock(rng)}.{rng.randrange(1000):03}Z"
     level = rng.choice(["TRACE", "DEBUG", "INFO ", "INFO ", "INFO ", "WARN ", "ERROR"])
     module = ".".join(some(rng, LOWER, 3, 8) for _ in range(rng.randrange(1, 4)))
     return f"{time} {level} [worker-{rng.randrange(32)}] {module}: " + " ".join(log_field(rng) for _ in range(rng.randrange(1, 7))) + "\n"
@@ -218,7 +215,7 @@ def template(rng):
 
 def access_address(rng):
     if rng.randrange(8):
-        return ".".join(str(rng.randrange(256)) for _ in range(4))
+        return quad(rng)
     return ":".join(f"{rng.randrange(65536):x}" for _ in range(rng.randrange(3, 9)))
 
 
@@ -228,13 +225,13 @@ def access_request(rng):
         return b'"\\x16\\x03\\x01\\x02"'
     if kind == 1:
         return b'"' + bytes(rng.choices([byte for byte in range(1, 256) if byte not in b'\n"\\'], k=rng.randrange(1, 60))) + b'"'
-    path = "/" + "/".join(some(rng, LOWER + DIGITS, 2, 9) for _ in range(rng.randrange(1, 5)))
+    target = path(rng)
     query = rng.choice(["", "", "?" + "&".join(f"{some(rng, LOWER, 1, 6)}={some(rng, LETTERS + DIGITS + '%+', 0, 12)}" for _ in range(rng.randrange(1, 5)))])
-    return f'"{rng.choice(["GET", "GET", "GET", "POST", "HEAD", "PUT", "OPTIONS"])} {path}{query} HTTP/{rng.choice(["1.1", "1.1", "1.0", "2"])}"'.encode()
+    return f'"{rng.choice(["GET", "GET", "GET", "POST", "HEAD", "PUT", "OPTIONS"])} {target}{query} HTTP/{rng.choice(["1.1", "1.1", "1.0", "2"])}"'.encode()
 
 
 def access(rng):
-    date = f"[{rng.randrange(1, 29):02}/{rng.choice('Jan Feb Mar Apr May Jun Jul Aug Sep Oct Nov Dec'.split())}/2024:{rng.randrange(24):02}:{rng.randrange(60):02}:{rng.randrange(60):02} {rng.choice('+-')}0{rng.randrange(10)}00]"
+    date = f"[{rng.randrange(1, 29):02}/{rng.choice(MONTHS)}/2024:{clock(rng)} {rng.choice('+-')}0{rng.randrange(10)}00]"
     user = rng.choice(["-", "-", "-", some(rng, LOWER, 3, 9)])
     status = f"{rng.choice([200, 200, 200, 301, 304, 404, 500])} {rng.choice(['-', rng.randrange(10 ** rng.randrange(1, 7))])}"
     referrer = rng.choice(["-", "-", f"https://{some(rng, LOWER, 3, 12)}.example/{some(rng, LOWER, 0, 30)}"])
@@ -259,17 +256,8 @@ PARTS = {
 }
 
 
-def main():
-    size, part = int(sys.argv[1]), PARTS[sys.argv[2]]
-    rng = random.Random(1)
-    parts = []
-    length = 0
-    while length < PAGE:
-        made = part(rng)
-        parts.append(made if isinstance(made, bytes) else made.encode())
-        length += len(parts[-1])
-    page = b"".join(parts)
-    sys.stdout.buffer.write((page * (size // len(page))).ljust(size))
-
-
-main()
+def text(kind, size):
+    """Returns a text of a kind and of so many bytes: a page of about a mebibyte, repeated, and then
+    blanks."""
+    page = filled(PARTS[kind], random.Random(1), PAGE)
+    return (page * (size // len(page))).ljust(size)

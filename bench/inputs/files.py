@@ -1,17 +1,14 @@
-"""Writes a text of files on this machine to the standard output: as many bytes as the first
-argument says, and of the kind that the second one names.
+"""Makes texts of files on this machine, of the kinds in `KINDS`, and `asm`.
 
 The sums of their paths below their folder say in which order files are taken. Those that are longer
 than a mebibyte, are not UTF-8 or have zeros are left out. They are repeated where they are shorter
-than the text. Where a machine has fewer than 256 KiB of them nothing is written, and the status is
-3."""
+than the text."""
 import ast
 import glob
 import hashlib
 import json
 import os
 import subprocess
-import sys
 import sysconfig
 import tempfile
 import warnings
@@ -20,8 +17,8 @@ LONGEST = 1 << 20
 LEAST = 1 << 18
 # how many bytes at the end of a text may be blanks
 SPARE = 1 << 12
-HERE = os.path.dirname(os.path.realpath(__file__))
-ROOT = os.path.dirname(os.path.dirname(HERE))
+ROOT = os.path.dirname(os.path.dirname(os.path.dirname(os.path.realpath(__file__))))
+SCANNERS = f"{ROOT}/bench/lexer"
 # folders whose files are wrong on purpose, tables, or made by the toolchain
 LEFT_OUT = {"test", "tests", "lib2to3", "site-packages", "encodings", "idlelib", "out"}
 # with these words contracts begin
@@ -111,14 +108,15 @@ def contents(path):
 
 
 def assembled():
-    """Yields what gcc makes of the scanners of this folder for re2c, those with the letters of all
-    scripts left out."""
+    """Yields what gcc makes of the scanners for re2c, those with the letters of all scripts left
+    out."""
     with tempfile.TemporaryDirectory() as room:
-        for path in sorted(glob.glob(f"{HERE}/re2c/*.re")):
+        for path in sorted(glob.glob(f"{SCANNERS}/re2c/*.re")):
             if "unicode_categories" not in contents(path):
                 subprocess.run(["re2c", "--utf8", "-o", f"{room}/scanner.c", path], check=True)
                 for level in ("-O0", "-O2"):
-                    subprocess.run(["gcc", level, "-S", "-I", HERE, "-o", f"{room}/scanner.s", f"{room}/scanner.c"], check=True)
+                    words = ["-I", SCANNERS, "-o", f"{room}/scanner.s", f"{room}/scanner.c"]
+                    subprocess.run(["gcc", level, "-S", *words], check=True)
                     yield contents(f"{room}/scanner.s")
 
 
@@ -144,21 +142,20 @@ def fitting(files, left):
 
 def filled(files, size):
     """Returns files in a row, from the first on again where there are too few, and blanks behind
-    them. No file is cut in two."""
+    them; or None where a machine has too few of them. No file is cut in two."""
     parts = kept = list(fitting(files, size))
     left = size - sum(map(len, kept))
     if size - left < LEAST:
-        sys.exit(3)
+        return None
     while more := list(fitting(kept, left)):
         parts = parts + more
         left -= sum(map(len, more))
     return b"".join(parts).ljust(size)
 
 
-def main():
-    warnings.simplefilter("ignore")
-    files = (text.encode() for text in texts(sys.argv[2]) if text)
-    sys.stdout.buffer.write(filled(files, int(sys.argv[1])))
-
-
-main()
+def text(kind, size):
+    """Returns a text of a kind and of so many bytes, or None where this machine has too few
+    files."""
+    with warnings.catch_warnings():
+        warnings.simplefilter("ignore")
+        return filled((it.encode() for it in texts(kind) if it), size)

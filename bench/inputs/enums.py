@@ -1,14 +1,11 @@
-"""Writes the source of an enum to the standard output: of the kind that the first argument names,
-and of the size that the second one says. With a third argument, `flex` or `re2c`, it writes the
-same rules as a source of that program; this is there for `keywords`, `one_regex`, `letters_up_to`
-and `optional_letters`."""
+"""Makes sources of enums, of the kinds in `KINDS`. `keywords`, `one_regex`, `letters_up_to` and
+`optional_letters` are there as sources of flex and re2c, too."""
 import itertools
 import os
 import random
-import sys
 import tomllib
 
-with open(f"{os.path.dirname(os.path.realpath(__file__))}/lists.toml", "rb") as it:
+with open(f"{os.path.dirname(os.path.realpath(__file__))}/enums.toml", "rb") as it:
     LISTS = tomllib.load(it)
 LETTERS = "abcdefghijklmnopqrstuvwxyz"
 
@@ -173,13 +170,7 @@ def other_source(program, kind, count):
     return head + "".join(f"{rule}{before}{number + 1}{after}" for number, rule in enumerate(rules)) + foot
 
 
-def main():
-    kind, count = sys.argv[1], int(sys.argv[2])
-    if len(sys.argv) > 3:
-        sys.stdout.write(other_source(sys.argv[3], kind, count))
-        return
+def source(kind, count):
+    """Returns the source of an enum of a kind and a size."""
     definitions = KINDS[kind](random.Random(1), count)
-    sys.stdout.write("#[derive(Logos)]\nenum Token {\n" + "".join(definitions) + "}\n")
-
-
-main()
+    return "#[derive(Logos)]\nenum Token {\n" + "".join(definitions) + "}\n"

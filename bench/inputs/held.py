@@ -1,14 +1,13 @@
-"""Writes a text to the standard output: as many bytes as the first argument says, of the kind that
-the second one names: one of `rules.py`, or `examples/NAME` for an input of examples/lexers.
+"""Makes texts of the kinds of `held_rules.py`, and texts like the inputs of examples/lexers.
 
 A text is made from a fixed seed, and nothing in it is repeated as a whole. An input of
 examples/lexers is there again and again, each time with other words and numbers."""
 import pathlib
 import random
 import re
-import sys
 
-LOWER = "abcdefghijklmnopqrstuvwxyz"
+from .pieces import LOWER, clock, filled, quad
+
 EXAMPLES = pathlib.Path(__file__).parents[2] / "examples/lexers"
 SYLLABLES = "ba be bo da de ka ke ki la le ma mi na no pa po ra re ri sa se so ta te ti to va vi".split()
 
@@ -23,10 +22,6 @@ def words(rng, most):
 
 def number(rng, digits=5):
     return str(rng.randrange(10 ** rng.randint(1, digits)))
-
-
-def address(rng):
-    return ".".join(str(rng.randrange(256)) for _ in range(4))
 
 
 def html(rng):
@@ -44,8 +39,8 @@ def csv(rng):
 
 
 def syslog(rng):
-    head = f"{rng.choice(['Jan', 'Jun', 'Oct'])} {rng.randrange(1, 29):2} {rng.randrange(24):02}:{rng.randrange(60):02}:{rng.randrange(60):02}"
-    parts = [f"user={word(rng)}", f"({words(rng, 2)})", f"/var/{word(rng)}/{word(rng)}.log", address(rng), words(rng, 6), f"rc={number(rng, 3)}", f"<{rng.choice(['error', 'info'])}>"]
+    head = f"{rng.choice(['Jan', 'Jun', 'Oct'])} {rng.randrange(1, 29):2} {clock(rng)}"
+    parts = [f"user={word(rng)}", f"({words(rng, 2)})", f"/var/{word(rng)}/{word(rng)}.log", quad(rng), words(rng, 6), f"rc={number(rng, 3)}", f"<{rng.choice(['error', 'info'])}>"]
     # bytes at which no rule's match begins
     parts += ["#" + number(rng, 2), "\x01", "?!", f"{word(rng)}\u00e9"]
     return f"{head} {word(rng, 2)} {word(rng, 3)}[{number(rng)}]: {' '.join(rng.sample(parts, rng.randint(2, 6)))}\n"
@@ -93,7 +88,7 @@ def tex(rng):
 
 
 def settings(rng):
-    values = [f"on;", f"{address(rng)}:{number(rng, 4)};", f"/{word(rng)}/{word(rng)}/{word(rng)}.conf;", f"${word(rng)} {words(rng, 3)};", f'"{words(rng, 3)}";', f"{number(rng, 3)}m;"]
+    values = [f"on;", f"{quad(rng)}:{number(rng, 4)};", f"/{word(rng)}/{word(rng)}/{word(rng)}.conf;", f"${word(rng)} {words(rng, 3)};", f'"{words(rng, 3)}";', f"{number(rng, 3)}m;"]
     line = f"{word(rng)}_{word(rng)} {rng.choice(values)}"
     return " " * rng.choice([0, 4, 8]) + rng.choice([line, line, line, f"location ~ /{word(rng)} {{", "}", f"# {words(rng, 8)}"]) + "\n"
 
@@ -133,15 +128,9 @@ def example(name):
     return part
 
 
-def main():
-    size, kind, rng = int(sys.argv[1]), sys.argv[2], random.Random(7)
-    part = example(kind.removeprefix("examples/")) if kind.startswith("examples/") else KINDS[kind]
-    parts, length = [], 0
-    while length < size:
-        made = part(rng)
-        parts.append(made if isinstance(made, bytes) else made.encode())
-        length += len(parts[-1])
-    sys.stdout.buffer.write(b"".join(parts)[:size].rsplit(b"\n", 1)[0] + b"\n")
-
-
-main()
+def text(kind, size):
+    """Returns a text of at most so many bytes, of one of `KINDS`, or for `examples/NAME` like an
+    input of examples/lexers."""
+    example_name = kind.removeprefix("examples/")
+    part = example(example_name) if example_name != kind else KINDS[kind]
+    return filled(part, random.Random(7), size)[:size].rsplit(b"\n", 1)[0] + b"\n"
