@@ -16,14 +16,20 @@ use Rattle.logos_token.specs.FaultNames.{name_of}
 use Rattle.logos_token.specs.Faults.{Fault}
 use Rattle.logos_laws.specs.readings.ShortReports.{AreFew, HaveNoSets, all_lines, lines_of}
 
+-- one that has the code is counted
+own_counts : (b : Bool) (n : ℕ) → b ≡ true → n < cond b 1 0 + n
+own_counts true n e = omega arith
+own_counts false n e = absurd cc
+
 -- fewer than 50 faults before one of few have its code
 few_before : (all front later : List Fault) (fault : Fault) → all ≡ front ++ fault ∷ later → AreFew all → count_by (has_name (name_of fault.code)) front < 50
 few_before all front later fault e few =
     let p : Fault → Bool = has_name (name_of fault.code) in
-    let own : cond (p fault) 1 0 ≡ 1 = ap (λ b. cond b 1 0) ((bytes_eq-Decides (name_of fault.code) (name_of fault.code)).1 refl) in
+    let own = own_counts (p fault) (count_by p later) ((bytes_eq-Decides (name_of fault.code) (name_of fault.code)).1 refl) in
     let whole : count_by p all ≡ count_by p front + count_by p (fault ∷ later) = ap (count_by p) e ∙ sum_by-append (λ y. cond (p y) 1 0) front (fault ∷ later) in
     let one : count_by p (fault ∷ later) ≡ cond (p fault) 1 0 + count_by p later = sum_by-cons (λ y. cond (p y) 1 0) fault later in
-    omega (arith, own, whole, one, few fault.code)
+    let most : count_by p all ≤ 50 = few fault.code in
+    omega (arith, own, whole, one, most)
 
 -- so it is shown
 shown : (is_colored : Bool) (source : SourceValue) (begin : ℕ) (all front later : List Fault) (next : NextValue) (fault : Fault) → all ≡ front ++ fault ∷ later → AreFew all →

@@ -1,5 +1,5 @@
 -- Reports in which nothing is left out.
-use Rattle.std.specs.Prelude.{◌≡◌, ◌≤◌, ℕ, Bool, Unit, List, [], ◌∷◌}
+use Rattle.std.specs.Prelude.{◌≡◌, ◌≤◌, ℕ, Bool, List, [], ◌∷◌}
 use Rattle.std.specs.List.{count_by, flat_map}
 use Rattle.logos_report.specs.Faults.{fault_texts, has_name}
 use Rattle.logos_report.specs.Locations.{SourceValue}
