@@ -8,8 +8,9 @@
 # compares the sums, and puts the programs into PREFIX/bin and the rest into PREFIX/share/logos. The
 # programs need x86-64 Linux with glibc 2.34 or later.
 #
-# The playground is that of out/playground/page, or of `playground` in the folder after --built. It is
-# left out, with a message, if it was not built of this commit: rust/playground/build.sh builds it.
+# The playground is that of out/playground/page, or of `playground` in the folder after --built. It
+# is left out, with a message, if it was not built of this commit: rust/playground/build.sh builds
+# it.
 #
 # The programs are those that `.ci/run` has proved and built, and it refuses where a file has
 # changed since. With --built they are taken from a folder in which they were built, and COMMIT says

@@ -1,8 +1,8 @@
 #!/usr/bin/env bash
 # Builds the playground: rust/playground/build.sh FOLDER
 #
-# It writes the page and `playground.wasm` into FOLDER, static files which any web server serves, and
-# the file COMMIT, which names the commit, or nothing if a file has changed since.
+# It writes the page and `playground.wasm` into FOLDER, static files which any web server serves,
+# and the file COMMIT, which names the commit, or nothing if a file has changed since.
 #
 # It needs a toolchain for `wasm32-unknown-unknown`: that of cargo if it has the standard library
 # for it, as after `rustup target add wasm32-unknown-unknown`. Otherwise Debian's packages

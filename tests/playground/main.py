@@ -1,9 +1,9 @@
 #!/usr/bin/env python3
 """Opens the playground in chromium, and compares what it shows: main.py FOLDER [--pictures FOLDER]
 
-In FOLDER lies the playground as `rust/playground/build.sh` makes it. It is served on 127.0.0.1. The
-expected values are worked out by hand from the enums. With --pictures it writes pictures of the page
-at two widths, light and dark. The last line is `N passed, M failed`."""
+In FOLDER lies the playground as `rust/playground/build.sh` makes it. It is served on 127.0.0.1.
+The expected values are worked out by hand from the enums. With --pictures it writes pictures of the
+page at two widths, light and dark. The last line is `N passed, M failed`."""
 import argparse
 import functools
 import http.server
@@ -75,6 +75,7 @@ class Test:
         words = urllib.parse.urlencode({key: it for key, it in given.items() if it is not None}, quote_via=urllib.parse.quote)
         self.browser.open(f"{self.base}/index.html#{words}")
         self.browser.until("document.documentElement?.dataset.state")
+        self.browser.value("document.getElementById('tokens-details').open = true")
         self.settle()
 
     def edit(self, area, text):
@@ -122,6 +123,8 @@ def test_readme(test):
     test.put_cursor(2)
     test.expect("the token at the cursor", test.text("token"), "Word: leaf 1, bytes 0..4, priority 2.")
     test.expect("why it is found", test.rows("why"), [["1", "2", "0..4", '"size"', "Word wins"]])
+    test.put_cursor(23)
+    test.expect("the end of the text", test.text("token"), "No token: the text ends here.")
     test.put_cursor(4)
     test.expect("a point that is skipped", test.text("token"), "No token: this is skipped.")
     test.expect("why it is skipped", test.rows("why"), [["0", "2", "4..5", '" "', "skip wins"]])
@@ -159,7 +162,7 @@ def test_hostile(test):
     front, mark = HOSTILE_TEXT[:37], HOSTILE_TEXT[37:45]
     wanted = [["token leaf-0", front], ["token leaf-1", mark], ["token error", "<"], ["token error", "b"], ["token error", ">"]]
     test.expect("the tokens of markup", test.painted("text-editor"), wanted)
-    test.expect("NUL as text", test.rows("tokens")[1][2:], ["20", '"\u202e&quot;\\u0000"'])
+    test.expect("invisible characters by their numbers", test.rows("tokens")[1][2:], ["20", '"\\u{202e}&quot;\\u{0}"'])
     test.open(ALIKE, MARKUP)
     message = f'The pattern #[token("{MARKUP}")] ::One can match simultaneously with the following variants:'
     test.expect("markup in a message", test.texts("#faults .message span")[:1], [message])
@@ -222,8 +225,10 @@ def test_widths(test, pictures):
         for scheme in ("light", "dark"):
             test.browser.call("Emulation.setDeviceMetricsOverride", width=width, height=height, deviceScaleFactor=1, mobile=False)
             test.browser.call("Emulation.setEmulatedMedia", features=[{"name": "prefers-color-scheme", "value": scheme}])
-            for name, enum, text in (("words", README, "size = big\nanswer = 42\n"), ("codes", CODES, "add fee feel"), ("hostile", HOSTILE, HOSTILE_TEXT), ("many", MANY, "一丁")):
+            for name, enum, text in (("json", None, None), ("words", README, "size = big\nanswer = 42\n"), ("codes", CODES, "add fee feel"), ("hostile", HOSTILE, HOSTILE_TEXT), ("many", MANY, "一丁")):
                 test.open(enum, text)
+                if name == "json":
+                    test.browser.value("(document.getElementById('example').selectedIndex = 3, document.getElementById('example').dispatchEvent(new Event('change')))")
                 test.settle()
                 test.expect(f"nothing is cut at the right, {name} at {width}, {scheme}", test.browser.value("document.documentElement.scrollWidth <= innerWidth"), True)
                 if pictures:

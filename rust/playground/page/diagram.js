@@ -2,7 +2,7 @@
 // library, whose form is defined in `crates/logos_graph/specs/Mermaid.antt`.
 
 const SVG = "http://www.w3.org/2000/svg";
-const WIDTH = 104, HEIGHT = 40, COLUMN = 236, ROW = 66, EDGE = 40;
+const WIDTH = 112, HEIGHT = 40, COLUMN = 260, ROW = 84, EDGE = 40;
 
 // Reads a Mermaid text into states: the mark of each, and its edges.
 export function statesOf(text) {
@@ -23,7 +23,7 @@ export function statesOf(text) {
 // Returns the ranges of bytes of an edge as the library prints them.
 function labelOf(text) {
     const ranges = text.split("<br>");
-    return ranges.map((it) => it.replaceAll("&quot", '"').replaceAll("\\\\", "\\")).join("  ");
+    return ranges.map((it) => it === " " ? "␣" : it.replaceAll("&quot", '"').replaceAll("\\\\", "\\")).join("  ");
 }
 
 function short(text, most) {
@@ -60,7 +60,8 @@ function layout(states) {
     const tallest = Math.max(...columns.map((column) => column.length));
     const positions = new Map();
     columns.forEach((column, depth) => column.forEach((number, index) => {
-        const y = EDGE + 16 + (index + (tallest - column.length) / 2) * ROW;
+        // A short column begins near the top, so that the first state is in view.
+        const y = EDGE + 16 + (index + Math.min((tallest - column.length) / 2, 2)) * ROW;
         positions.set(number, { x: 8 + depth * COLUMN, y, depth });
     }));
     return { positions, width: columns.length * COLUMN - COLUMN + WIDTH + 60, height: tallest * ROW + 2 * EDGE };
@@ -71,11 +72,11 @@ function route(from, to) {
     const right = from.x + WIDTH, middle = from.y + HEIGHT / 2, end = to.y + HEIGHT / 2;
     if (from === to) {
         const x = from.x + WIDTH / 2;
-        return { d: `M${x - 14},${from.y} C${x - 26},${from.y - 26} ${x + 26},${from.y - 26} ${x + 14},${from.y}`, x, y: from.y - 14 };
+        return { d: `M${x - 14},${from.y} C${x - 30},${from.y - 26} ${x + 30},${from.y - 26} ${x + 14},${from.y}`, x, y: from.y - 24 };
     }
     if (to.depth > from.depth) {
         const bend = (to.x - right) / 2;
-        return { d: `M${right},${middle} C${right + bend},${middle} ${to.x - bend},${end} ${to.x},${end}`, x: (right + to.x) / 2, y: (middle + end) / 2 - 3 };
+        return { d: `M${right},${middle} C${right + bend},${middle} ${to.x - bend},${end} ${to.x},${end}`, x: (right + to.x) / 2, y: (middle + end) / 2 + (middle === end ? -6 : 4) };
     }
     if (to.depth === from.depth) {
         const out = right + 46;

@@ -1,17 +1,14 @@
 // A text field with colors under its text: a `textarea` without a background, and below it a `pre`
-// with the same text, which is invisible, in pieces with backgrounds.
+// with the same text, which is invisible, in pieces with backgrounds. Each line is an element, so
+// that the browser lays out only lines that change.
 
 export class Editor {
-    #pieces = [];
-    #nodes = [];
-    #last;
+    #keys = [];
+    #lines = [];
 
     constructor(element) {
         this.paint = element.querySelector(".paint");
         this.area = element.querySelector("textarea");
-        // A line end at the end of a `pre` begins no line, so another one follows.
-        this.#last = document.createTextNode("\n");
-        this.paint.append(this.#last);
         this.area.addEventListener("scroll", () => this.#scroll());
     }
 
@@ -27,41 +24,49 @@ export class Editor {
     // Colors ranges of the text. They are in order and do not overlap: `start`, `end`, and `kind`,
     // the classes of its piece.
     show(ranges) {
-        const text = this.text, pieces = [];
+        const text = this.text, lines = [[]];
         let at = 0;
-        for (const { start, end, kind } of ranges) {
-            if (start > at) {
-                pieces.push({ text: text.slice(at, start), kind: "" });
+        const add = (end, kind) => {
+            while (at < end) {
+                const found = text.indexOf("\n", at);
+                const to = found < 0 || found >= end ? end : found;
+                if (to > at) {
+                    lines.at(-1).push({ text: text.slice(at, to), kind });
+                }
+                if (to < end) {
+                    lines.push([]);
+                }
+                at = to < end ? to + 1 : end;
             }
-            pieces.push({ text: text.slice(start, end), kind });
-            at = end;
+        };
+        for (const { start, end, kind } of ranges) {
+            add(start, "");
+            add(end, kind);
         }
-        if (at < text.length) {
-            pieces.push({ text: text.slice(at), kind: "" });
-        }
-        this.#replace(pieces);
+        add(text.length, "");
+        this.#replace(lines);
         this.#scroll();
     }
 
-    // Puts pieces into the page. Those at the beginning and the end that are there already stay.
-    #replace(pieces) {
-        const old = this.#pieces, least = Math.min(old.length, pieces.length);
-        const same = (a, b) => a.text === b.text && a.kind === b.kind;
+    // Puts lines into the page. Those at the beginning and the end that are there already stay.
+    #replace(lines) {
+        const old = this.#keys, keys = lines.map((pieces) => JSON.stringify(pieces));
+        const least = Math.min(old.length, keys.length);
         let front = 0, back = 0;
-        while (front < least && same(old[front], pieces[front])) {
+        while (front < least && old[front] === keys[front]) {
             front += 1;
         }
-        while (back < least - front && same(old[old.length - 1 - back], pieces[pieces.length - 1 - back])) {
+        while (back < least - front && old[old.length - 1 - back] === keys[keys.length - 1 - back]) {
             back += 1;
         }
-        const made = pieces.slice(front, pieces.length - back).map(nodeOf);
-        const gone = this.#nodes.splice(front, old.length - back - front);
-        gone.forEach((node) => node.remove());
+        const made = lines.slice(front, lines.length - back).map(lineOf);
+        const rest = this.#lines.slice(old.length - back);
+        this.#lines.slice(front, old.length - back).forEach((line) => line.remove());
         const fragment = document.createDocumentFragment();
-        made.forEach((node) => fragment.append(node));
-        this.paint.insertBefore(fragment, this.#nodes[front] ?? this.#last);
-        this.#nodes = this.#nodes.slice(0, front).concat(made, this.#nodes.slice(front));
-        this.#pieces = pieces;
+        made.forEach((line) => fragment.append(line));
+        this.paint.insertBefore(fragment, rest[0] ?? null);
+        this.#lines = this.#lines.slice(0, front).concat(made, rest);
+        this.#keys = keys;
     }
 
     #scroll() {
@@ -71,12 +76,16 @@ export class Editor {
 
     // Returns the offset of the piece under a point of the window, or undefined.
     offsetAt(x, y) {
-        const under = document.elementsFromPoint(x, y).find((it) => it.parentNode === this.paint);
-        const index = this.#nodes.indexOf(under);
+        let piece = document.elementsFromPoint(x, y).find((it) => it.parentNode?.parentNode === this.paint);
+        const index = this.#lines.indexOf(piece?.parentNode);
         if (index < 0) {
             return undefined;
         }
-        return this.#pieces.slice(0, index).reduce((sum, piece) => sum + piece.text.length, 0);
+        let offset = this.#lines.slice(0, index).reduce((sum, line) => sum + line.textContent.length + 1, 0);
+        while ((piece = piece.previousSibling)) {
+            offset += piece.textContent.length;
+        }
+        return offset;
     }
 
     // Selects a range of the text, and shows it.
@@ -86,11 +95,15 @@ export class Editor {
     }
 }
 
-function nodeOf({ text, kind }) {
-    const node = document.createElement("span");
-    node.textContent = text;
-    node.className = kind;
-    return node;
+function lineOf(pieces) {
+    const line = document.createElement("div");
+    for (const { text, kind } of pieces) {
+        const piece = document.createElement("span");
+        piece.textContent = text;
+        piece.className = kind;
+        line.append(piece);
+    }
+    return line;
 }
 
 // Returns the ranges of faults as they are painted: in order, without overlaps, the more severe kind

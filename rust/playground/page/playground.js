@@ -36,10 +36,11 @@ function say(words) {
 }
 
 // Says something once nobody has typed for a while, so that a screen reader is not interrupted.
-let later;
+let later, isFirst = true;
 function sayLater(words) {
     clearTimeout(later);
-    later = setTimeout(() => say(words), 400);
+    later = setTimeout(() => say(words), isFirst ? 0 : 400);
+    isFirst = false;
 }
 
 function plural(number, word) {
@@ -85,7 +86,7 @@ const steps = {
         if (text.text.startsWith(front)) {
             text.show(paintOf(known.items));
         }
-        showTokens(known, (from, to) => text.select(from, to));
+        listTokens();
         document.documentElement.dataset.milliseconds = String(Math.round(performance.now() - pressed));
         sayLater(answer ? summary(answer.notes) : `The library was stopped: it took more than ${limit} milliseconds for the text.`);
         waiting.add("matches");
@@ -99,7 +100,7 @@ const steps = {
         }
         const from = index < 0 ? gapAt(cursor) : known.items[index + 3];
         const before = known.lexed.slice(0, from).split("\n");
-        const point = { line: before.length, column: [...before.at(-1)].length + 1, from, cursor };
+        const point = { line: before.length, column: [...before.at(-1)].length + 1, from, cursor: index < 0 ? cursor : from };
         const answer = await questions.ask("matches", { ...request(), ...point });
         showMatches(known, answer ?? { found: [], notes: ["The library was stopped."] });
     },
@@ -125,12 +126,16 @@ function clear(why) {
     ORDER.forEach((name) => waiting.delete(name));
     text.show([]);
     showLeaves(known);
-    showTokens(known, () => {});
+    listTokens();
     showMatches(known, { found: [], notes: [] });
     at("token").textContent = "No token.";
     showStates([]);
     document.documentElement.dataset.milliseconds = String(Math.round(performance.now() - pressed));
     sayLater(why);
+}
+
+function listTokens() {
+    showTokens(known, (from, to) => text.select(from, to));
 }
 
 function listEnums() {
@@ -260,6 +265,7 @@ function edited(...names) {
 function fill(example) {
     source.text = example.source;
     text.text = example.text;
+    text.area.setSelectionRange(0, 0);
     edited("lexers");
 }
 
@@ -270,8 +276,12 @@ function showUnderPointer(event) {
 }
 
 function listen() {
-    source.area.addEventListener("input", () => edited("lexers"));
-    text.area.addEventListener("input", () => known.leaves.length > 0 ? edited("items") : edited("lexers"));
+    for (const { area } of [source, text]) {
+        area.addEventListener("input", () => {
+            at("example").selectedIndex = 0;
+            edited(area === text.area && known.leaves.length > 0 ? "items" : "lexers");
+        });
+    }
     text.area.addEventListener("pointermove", showUnderPointer);
     document.addEventListener("selectionchange", () => {
         if (document.activeElement === text.area && known.leaves.length > 0) {
@@ -283,14 +293,21 @@ function listen() {
         chooseEnum();
         pump();
     });
+    at("tokens-details").addEventListener("toggle", listTokens);
     at("stop").addEventListener("click", () => questions.end());
-    at("example").replaceChildren(...EXAMPLES.map(({ name }) => new Option(name)));
-    at("example").addEventListener("change", () => fill(EXAMPLES[at("example").selectedIndex]));
+    at("example").replaceChildren(new Option("Your own"), ...EXAMPLES.map(({ name }) => new Option(name)));
+    at("example").addEventListener("change", () => {
+        const example = EXAMPLES[at("example").selectedIndex - 1];
+        if (example) {
+            fill(example);
+        }
+    });
 }
 
 async function start() {
     listen();
     const first = EXAMPLES[0];
+    at("example").selectedIndex = settings.has("enum") || settings.has("text") ? 0 : 1;
     fill({ source: settings.get("enum") ?? first.source, text: settings.get("text") ?? first.text });
     try {
         const response = await fetch("playground.wasm");

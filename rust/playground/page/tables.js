@@ -5,9 +5,15 @@ const MOST_TOKENS = 200;
 
 const at = (id) => document.getElementById(id);
 
+// Returns a text in which characters that are invisible, or that turn the direction of others, are
+// written by their numbers.
+export function visible(text) {
+    return text.replace(/[\p{C}\p{Zl}\p{Zp}]/gu, (it) => `\\u{${it.codePointAt(0).toString(16)}}`);
+}
+
 function made(name, text, kind) {
     const element = document.createElement(name);
-    element.textContent = text;
+    element.textContent = visible(text);
     if (kind) {
         element.className = kind;
     }
@@ -22,7 +28,7 @@ function rowOf(head, cells) {
     row.append(first);
     for (const cell of cells) {
         const data = document.createElement("td");
-        data.append(cell);
+        data.append(typeof cell === "string" ? visible(cell) : cell);
         row.append(data);
     }
     return row;
@@ -30,13 +36,14 @@ function rowOf(head, cells) {
 
 function fill(id, rows) {
     at(id).tBodies[0].replaceChildren(...rows);
+    at(id).hidden = rows.length === 0;
 }
 
-// A literal of JSON, in which control characters are escaped.
+// Returns the front of a text in quotes, with line ends and tabs as in a literal.
 function quoted(text, most) {
-    const characters = [...text];
-    const cut = characters.length > most ? "…" : "";
-    return made("code", JSON.stringify(characters.slice(0, most).join("")) + cut);
+    const front = [...text.slice(0, 2 * most)].slice(0, most).join("");
+    const escaped = front.replace(/["\\\n\t]/g, (it) => ({ "\n": "\\n", "\t": "\\t" })[it] ?? `\\${it}`);
+    return made("code", `"${escaped}"${front.length < text.length ? "…" : ""}`);
 }
 
 // Returns the name of the variant of a leaf, or `skip`.
@@ -57,7 +64,7 @@ export function tokenText({ items, leaves, lexed }, index, cursor) {
     if (leaf < 0) {
         return `Error, bytes ${from}..${to}: no leaf matches here.`;
     }
-    return `${leaves[leaf].variant}: leaf ${leaf}, bytes ${from}..${to}, priority ${leaves[leaf].priority}.`;
+    return `${visible(leaves[leaf].variant)}: leaf ${leaf}, bytes ${from}..${to}, priority ${leaves[leaf].priority}.`;
 }
 
 // Shows the faults and warnings of a source, and the other lines. `select` is called for a span that
@@ -96,6 +103,7 @@ function faultItem({ level, code, message, spans, children }, select) {
 
 // Shows the leaves of the selected enum.
 export function showLeaves({ leaves }) {
+    at("leaves-note").textContent = leaves.length === 0 ? "No leaves." : "";
     fill("leaves", leaves.map((it) => rowOf(sample(it.leaf), [
         it.variant ?? "skip",
         it.kind,
@@ -106,10 +114,11 @@ export function showLeaves({ leaves }) {
     ])));
 }
 
-// Shows the first tokens of the text. `select` is called for the span of a token that is chosen.
+// Shows the number of tokens, and the first ones if their table is open. `select` is called for the
+// span of a token that is chosen.
 export function showTokens({ items, leaves, lexed }, select) {
-    const rows = [];
-    for (let index = 0; index < items.length && rows.length < MOST_TOKENS; index += 5) {
+    const rows = [], most = at("tokens-details").open ? MOST_TOKENS : 0;
+    for (let index = 0; index < items.length && rows.length < most; index += 5) {
         const [leaf, from, to, start, end] = items.slice(index, index + 5);
         const button = made("button", `${from}..${to}`, "link");
         button.type = "button";
@@ -133,7 +142,6 @@ export function showMatches(known, { found, line, column, notes }) {
         quoted(it.text, 40),
         `${it.variant ?? "skip"}${it.wins ? " wins" : ""}`,
     ])));
-    at("why").hidden = found.length === 0;
     at("why-note").textContent = [
         ...notes,
         ...(line && notes.length === 0 ? [`From line ${line}, column ${column}. ${found.length === 0 ? "No leaf matches." : "The longest match wins, and among equally long ones that of highest priority."}`] : []),
