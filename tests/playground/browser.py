@@ -11,7 +11,7 @@ import time
 import urllib.request
 
 # The longest time that one answer may take, in seconds.
-PATIENCE = 60
+PATIENCE = 240
 
 
 class Socket:

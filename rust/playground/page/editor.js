@@ -5,9 +5,12 @@
 export class Editor {
     #keys = [];
     #lines = [];
+    // It has the height of the text that is not painted, so that both fields scroll alike.
+    #rest = document.createElement("div");
 
     constructor(element) {
         this.paint = element.querySelector(".paint");
+        this.paint.append(this.#rest);
         this.area = element.querySelector("textarea");
         this.area.addEventListener("scroll", () => this.#scroll());
     }
@@ -18,12 +21,12 @@ export class Editor {
 
     set text(text) {
         this.area.value = text;
-        this.show([]);
+        this.show([], 0);
     }
 
     // Colors ranges of the text. They are in order and do not overlap: `start`, `end`, and `kind`,
-    // the classes of its piece.
-    show(ranges) {
+    // the classes of its piece. The text after `most` is not painted.
+    show(ranges, most) {
         const text = this.text, lines = [[]];
         let at = 0;
         const add = (end, kind) => {
@@ -43,8 +46,12 @@ export class Editor {
             add(start, "");
             add(end, kind);
         }
-        add(text.length, "");
+        add(most, "");
+        this.#rest.style.height = "0";
         this.#replace(lines);
+        if (most < text.length) {
+            this.#rest.style.height = `${Math.max(this.area.scrollHeight - this.paint.scrollHeight, 0)}px`;
+        }
         this.#scroll();
     }
 
@@ -64,7 +71,7 @@ export class Editor {
         this.#lines.slice(front, old.length - back).forEach((line) => line.remove());
         const fragment = document.createDocumentFragment();
         made.forEach((line) => fragment.append(line));
-        this.paint.insertBefore(fragment, rest[0] ?? null);
+        this.paint.insertBefore(fragment, rest[0] ?? this.#rest);
         this.#lines = this.#lines.slice(0, front).concat(made, rest);
         this.#keys = keys;
     }
@@ -106,8 +113,8 @@ function lineOf(pieces) {
     return line;
 }
 
-// Returns the ranges of faults as they are painted: in order, without overlaps, the more severe kind
-// first, and each at least one character long.
+// Returns the ranges of faults as they are painted: in order, without overlaps, with the more severe
+// kind, and each at least one character long.
 export function rangesOf(faults, length) {
     const painted = faults.flatMap(({ level, spans }) => spans.map(({ start, end }) => {
         const from = Math.min(start, Math.max(length - 1, 0));

@@ -4,7 +4,7 @@
 import { pictureOf, rowsOf, statesOf } from "./diagram.js";
 import { Editor, rangesOf } from "./editor.js";
 import { EXAMPLES } from "./examples.js";
-import { Questions } from "./questions.js";
+import { Requests } from "./requests.js";
 import { showFaults, showLeaves, showMatches, showTokens, tokenText, variantOf } from "./tables.js";
 
 // The most bytes of a text that are lexed, and of a source that is read.
@@ -22,25 +22,29 @@ const limit = Number(settings.get("limit")) || LIMIT;
 
 // What is known of the texts at present.
 const known = { enums: [], tables: [], range: undefined, leaves: [], items: new Int32Array(0), lexed: "", faults: [] };
-// The questions that wait, in the order in which they are asked.
+// The requests that wait, and the order in which they are sent.
 const waiting = new Set();
 const ORDER = ["lexers", "leaves", "items", "matches", "diagram"];
-let questions;
+let requests;
 let isBusy = false;
 let pressed = 0;
 
-function say(words) {
+function showStatus(words) {
     if (at("status").textContent !== words) {
         at("status").textContent = words;
     }
 }
 
-// Says something once nobody has typed for a while, so that a screen reader is not interrupted.
+// Shows the status once nobody has typed for a while, so that a screen reader is not interrupted.
 let later, isFirst = true;
-function sayLater(words) {
+function showStatusLater(words) {
     clearTimeout(later);
-    later = setTimeout(() => say(words), isFirst ? 0 : 400);
+    later = setTimeout(() => showStatus(words), isFirst ? 0 : 400);
     isFirst = false;
+}
+
+function stopped(about) {
+    return `The library was stopped before it answered about ${about}. The limit is ${limit} milliseconds.`;
 }
 
 function plural(number, word) {
@@ -62,18 +66,23 @@ const steps = {
         if (source.text.length > MOST_SOURCE) {
             return refuse("The enum has more than 1 MiB, and is not read.");
         }
-        const answer = await questions.ask("lexers", { source: source.text });
+        const sent = source.text;
+        const answer = await requests.send("lexers", { source: sent });
+        if (source.text !== sent) {
+            // It was edited since, and the next request is about it.
+            return undefined;
+        }
         if (!answer) {
-            return refuse(`The library was stopped: it took more than ${limit} milliseconds for the enum.`);
+            return refuse(stopped("the enum"));
         }
         Object.assign(known, { enums: answer.enums, tables: answer.tables, faults: answer.faults });
-        source.show(rangesOf(answer.faults, source.text.length));
+        source.show(rangesOf(answer.faults, sent.length), sent.length);
         showFaults(answer, (span) => source.select(span.start, span.end));
         listEnums();
-        chooseEnum();
+        return chooseEnum();
     },
     async leaves() {
-        const answer = await questions.ask("leaves", request());
+        const answer = await requests.send("leaves", request());
         setTable(answer?.table);
     },
     async items() {
@@ -81,14 +90,14 @@ const steps = {
         known.lexed = front;
         at("cut").hidden = front.length === text.text.length;
         at("cut").textContent = `The text is long: only its first 64 KiB are lexed and colored.`;
-        const answer = await questions.ask("items", request());
+        const answer = await requests.send("items", request());
         known.items = answer?.items ?? new Int32Array(0);
         if (text.text.startsWith(front)) {
-            text.show(paintOf(known.items));
+            text.show(paintOf(known.items), front.length);
         }
         listTokens();
         document.documentElement.dataset.milliseconds = String(Math.round(performance.now() - pressed));
-        sayLater(answer ? summary(answer.notes) : `The library was stopped: it took more than ${limit} milliseconds for the text.`);
+        showStatusLater(answer ? summary(answer.notes) : stopped("the text"));
         waiting.add("matches");
     },
     async matches() {
@@ -101,11 +110,11 @@ const steps = {
         const from = index < 0 ? gapAt(cursor) : known.items[index + 3];
         const before = known.lexed.slice(0, from).split("\n");
         const point = { line: before.length, column: [...before.at(-1)].length + 1, from, cursor: index < 0 ? cursor : from };
-        const answer = await questions.ask("matches", { ...request(), ...point });
-        showMatches(known, answer ?? { found: [], notes: ["The library was stopped."] });
+        const answer = await requests.send("matches", { ...request(), ...point });
+        showMatches(known, answer ?? { found: [], notes: [stopped("this point")] });
     },
     async diagram() {
-        const answer = await questions.ask("diagram", request());
+        const answer = await requests.send("diagram", request());
         showStates(answer ? statesOf(answer.text) : []);
     },
 };
@@ -113,7 +122,7 @@ const steps = {
 // Forgets the lexer, and shows why there is none.
 function refuse(why) {
     Object.assign(known, { enums: [], tables: [], faults: [] });
-    source.show([]);
+    source.show([], 0);
     showFaults({ faults: [], notes: [why] }, () => {});
     listEnums();
     clear(why);
@@ -124,14 +133,14 @@ function clear(why) {
     known.leaves = [];
     known.items = new Int32Array(0);
     ORDER.forEach((name) => waiting.delete(name));
-    text.show([]);
+    text.show([], 0);
     showLeaves(known);
     listTokens();
     showMatches(known, { found: [], notes: [] });
     at("token").textContent = "No token.";
     showStates([]);
     document.documentElement.dataset.milliseconds = String(Math.round(performance.now() - pressed));
-    sayLater(why);
+    showStatusLater(why);
 }
 
 function listTokens() {
@@ -145,12 +154,12 @@ function listEnums() {
     at("enum-label").hidden = known.enums.length < 2;
 }
 
-// Takes the selected enum, and puts the questions about it in line.
+// Takes the selected enum, and requests what is shown about it.
 function chooseEnum() {
     const index = at("enum").selectedIndex;
     known.range = known.enums[index];
     if (!known.range) {
-        return clear(known.faults.length > 0 ? "There is no lexer: see the faults and warnings." : "No enum derives Logos.");
+        return clear("There is no lexer: see the messages.");
     }
     if (known.tables[index]) {
         setTable(known.tables[index]);
@@ -165,7 +174,7 @@ function chooseEnum() {
 function setTable(table) {
     if (!table) {
         const count = known.faults.filter(({ level }) => level === "error").length;
-        return clear(`The enum has ${plural(count, "fault")}, so there are no tokens.`);
+        return clear(count > 0 ? `The enum has ${plural(count, "fault")}, so there are no tokens.` : "There is no lexer: see the messages.");
     }
     known.leaves = table.leaves;
     known.states = table.states;
@@ -237,9 +246,9 @@ function showStates(states) {
     at("diagram-note").textContent = states.length === 0 ? "No states." : `${plural(states.length, "state")}. Each match attempt begins in state 0.${drawn}${cut}`;
 }
 
-// Asks the questions that wait, one after another.
+// Sends the requests that wait, one after another.
 async function pump() {
-    if (isBusy || !questions) {
+    if (isBusy || !requests) {
         return;
     }
     isBusy = true;
@@ -294,7 +303,7 @@ function listen() {
         pump();
     });
     at("tokens-details").addEventListener("toggle", listTokens);
-    at("stop").addEventListener("click", () => questions.end());
+    at("stop").addEventListener("click", () => requests.end());
     at("example").replaceChildren(new Option("Your own"), ...EXAMPLES.map(({ name }) => new Option(name)));
     at("example").addEventListener("change", () => {
         const example = EXAMPLES[at("example").selectedIndex - 1];
@@ -311,9 +320,9 @@ async function start() {
     fill({ source: settings.get("enum") ?? first.source, text: settings.get("text") ?? first.text });
     try {
         const response = await fetch("playground.wasm");
-        questions = new Questions(await WebAssembly.compile(await response.arrayBuffer()), limit);
+        requests = new Requests(await WebAssembly.compile(await response.arrayBuffer()), limit);
     } catch (error) {
-        say(`The library cannot be loaded: ${error.message}. The page has to come from a web server.`);
+        showStatus(`The library cannot be loaded: ${error.message}. The page has to come from a web server.`);
         return;
     }
     pump();

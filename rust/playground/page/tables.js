@@ -67,8 +67,8 @@ export function tokenText({ items, leaves, lexed }, index, cursor) {
     return `${visible(leaves[leaf].variant)}: leaf ${leaf}, bytes ${from}..${to}, priority ${leaves[leaf].priority}.`;
 }
 
-// Shows the faults and warnings of a source, and the other lines. `select` is called for a span that
-// is chosen.
+// Shows the faults and warnings of a source, and the other lines. `select` is called for a span
+// that is chosen.
 export function showFaults({ faults, notes }, select) {
     const errors = faults.filter(({ level }) => level === "error").length;
     const warnings = faults.filter(({ level }) => level === "warning").length;

@@ -122,8 +122,8 @@ const answers = {
         const shown = call(["logos_show", "lexer.rs", "--json"], partOf(source, range), NOTHING);
         return { table: shown.status === 0 ? lexersOf(shown.out)[0] : undefined };
     },
-    // The items of the text: five numbers for each, which are the leaf or -1, its span in bytes, and
-    // its span in the string.
+    // The items of the text: five numbers for each, which are the leaf or -1, its span in bytes,
+    // and its span in the string.
     items({ source, range, text }) {
         const found = call(["logos", "lex", "lexer.rs", "text"], partOf(source, range), encoder.encode(text));
         const convert = converter(text);

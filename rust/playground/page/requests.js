@@ -1,7 +1,7 @@
 // Sends requests to the worker, one at a time, and ends it if an answer takes too long.
 
-// Questions to the library. `limit` is the most milliseconds that an answer may take.
-export class Questions {
+// Requests to the library. `limit` is the most milliseconds that an answer may take.
+export class Requests {
     #module;
     #limit;
     #worker;
@@ -14,7 +14,7 @@ export class Questions {
     }
 
     // Returns the answer to a request, or undefined if the worker was ended before.
-    ask(name, request) {
+    send(name, request) {
         this.#worker ??= this.#started();
         this.#number += 1;
         const id = this.#number;
