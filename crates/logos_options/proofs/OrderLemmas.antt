@@ -1,5 +1,5 @@
 -- The order of options does not matter.
-use Rattle.std.proofs.Common.{◌≡◌, ◌≢◌, ◌∙◌, ◌++◌, ℕ, Bool, true, false, List, [], ◌∷◌, Option, Some, None, ap, if◌then◌else◌, is_some, refl, replicate, set, sym}
+use Rattle.std.proofs.Common.{◌≡◌, ◌≢◌, ◌∙◌, ◌++◌, ℕ, Bool, true, false, List, [], ◌∷◌, Option, Some, None, ap, if◌then◌else◌, is_some, refl, set, sym}
 use Rattle.std.proofs.lemmas.List.{append-nil, get_or-set_other, set_comm}
 use Rattle.logos_options.specs.ArgumentSteps.{OptionValue}
 use Rattle.logos_options.specs.Arguments.{ArgumentsValue, arguments_of, is_set, nothing_given, settled, with_given, with_role, with_step, with_arguments}
@@ -182,7 +182,7 @@ settled_both (x ∷ xs) ys s t = (s.0, settled_both xs ys s.1 t)
 pub any_order : (program : Program) (one other : List (List ℕ)) (first second : List OptionValue) → AreWhole one first → AreWhole other second → AreSettled first → AreSettled second → AreApart first second →
     arguments_of program (one ++ other) ≡ arguments_of program (other ++ one)
 any_order program one other first second w u s t apart =
-    let start : IsHeld (Some nothing_given) = holds None None (replicate 15 None) None in
+    let start : IsHeld (Some nothing_given) = holds None None nothing_given.settings None in
     ap settled (reads program (one ++ other) (first ++ second) (whole_both one other first second w u) (settled_both first second s t) (Some nothing_given) start
     ∙ rotated program (Some nothing_given) start first second s t apart
     ∙ sym (reads program (other ++ one) (second ++ first) (whole_both other one second first u w) (settled_both second first t s) (Some nothing_given) start))
