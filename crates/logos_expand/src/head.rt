@@ -42,8 +42,7 @@ fn may_follow_line(bytes: &[u8]) -> bool
 {
     match bytes {
         [first, second, third, ..] => {
-            !(is_byte_order_mark(*first, *second, *third)
-                | is_script_mark(*first, *second, *third))
+            !(is_byte_order_mark(*first, *second, *third) | is_script_mark(*first, *second, *third))
         }
         _ => true,
     }

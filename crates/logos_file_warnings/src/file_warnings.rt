@@ -228,7 +228,7 @@ pub fn denial_text(
 
 /// Returns a report of warnings with the line that they are denied.
 fn denied(report: String) -> Result<String, Memory>
-    ensures { IfOk result (λ text. string_bytes text ≡ string_bytes report.entry
+    ensures { IfOk result (λ text. string_bytes text ≡ string_bytes report
         ++ codes "error: warnings are denied by `--deny-warnings`\n") }
 {
     let mut text = report;

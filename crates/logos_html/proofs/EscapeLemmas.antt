@@ -2,7 +2,7 @@
 use Rattle.std.proofs.Common.{◌≡◌, ◌≤◌, ◌<◌, ◌+◌, ◌==◌, ◌⊎◌, inl, inr, ℕ, Bool, true, false, cond, List, [], ◌∷◌, ◌++◌, length, get_or, chars, encode_utf8, flat_map, codes, refl, sym, subst, arith, append_assoc, append-nil}
 use Rattle.std.proofs.lemmas.Bool.{cases_eq, cases_lt, ne_eqb, ltb-true, ltb-false}
 use Rattle.std.proofs.lemmas.Grind.{common_steps}
-use Rattle.std.proofs.lemmas.Str.{inside_one}
+use Rattle.std.proofs.lemmas.Str.{encode_ascii, inside_one}
 use Rattle.std.specs.Prelude.{nat_lt}
 use Rattle.logos_page.specs.Shown.{is_unsafe, occur_in, shown_char}
 use Rattle.logos_html.specs.Escapes.{IsReference, ReadsAs, ampersand, apostrophe, ends, escaped_char, greater, is_plain, itself, less, quote, reference}
@@ -17,6 +17,10 @@ reads_both {other = other} {more = more} (reference name c html text n r) s =
 -- a reference alone
 one_reference : (name : List ℕ) (c : ℕ) → IsReference name c → ReadsAs name (c ∷ [])
 one_reference name c n = subst (λ h. ReadsAs h (c ∷ [])) (append-nil name) (reference name c [] [] n ends)
+
+-- and as the shown form of its character
+one_shown : (name : List ℕ) (c : ℕ) → IsReference name c → c < 128 → ReadsAs name (encode_utf8 c)
+one_shown name c n l = subst (λ text. ReadsAs name text) (sym (encode_ascii c l)) (one_reference name c n)
 
 -- bytes that are no markup
 plain_bytes : (bytes : List ℕ) → ((k : ℕ) → k < length bytes → is_plain (get_or bytes k 0) ≡ true) → ReadsAs bytes bytes
@@ -69,23 +73,23 @@ char_reads c = amp (cases_eq c 38)
     at n r e = subst (λ x. ReadsAs (escaped_char x) (shown_char x)) (sym e) r
 
     apo : (c ≡ 38 → ⊥) → (c ≡ 60 → ⊥) → (c ≡ 62 → ⊥) → (c ≡ 34 → ⊥) → (c ≡ 39) ⊎ (c ≡ 39 → ⊥) → ReadsAs (escaped_char c) (shown_char c)
-    apo p q r s (inl e) = at 39 (one_reference (codes "&#39;") 39 apostrophe) e
+    apo p q r s (inl e) = at 39 (one_shown (codes "&#39;") 39 apostrophe (omega arith)) e
     apo p q r s (inr t) = none p q r s t
 
     quo : (c ≡ 38 → ⊥) → (c ≡ 60 → ⊥) → (c ≡ 62 → ⊥) → (c ≡ 34) ⊎ (c ≡ 34 → ⊥) → ReadsAs (escaped_char c) (shown_char c)
-    quo p q r (inl e) = at 34 (one_reference (codes "&quot;") 34 quote) e
+    quo p q r (inl e) = at 34 (one_shown (codes "&quot;") 34 quote (omega arith)) e
     quo p q r (inr s) = apo p q r s (cases_eq c 39)
 
     gre : (c ≡ 38 → ⊥) → (c ≡ 60 → ⊥) → (c ≡ 62) ⊎ (c ≡ 62 → ⊥) → ReadsAs (escaped_char c) (shown_char c)
-    gre p q (inl e) = at 62 (one_reference (codes "&gt;") 62 greater) e
+    gre p q (inl e) = at 62 (one_shown (codes "&gt;") 62 greater (omega arith)) e
     gre p q (inr r) = quo p q r (cases_eq c 34)
 
     les : (c ≡ 38 → ⊥) → (c ≡ 60) ⊎ (c ≡ 60 → ⊥) → ReadsAs (escaped_char c) (shown_char c)
-    les p (inl e) = at 60 (one_reference (codes "&lt;") 60 less) e
+    les p (inl e) = at 60 (one_shown (codes "&lt;") 60 less (omega arith)) e
     les p (inr q) = gre p q (cases_eq c 62)
 
     amp : (c ≡ 38) ⊎ (c ≡ 38 → ⊥) → ReadsAs (escaped_char c) (shown_char c)
-    amp (inl e) = at 38 (one_reference (codes "&amp;") 38 ampersand) e
+    amp (inl e) = at 38 (one_shown (codes "&amp;") 38 ampersand (omega arith)) e
     amp (inr p) = les p (cases_eq c 60)
 
 -- a text, character by character

@@ -1,7 +1,6 @@
 -- A report in which nothing is left out has the lines of each fault.
-use Rattle.std.proofs.Common.{◌≡◌, ◌==◌, ◌≤◌, ◌<◌, ◌+◌, ℕ, Bool, true, false, ◌&&◌, if◌then◌else◌, List, [], ◌∷◌, ◌++◌, append_assoc, arith, bytes_eq, min, nat_lt, refl, sym, ap, subst, ◌∙◌}
+use Rattle.std.proofs.Common.{◌≡◌, ◌==◌, ◌≤◌, ◌<◌, ◌+◌, ℕ, Bool, true, false, ◌&&◌, if◌then◌else◌, List, [], ◌∷◌, ◌++◌, append_assoc, arith, nat_lt, refl, sym, ap, ◌∙◌}
 use Rattle.std.proofs.lemmas.Bool.{lt-ltb}
-use Rattle.std.proofs.lemmas.List.{append-nil}
 use Rattle.std.proofs.lemmas.List.Sums.{sum_by-append, sum_by-cons}
 use Rattle.std.proofs.lemmas.Slice.Eq.{bytes_eq-Decides}
 use Rattle.std.specs.List.{count_by, flat_map}
@@ -9,8 +8,8 @@ use Rattle.std.specs.Prelude.{cond}
 use Rattle.logos_report.specs.Codes.{is_ambiguity}
 use Rattle.logos_report.specs.Faults.{counted_texts, fault_texts, has_name, left_out, listed_texts, rest_line, seen_of, texts_after}
 use Rattle.logos_report.specs.Locations.{SourceValue, location_line}
-use Rattle.logos_report.specs.Parts.{all_faults, part_texts, parts_texts, refused_texts}
-use Rattle.logos_report.specs.Sets.{NextValue, first_faults, follows, next_after, sizes_of}
+use Rattle.logos_report.specs.Parts.{all_faults, parts_texts, refused_texts}
+use Rattle.logos_report.specs.Sets.{NextValue, first_faults, next_after}
 use Rattle.logos_report.specs.declared.file_report.Refused.{Refused}
 use Rattle.logos_token.specs.FaultNames.{name_of}
 use Rattle.logos_token.specs.Faults.{Fault}

@@ -1,5 +1,5 @@
 -- The line of a variant has the sum of the numbers of its leaves.
-use Rattle.std.proofs.Common.{◌≡◌, ◌+◌, ◌^◌, ◌-◌, ℕ, suc, Bool, true, false, if◌then◌else◌, List, [], ◌++◌, arith, ap, min, slice_index, ◌∙◌}
+use Rattle.std.proofs.Common.{◌≡◌, ◌+◌, ◌^◌, ◌-◌, ℕ, suc, Bool, if◌then◌else◌, List, [], ◌++◌, arith, ap, min, slice_index, ◌∙◌}
 use Rattle.logos_code.specs.declared.code.CodeLeaf.{CodeLeaf}
 use Rattle.logos_answers.specs.Counts.{code_variant, lines_from, sum_with, variant_line}
 use Rattle.logos_laws.specs.readings.VariantSums.{AreOfVariant}

@@ -3,7 +3,6 @@ use Rattle.std.specs.Prelude.{◌≡◌, ◌≤◌, ℕ, Bool, List, [], ◌∷�
 use Rattle.std.specs.List.{count_by, flat_map}
 use Rattle.logos_report.specs.Faults.{fault_texts, has_name}
 use Rattle.logos_report.specs.Locations.{SourceValue}
-use Rattle.logos_report.specs.Parts.{all_faults}
 use Rattle.logos_report.specs.Sets.{sizes_of}
 use Rattle.logos_report.specs.declared.file_report.Refused.{Refused}
 use Rattle.logos_token.specs.FaultNames.{name_of}

@@ -1,4 +1,4 @@
-use Rattle.std.proofs.Common.{vec_items, ◌∙◌}
+use Rattle.std.proofs.Common.{vec_items}
 use Rattle.logos_expand.proofs.GatherLemmas.{bare_file, headed_all}
 use Rattle.logos_expand.proofs.expansion.expanded_file.Goals as goal
 

@@ -1,4 +1,4 @@
-use Rattle.std.proofs.Common.{◌≡◌, Bool, List, ℕ, ap, ◌∙◌, string_bytes}
+use Rattle.std.proofs.Common.{◌≡◌, Bool, ap, ◌∙◌, string_bytes}
 use Rattle.logos_page.specs.Pages.{PageValue}
 use Rattle.logos_page.proofs.PageLemmas.{gains_as, shown, shows_as, shows_then, unseen}
 use Rattle.logos_report.specs.Faults.{summary_line}

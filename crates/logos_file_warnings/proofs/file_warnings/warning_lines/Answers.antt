@@ -1,4 +1,4 @@
-use Rattle.std.proofs.Common.{◌∙◌, ℕ, List, [], ◌++◌, ap, subst, sym}
+use Rattle.std.proofs.Common.{◌∙◌, ℕ, List, ◌++◌, ap, subst, sym}
 use Rattle.logos_messages.specs.Warnings.{AreWarnings}
 use Rattle.logos_report.specs.Warnings.{shown_of}
 use Rattle.logos_file_warnings.proofs.file_warnings.warning_lines.Goals as goal
