@@ -19,7 +19,7 @@ BLOCK = re.compile(r"^(.*)\n```.*\n((?s:.*?))^```$", re.M)
 
 
 def programs(target):
-    """Builds the programs, and yields whether each prints what it has to, and what is wrong if not."""
+    """Builds the programs, and yields whether each prints the expected lines, or the fault."""
     words = ["cargo", "build", "--quiet", "--offline", "--manifest-path", f"{EXAMPLES}/Cargo.toml"]
     given = {**os.environ, "CARGO_TARGET_DIR": target, "CARGO_PROFILE_DEV_DEBUG": "0", "CARGO_INCREMENTAL": "0"}
     yield subprocess.run(words, env=given, check=False).returncode == 0, "the programs do not build"

@@ -7,13 +7,14 @@ use std::io;
 use std::path::Path;
 use std::process::{Command, ExitCode};
 
-/// What the module of the program `logos` needs besides: its command is private there.
+/// An addition to the module of the program `logos`, in which its command is private.
 const RUN_LOGOS: &str = "\
 /// Runs the command of `logos` that the arguments name. Returns the exit status.
 pub fn run_logos_program(rt: &HostRuntime) -> u8 { run_logos(rt) }
 ";
 
-/// What this package needs of the modules of `logos_cli` and `logos_show`, where it is private.
+/// The re-export that this package needs from the modules of `logos_cli` and `logos_show`, where it
+/// is private.
 const RUN_COMMAND: &str = "pub(crate) use self::program::run as run_command;\n";
 
 fn erase() -> io::Result<()> {

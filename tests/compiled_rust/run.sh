@@ -2,12 +2,12 @@
 # Compiles the generated code that `logos gen` prints, and that `logos_cli --shape tables` prints,
 # and compares what it finds with `logos lex`.
 #
-# README.md lists the files. Each source, and some from elsewhere in the repository, is stripped, and
-# its code is generated in all three shapes; the derive macro gets it as it is. rustc compiles all of
-# this at once over rust/logos, and what comes of each input is compared, item by item. A source has
-# at most one attribute on a variant, so that the index of a variant gives its leaf, and each skip on
-# a line of its own; one with a file in `beside` may have more. Its callbacks keep what they match,
-# as `logos lex` does. Derives that rustc does not know do nothing.
+# README.md lists the files. Each source, and some from elsewhere in the repository, is stripped,
+# and its code is generated in all three shapes; the derive macro gets it as it is. rustc compiles
+# all of this at once over rust/logos, and what comes of each input is compared, item by item. A
+# source has at most one attribute on a variant, so that the index of a variant gives its leaf,
+# and each skip on a line of its own; one with a file in `beside` may have more. Its callbacks
+# keep what they match, as `logos lex` does. Derives that rustc does not know do nothing.
 #
 # Callbacks of skips, callbacks that refuse what they match or leave it out, and the one that makes
 # errors are shown too. Of a source with a file in `skips` the skips stand in `skip(..)`, and `logos
@@ -125,8 +125,8 @@ lexer_text() {
 compile() {
     CARGO_PROFILE_DEV_OPT_LEVEL=1 CARGO_PROFILE_DEV_DEBUG=0 cargo build --offline --quiet -p logos-derive --manifest-path "$root/Cargo.toml" --target-dir "$root/out/cargo"
     cp "$root/out/cargo/debug/liblogos_derive.so" "$room"
-    # (most of the time goes into what `scan` finds, so its library is optimised, with all checks; it
-    # says what its build script says to it at a higher level)
+    # (most of the time goes into what `scan` finds, so its library is optimised, with all checks;
+    # it says what its build script says to it at a higher level)
     LOGOS_VECTORS=1 rustc --edition 2021 --crate-type rlib --crate-name logos --cfg 'feature="export_derive"' --extern "logos_derive=$room/liblogos_derive.so" \
         -C opt-level=1 -C debug-assertions=on -o "$room/liblogos.rlib" "$root/rust/logos/src/lib.rs"
     rustc --edition 2021 --crate-type proc-macro --crate-name serde -o "$room/libserde.so" "$here/serde.rs"

@@ -4,11 +4,11 @@ blank lines are not code.
 
   lengths.py
 
-For each crate it prints the lines of its longest function and file. A function has at most 40 lines, from its name to its last brace, and a file at most 400. A block of
-`ghost use` lines, at the top of a file or of an `impl`, has at most four, and those of a crate have
-at most 8, and 35 more for each thousand lines of its code. A number of three digits or more in a
-clause has a name, but for 256. Each bound counts once for each crate. The last line is `lengths: N
-passed, M failed`."""
+For each crate it prints the lines of its longest function and file. A function has at most 40
+lines, from its name to its last brace, and a file at most 400. A block of `ghost use` lines, at the
+top of a file or of an `impl`, has at most four, and those of a crate have at most 8, and 35 more
+for each thousand lines of its code. A number of three digits or more in a clause has a name, but
+for 256. Each bound counts once for each crate. The last line is `lengths: N passed, M failed`."""
 import os
 import re
 

@@ -3,10 +3,11 @@
 
   type_names.py
 
-It prints the names that stand in several crates, and why they do. A type is a `struct`, an `enum` or a `trait` in `src` of a crate. Its name stands in one crate, but
-for those that are listed here with the crates that have them and the reason why they stay. A name
-that is listed has to stand in each of its crates, so the list only gets shorter. Each name counts
-as one. The last line is `type_names: N passed, M failed`."""
+It prints the names that stand in several crates, and why they do. A type is a `struct`, an `enum`
+or a `trait` in `src` of a crate. Its name stands in one crate, but for those that are listed here
+with the crates that have them and the reason why they stay. A name that is listed has to stand in
+each of its crates, so the list only gets shorter. Each name counts as one. The last line is
+`type_names: N passed, M failed`."""
 import collections
 import glob
 import os

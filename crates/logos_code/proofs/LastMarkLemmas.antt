@@ -72,7 +72,7 @@ root_mark code sound = go (slice_get code.states code.root) refl sound.root
         ap (λ (s : CodeState). s.mark) same ∙ h.mark
 
 module _ (code : CodeValue) (sound : IsSound code) (marks : List LastMark) (agree : Agree code marks) (bytes : List ℕ) (start : ℕ) where
-  -- where the fast loop ends of a stand's state
+  -- the end of the fast loop of a status's state
   abbrev stop_of : Status → ℕ
   stop_of at = at.offset + looped code (state_at code at.state).fast_loop (drop at.offset bytes)
 
@@ -163,7 +163,7 @@ module _ (code : CodeValue) (sound : IsSound code) (marks : List LastMark) (agre
           go (Some b) e = by_byte b (target code state.fork b) refl e
           go None e = by_end fresh e
 
-    -- what a match attempt passed that ends here
+    -- the mark that a match attempt passed that ends here
     module _ (passed : Option (ℕ × ℕ)) (offset : ℕ) where
       acted : acts (passed_of at) (stop_of at) ≡ acts passed offset → Holds (last_mark_at marks at.state) passed offset
       acted e =
@@ -202,7 +202,7 @@ no_last_marks code s bytes start at passed offset are stood e d =
     let none : last_mark_at [] s ≡ Unseen = get_or-eq_default [] Unseen {n = s} (omega arith) in
     subst (λ (m : LastMark). Holds m passed offset) (sym none) tt
 
--- what holds of each element so far, and of one more
+-- a property of each element so far, and of one more
 pub one_more : {A : Type 0} (P : A → Type 0) (xs : List A) (i : ℕ) (x : A) → i < length xs → x ≡ get_or xs i x → P x → ((j : ℕ) (d : A) → j < i → P (get_or xs j d)) →
     (j : ℕ) (d : A) → j < i + 1 → P (get_or xs j d)
 one_more P xs i x h is holds before j d l = ⊎_elim (before j d) now (either j i l)
@@ -219,7 +219,7 @@ one_more P xs i x h is holds before j d l = ⊎_elim (before j d) now (either j 
     now : i ≡ j → P (get_or xs j d)
     now e = subst (λ (n : ℕ). P (get_or xs n d)) e here
 
--- where branches lead, what holds of all of their targets holds
+-- where branches lead, a property of all of their targets holds
 pub branches_follow : (code : CodeValue) (marks : List LastMark) (from : LastMark) (edges : List (Condition × ℕ)) → All (λ edge. FollowsAt code marks from edge.1) edges →
     ForkAgrees code marks from (by_conditions edges)
 branches_follow code marks from edges all b t leads =

@@ -167,7 +167,7 @@ only_step : (P : Step → Type 0) (entry : ℕ) (step : Step) → (IsStepOf entr
 only_step P entry step (inl f) said none other g = subst P (sym (same_step entry step other f g)) said
 only_step P entry step (inr f) said none other g = subst P (sym (same_step entry Unsaid other f g)) none
 
--- an entry that leads is a place
+-- an entry that leads is a row offset
 step_row_start : (entry : ℕ) (step : Step) → IsStepOf entry step → LeadsToRowStart entry
 step_row_start entry (Leads s) f h = omega (arith, f.0)
 step_row_start entry (Stays s) f h = absurd (omega (arith, f.0, h))
@@ -225,7 +225,7 @@ module _ (code : CodeValue) (state : CodeState) where
   first_says b entry first is (inl e) = subst (IsEntry code state b) (sym e) is
   first_says b entry first is (inr h) = entry_says b first Unsaid (inl h) tt
 
-  -- what a state does where no byte leads on
+  -- the step of a state if no byte leads on
   pub halting_says : (b : ℕ) (step : Step) → stays code state.fast_loop b ≡ false → target code state.fork b ≡ None → IsHalting code state.mark step → Says code state b step
   halting_says b (Leads s) out none is = absurd is
   halting_says b (Stays s) out none is = absurd is

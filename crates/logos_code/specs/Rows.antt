@@ -116,7 +116,7 @@ pub record AreRows (code : CodeValue) (rows : List ℕ) : Type 0 where
 abbrev pub BeginsTry : ℕ → Type 0
 BeginsTry entry = (entry < 268435456) ⊎ (1073741824 ≤ entry)
 
--- The entry itself if it can begin an attempt, and one of the kind `UNSAID` otherwise.
+-- The entry itself if it can begin an attempt, and one of the kind `UNDESCRIBED` otherwise.
 abbrev pub IsFirstEntry : ℕ → ℕ → Type 0
 IsFirstEntry entry first = ((first ≡ entry) ⊎ (2415919104 ≤ first)) × BeginsTry first
 

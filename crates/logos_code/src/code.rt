@@ -234,7 +234,7 @@ impl Code<'_> {
     }
 
     /// Returns the entry of the first byte of an attempt. It leads to a state, ends a match, or is
-    /// `UNSAID`.
+    /// `UNDESCRIBED`.
     #[inline(always)]
     pub fn first_entry(&self, byte: u8) -> u32
         ensures first { IsFirst self.now byte result }

@@ -1,4 +1,4 @@
--- What the enums of a file give, one after another.
+-- The results for the enums of a file, one after another.
 use Rattle.std.proofs.Common.{◌≡◌, ◌==◌, ◌≤◌, ◌<◌, ◌+◌, ℕ, suc, Bool, List, [], ◌∷◌, ◌++◌, append_assoc, true, false, IfOk, OnOk, Option, Result, Ok, Err, map, min, length, get_or, drop, string_bytes, refl, sym, ap, ◌∙◌, arith, eqb-true, subst}
 use Rattle.std.proofs.lemmas.List.{append-nil}
 use Rattle.std.proofs.Math.Seq.{drop-cons}
@@ -39,7 +39,8 @@ use Rattle.logos_token.specs.Faults.{Fault}
 
 -- ---- the enums of a file, one after another
 
--- the enums up to a place were gathered: with what the others give it is what all give
+-- the enums up to an index were gathered: with the results for the others, these are the results
+-- for all
 pub record SoFar (shape : Shape) (text : List ℕ) (found left : List FoundEnum) (gathered : Gathered) : Type 0 where
   pub from : ℕ
   pub order : AreInOrder from (map found_span left) (length text)
@@ -213,14 +214,14 @@ spells_enum source rules utf8 a within = record {
 pub whole_refused : (shape : Shape) (text : List ℕ) (refusal : Refusal) (clues : Clues) (old new : List Refused) → old ≡ [] → Refuses (IsUnreadable text) refusal → AddsRefusal 0 refusal clues old new → AreRefused shape text new
 whole_refused shape text refusal clues old new e h a = whole (a.are ∙ ap (λ r. r ++ a.bad ∷ []) e) a.is_offset (faults_hold (IsUnreadable text) refusal a.bad.errors h a.faults)
 
--- what holds after success gives something else
+-- a property that holds after success implies another one
 pub ok_then : {A E One Other : Type 0} (result : Result A E) → (One → Other) → OnOk result One → OnOk result Other
 ok_then (Ok done) f h = f h
 ok_then (Err error) f h = tt
 
 -- an enum with faults was gathered, where there was memory for them
 
--- what holds stays so where a call fails or not
+-- a property is preserved whether a call fails or not
 pub holds_then : {A E P : Type 0} (result : Result A E) → P → OnOk result P
 holds_then (Ok done) p = p
 holds_then (Err error) p = tt
@@ -229,7 +230,7 @@ pub refuses_then : {A E : Type 0} (result : Result A E) (shape : Shape) (text : 
     OnOk result (AddsRefusal one.span.from refusal clues old.refused.items new.refused.items) → new.parts.items ≡ old.parts.items → source ≡ text_at text one → one.derives ≡ true → OnOk result (GathersOne shape text one old new)
 refuses_then result shape text one refusal clues old new source h s a p k e = ok_then result (λ b. refuses_one shape text one refusal clues old new source k e h s b p) a
 
--- what holds of a result gives something else of it
+-- a property of a result implies another one
 pub wraps : {A E : Type 0} {One Other : A → Type 0} (result : Result A E) → ((a : A) → One a → Other a) → IfOk result One → IfOk result Other
 wraps (Ok done) f h = f done h
 wraps (Err error) f h = tt

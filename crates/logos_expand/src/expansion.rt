@@ -150,8 +150,8 @@ fn denied_file<'w>(source: &Source<'_>, showing: Showing, warned: &[Warning]) ->
     }
 }
 
-/// Returns a file that has these tokens with parts replaced. If there are any, its first line says
-/// that it is generated, and its own documentation and attributes are plain comments.
+/// Returns a file that has these tokens with parts replaced. If there are any, its first line
+/// states that it is generated, and its own documentation and attributes are plain comments.
 fn expanded_file(
     alloc: Global,
     source: &Source<'_>,

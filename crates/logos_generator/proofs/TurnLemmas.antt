@@ -22,7 +22,7 @@ and_false true = refl
 and_false false = refl
 
 module _ (code : CodeValue) (graph : List GraphState) where
-  -- what stays true of the rest of the input after the bytes that the fast loop takes
+  -- the facts about the rest of the input after the bytes that the fast loop takes
   pub record Skips (p : ℕ → Bool) (s : ℕ) (rest : List ℕ) (at : ℕ) (context : Option (ℕ × ℕ)) (k : ℕ) : Type 0 where
     pub last : last_of graph s rest at context ≡ last_of graph s (drop k rest) (at + k) context
     pub reached : at + reach graph s rest ≡ at + k + reach graph s (drop k rest)
@@ -86,7 +86,7 @@ module _ (code : CodeValue) (graph : List GraphState) where
   end_at : (s : ℕ) (state : GraphState) → slice_get graph s ≡ Some state → next_at_end graph s ≡ state.eoi
   end_at s state is = rw is refl
 
-  -- the fast loop takes what leads back
+  -- the fast loop takes the bytes that lead back
   pub loops : (s : ℕ) (state : GraphState) (made : CodeState) → slice_get graph s ≡ Some state → Makes code s state made →
       (b : ℕ) → b < 256 → stays code made.fast_loop b ≡ true → next_by graph s b ≡ Some s
   loops s state made is makes b small e =
@@ -117,7 +117,7 @@ module _ (code : CodeValue) (graph : List GraphState) where
       pub reached : last_of graph next.state (drop next.offset bytes) next.offset next.context ≡ None →
           at.offset + reach graph at.state (drop at.offset bytes) ≡ next.offset + reach graph next.state (drop next.offset bytes)
 
-    -- the attempt is over, and acts on what is found
+    -- the attempt is over, and acts on the result
     pub record IsDone (at : Status) (what : Turn) : Type 0 where
       pub offset : ℕ
       pub is : what ≡ acts (last_of graph at.state (drop at.offset bytes) at.offset at.context) offset

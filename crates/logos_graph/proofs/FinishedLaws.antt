@@ -52,7 +52,7 @@ walk_reach : (graph : List GraphState) (bytes : List ℕ) (s : ℕ) → walk gra
 walk_reach graph [] s = refl
 walk_reach graph (b ∷ bytes) s = ap (λ (f : ℕ → Option ℕ). option_and_then f (next_by graph s b)) (λ i t. walk_reach graph bytes t i)
 
--- what a state is goes by its entry
+-- a state is determined by its entry
 same_state : (graph : List GraphState) (s t : ℕ) → slice_get graph s ≡ slice_get graph t → (bytes : List ℕ) (ends : Bool) → type_after graph s bytes ends ≡ type_after graph t bytes ends
 same_state graph s t e [] false = ap (option_map (λ (state : GraphState). state.state_type)) e
 same_state graph s t e [] true =
@@ -186,7 +186,7 @@ module _ (final : Table) (apart : table.IsLeast final) (ends : (s t k : ℕ) →
         has_type e.0 (λ type. type.early ≢ Some leaf) (edge_within final e.0 e.1 t e.2).0 e.3,
       )
 
--- what holds of the reduced table of an automaton
+-- a property of the reduced table of an automaton
 module _ (raw : Table) (root : ℕ) (reduction : Reduction) (made : table.IsReductionOf raw root reduction) (is_raw : IsRaw raw root) where
   abbrev mid : Table
   mid = made.marked

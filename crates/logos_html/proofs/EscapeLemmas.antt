@@ -22,7 +22,7 @@ one_reference name c n = subst (λ h. ReadsAs h (c ∷ [])) (append-nil name) (r
 one_shown : (name : List ℕ) (c : ℕ) → IsReference name c → c < 128 → ReadsAs name (encode_utf8 c)
 one_shown name c n l = subst (λ text. ReadsAs name text) (sym (encode_ascii c l)) (one_reference name c n)
 
--- bytes that are no markup
+-- bytes that are not markup
 plain_bytes : (bytes : List ℕ) → ((k : ℕ) → k < length bytes → is_plain (get_or bytes k 0) ≡ true) → ReadsAs bytes bytes
 plain_bytes [] h = ends
 plain_bytes (b ∷ bytes) h =
@@ -30,7 +30,7 @@ plain_bytes (b ∷ bytes) h =
     let rest : (k : ℕ) → k < length bytes → is_plain (get_or bytes k 0) ≡ true = λ k l. grind (arith, common_steps, h (k + 1)) in
     itself b bytes bytes first (plain_bytes bytes rest)
 
--- a byte that is none of five is plain
+-- a byte other than these five is plain
 plain_if : (b : ℕ) → (b ≡ 38 → ⊥) → (b ≡ 60 → ⊥) → (b ≡ 62 → ⊥) → (b ≡ 34 → ⊥) → (b ≡ 39 → ⊥) → is_plain b ≡ true
 plain_if b p q r s t = rw (ne_eqb b 38 p, ne_eqb b 60 q, ne_eqb b 62 r, ne_eqb b 34 s, ne_eqb b 39 t) refl
 

@@ -43,7 +43,7 @@ pub struct PageInput<'p> {
 }
 
 /// Returns the page of a lexer, and of an input if one is given. Of a long input the first 65,536
-/// bytes are shown, and the page says so.
+/// bytes are shown, and the page states that.
 ///
 /// # Errors
 ///

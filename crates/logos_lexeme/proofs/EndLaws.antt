@@ -22,7 +22,7 @@ pub Passes-one : (test : ℕ → Bool) (bytes : List ℕ) (at m n : ℕ) → Pas
 Passes-one test bytes at m n p q = p.moves ∙ sym q.moves
 
 module _ (based : Bool) (bytes : List ℕ) where
-  -- a sign and a point are ASCII, and end behind one byte also where they continue an identifier
+  -- a sign and a point are ASCII, and end after one byte also where they continue an identifier
   one_after : (at n : ℕ) → GoesOn based bytes at n → get_or bytes at 0 < 128 → n ≡ at + 1
   one_after at n (letter p) h = p.moves ∙ past-ascii bytes at h
   one_after at n (point b e d m) h = m
@@ -189,7 +189,7 @@ starts_inside bytes at e = elim (cases_lt at (length bytes)) [
   | inr l ↦ absurd (false≢true (sym is_start-nothing ∙ ap is_start (sym (character-end bytes at l)) ∙ e))
 ]
 
--- what is known of the offset where the name of an identifier begins
+-- the facts about the offset where the name of an identifier begins
 pub record IsNameStart (bytes : List ℕ) (at name : ℕ) : Type 0 where
   pub after : at ≤ name
   pub begins : name < length bytes
@@ -288,7 +288,7 @@ module _ (bytes : List ℕ) (at : ℕ) where
   pub IsSuffix-boundary : IsUtf8 bytes → IsCharBoundary bytes at → (to : ℕ) → IsSuffix bytes at to → IsCharBoundary bytes to
   IsSuffix-boundary utf8 bound to p = suffix-boundary utf8 bound (name_at bytes at) refl to p
 
--- what opens at an offset has one end
+-- a lexeme that opens at an offset has one end
 
 IsRaw-one : (count : ℕ) (bytes : List ℕ) (body a b : ℕ) → IsRaw count bytes body a → IsRaw count bytes body b → a ≡ b
 IsRaw-one count bytes body a b p q = p.after ∙ ap (λ n. n + 1 + count) (IsFirst-one p.first q.first) ∙ sym q.after

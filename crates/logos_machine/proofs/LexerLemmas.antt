@@ -28,7 +28,7 @@ module _ {C : Type 0} (lexer : LexerValue C) (from to : ℕ) (starts : lexer.fro
   item_span uses callback bytes Skip leaf item e = absurd (cc)
   item_span uses callback bytes Error leaf item e = error_span (Some leaf) _ item e
 
--- what is not there is `None`
+-- an element that does not exist is `None`
 pub none_of : {A : Type 0} (o : Option A) → ((x : A) → o ≡ Some x → ⊥) → o ≡ None
 none_of None h = cc
 none_of (Some x) h = absurd (h x (cc))
@@ -85,7 +85,7 @@ abbrev pub moved : {C : Type 0} → LexerValue C → (from to steps : ℕ) → L
 moved lexer from to steps = record { code = lexer.code; input = lexer.input; callback = lexer.callback; from = from; to = to; steps = steps }
 
 module _ {C : Type 0} (callback : Callback) (old : LexerValue C) where
-  -- what continues from here, after skipped matches, continues after the last item
+  -- a continuation from here, after skipped matches, continues after the last item
   pub record GoesOn (from : ℕ) : Type 0 where
     pub after : old.to ≤ from
     pub within : from ≤ length old.input

@@ -1,4 +1,4 @@
--- Tries by entries.
+-- Match attempts by entries.
 use Rattle.std.proofs.Common.{◌≡◌, ℕ, zero, suc, ◌+◌, ◌-◌, ◌*◌, ◌/◌, ◌%◌, ◌<◌, ◌≤◌, inl, inr, ⊎_elim, true, false, List, length, drop, get_or, Option, Some, None, refl, sym, subst, arith, length-drop}
 use Rattle.std.proofs.lemmas.Option.{slice_get-get_or, slice_get_past}
 use Rattle.logos_automaton.specs.Munch.{matched, failed}
@@ -81,7 +81,7 @@ module _ (code : CodeValue) (sound : IsSound code) (bytes : List ℕ) (start : �
     goes_on = λ found n g. let e : 0 + n ≡ n = omega arith in rw e g;
   }
 
-  -- a look from a state on
+  -- an examination from a state on
   pub looks_on : (state offset before entry stop : ℕ) → Comes code bytes start state offset before → LooksAhead code bytes state offset entry stop →
       Reaches code bytes start state entry stop before
   looks_on state offset before entry stop comes looks = record {

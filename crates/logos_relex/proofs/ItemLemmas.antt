@@ -1,4 +1,4 @@
--- Items that are found in a part whatever follows it, as they are stored.
+-- Items that are found in a part regardless of the bytes after it, as they are stored.
 use Rattle.std.proofs.Common.{◌≡◌, ◌∙◌, ℕ, ◌<◌, ◌≤◌, Bool, true, false, if◌then◌else◌, List, [], ◌∷◌, ◌++◌, length, map, Some, slice_range, option_map, refl, sym, ap, subst, arith}
 use Rattle.std.proofs.lemmas.List.{append_assoc, append-nil, map-append}
 use Rattle.std.proofs.lemmas.Str.{IsUtf8-nil}
@@ -21,7 +21,7 @@ use Rattle.logos_machine.proofs.PartLemmas.{next_first, over_first}
 use Rattle.logos_relex.specs.Chunks.{EndBy, item_at, offset_of, from_of, to_of}
 use Rattle.logos_relex.specs.declared.chunk.ItemAt.{ItemAt}
 
--- ---- what completes the rest completes the whole
+-- ---- a result for the rest completes to a result for the whole
 
 module _ (code : CodeValue) (callback : Callback) (part : List ℕ) where
   pub begun_item : (items : List Item) (from to : ℕ) (item : Item) → AreBegun code callback part items from → ((rest : List ℕ) → MayFollow code rest → RunsOn code callback (part ++ rest) from item to) →
@@ -90,7 +90,7 @@ module _ (uses : List Use) (callback : Callback) (bytes : List ℕ) where
   run_slices (match from to leaf answer rest s m l) = match_slices answer leaf from to rest (run_slices l)
   run_slices (fault from to rest s l) = (refl, run_slices l)
 
--- what is stored of an item gives it again
+-- the stored form of an item determines the item
 pub stored : (bytes : List ℕ) (item : TheItem) → HasSlice bytes (item_of item) → item_at bytes (offset_of item) ≡ item_of item
 stored bytes (found.Token leaf span slice) h = ap (λ s. token leaf.0 span.from span.to s) (sym h)
 stored bytes (found.Error leaf span slice) h = ap (λ s. error (option_map (λ l. l.0) leaf) span.from span.to s) (sym h)
@@ -116,7 +116,7 @@ end_with (first ∷ items) item end h some within = (h.0, h.1, end_with items it
 
 -- ---- a lexer on a part
 
--- its items so far were found whatever follows the part
+-- its items so far were found regardless of the bytes after the part
 pub record Settling (code : CodeValue) (callback : Callback) (part : List ℕ) (items : List ItemAt) (to : ℕ) : Type 0 where
   pub within : to ≤ length part
   pub spans : EndBy to items

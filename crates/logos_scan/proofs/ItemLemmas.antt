@@ -16,7 +16,7 @@ use Rattle.logos_scan.specs.declared.attempts.Taken.{Taken}
 use Rattle.logos_scan.specs.declared.attempts.Taken.TheVariants.{Emits as TakenEmits, CallsBack as TakenCallsBack, Fails as TakenFails, Ends as TakenEnds}
 
 module _ {C : Type 0} (callback : Callback) (old : LexerValue C) where
-  -- what continues continues after what is skipped
+  -- a continuation continues after the skipped matches
   pub goes_skips : (from to : ℕ) → GoesOn callback old from → SkipsTo old.code old.input from to → GoesOn callback old to
   goes_skips from to g (skips_none at) = g
   goes_skips from to g (skips_then first mid end leaf steps s tried is) = goes_past_skip callback old mid end leaf steps (goes_skips first mid g s) tried is
@@ -74,7 +74,7 @@ module _ {C : Type 0} (callback : Callback) (old : LexerValue C) where
       let e = ends_run callback old to n (moved old to to n) refl (goes_skips start to on skips) t in
       record { from = e.from; to = e.to; over = e.over }
 
--- a run's try begins in the input
+-- a run's match attempt begins in the input
 pub start_within : (code : CodeValue) (rows input : List ℕ) (run : WithChunk) (start at : ℕ) → IsRun code rows input run start at → start ≤ length input
 start_within code rows input run start at r =
     let s = r.is_at in
@@ -87,7 +87,7 @@ start_within code rows input run start at r =
     let within = c.within in
     omega (arith, past, begun, near, within)
 
--- what is skipped lies after
+-- the skipped matches lie after
 pub skips_le : (code : CodeValue) (bytes : List ℕ) (from to : ℕ) → SkipsTo code bytes from to → from ≤ to
 skips_le code bytes from to (skips_none at) = omega arith
 skips_le code bytes from to (skips_then first mid end leaf steps s tried is) =
@@ -101,7 +101,7 @@ skips_within code bytes from to h (skips_then first mid end leaf steps s tried i
     let fits : IsMatch code bytes mid leaf end = tried.within in
     fits.2
 
--- what is taken ends in the input, and after where it was looked for, or at the end
+-- the match that is taken ends in the input and after the start of its search, or at the end
 pub taken_past : (code : CodeValue) (bytes : List ℕ) (from : ℕ) (taken : Taken) (next : ℕ) → from ≤ length bytes → IsTaken code bytes from taken next →
     (next ≤ length bytes) × (from < length bytes → from < next)
 taken_past code bytes from (TakenEmits leaf span) next h t =

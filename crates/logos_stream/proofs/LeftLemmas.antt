@@ -26,7 +26,7 @@ not_both : {P : Type 0} (b : Bool) → IsFalse b → IsTrue b → P
 not_both true f t = absurd (cc)
 not_both false f t = absurd (cc)
 
--- ---- what was read is all that the reader had
+-- ---- the bytes that were read are all bytes of the reader
 
 none_left : (first rest all : List ℕ) → length rest ≡ 0 → first ≡ all → first ++ rest ≡ all
 none_left first [] all h e = append-nil first ∙ e
@@ -51,7 +51,7 @@ all_of_two : (a b c : Option (List ℕ)) (first second : List ℕ) (is_over : Bo
 all_of_two a b c first second true p q h k = none_more a b c first second p q (h refl)
 all_of_two a b c first second false p q h k = all_more a b first second p (k refl)
 
--- ---- streams go on
+-- ---- streams continue
 
 module _ {R : Type 0} (remaining : R → Option (List ℕ)) (code : CodeValue) (callback : Callback) where
   abbrev On : WindowValue R → WindowValue R → List Item → Type 0

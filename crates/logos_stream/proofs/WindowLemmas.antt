@@ -1,4 +1,4 @@
--- The bytes of a part, as a window moves on in them and more are read.
+-- The bytes of a part, as a window moves in them and more are read.
 use Rattle.std.proofs.Common.{◌≡◌, ◌∙◌, ◌⊎◌, inl, inr, ⊎_elim, ℕ, zero, suc, ◌+◌, ◌-◌, ◌<◌, ◌≤◌, ◌^◌, min, Bool, true, false, ◌||◌, IsTrue, IsFalse, List, [], ◌++◌, append-nil, length, take, drop, slice_range, Option, None, Some, IsUtf8, IsCharBoundary, refl, sym, ap, subst, arith}
 use Rattle.std.specs.Io.KnownBytes.{Consumes, IsAtEnd}
 use Rattle.std.proofs.Math.Seq.{take-add}
@@ -14,7 +14,7 @@ module _ (part : List ℕ) (at ready : ℕ) (order : at ≤ ready) (within : rea
   lexed_length = omega (arith, length-take (ready - at) (drop at part), length-drop at part)
 
   module _ (to : ℕ) (fits : to ≤ ready - at) where
-    -- what is left after some bytes of a slice
+    -- the rest after some bytes of a slice
     pub left_after : slice_range part (at + to) ready ≡ drop to (slice_range part at ready)
     left_after =
         let e : ready - at ≡ to + (ready - (at + to)) = omega arith in
@@ -34,7 +34,7 @@ module _ (part : List ℕ) (at ready : ℕ) (order : at ≤ ready) (within : rea
           ∙ sym (take-take (to - from) (ready - at - from) (drop from (drop at part)) short)
           ∙ ap (take (to - from)) (sym (drop-take from (ready - at - from) (drop at part)) ∙ ap (λ n. drop from (take n (drop at part))) (sym k))
 
-      -- what is before a slice, and the slice
+      -- the bytes before a slice, and the slice
       pub passed_are : slice_range part at (at + from) ++ slice_range part (at + from) (at + to) ≡ take to (slice_range part at ready)
       passed_are =
           let a : (at + from) - at ≡ from = omega arith in
@@ -112,7 +112,7 @@ module _ (utf8 : Bool) (part : List ℕ) (most : ℕ) (over : Bool) (before firs
     wanted = is.wanted;
   }
 
-  -- and what callers see of it
+  -- and the part of it that callers see
   pub moved_past : {R : Type 0} (reader : R) (offset next bound wanted : ℕ) → next ≡ min (offset + to) (2 ^ 64 - 1) →
       GoesPast {R = R} to
       (record {
@@ -157,7 +157,7 @@ module _ (utf8 : Bool) (part : List ℕ) (most : ℕ) (over : Bool) (before firs
   pub moved_slice : slice_range part (at + from) (at + to) ≡ slice_range (slice_range part at ready) from to
   moved_slice = slice_of part at ready is.order is.within to inside from ordered
 
--- what follows the last bytes
+-- the event after the last bytes
 pub torn_last : {R : Type 0} (window : WindowValue R) → HasEnded window.utf8 window.is_over window.after → 0 < length window.after → IsTorn window
 torn_last window ended some = ⊎_elim
     (λ e. absurd (let n : length window.after ≡ 0 = ap length e.0 in omega (arith, some, n)))

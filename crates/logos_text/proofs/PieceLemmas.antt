@@ -1,4 +1,4 @@
--- What a sink was given, step by step.
+-- The texts that a sink was given, step by step.
 use Rattle.std.proofs.Common.{◌≡◌, ◌<◌, ◌≤◌, ℕ, suc, ◌+◌, add-one, drop, drop-cons, get_or, List, [], ◌∷◌, ◌++◌, length, append-nil, arith, append_assoc, length-append, refl, sym, ◌∙◌, ap, string_bytes, subst}
 use Rattle.std.proofs.Math.ListN.{drop_of_length-le}
 use Rattle.std.specs.List.{flat_map}
@@ -132,7 +132,7 @@ notes_nothing a = notes_text [] (sym (append-nil (string_bytes a.text))) refl
 pub last_noted : {last : List ℕ} {runs : List TokenList} {a b c : Sink} → Notes runs a b → Prints last [] b c → NotesLast last runs a c
 last_noted p q = record { front = p.text; prints = prints_last p.prints q }
 
--- what completes the rest of a loop's runs completes all of them
+-- a result for the rest of a loop's runs completes all of them
 pub runs_more : {A : Type 0} (f : A → List TokenList) (xs : List A) (i : ℕ) (d : A) (start old new : Sink) → i < length xs → d ≡ get_or xs i d → Notes (f d) old new →
     ((whole : Sink) → Notes (flat_map f (drop i xs)) old whole → Notes (flat_map f xs) start whole) → (whole : Sink) → Notes (flat_map f (drop (i + 1) xs)) new whole →
     Notes (flat_map f xs) start whole
@@ -146,7 +146,7 @@ runs_all f xs i start sink l so_far = so_far sink (subst (λ left. Notes (flat_m
 
 -- ---- a whole sink
 
--- what was given to an empty sink is all of it
+-- the texts given to an empty sink are its whole text
 pub whole_printed : {text : List ℕ} {runs : List TokenList} {a b : Sink} → IsEmptySink a → Prints text runs a b → ArePrinted runs 0 b.pieces.items (string_bytes b.text)
 whole_printed {text} {runs} {a} {b} empty p =
     subst (λ w. ArePrinted runs 0 b.pieces.items w) (sym (p.is_text ∙ ap (λ w. w ++ text) empty.text))

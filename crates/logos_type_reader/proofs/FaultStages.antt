@@ -14,7 +14,7 @@ use Rattle.logos_type_reader.proofs.TableLocal.{SameOpen, over, into, out, Stops
 use Rattle.logos_type_reader.proofs.BeginLocal.{Begun, by_tokens, by_group, Refuses, at_once, after_some, begin_local, unnamed_local}
 use Rattle.logos_type_reader.proofs.TypesLocal.{local_move, MoveLocal, FormLocal, form_local, unnamed_same, parts_local, move_local}
 
--- a fault at a place: in the run, or after the group that is open
+-- a fault at a spot: in the run, or after the group that is open
 data FixedAt (Q : TokenList → Option TokenList → Fault → Type 0) (run : TokenList) (b : Option TokenList) (fault : Fault) : Type 0 where
   inner_stage : (front : Front) (left : TokenList) → IsAt front run left → OccursAt fault front left →
       ((other l : TokenList) (c : Option TokenList) → IsAt front other l → SameOpen b c → SameSign left l → Q other c (fault_at fault l)) → FixedAt Q run b fault
@@ -35,7 +35,7 @@ record FixedType (n : ℕ) (plus : Bool) (run : TokenList) (fault : Fault) : Typ
   fresh : Fresh front run
   decides : (other l : TokenList) → IsAt front other l → SameSign left l → NoType n plus other (fault_at fault l)
 
--- a fault with a place
+-- a fault with a spot
 abbrev pub Placed : Fault → Type 0
 Placed (mismatch span) = Unit {0}
 Placed (unsupported span) = Unit {0}
@@ -69,7 +69,7 @@ over_fixed P Q tokens r b fault k (inner_stage front left a s d) = inner_stage (
 over_fixed P Q tokens r b fault k (outer_stage rest front left e a s d) = outer_stage rest front left e a s
     (λ other l at h. k r (Some other) (fault_at fault l) (subst (λ (x : Option TokenList). SameOpen x (Some other)) (sym e) tt) (same_self r) (d other l at h))
 
--- a fault after what opens a group
+-- a fault after the opening of a group
 into_fixed : (P Q : TokenList → Option TokenList → Fault → Type 0) (d : Delimiter) (s : Span) (r after : TokenList) (fault : Fault) →
     ((t : Span) (inside other : TokenList) (f : Fault) → P inside (Some other) f → Q (also (group d t inside) other) None f) → FixedAt P r (Some after) fault → FixedAt Q (also (group d s r) after) None fault
 into_fixed P Q d s r after fault k (inner_stage front left a st decides) = inner_stage (within d front) left (in_group a) (occurs_within fault d front left st)
@@ -90,7 +90,7 @@ into_fixed P Q d s r after fault k (outer_stage rest front left e a st decides) 
     go other l None o q h = subst (λ (x : TokenList). Q x None (fault_at fault l)) (sym q.is) (k s r q.rest (fault_at fault l) h)
     go other l (Some x) o q h = absurd o
 
--- a fault after what closes a group
+-- a fault after the closing of a group
 out_fixed : (P Q : TokenList → Option TokenList → Fault → Type 0) (run r : TokenList) (fault : Fault) → ((other : TokenList) (f : Fault) → P other None f → Q run (Some other) f) → FixedAt P r None fault → FixedAt Q run (Some r) fault
 out_fixed P Q run r fault k (inner_stage front left a s d) = outer_stage r front left refl a s (λ other l at h. k other (fault_at fault l) (d other l None at tt h))
 out_fixed P Q run r fault k (outer_stage rest front left e a s d) = cc
@@ -112,7 +112,7 @@ later_fixed {n} {now} {p} {run} {b} {behind} {ps} {fault} (out e g k) l =
     (out_fixed (λ x c f. NoParts n (to behind.stage x c) f) (λ x c f. NoParts n (to p x c) f) run behind.run fault (λ x f m. later (k x) m)
     (subst (λ (x : Option TokenList). FixedAt (λ y c f. NoParts n (to behind.stage y c) f) behind.run x fault) g l))
 
--- what holds of the run from its front on
+-- a property of the run from its front on
 from_front : (F : TokenList → Type 0) {front : Front} {run left other l : TokenList} → Fresh front run → ForSeen run F → IsAt front run left → IsAt front other l → SameSign left l → F other
 from_front F {run = run} n k at_start at_start h = seen_unnamed F run n k h
 from_front F n k (past_token {token = t} a) (past_token b) h = seen_after F t k (same_at a b h)

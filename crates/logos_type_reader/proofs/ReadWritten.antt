@@ -50,17 +50,17 @@ data AfterName (levels : ℕ) (kind : PathKind) : TokenList → List Tree → To
   name_last : {rest : TokenList} → may_follow (name_ending kind) rest ≡ true → AfterName levels kind rest [] rest
   name_longer : {run rest : TokenList} {parts : List Tree} {e : Ending} → Longer levels kind run parts rest e → may_follow e rest ≡ true → AfterName levels kind run parts rest
 
--- behind `>`
+-- after `>`
 data Onward (levels : ℕ) (kind : PathKind) : TokenList → List Tree → TokenList → Type 0 where
   stop : {rest : TokenList} → begins_colons rest ≡ false → Onward levels kind rest [] rest
   onward : {s t : Span} {p : Spacing} {run rest : TokenList} {parts : List Tree} {e : Ending} → Path levels kind run parts rest e → may_follow e rest ≡ true →
       Onward levels kind (also (punctuation 58 Joint s) (also (punctuation 58 p t) run)) (sign colons ∷ parts) rest
 
--- behind `<`
+-- after `<`
 data InArguments (levels : ℕ) (kind : PathKind) : TokenList → List Tree → TokenList → Type 0 where
   in_arguments : {run middle rest : TokenList} {front back : List Tree} → Arguments levels kind run front middle → Onward levels kind middle back rest → InArguments levels kind run (front ++ back) rest
 
--- behind `::`
+-- after `::`
 data AfterColons (levels : ℕ) (kind : PathKind) (may : Bool) : TokenList → List Tree → TokenList → Type 0 where
   to_path : {run rest : TokenList} {parts : List Tree} {e : Ending} → Path levels kind run parts rest e → may_follow e rest ≡ true → AfterColons levels kind may run parts rest
   to_angle : {s : Span} {p : Spacing} {run rest : TokenList} {parts : List Tree} → may ≡ true → InArguments levels (argued kind) run parts rest →
@@ -114,7 +114,7 @@ data AfterElement (after : TokenList) : TokenList → List Tree → TokenList �
 data AtElement (levels : ℕ) (after : TokenList) : TokenList → List Tree → TokenList → Type 0 where
   at_element : {run middle rest : TokenList} {t : Tree} {parts : List Tree} {e : Ending} → Written levels true run t middle e → AfterElement after middle parts rest → AtElement levels after run (t ∷ parts) rest
 
--- behind `*`
+-- after `*`
 data AtPointer (levels : ℕ) : TokenList → List Tree → TokenList → Type 0 where
   at_const : {s : Span} {run rest : TokenList} {parts : List Tree} → LastType levels false run parts rest → AtPointer levels (also (identifier (codes "const") s) run) (sign (word (codes "const")) ∷ parts) rest
   at_mut : {s : Span} {run rest : TokenList} {parts : List Tree} → LastType levels false run parts rest → AtPointer levels (also (identifier (codes "mut") s) run) (sign (word (codes "mut")) ∷ parts) rest
@@ -140,7 +140,7 @@ data AfterBound (levels : ℕ) : Bool → TokenList → List Tree → TokenList 
   plus_more : {s : Span} {p : Spacing} {run rest : TokenList} {parts : List Tree} {e : Ending} → Bounds levels true run parts rest e → may_follow e rest ≡ true →
       AfterBound levels true (also (punctuation 43 p s) run) (sign (mark 43) ∷ parts) rest
 
--- behind `+`
+-- after `+`
 data AtFurther (levels : ℕ) : TokenList → List Tree → TokenList → Type 0 where
   no_further : {rest : TokenList} → begins_bound rest ≡ false → AtFurther levels rest [] rest
   some_further : {run rest : TokenList} {parts : List Tree} {e : Ending} → Bounds levels true run parts rest e → may_follow e rest ≡ true → AtFurther levels run parts rest
@@ -149,7 +149,7 @@ data AtFurther (levels : ℕ) : TokenList → List Tree → TokenList → Type 0
 data AfterEnclosed (levels : ℕ) (plus : Bool) (after : TokenList) : TokenList → List Tree → TokenList → Type 0 where
   close_enclosed : {rest : TokenList} {back : List Tree} → AfterBound levels plus after back rest → AfterEnclosed levels plus after none (sign (closing Parenthesis) ∷ back) rest
 
--- behind `for`, after its `<`, and behind one of its lifetimes
+-- after `for`, after its `<`, and after one of its lifetimes
 data AtFor (After : Parts) : TokenList → List Tree → TokenList → Type 0 where
   at_for : {run middle rest : TokenList} {front back : List Tree} → Lifetimes run front middle → After middle back rest → AtFor After run (front ++ back) rest
 
@@ -165,7 +165,7 @@ data AtFn (levels : ℕ) : TokenList → List Tree → TokenList → Type 0 wher
   at_fn : {s : Span} {run rest : TokenList} {parts : List Tree} {e : Ending} → Taking levels run parts rest e → may_follow e rest ≡ true →
       AtFn levels (also (identifier (codes "fn") s) run) (sign (word (codes "fn")) ∷ parts) rest
 
--- behind `extern`
+-- after `extern`
 data AtExtern (levels : ℕ) : TokenList → List Tree → TokenList → Type 0 where
   extern_fn : {run rest : TokenList} {parts : List Tree} → AtFn levels run parts rest → AtExtern levels run parts rest
   extern_as : {text : List ℕ} {s : Span} {run rest : TokenList} {parts : List Tree} → AtFn levels run parts rest → AtExtern levels (also (literal text s) run) (sign (value text) ∷ parts) rest
@@ -315,7 +315,7 @@ not_not true e = cc
 or_false : (a b : Bool) → a ≡ false → b ≡ false → (a || b) ≡ false
 or_false a b e f = rw (e, f) refl
 
--- what ends in a name where nothing continues
+-- a type that ends in a name that nothing continues
 free_name : (kind : PathKind) (run : TokenList) → goes_on run ≡ false → begins_mark 33 run ≡ false → may_follow (name_ending kind) run ≡ true
 free_name Plain run e f = not_false (goes_on run || begins_mark 33 run) (or_false (goes_on run) (begins_mark 33 run) e f)
 free_name OfType run e f = not_false (goes_on run) e
@@ -425,7 +425,7 @@ self_type : {levels : ℕ} {run middle rest : TokenList} {self : Tree} {parts : 
 self_type w f (self_plain (self_closed l k)) = ending (of_type w l) k
 self_type w f (self_as (then_after l g (self_trait_closed (self_closed m k)))) = ending (of_trait w f l m) k
 
--- a path where one has to stand
+-- a path where one is required
 path_then : {levels : ℕ} {kind : PathKind} {After : Parts} {text : List ℕ} {s : Span} {run middle rest : TokenList} {front : List Tree} (back : List Tree) → APath levels kind (also (identifier text s) run) (sign (word text) ∷ front) middle → After middle back rest →
     Then (AnyPath levels kind) After (also (identifier text s) run) (sign (word text) ∷ (front ++ back)) rest
 path_then back (a_path w f) a = then_after (from_name w) f a
@@ -472,7 +472,7 @@ further_plus (some_further w f) = plus_more w f
 bounds_further : {levels : ℕ} {run rest : TokenList} {parts : List Tree} → Last (Bounds levels true) run parts rest → AtFurther levels run parts rest
 bounds_further (ending w f) = some_further w f
 
--- the lifetimes behind `for`
+-- the lifetimes after `for`
 module _ {After : Parts} where
   for_opened : {s : Span} {p : Spacing} {run rest : TokenList} {parts : List Tree} → InFor After run parts rest → AtFor After (also (punctuation 60 p s) run) (sign (mark 60) ∷ parts) rest
   for_opened (in_for l a) = at_for (in_angles l) a
@@ -819,7 +819,7 @@ fits_trait_path_enclosed levels plus (also (group Bracket s inside) rest) after 
 fits_trait_path_enclosed levels plus (also (group Brace s inside) rest) after = tt
 fits_trait_path_enclosed levels plus none after = tt
 
--- what a move makes of one predicate, it makes of another that follows from it
+-- a move preserves an implication between predicates
 keeps_fit : (levels : ℕ) (p q : Stage) (run : TokenList) (b : Option TokenList) → ((parts : List Tree) (rest : TokenList) → Good levels p run b parts rest → Good levels q run b parts rest) → (m : Move) → Fits levels p run b m → Fits levels q run b m
 keeps_fit levels p q run b g ends h = g [] (outer run b) h
 keeps_fit levels p q run b g (takes s spot) h = λ parts rest k. g (sign s ∷ parts) rest (h parts rest k)
@@ -1283,7 +1283,7 @@ dyn_form (ending v f) = ending (trait_object v) f
 none_reserved : (a b c d f g h : Bool) → a ≡ false → b ≡ false → c ≡ false → d ≡ false → f ≡ false → g ≡ false → h ≡ false → (((a || b) || (c || d)) || ((f || g) || h)) ≡ false
 none_reserved a b c d f g h p q r s t u v = rw (p, q, r, s, t, u, v) refl
 
--- after a word, by what the word is
+-- after a name, by the kind of the name
 abbrev WordForm : ℕ → Bool → List ℕ → Span → TokenList → Type 0
 WordForm levels plus text s rest = (parts : List Tree) (r : TokenList) → Good levels (table.word_stage plus text) rest None parts r → Last (Form levels plus) (also (identifier text s) rest) (sign (word text) ∷ parts) r
 
@@ -1360,7 +1360,7 @@ form_written : {levels : ℕ} {plus : Bool} {run rest : TokenList} {s : Sign} {s
     Good levels spot.stage spot.run spot.outside parts rest → Last (Form levels plus) run (sign s ∷ parts) rest
 form_written {levels} {plus} {run} {rest} {s} {spot} {parts} n b g = let f : FitsFirst levels plus run (starts false s spot) = subst (FitsFirst levels plus run) b (fits_first levels plus run n) in f parts rest g
 
--- what is said of a type
+-- the property of a type
 abbrev IsWritten : ℕ → Bool → TokenList → Tree → TokenList → Type 0
 IsWritten levels plus run t rest = (e : Ending) × Written levels plus run t rest e × (may_follow e rest ≡ true)
 

@@ -26,7 +26,7 @@ pub fn run(program: fn(&HostRuntime) -> u8) -> ExitCode {
 }
 
 /// Runs `logos_show` with these arguments, without its name, on other files, another clock and
-/// another standard input. Returns the exit status, and appends what it prints to `err` and `out`.
+/// another standard input. Returns the exit status, and appends its output to `err` and `out`.
 pub fn show<F: ComparableFiles, S: Clock + Input>(
     arguments: &[String],
     files: &mut F,

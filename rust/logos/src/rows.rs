@@ -1,8 +1,8 @@
 //! The rows that the loop over match attempts reads.
 //!
 //! A row has an entry for each byte and for the end of the input, or for each class. An entry below
-//! [`STAYS`] leads to a state: it is the position of that state's row. Otherwise its upper bits are
-//! its kind, and its lower bits are the number of a leaf or of a loop.
+//! [`STAYS`] leads to a state: it is the row offset of that state. Otherwise its upper bits are its
+//! kind, and its lower bits are the number of a leaf or of a loop.
 
 use crate::data::{Unpacked, SYMBOLS};
 
@@ -33,8 +33,8 @@ pub(crate) const FORTH: u32 = 128;
 const FARTHEST: u32 = 30;
 
 impl<const STATES: usize, const RUNS: usize> Unpacked<STATES, RUNS> {
-    /// Returns the rows of all states. There are `N` entries, so that the position of each row plus
-    /// a byte or a class is the index of an entry.
+    /// Returns the rows of all states. There are `N` entries, so that the offset of each row plus a
+    /// byte or a class is the index of an entry.
     ///
     /// # Panics
     ///

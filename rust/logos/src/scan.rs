@@ -15,8 +15,8 @@ use core::ops::{Deref, DerefMut};
     note = "`scan` is there for lexers in the shape `tables`, which is the default one"
 )]
 pub trait Scan<'source>: Tables<'source> {
-    /// Returns an iterator over the tokens of an input, with their places. It is another name of
-    /// `Token::lexer(source).spanned()`, and as fast.
+    /// Returns an iterator over the tokens of an input, with their spans. It is another name of
+    /// `Token::lexer(source).spanned()`, and equally fast.
     fn scan(source: &'source Self::Source) -> Scanner<'source, Self>
     where
         Self::Extras: Default,
@@ -36,7 +36,7 @@ pub trait Scan<'source>: Tables<'source> {
 
 impl<'source, T: Tables<'source>> Scan<'source> for T {}
 
-/// An iterator over tokens with their places. It dereferences to its lexer.
+/// An iterator over tokens with their spans. It dereferences to its lexer.
 pub struct Scanner<'source, Token: Scan<'source>> {
     lexer: Lexer<'source, Token>,
 }
@@ -46,7 +46,7 @@ impl<'source, Token: Scan<'source>> Scanner<'source, Token> {
         Scanner { lexer }
     }
 
-    /// Returns the lexer, which is behind the last token.
+    /// Returns the lexer, positioned after the last token.
     pub fn into_lexer(self) -> Lexer<'source, Token> {
         let mut lexer = self.lexer;
         lexer.set_way(Way::ByRule);

@@ -1,17 +1,17 @@
-//! A word of a chunk: before which of its bytes matches end.
+//! A word of a chunk, with a bit for each byte before which a match ends.
 
 use crate::Span;
 
-/// A word of a chunk. The tokens that end before its bytes are kept apart, since they are taken one
-/// by one.
+/// A word of a chunk. The tokens that end before its bytes are stored separately, since they are
+/// taken one by one.
 #[derive(Clone, Copy)]
 pub(crate) struct Word {
     /// A bit for each byte before which a match ends.
     pub(crate) ends: u64,
-    /// Where the word begins, in the input and in the chunk.
+    /// The offset of the word, in the input and in the chunk.
     pub(crate) here: usize,
     pub(crate) at: usize,
-    /// Where the last match ended that is not among `ends`.
+    /// The end of the last match that is not among `ends`.
     pub(crate) start: usize,
 }
 
@@ -26,20 +26,20 @@ impl Word {
         }
     }
 
-    /// Returns the place of the first of some tokens, of which there is one.
+    /// Returns the span of the first of some tokens, of which there is at least one.
     #[inline(always)]
     pub(crate) fn span_of(&self, tokens: u64) -> Span {
         let end = self.here + tokens.trailing_zeros() as usize;
         self.after(self.ends & !tokens & tokens.wrapping_sub(1))..end
     }
 
-    /// Returns where the last match ended.
+    /// Returns the end of the last match.
     #[inline(always)]
     pub(crate) fn last_end(&self) -> usize {
         self.after(self.ends)
     }
 
-    /// Returns where the last match ended, after some of the ends.
+    /// Returns the end of the last match, after some of the ends.
     #[inline(always)]
     fn after(&self, ends: u64) -> usize {
         if ends == 0 {

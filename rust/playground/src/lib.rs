@@ -47,7 +47,7 @@ fn slots() -> MutexGuard<'static, [Vec<u8>; 5]> {
     SLOTS.lock().unwrap_or_else(PoisonError::into_inner)
 }
 
-/// Gives a slot this length in bytes, and returns its address. The page then writes the bytes.
+/// Sets the length of a slot, in bytes, and returns its address. The page then writes the bytes.
 ///
 /// An unknown slot has the address 0.
 #[allow(unsafe_code)]

@@ -23,7 +23,7 @@ contains_has xs q = (
   λ h. (h.at, h.within, get_or_default xs h.at q 0 h.within ∙ h.is),
 )
 
--- what is at a number
+-- the element at a number
 pub at_within : (ks : List Key) (i : ℕ) (s : State) → IsAt ks i s → i < length ks
 at_within ks i s h = go ks i h.key h.is
   where
@@ -94,7 +94,7 @@ module _ (ts : List Core) (looks : Bool) (start : ℕ) (ks : List Key) (rows : L
     exactly = λ k. (λ c. (has k).0 ((contains_has s.matches k).0 c), λ p. (contains_has s.matches k).1 ((has k).1 p));
   }
 
-  -- the state after the bytes at the front of what is left
+  -- the state after the bytes at the front of the rest
   pub run : (w : List ℕ) → (looks ≡ false → AreFree ts) → (front post : List ℕ) (m i : ℕ) (s : State) → drop m w ≡ front ++ post → IsBytes front → IsAt ks i s → IsAfter w ts m s →
       (j : ℕ) × (n : State) × (dfa_after (automaton_of start ks rows ends) (Some i) front ≡ Some j) × IsAt ks j n × IsAfter w ts (m + length front) n
   run w free [] post m i s is bytes at after = (i, s, refl, at, subst (λ k. IsAfter w ts k s) (omega arith) after)

@@ -14,15 +14,15 @@
 //! | 3, `HALTS` | a leaf, `LATE` | ends a match before it, which is a token without a callback |
 //! | 4, `CLOSES` | a leaf | ends a match after it, which is a token without a callback |
 //! | 5, `SHUTS` | a leaf | ends a match after it, which is skipped without a callback |
-//! | 6, `ASKS` | a leaf, `LATE` | ends a match before it, which may have a callback |
-//! | 7, `ASKS_AFTER` | a leaf | ends a match after it, which may have a callback |
+//! | 6, `CALLS_BACK` | a leaf, `LATE` | ends a match before it, which may have a callback |
+//! | 7, `CALLS_BACK_AFTER` | a leaf | ends a match after it, which may have a callback |
 //! | 8, `STUCK` | nothing | leads nowhere, and the state marks no match there |
-//! | 9, `UNSAID` | nothing | has a step that entries cannot describe |
+//! | 9, `UNDESCRIBED` | nothing | has a step that entries cannot describe |
 //!
 //! A match that ends after the byte is marked by the state to which the byte leads, and that state
 //! has no other step. If the match ends before the byte, bit `LATE` is 0 if the state itself marks
 //! it and the byte leads nowhere, and 1 if the byte leads to a state that marks it late and has no
-//! other step. A step that is too large for an entry is `UNSAID`.
+//! other step. A step that is too large for an entry is `UNDESCRIBED`.
 
 ghost use Rattle.std.specs.Prelude.{◌≡◌, ◌+◌, ◌*◌, ◌<◌, ◌≤◌, ◌⊎◌, false, ℕ, List, length, map, None, Some, option_map, IfOk, IfSome, slice_index, slice_index_or};
 ghost use Rattle.logos_code.specs.Views.{comparison_of, some_compares, passes_test, by_conditions, IsSound, NamesTest, NamesState, NamesCondition, NamesFork, NamesWhatIsThere, stays, target, passes, mark_of, condition_of, branch_of, fork_of, use_of, jumps_of, state_of, has_mask, code_of, closing, IsStepOf, first_halting, first_closing, IsUse, IsPlainUse, Says, IsHalting, IsEntry, IsRow, AreRows, IsFirstEntry, IsFirstOf};
@@ -107,7 +107,7 @@ pub enum Step {
     Unsaid,
 }
 
-/// Returns the entry that represents the step, or `UNSAID`.
+/// Returns the entry that represents the step, or `UNDESCRIBED`.
 pub(super) fn entry_of_step(step: Step) -> u32
     ensures { IsStepOf result step ⊎ IsStepOf result Step.Unsaid }
 {
@@ -200,7 +200,7 @@ fn entry_at(parts: &CodeParts, state: &CodeState, byte: u8) -> u32
 }
 
 /// Returns the row for the first byte of an attempt, given the rows of all states and the state in
-/// which match attempts begin. An entry of it leads to a state, ends a match, or is `UNSAID`.
+/// which match attempts begin. An entry of it leads to a state, ends a match, or is `UNDESCRIBED`.
 pub(super) fn first_row(rows: &[u32], root: usize) -> [u32; 256]
     requires { WIDTH * root + 256 ≤ length rows.now }
     ensures { IsFirstOf rows.now root result }

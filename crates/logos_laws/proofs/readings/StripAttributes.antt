@@ -1,4 +1,4 @@
--- What stays of attributes.
+-- The rest of attributes.
 use Rattle.std.proofs.Common.{◌≡◌, ◌==◌, ◌&&◌, ◌||◌, if◌then◌else◌, ℕ, Bool, true, false, List, [], ◌∷◌, ◌++◌, Option, Some, None, Result, Ok, refl, sym, ap, ◌∙◌, subst, codes, eqb-true}
 use Rattle.std.specs.Str.{bytes_eq}
 use Rattle.std.specs.List.{flat_map}
@@ -226,7 +226,8 @@ brackets_left (also (identifier text span) rest) = go (bytes_eq text (codes "der
 
 -- ---- The attributes that come first in a run.
 
--- parts of an enum that may begin with attributes, and what stays of the brackets of these
+-- parts of an enum that may begin with attributes, and the remaining tokens in the brackets of
+-- these
 abbrev pub HasAttributes : Scope → Type 0
 HasAttributes Enum = Unit {0}
 HasAttributes Attribute = ⊥

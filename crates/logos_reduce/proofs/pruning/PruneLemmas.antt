@@ -24,7 +24,7 @@ met_more list old new i g all one j l = go (cases_lt j i)
     go (inl m) = met_kept old new g (slice_index list j) (all j m)
     go (inr m) = let e : i ≡ j = omega arith in subst (λ j. IsMet new (slice_index list j)) e one
 
--- what is met was met before, or is of the list
+-- a state that is visited was visited before, or is in the list
 pub met_of : (list first old new : List ℕ) (i : ℕ) → i < length list → ((s : ℕ) → IsMet old s → IsMet first s ⊎ (has list s ≡ true)) →
     ((s : ℕ) → IsMet new s → IsMet old s ⊎ (s ≡ slice_index list i)) → (s : ℕ) → IsMet new s → IsMet first s ⊎ (has list s ≡ true)
 met_of list first old new i l all only s m = go (only s m)
@@ -53,7 +53,7 @@ pub seed_of_use : (table : Table) (s : ℕ) → IsSeed table s → IsOfUse table
 seed_of_use table s (inl m) = inl m
 seed_of_use table s (inr e) = inr (to_end e.1 e.2)
 
--- what leads to a state that is of use is of use too
+-- a state that leads to a state that is of use is of use too
 pub use_before : (table : Table) (s b t : ℕ) → b < 256 → to table s b ≡ Some t → IsOfUse table t → IsOfUse table s
 use_before table s b t l e (inl m) = inr (to_mark b l e m)
 use_before table s b t l e (inr h) = inr (onward b l e h)

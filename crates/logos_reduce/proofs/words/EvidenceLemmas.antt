@@ -36,7 +36,7 @@ parting_symbol table f k s t d = go (to table s k) refl (to table t k) refl
     go (Some a) e p q = edge_symbol table s k a e
     go None e (Some b) q = edge_symbol table t k b q
 
--- what one step more reaches
+-- the states that one more step reaches
 reached_on : (table : Table) (s left k : ℕ) (bytes : List ℕ) (o : Option ℕ) → state_after table (Some s) bytes ≡ Some left → to table left k ≡ o → state_after table (Some s) (bytes ++ k ∷ []) ≡ o
 reached_on table s left k bytes o way e =
     reached_append table bytes (k ∷ []) (Some s) ∙ ap (λ (o : Option ℕ). state_after table o (k ∷ [])) way ∙ ap (λ (o : Option ℕ). state_after table o []) e ∙ same o
@@ -45,7 +45,7 @@ reached_on table s left k bytes o way e =
     same None = refl
     same (Some a) = refl
 
--- what is known once bytes lead from two states to others that are still to be distinguished
+-- the facts once bytes lead from two states to others that are still to be distinguished
 pub record IsStage (r : Reduction) (h : HistoryOf r) (s t : ℕ) (bytes : List ℕ) (left right : ℕ) : Type 0 where
   pub ok : AreBytes bytes
   pub left_in : left < size r.table

@@ -6,12 +6,12 @@ ghost use Rattle.logos_scan.specs.fold.Imports.{first_halting, flags_of, row_sta
 use crate::walk::{ENDED, TOKEN};
 use logos_code::code::Code;
 use logos_code::code::rows::{
-    ASKS, ASKS_AFTER, CLOSES, HALTS, LATE, LEAVES, MatchUse, SHUTS, STAYS, STUCK, Step, UNSAID,
-    WIDTH,
+    ASKS, ASKS_AFTER, CLOSES, HALTS, LATE, LEAVES, MatchUse, SHUTS, STAYS, STUCK, Step,
+    UNSAID, WIDTH,
 };
 use logos_hir::leaf::LeafId;
 
-/// The flag of an entry before whose byte a match ends whose leaf may have a callback.
+/// The flag of an entry where a match of a leaf that may have a callback ends before the byte.
 pub const CALLS: u32 = 1 << 29;
 
 /// The number of entries of one kind in the rows of a code.
