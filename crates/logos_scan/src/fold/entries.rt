@@ -6,8 +6,8 @@ ghost use Rattle.logos_scan.specs.fold.Imports.{first_halting, flags_of, row_sta
 use crate::walk::{ENDED, TOKEN};
 use logos_code::code::Code;
 use logos_code::code::rows::{
-    ASKS, ASKS_AFTER, CLOSES, HALTS, LATE, LEAVES, MatchUse, SHUTS, STAYS, STUCK, Step,
-    UNSAID, WIDTH,
+    ASKS, ASKS_AFTER, CLOSES, HALTS, LATE, LEAVES, MatchUse, SHUTS, STAYS, STUCK, Step, UNSAID,
+    WIDTH,
 };
 use logos_hir::leaf::LeafId;
 
