@@ -27,7 +27,7 @@ returns-then-is_last g c =
     record {
       to = _;
       runs = rw (c.in_ok-push.ensures.items, map-append) (adds _ _ _ _ i.runs (rw (i.same_code, i.same_input) at given.is));
-      enough = inl (subst (λ n. c.args.most ≤ n) (c.span_of.ensures.to ∙ sym (at_end _ _ given.span)) (leb-true _ _ c.if-is_last.true));
+      enough = inl (subst (λ n. c.args.most ≤ n) (c.span_of.ensures.to ∙ sym (at_end _ _ given.span)) (leb-true c.args.most c.span_of.result.to c.if-is_last.true));
     }
 
 pub returns : goal.returns
