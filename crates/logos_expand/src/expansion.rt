@@ -174,7 +174,7 @@ fn expanded_file(
 /// Returns a file with plain comments for its own documentation and attributes, if it begins with
 /// such. These are the tokens of the file before parts of it were replaced.
 fn plain_file(alloc: Global, bytes: Vec<u8>, tokens: Tokens<'_, '_>) -> Result<Vec<u8>, Memory>
-    ensures { IfOk result (λ body. IsWithoutInner bytes.entry.items body.items) }
+    ensures { IfOk result (λ body. IsWithoutInner bytes.items body.items) }
 {
     if !has_inner(tokens) {
         return Ok(bytes);

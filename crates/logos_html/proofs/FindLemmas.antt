@@ -6,14 +6,18 @@ use Rattle.logos_code.specs.Items.{Callback, Item, NextItem, Search, error, fail
 use Rattle.logos_code.specs.Runs.{CodeFinds, Runs}
 use Rattle.logos_code.specs.declared.action.Action.{Action}
 use Rattle.logos_machine.proofs.ItemsLemmas.{lexes_by, may_by}
-use Rattle.logos_machine.specs.LexerValue.{HasSpan, LexerValue}
+use Rattle.logos_machine.specs.LexerValue.{HasSpan, LexerValue, Yields}
 use Rattle.logos_html.specs.Finds.{Begins, RunsTo, adds, begins}
 use Rattle.logos_html.specs.Spans.{end_of}
 
 -- a lexer is at the end of its last item
-pub at_end : {C : Type 0} (lexer : LexerValue C) (item : Item) → HasSpan lexer item → lexer.to ≡ end_of item
+at_end : {C : Type 0} (lexer : LexerValue C) (item : Item) → HasSpan lexer item → lexer.to ≡ end_of item
 at_end lexer (token leaf from to slice) s = s.1
 at_end lexer (error leaf from to slice) s = s.1
+
+-- and so after a call that returned it
+pub at_end_of : {C : Type 0} {callback : Callback} {old new : LexerValue C} {item : Item} → Yields callback old new item → new.to ≡ end_of item
+at_end_of {new = new} {item = item} y = at_end new item y.span
 
 -- the same next item with a callback that has no fewer actions
 next_by : (uses : List Use) (bytes : List ℕ) (search : Search) (callback other : Callback) → ((leaf : ℕ) (slice : List ℕ) (answer : Action) → callback leaf slice answer → other leaf slice answer) →

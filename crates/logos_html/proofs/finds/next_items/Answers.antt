@@ -1,8 +1,7 @@
 use Rattle.std.proofs.Common.{◌∙◌, ◌≤◌, inl, inr, refl, subst, sym}
-use Rattle.std.proofs.lemmas.Bool.{leb-true}
 use Rattle.std.proofs.lemmas.List.{map-append}
 use Rattle.logos_html.specs.Finds.{adds, begins}
-use Rattle.logos_html.proofs.FindLemmas.{at_end}
+use Rattle.logos_html.proofs.FindLemmas.{at_end_of}
 use Rattle.logos_html.proofs.finds.next_items.Goals as goal
 
 pub loop-item-init : goal.loop-item-init
@@ -27,7 +26,7 @@ returns-then-is_last g c =
     record {
       to = _;
       runs = rw (c.in_ok-push.ensures.items, map-append) (adds _ _ _ _ i.runs (rw (i.same_code, i.same_input) at given.is));
-      enough = inl (subst (λ n. c.args.most ≤ n) (c.span_of.ensures.to ∙ sym (at_end _ _ given.span)) (leb-true _ _ c.if-is_last.true));
+      enough = inl (subst (λ n. c.args.most ≤ n) (c.span_of.ensures.to ∙ sym (at_end_of given)) c.if-is_last.true);
     }
 
 pub returns : goal.returns
