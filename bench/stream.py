@@ -2,20 +2,21 @@
 """Feeds a long standard input to `logos_show FILE -`, and prints how much memory it took and how
 fast it was.
 
-  python3 bench/stream.py [LOGOS_SHOW] [GB] [--torn]
+  python3 bench/stream.py [LOGOS_SHOW [GB]] [--torn]
 
-Without words it feeds 10 GB to out/programs/logos_show. With `--torn` the middle is a byte
-that is not UTF-8: then the items before it and the message are compared with what they have to be,
-and without it the counts. It fails if they differ, or if more than 64 MiB are in memory.
-"""
+Without words it feeds 10 GB to out/programs/logos_show. With `--torn` the middle is a byte that is
+not UTF-8: then the number of items before it and the message are compared with what they have to
+be, and without it the counts. It fails if they differ, or if more than 64 MiB are in memory."""
+import contextlib
 import os
+import re
 import subprocess
 import sys
-import tempfile
 import threading
 import time
 
-TOP = os.path.dirname(os.path.dirname(os.path.realpath(__file__)))
+from common import ROOT, Room, write
+
 RULES = r'''#[derive(Logos)]
 #[logos(skip r"[ \n]+")]
 enum Token {
@@ -31,64 +32,53 @@ enum Token {
 '''
 LINE = '127.0.0.{} _ größe [10/Oct/2026:13:55:{:02} +0000] "GET /a/{} HTTP/1.1" 200 {}\n'
 LINES = 20_000
+BLOCK = "".join(LINE.format(at % 256, at % 60, at, at) for at in range(LINES)).encode()
 # What each line has.
-ITEMS = {'Number': 3, 'Word': 2, 'Text': 1, 'Time': 1}
+ITEMS = {"Number": 3, "Word": 2, "Text": 1, "Time": 1}
 MOST = 64 * 1024  # KiB
 
 
-def feed(out, block, blocks, torn):
+def feed(out, blocks, torn):
     """Writes the blocks, and in the middle a byte that is not UTF-8, if it is wanted."""
-    try:
+    with contextlib.suppress(BrokenPipeError), out:
         for number in range(blocks):
-            if torn and number == blocks // 2:
-                out.write(b'\xff')
-            out.write(block)
-        out.close()
-    except BrokenPipeError:
-        pass
+            out.write(b"\xff" * (torn and number == blocks // 2) + BLOCK)
 
 
-def counted(out):
-    """Returns how many line ends there are, and the last bytes."""
-    lines, last = 0, b''
-    while True:
-        some = out.read(1 << 20)
-        if not some:
-            return lines, last
-        lines += some.count(b'\n')
+def ended(running):
+    """Returns the number of lines of a program, its last bytes, its message, its status, and the
+    most KiB in memory."""
+    lines, last = 0, b""
+    while some := running.stdout.read(1 << 20):
+        lines += some.count(b"\n")
         last = (last + some)[-4096:]
+    message = running.stderr.read().decode()
+    _, status, used = os.wait4(running.pid, 0)
+    return lines, last.decode(errors="replace"), message, os.waitstatus_to_exitcode(status), used.ru_maxrss
 
 
-def main(program, gigabytes, torn):
-    block = ''.join(LINE.format(at % 256, at % 60, at, at) for at in range(LINES)).encode()
-    blocks = max(2, int(gigabytes * 10**9) // len(block))
+def main(program=f"{ROOT}/out/programs/logos_show", gigabytes=10, torn=False):
+    blocks = max(2, int(float(gigabytes) * 10**9) // len(BLOCK))
     full = blocks // 2 if torn else blocks
-    with tempfile.TemporaryDirectory() as room:
-        with open(f'{room}/t.rs', 'w', encoding='utf-8') as file:
-            file.write(RULES)
-        begun = time.monotonic()
-        running = subprocess.Popen([program, f'{room}/t.rs', '-'], stdin=subprocess.PIPE, stdout=subprocess.PIPE, stderr=subprocess.PIPE)
-        threading.Thread(target=feed, args=(running.stdin, block, blocks, torn), daemon=True).start()
-        lines, last = counted(running.stdout)
-        message = running.stderr.read().decode()
-        _, status, used = os.wait4(running.pid, 0)
-        passed = time.monotonic() - begun
-    items = full * LINES * sum(ITEMS.values())
+    items, size = full * LINES * sum(ITEMS.values()), full * len(BLOCK)
+    room, pipe = Room(), subprocess.PIPE
+    write(f"{room.folder}/t.rs", RULES)
+    begun = time.monotonic()
+    running = subprocess.Popen([program, f"{room.folder}/t.rs", "-"], stdin=pipe, stdout=pipe, stderr=pipe)
+    threading.Thread(target=feed, args=(running.stdin, blocks, torn), daemon=True).start()
+    lines, last, message, status, memory = ended(running)
+    passed = time.monotonic() - begun
     if torn:
-        wanted = 1, items, f'error: the input is not UTF-8 at byte {full * len(block)}\n'
-        found = os.waitstatus_to_exitcode(status), lines, message
+        wanted = 1, items, f"error: the input is not UTF-8 at byte {size}\n"
+        found = status, lines, message
     else:
-        counts = dict(line.split(': ') for line in last.decode(errors='replace').rsplit('\n\n', 1)[1].splitlines())
-        wanted = 0, *(full * LINES * ITEMS[name] for name in ITEMS), 0, full * len(block)
-        found = os.waitstatus_to_exitcode(status), *(int(counts[name]) for name in (*ITEMS, 'errors', 'bytes'))
-    size = blocks * len(block)
-    print(f'{size} bytes, {items} items, {used.ru_maxrss} KiB in memory, {passed:.1f} s, {full * len(block) / passed / 1e6:.0f} MB/s')
-    if wanted != found or used.ru_maxrss > MOST:
-        print(f'wanted {wanted} in at most {MOST} KiB, found {found}')
-        return 1
-    return 0
+        counts = dict(re.findall(r"^ *(\w+): (\d+)$", last.rsplit("\n\n", 1)[1], re.M))
+        wanted = 0, *(full * LINES * ITEMS[name] for name in ITEMS), 0, size
+        found = status, *(int(counts[name]) for name in (*ITEMS, "errors", "bytes"))
+    print(f"{blocks * len(BLOCK)} bytes, {items} items, {memory} KiB in memory, {passed:.1f} s, {size / passed / 1e6:.0f} MB/s")
+    if wanted != found or memory > MOST:
+        sys.exit(f"wanted {wanted} in at most {MOST} KiB, found {found}")
 
 
-if __name__ == '__main__':
-    words = [word for word in sys.argv[1:] if word != '--torn']
-    sys.exit(main(words[0] if words else f'{TOP}/out/programs/logos_show', float(words[1]) if words[1:] else 10, '--torn' in sys.argv))
+if __name__ == "__main__":
+    main(*(word for word in sys.argv[1:] if word != "--torn"), torn="--torn" in sys.argv)

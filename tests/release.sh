@@ -11,12 +11,14 @@ built=$1
 # FOLDER: makes a clone of what a release packs.
 make_clone() {
     mkdir -p "$1/crates"
-    cp -R "$root"/{README.md,CHANGELOG.md,LICENSE-APACHE,LICENSE-MIT,Cargo.toml,Cargo.lock,crates.txt,docs,rust,tools} "$1"
+    cp -R "$root"/{.gitignore,README.md,CHANGELOG.md,LICENSE-APACHE,LICENSE-MIT,Cargo.toml,Cargo.lock,crates.txt,docs,rust,tools} "$1"
     tar -C "$root/crates" --exclude=out -cf - . | tar -C "$1/crates" -xf -
     rm -rf "$1"/rust/*/target
     git -C "$1" init -q
     git -C "$1" add -A
     GIT_AUTHOR_DATE='2026-01-01T00:00:00Z' GIT_COMMITTER_DATE='2026-01-01T00:00:00Z' git -C "$1" -c user.name=t -c user.email=t commit -qm t
+    mkdir -p "$1/out/playground/page"
+    git -C "$1" rev-parse HEAD > "$1/out/playground/page/COMMIT"
 }
 
 # FOLDER: packs the programs in a clone.
@@ -44,6 +46,10 @@ shows_items() {
 names_commit() {
     [ "$(git -C "$room/one" rev-parse HEAD)" = "$(head -n 1 "$room/release/share/logos/COMMIT")" ] \
         && "$room/release/bin/logos_cli" --version | grep -q '^logos_cli '
+}
+
+has_playground() {
+    cmp "$room/one/out/playground/page/COMMIT" "$room/release/share/logos/playground/COMMIT"
 }
 
 # A package uses the runtime that is installed.
@@ -91,6 +97,7 @@ refuses_changed_clone() {
 expect 'two clones of one commit pack the same bytes' packs_the_same
 expect 'what is packed is installed, and shows the items in README.md' shows_items
 expect 'what is installed names its commit' names_commit
+expect 'the playground that was built of this commit is installed' has_playground
 expect 'a package uses what is installed' builds_with_it
 expect 'a release takes the place of another one' replaces_itself
 expect 'other files stay, and nothing is installed' refuses_other_files

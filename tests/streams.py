@@ -27,6 +27,21 @@ enum Token {
 }
 
 #[derive(Logos)]
+#[logos(skip r"[ \\t]+")]
+enum Prompt {
+    #[token("\\n")]
+    Newline,
+    #[token(";")]
+    End,
+    #[token("->")]
+    Arrow,
+    #[regex("[a-z]+")]
+    Word,
+    #[regex("'[^']*'")]
+    Text,
+}
+
+#[derive(Logos)]
 #[logos(utf8 = false)]
 enum Bytes {
     #[regex(b"[a-z]+")]
@@ -87,6 +102,34 @@ def decided_items_come():
             wants(f'after {text}', None, line(running, 0.3))
         running.stdin.close()
         wants('at the end', '4:3  <error>  "\\""\n', line(running))
+        wants('the status', 0, running.wait(SECONDS))
+
+
+def decided_items_come_at_the_end():
+    """An item that ends with what was read is there if nothing can make it longer."""
+    with program('Prompt') as running:
+        for text, wanted in ((b'quit;\n', ['1:1  Word  "quit"\n', '1:5  End  ";"\n', '1:6  Newline  "\\n"\n']), (b'a ->', ['2:1  Word  "a"\n', '2:3  Arrow  "->"\n']),
+                             (b"'b c'", ['2:5  Text  "\'b c\'"\n']), (b'-', []), (b';', ['2:10  <error>  "-"\n', '2:11  End  ";"\n']),
+                             (b'?', ['2:12  <error>  "?"\n']), ('é'.encode(), ['2:13  <error>  "é"\n'])):
+            os.write(running.stdin.fileno(), text)
+            for item in wanted:
+                wants(f'after {text}', item, line(running))
+            wants(f'after {text}', None, line(running, 0.3))
+        running.stdin.close()
+        wants('the status', 0, running.wait(SECONDS))
+
+
+def items_after_a_long_token_come():
+    """After a token that was read in many pieces, items come as soon as before it."""
+    with program('Prompt') as running:
+        os.write(running.stdin.fileno(), b'x' * 5000)
+        wants('within the token', None, line(running, 0.3))
+        os.write(running.stdin.fileno(), b'x' * 5000 + b';')
+        wants('the token', '1:1  Word  "xxx', (line(running) or '')[:15])
+        wants('after it', '1:10001  End  ";"\n', line(running))
+        os.write(running.stdin.fileno(), b'quit\n')
+        wants('the next line', ['1:10002  Word  "quit"\n', '1:10006  Newline  "\\n"\n'], [line(running), line(running)])
+        running.stdin.close()
         wants('the status', 0, running.wait(SECONDS))
 
 
@@ -177,7 +220,7 @@ def inputs_that_cannot_be_read():
     wants('a folder', (3, b'', b'error: cannot read /dev/stdin: it is a folder\n'), (done.returncode, done.stdout, done.stderr))
 
 
-CASES = [decided_items_come, pieces_are_the_whole, bytes_that_are_no_text, characters_in_two_pieces, any_bytes, a_token_that_is_too_long, memory_stays, a_reader_that_leaves,
+CASES = [decided_items_come, decided_items_come_at_the_end, items_after_a_long_token_come, pieces_are_the_whole, bytes_that_are_no_text, characters_in_two_pieces, any_bytes, a_token_that_is_too_long, memory_stays, a_reader_that_leaves,
          inputs_that_cannot_be_read]
 
 

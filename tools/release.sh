@@ -3,16 +3,19 @@
 # tools/release.sh [--built FOLDER] FOLDER
 #
 # It writes FOLDER/logos-VERSION-x86_64-linux.tar.gz, with the programs; in `rust/` the packages as
-# tools/package.py makes them; the pages and the licences; the file COMMIT, which names the commit;
-# and the file SHA256SUMS, with the sum of each other file. Its `install.sh` compares the sums, and
-# puts the programs into PREFIX/bin and the rest into PREFIX/share/logos. The programs need x86-64
-# Linux with glibc 2.34 or later.
+# tools/package.py makes them; the playground; the pages and the licences; the file COMMIT, which
+# names the commit; and the file SHA256SUMS, with the sum of each other file. Its `install.sh`
+# compares the sums, and puts the programs into PREFIX/bin and the rest into PREFIX/share/logos. The
+# programs need x86-64 Linux with glibc 2.34 or later.
+#
+# The playground is that of out/playground/page. It is left out, with a message, if it was not built
+# of this commit, as by rust/playground/build.sh out/playground/page.
 #
 # The programs are those that `.ci/run` has proved and built, and it refuses where a file has
 # changed since. With --built they are taken from a folder in which they were built, and COMMIT says
 # that they are not the proved ones. After the bytes of each program a line names the commit, which
-# `--version` of logos_cli and logos_show prints. The same commit and the same programs give the same
-# bytes, wherever the clone lies.
+# `--version` of logos_cli and logos_show prints. The same commit and the same programs give the
+# same bytes, wherever the clone lies.
 set -euo pipefail
 
 root=$(cd "$(dirname "${BASH_SOURCE[0]}")/.." && pwd)
@@ -64,6 +67,12 @@ done
 "${git[@]}" archive HEAD README.md CHANGELOG.md LICENSE-APACHE LICENSE-MIT docs rust/README.md | tar -xf - -C "$room/$name"
 python3 "$root/tools/package.py" --sources "$room/made" > /dev/null
 cp -R "$room/made/packages/." "$room/$name/rust"
+page=$root/out/playground/page
+if [ "$(cat "$page/COMMIT" 2> /dev/null)" = "$commit" ]; then
+    cp -R "$page" "$room/$name/playground"
+else
+    echo 'release: left out: the playground, since out/playground/page was not built of this commit' >&2
+fi
 printf '%s\n%s\n' "$commit" "$said" > "$room/$name/COMMIT"
 install -m 755 "$root/tools/install_release.sh" "$room/$name/install.sh"
 (cd "$room/$name" && find . -type f ! -name SHA256SUMS -print0 | LC_ALL=C sort -z | xargs -0 sha256sum > SHA256SUMS)

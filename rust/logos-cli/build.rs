@@ -7,14 +7,15 @@ use std::io;
 use std::path::Path;
 use std::process::{Command, ExitCode};
 
-/// What the module of the program `logos` needs besides: its command is private there.
+/// An addition to the module of the program `logos`, in which its command is private.
 const RUN_LOGOS: &str = "\
 /// Runs the command of `logos` that the arguments name. Returns the exit status.
 pub fn run_logos_program(rt: &HostRuntime) -> u8 { run_logos(rt) }
 ";
 
-/// What `logos_build` needs of the module of `logos_cli`, where it is private.
-const RUN_LOGOS_CLI: &str = "pub(crate) use self::running::run as run_command;\n";
+/// The re-export that this package needs from the modules of `logos_cli` and `logos_show`, where it
+/// is private.
+const RUN_COMMAND: &str = "pub(crate) use self::program::run as run_command;\n";
 
 fn erase() -> io::Result<()> {
     let crates = Crates::find()?;
@@ -25,7 +26,7 @@ fn erase() -> io::Result<()> {
     for module in &mut modules {
         match module.name {
             "logos_program" => module.added = RUN_LOGOS,
-            "logos_cli" => module.added = RUN_LOGOS_CLI,
+            "logos_cli" | "logos_show" => module.added = RUN_COMMAND,
             _ => (),
         }
     }

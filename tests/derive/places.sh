@@ -10,8 +10,7 @@ switch() {
 
 # NAME WORD ..: runs a package, and compares what it prints. Cargo has these words.
 run_place() {
-    cargo run --quiet "${@:2}" --manifest-path "$room/places/$1/Cargo.toml" > "$room/found" 2>&1
-    compare "the package by $1" "$here/switched/expected" "$room/found"
+    prints "the package by $1" "$here/switched/expected" cargo run --quiet "${@:2}" --manifest-path "$room/places/$1/Cargo.toml"
 }
 
 # Makes a repository of the sources as they are here, which git clones.
@@ -36,8 +35,7 @@ by_path() {
 by_patch() {
     cp -r "$here/tree" "$room/places/patch"
     printf '\n[patch.crates-io]\nlogos = { path = "%s" }\n' "$root/rust/logos" >> "$room/places/patch/Cargo.toml"
-    cargo run --offline --quiet --manifest-path "$room/places/patch/Cargo.toml" > "$room/found" 2>&1
-    compare 'a tree by [patch.crates-io]' "$here/tree/expected" "$room/found"
+    prints 'a tree by [patch.crates-io]' "$here/tree/expected" cargo run --offline --quiet --manifest-path "$room/places/patch/Cargo.toml"
     cargo tree --offline --prefix none --edges normal --manifest-path "$room/places/patch/Cargo.toml" > "$room/found" 2>&1
     expect 'the crate of this repository, once' [ "$(grep -c '^logos v' "$room/found"):$(grep -cF "($root/rust/logos)" "$room/found")" = 2:2 ]
 }
@@ -56,8 +54,8 @@ by_vendoring() {
     (cd "$room/places/vendoring" && cargo vendor > .cargo/config.toml 2> "$room/found")
     expect 'the vendored packages' [ -f "$room/places/vendoring/vendor/logos/Cargo.toml" ]
     mv "$room/repository" "$room/repository_away"
-    (cd "$room/places/vendoring" && CARGO_HOME=$room/home/other cargo run --offline --quiet > "$room/found" 2>&1)
-    compare 'the package by vendoring' "$here/switched/expected" "$room/found"
+    CARGO_HOME=$room/home/other prints 'the package by vendoring' "$here/switched/expected" \
+        env -C "$room/places/vendoring" cargo run --offline --quiet
     mv "$room/repository_away" "$room/repository"
 }
 
@@ -70,8 +68,7 @@ by_submodule() {
     cp -r "$here/switched" "$workspace/members/calculator"
     sed -i 's|^logos = "0.16"$|logos = { path = "../../third_party/logos/rust/logos" }|' "$workspace/members/calculator/Cargo.toml"
     printf '[workspace]\nresolver = "2"\nmembers = ["members/*"]\nexclude = ["third_party/logos"]\n' > "$workspace/Cargo.toml"
-    cargo run --offline --quiet --manifest-path "$workspace/Cargo.toml" > "$room/found" 2>&1
-    compare 'a submodule in a workspace' "$here/switched/expected" "$room/found"
+    prints 'a submodule in a workspace' "$here/switched/expected" cargo run --offline --quiet --manifest-path "$workspace/Cargo.toml"
 }
 
 # No package needs a program: neither one on the path nor in the home.

@@ -4,20 +4,7 @@
 #
 #   tests/derive/run.sh [GROUP ..]
 #
-# With the names of groups it tests these alone.
-#
-# - accepted: the packages of accepted/ are built, and print what their files `expected` hold, in
-#   each shape.
-# - refused: each source of the table `refused` has the errors that are written in it.
-# - features: the features of the package `logos` are there: one chooses the shape, and one prints
-#   the implementations.
-# - scripted: the package of scripted/ has its lexers expanded by a build script, and prints what its
-#   file `expected` holds. Its faults end the build, and its warnings are shown.
-# - variables: LOGOS_SHAPE and LOGOS_MEMORY have the values that are documented, and errors for
-#   others.
-# - answers: what the macro keeps is used, and is neither needed nor trusted.
-# - linted: the package of linted/ has no warning of rustc, clippy and rustdoc.
-# - places: packages that use the crate from the registry are switched, each way that is documented.
+# With the names of groups, which stand at the end, it tests these alone.
 #
 # In a quick test a group runs again if a package, a crate or a test has changed. The last line is
 # `N passed, M failed`. How many have to pass is stated here.
@@ -30,8 +17,7 @@ here=$root/tests/derive
 export PYTHONDONTWRITEBYTECODE=1
 unset LOGOS_SHAPE LOGOS_MEMORY
 groups=" $* "
-room=$(mktemp -d)
-trap 'rm -rf "$room"' EXIT
+. "$root/tests/expect.sh"
 # A fresh home, and a path without a program of this repository. Nothing is asked of a network.
 RUSTUP_HOME=${RUSTUP_HOME:-$HOME/.rustup}
 PATH=$(dirname "$(command -v cargo)"):/usr/bin:/bin
@@ -42,38 +28,25 @@ CARGO_TARGET_DIR=${CARGO_TARGET_DIR:-$room/target}
 CARGO_INCREMENTAL=0
 export RUSTUP_HOME PATH HOME CARGO_HOME CARGO_HTTP_PROXY CARGO_TARGET_DIR CARGO_INCREMENTAL
 mkdir "$HOME"
-passed=0
-failed=0
 
-# Counts a row, and shows the difference between two files if it failed.
+# WHAT FILE OTHER: counts whether two files are equal.
 compare() {
-    if diff "$2" "$3" > "$room/difference"; then
-        passed=$((passed + 1))
-    else
-        failed=$((failed + 1))
-        echo "derive: $1"
-        head -n 40 "$room/difference"
-    fi
+    expect "$1" diff "$2" "$3"
 }
 
-# WHAT COMMAND ..: counts whether the command succeeds.
-expect() {
-    if "${@:2}"; then
-        passed=$((passed + 1))
-    else
-        failed=$((failed + 1))
-        echo "derive: $1"
-        tail -n 20 "$room/found" 2> /dev/null
-    fi
+# WHAT FILE COMMAND ..: counts whether all that a command prints is in a file.
+prints() {
+    "${@:3}" > "$room/found" 2>&1
+    compare "$1" "$2" "$room/found"
 }
 
 # Whether a word is in the file `found`, as a line or a part of one.
 says() {
-    grep -qF -e "$1" "$room/found"
+    grep -qF -e "$1" "$room/found" || { tail -n 20 "$room/found"; false; }
 }
 
 says_no() {
-    ! says "$1"
+    ! grep -F -e "$1" "$room/found"
 }
 
 # Copies a package of the tests, whose dependencies become those of this checkout.
@@ -106,10 +79,21 @@ accept() {
         || cat "$room/errors"
     for package in "$here"/accepted/*; do
         name=$(basename "$package")
-        "$CARGO_TARGET_DIR/debug/$name" > "$room/found" 2>&1
-        compare "$name in the shape $1" "$package/expected" "$room/found"
+        prints "$name in the shape $1" "$package/expected" "$CARGO_TARGET_DIR/debug/$name"
         rm -f "$CARGO_TARGET_DIR/debug/$name"
     done
+}
+
+# Runs the tests of the package users/ in a shape; in that of tables by `scan`, too.
+use() {
+    local words=(--offline --quiet --lib --manifest-path "$room/users/Cargo.toml") good bad
+    [ -d "$room/users" ] || lay_out users
+    [ "$1" = tables ] && words+=(--features scan)
+    LOGOS_SHAPE=$1 cargo test "${words[@]}" > "$room/found" 2>&1
+    read -r good bad < <(sed -n 's/^test result: .* \([0-9]*\) passed; \([0-9]*\) failed;.*/\1 \2/p' "$room/found")
+    [ "${bad:-1}" = 0 ] || { echo "derive: users in the shape $1"; tail -n 60 "$room/found"; }
+    passed=$((passed + ${good:-0}))
+    failed=$((failed + ${bad:-1}))
 }
 
 # Compares the errors of the table of refused sources.
@@ -124,18 +108,16 @@ refuse() {
 
 # Builds packages with features of the package `logos`.
 feature() {
-    local all=std,export_derive,debug,state_machine_codegen,forbid_unsafe
-    cargo check --offline --quiet --no-default-features --manifest-path "$root/rust/logos/Cargo.toml" > "$room/found" 2>&1
-    compare 'the package without features' /dev/null "$room/found"
-    cargo check --offline --quiet --no-default-features --features "$all" --manifest-path "$root/rust/logos/Cargo.toml" > "$room/found" 2>&1
-    compare 'the package with all features' /dev/null "$room/found"
+    local all=std,export_derive,debug,state_machine_codegen,forbid_unsafe target
+    local check=(cargo check --offline --quiet --no-default-features --manifest-path "$root/rust/logos/Cargo.toml")
+    prints 'the package without features' /dev/null "${check[@]}"
+    prints 'the package with all features' /dev/null "${check[@]}" --features "$all"
     lay_out_small <<< '#[derive(Logos, Debug)] enum Token { #[regex("[a-z]+")] Word }'
     small run --features logos/debug,logos/state_machine_codegen
     expect 'a package in the shape that a feature chooses' says '[logos] state_machine: impl'
     target=$(rustc --print target-libdir --target i686-unknown-linux-gnu 2> /dev/null)
     if [ -d "$target" ]; then
-        cargo check --offline --quiet --no-default-features --target i686-unknown-linux-gnu --manifest-path "$root/rust/logos/Cargo.toml" > "$room/found" 2>&1
-        compare 'the runtime for 32 bits' /dev/null "$room/found"
+        prints 'the runtime for 32 bits' /dev/null "${check[@]}" --target i686-unknown-linux-gnu
     else
         echo 'derive: the runtime is not checked for 32 bits, since there is no target i686-unknown-linux-gnu'
         passed=$((passed + 1))
@@ -206,6 +188,12 @@ change_answers() {
     with_answers sh -c 'find "$@" -type f -print0' sh | xargs -0 -n 1 "$@"
 }
 
+# WHAT: runs the package, and compares what cargo says with what it said first.
+answers_as_first() {
+    small run
+    compare "$1" "$room/first" "$room/found"
+}
+
 # Uses what the macro has kept, and what is no answer in its place.
 keep_answers() {
     lay_out_small << 'END'
@@ -215,23 +203,17 @@ END
     cp "$room/found" "$room/first"
     expect 'a warning' says 'warning: use of deprecated constant `_::logos`: this pattern of `Seven` is never found'
     expect 'a kept answer' with_answers grep -rqF 'priority = 5'
-    small run
-    compare 'the kept answer, with its warning' "$room/first" "$room/found"
+    answers_as_first 'the kept answer, with its warning'
     change_answers truncate -s 200
-    small run
-    compare 'answers that are cut off' "$room/first" "$room/found"
+    answers_as_first 'answers that are cut off'
     change_answers truncate -s 0
-    small run
-    compare 'answers that are empty' "$room/first" "$room/found"
+    answers_as_first 'answers that are empty'
     change_answers cp "$room/small/src/main.rs"
-    small run
-    compare 'answers that are something else' "$room/first" "$room/found"
+    answers_as_first 'answers that are something else'
     with_answers sh -c 'rm -r "$@" && touch "$@"' sh
-    small run
-    compare 'folders that cannot be written' "$room/first" "$room/found"
+    answers_as_first 'folders that cannot be written'
     with_answers rm
-    small run
-    compare 'no folders' "$room/first" "$room/found"
+    answers_as_first 'no folders'
     sed -i 's/^#\[derive(Logos/#[allow(deprecated)] &/' "$room/small/src/main.rs"
     small run
     expect 'a warning that the enum allows' says_no 'logos`'
@@ -240,22 +222,17 @@ END
 # Runs the lints over a package that has none.
 lint() {
     lay_out linted
-    local cargo=(--offline --quiet --manifest-path "$room/linted/Cargo.toml")
-    RUSTFLAGS=-Dwarnings cargo run "${cargo[@]}" --target-dir "$CARGO_TARGET_DIR/denied" > "$room/found" 2>&1
-    compare 'a build that denies warnings' "$here/linted/expected" "$room/found"
-    cargo clippy "${cargo[@]}" > "$room/found" 2>&1
-    compare 'clippy' /dev/null "$room/found"
+    local words=(--offline --quiet --manifest-path "$room/linted/Cargo.toml") shape
+    RUSTFLAGS=-Dwarnings prints 'a build that denies warnings' "$here/linted/expected" \
+        cargo run "${words[@]}" --target-dir "$CARGO_TARGET_DIR/denied"
+    prints 'clippy' /dev/null cargo clippy "${words[@]}"
     touch "$room"/linted/src/*.rs
-    cargo clippy "${cargo[@]}" -- -W clippy::pedantic > "$room/found" 2>&1
-    compare 'clippy with pedantic' /dev/null "$room/found"
-    cargo doc "${cargo[@]}" --no-deps > "$room/found" 2>&1
-    compare 'rustdoc' /dev/null "$room/found"
-    touch "$room"/linted/src/*.rs
-    LOGOS_SHAPE=state_machine cargo clippy "${cargo[@]}" --lib > "$room/found" 2>&1
-    compare 'clippy in the shape state_machine' /dev/null "$room/found"
-    touch "$room"/linted/src/*.rs
-    LOGOS_SHAPE=tailcall cargo clippy "${cargo[@]}" --lib > "$room/found" 2>&1
-    compare 'clippy in the shape tailcall' /dev/null "$room/found"
+    prints 'clippy with pedantic' /dev/null cargo clippy "${words[@]}" -- -W clippy::pedantic
+    prints 'rustdoc' /dev/null cargo doc "${words[@]}" --no-deps
+    for shape in state_machine tailcall; do
+        touch "$room"/linted/src/*.rs
+        LOGOS_SHAPE=$shape prints "clippy in the shape $shape" /dev/null cargo clippy "${words[@]}" --lib
+    done
 }
 
 # Tests something, and writes into a file how many rows passed and failed.
@@ -292,6 +269,7 @@ group() {
 made_from > "$room/made_from"
 for shape in tailcall state_machine tables; do
     group "$shape" 12 accept "$shape"
+    group "users_$shape" 210 use "$shape"
 done
 group refused 42 refuse
 group features 4 feature
@@ -300,5 +278,4 @@ group variables 14 set_variables
 group answers 9 keep_answers
 group linted 6 lint
 group places 10 places
-echo "$passed passed, $failed failed"
-[ "$failed" = 0 ]
+counts

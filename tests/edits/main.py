@@ -10,19 +10,18 @@ refused and the items have to be as they were. Half of the edits stand near the 
 ask for those sources alone."""
 
 import os
-import subprocess
 import sys
-import tempfile
 from concurrent.futures import ProcessPoolExecutor
 from os import path
 from random import Random
 
 HERE = path.dirname(path.realpath(__file__))
 sys.path.insert(0, path.join(path.dirname(HERE), 'generated'))
+from asking import asked
 from byte_sets import partners, runs_of_categories
 from earlier import earlier, keep
 from inputs import OTHER
-from main import ALL, made, place
+from main import ALL, made
 from matching import TooLarge
 
 # An input has at least so many bytes, and so many edits are made of it.
@@ -63,7 +62,7 @@ def edits_of(text, inputs, random, is_utf8):
     return lines, refused
 
 
-def asked(seed):
+def questions(seed):
     """The source, the input, the lines of edits and how many of these are refused; or None where
     the source is refused."""
     kept = earlier('edits', seed)
@@ -100,18 +99,15 @@ def accepted_source(seed):
 def judge(program, seed):
     """Nothing where the program finds the same after each edit, or if the source is refused; else
     the difference."""
-    asks = asked(seed)
+    asks = questions(seed)
     if not asks:
         return None, False
     source, text, lines, refused = asks
-    with tempfile.TemporaryDirectory(dir=place()) as room:
-        for name, content in (('source', source.encode()), ('input', text), ('edits', '\n'.join(lines).encode())):
-            with open(f'{room}/{name}', 'wb') as out:
-                out.write(content)
-        done = subprocess.run([program, 'source', 'input', 'edits'], cwd=room, capture_output=True, text=True, check=False)
+    files = {'source': source.encode(), 'input': text, 'edits': '\n'.join(lines).encode()}
+    status, out, err = asked(program, list(files), files)
     wanted = f'{EDITS} the same, {refused} refused\n'
-    if done.returncode or done.stdout != wanted:
-        return f'seed {seed}: {done.stdout}{done.stderr}in place of {wanted}{source}', True
+    if status or out.decode() != wanted:
+        return f'seed {seed}: {out.decode()}{err.decode()}in place of {wanted}{source}', True
     return None, True
 
 

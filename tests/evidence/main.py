@@ -12,8 +12,7 @@ that it gives for all edges must differ and be inputs of the mode, and together 
 edge between the states of the least automaton that the reader finds, as far as inputs pass it.
 
 Seeds ask for those sets alone. By hand it is asked about 2,000 sets, `$(seq 1000 2999)`, in about
-three minutes of one processor. `keywords.py PROGRAM` measures how long a comparison of two lexers
-of 1,000 keywords takes."""
+three minutes of one processor."""
 
 import os
 import subprocess

@@ -5,6 +5,7 @@ to be UTF-8, and tries bytes in the order in which texts are to be chosen. So it
 first of the shortest ones.
 """
 
+from matching import refined
 from rests import looks
 
 PUNCTUATION = [byte for byte in range(32, 127) if not chr(byte).isalnum()]
@@ -122,16 +123,9 @@ class Evidence:
     def classes(self):
         """The number of each live state's class, where states are alike that no bytes
         distinguish."""
-        states = self.matching.live | {self.matching.start}
         letters = self.matching.letters
-        block = {state: tuple(self.best(state, byte) for byte in [*letters, None]) for state in states}
-        count = 0
-        while count != len(set(block.values())):
-            count = len(set(block.values()))
-            signs = {state: (block[state],) + tuple(block.get(self.next(state, byte)) for byte in letters) for state in states}
-            numbers = {sign: number for number, sign in enumerate(dict.fromkeys(signs.values()))}
-            block = {state: numbers[sign] for state, sign in signs.items()}
-        return block
+        marks = {state: tuple(self.best(state, byte) for byte in [*letters, None]) for state in self.matching.live | {self.matching.start}}
+        return refined(marks, lambda state, block: (block.get(self.next(state, byte)) for byte in letters))
 
     def edges(self):
         """The edges between classes of states that inputs pass."""
@@ -173,20 +167,7 @@ class Evidence:
     def first(self, text):
         """The first item of an input that is not empty: the leaf and the end of a match, or None
         and the end of an error."""
-        state, stop, found = self.matching.start, 0, None
-        while stop < len(text):
-            state = self.next(state, text[stop])
-            if state not in self.matching.live:
-                break
-            stop += 1
-            best = self.best(state, self.matching.first[text[stop]] if stop < len(text) else None)
-            found = (best[0], stop) if best else found
-        if found:
-            return found
-        stop = max(stop, 1)
-        while self.utf8 and stop < len(text) and text[stop] & 0xC0 == 0x80:
-            stop += 1
-        return None, stop
+        return self.matching.attempt(text, 0, self.utf8)
 
 
 def texts(letters, utf8, length):

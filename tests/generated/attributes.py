@@ -9,6 +9,11 @@ from written_types import is_type, names_of
 # keyword, the second word are trees.
 Piece = namedtuple('Piece', 'form name word run')
 OPTIONS = ('crate', 'error', 'export_dir', 'extras', 'skip', 'source', 'subpattern', 'type', 'utf8')
+# The form that some options have to have, and the fault where they have another one.
+FORMS = {
+    'crate': ('assign', 'CrateForm'), 'export_dir': ('assign', 'ExportForm'), 'extras': ('assign', 'ExtrasForm'),
+    'subpattern': ('keyword', 'SubpatternForm'), 'type': ('keyword', 'TypeForm'), 'utf8': ('assign', 'Utf8Form'),
+}
 MOST = 2 ** 64 - 1
 TRUTH = ('true', 'false')
 
@@ -82,6 +87,13 @@ class Definition:
     """A pattern's literal and what is said of it. The places of the faults go into `faults`."""
 
     NAMES = 'priority, callback'
+    # The form that an argument has to have, the fault where it has another one, and what reads it.
+    NAMED = {
+        'priority': ('assign', 'PriorityForm', 'read_priority'),
+        'allow_greedy': ('assign', 'GreedyForm', 'read_greedy'),
+        'callback': ('assign', 'CallbackForm', 'read_named_callback'),
+        'ignore': ('group', 'IgnoreForm', 'read_ignore'),
+    }
 
     def __init__(self, literal):
         self.literal, self.priority, self.greedy, self.callback, self.ignores_case = literal, None, None, None, False
@@ -98,16 +110,14 @@ class Definition:
                 self.named(piece, faults)
 
     def named(self, piece, faults):
-        reading = {'priority': self.read_priority, 'allow_greedy': self.read_greedy, 'callback': self.read_named_callback,
-                   'ignore': self.read_ignore}.get(piece.name.text)
-        if reading is None:
-            faults.add('UnknownNested', span([piece.name]), piece.name.text, self.NAMES)
-        else:
-            reading(piece, faults)
+        if piece.name.text not in self.NAMED:
+            return faults.add('UnknownNested', span([piece.name]), piece.name.text, self.NAMES)
+        form, code, reading = self.NAMED[piece.name.text]
+        if piece.form != form:
+            return faults.add(code, span([piece.name]))
+        return getattr(self, reading)(piece, faults)
 
     def read_priority(self, piece, faults):
-        if piece.form != 'assign':
-            return faults.add('PriorityForm', span([piece.name]))
         literal = one_literal(piece.run)
         digits = literal.text if literal else ''
         if not (digits.isascii() and digits.isdigit()) or int(digits) > MOST:
@@ -117,8 +127,6 @@ class Definition:
         self.priority = int(digits)
 
     def read_greedy(self, piece, faults):
-        if piece.form != 'assign':
-            return faults.add('GreedyForm', span([piece.name]))
         if len(piece.run) != 1 or piece.run[0].kind != 'ident' or piece.run[0].text not in TRUTH:
             return faults.add('GreedyValue', span(piece.run))
         if self.greedy is not None:
@@ -126,8 +134,6 @@ class Definition:
         self.greedy = piece.run[0].text == 'true'
 
     def read_named_callback(self, piece, faults):
-        if piece.form != 'assign':
-            return faults.add('CallbackForm', span([piece.name]))
         callback = read_callback(piece.run, faults)
         if callback is None:
             return faults.add('CallbackValue', span(piece.run))
@@ -136,8 +142,6 @@ class Definition:
         self.callback = callback
 
     def read_ignore(self, piece, faults):
-        if piece.form != 'group':
-            return faults.add('IgnoreForm', span([piece.name]))
         at, met = 0, False
         while at < len(piece.run) or not met:
             flag = piece.run[at] if at < len(piece.run) else None
@@ -158,15 +162,11 @@ class ErrorType(Definition):
     """An error type, which has a callback alone. Its `place` is that of the type."""
 
     NAMES = 'callback'
+    NAMED = {'callback': Definition.NAMED['callback']}
 
     def __init__(self, run):
         super().__init__(None)
         self.place = span(run)
-
-    def named(self, piece, faults):
-        if piece.name.text != 'callback':
-            return faults.add('UnknownNested', span([piece.name]), piece.name.text, self.NAMES)
-        self.read_named_callback(piece, faults)
 
 
 def read_definition(trees, faults):
@@ -206,6 +206,8 @@ class Options:
             name = piece.name.text
             if name not in OPTIONS:
                 self.faults.add('UnknownLogos', span([piece.name]), name)
+            elif piece.form != FORMS.get(name, (piece.form,))[0]:
+                self.faults.add(FORMS[name][1], span([piece.name]))
             elif getattr(self, 'read_' + name)(piece, span([piece.name])) == 'stop':
                 return None
         return None
@@ -216,9 +218,8 @@ class Options:
             self.faults.add_both(code, place, self.places[option], DEFINITION_HERE)
         self.places[option] = former
 
-    def read_crate(self, piece, name):
-        if piece.form != 'assign':
-            self.faults.add('CrateForm', name)
+    def read_crate(self, *_):
+        pass
 
     def read_error(self, piece, name):
         if piece.form == 'assign':
@@ -234,8 +235,6 @@ class Options:
         return self.once('error', 'ErrorTwice', span(piece.run), error.place)
 
     def read_export_dir(self, piece, name):
-        if piece.form != 'assign':
-            return self.faults.add('ExportForm', name)
         place, literal = span(piece.run), one_literal(piece.run)
         if literal is None or not is_text(literal):
             return self.faults.add('LiteralSyntax', place)
@@ -244,8 +243,6 @@ class Options:
         return self.once('export', 'ExportTwice', place, place)
 
     def read_extras(self, piece, name):
-        if piece.form != 'assign':
-            return self.faults.add('ExtrasForm', name)
         return self.once('extras', 'ExtrasTwice', span(piece.run), span(piece.run))
 
     def read_skip(self, piece, name):
@@ -267,8 +264,6 @@ class Options:
         self.faults.add('SourceOld', name)
 
     def read_subpattern(self, piece, name):
-        if piece.form != 'keyword':
-            return self.faults.add('SubpatternForm', name)
         literal = one_literal(piece.run)
         if literal is None or not is_text(literal):
             return self.faults.add('LiteralSyntax', span(piece.run))
@@ -276,8 +271,6 @@ class Options:
         return None
 
     def read_type(self, piece, name):
-        if piece.form != 'keyword':
-            return self.faults.add('TypeForm', name)
         parameter, place = piece.word.text, span([piece.word])
         if not piece.run or not is_type(piece.run):
             return self.faults.add('TypeSyntax', span(piece.run))
@@ -289,8 +282,6 @@ class Options:
         return None
 
     def read_utf8(self, piece, name):
-        if piece.form != 'assign':
-            return self.faults.add('Utf8Form', name)
         place = span(piece.run)
         if len(piece.run) != 1 or piece.run[0].kind != 'ident' or piece.run[0].text not in TRUTH:
             return self.faults.add('Utf8Value', place)

@@ -2,7 +2,7 @@
 all."""
 
 import re
-from matching import label, letter, shown_text
+from matching import labelled, letter, refined, shown_text, state_lines
 from rests import NONE
 from trees import has_empty_class
 
@@ -65,13 +65,10 @@ class Chart:
         for state, edges in enumerate(self.edges):
             early, late, targets = self.early[state], self.late[state], {}
             mark = f'<br>early({early})' if early is not None else f'<br>late({late})' if late is not None else ''
-            lines += [f'n{state}["State {state}{mark}"]', f'style n{state} stroke:{"#00C853" if mark else "#000000"}']
             for byte in sorted(edges):
                 targets.setdefault(edges[byte], []).append(byte)
-            found = [(target, label(targets[target])) for target in sorted(targets)]
-            for target, text in found + ([(self.end[state], 'EOI')] if self.end[state] is not None else []):
-                edge = f'en{state}n{target}'
-                lines += [f'{edge}{{"{text}"}}', f'style {edge} stroke:#000000', f'n{state}-->{edge}', f'{edge}-->n{target}']
+            end = [(self.end[state], 'EOI')] if self.end[state] is not None else []
+            lines += state_lines(state, mark, labelled(targets) + end)
         return lines
 
     def order(self):
@@ -85,14 +82,10 @@ class Chart:
     def count_blocks(self, marks):
         """The number of blocks of states that no bytes tell apart, where states have these
         marks."""
-        block, count = marks, 0
-        while count != len(set(block)):
-            count = len(set(block))
-            signs = [(block[state], self.end[state] is not None and block[self.end[state]], *((byte, block[edges[byte]]) for byte in sorted(edges)))
-                     for state, edges in enumerate(self.edges)]
-            numbers = {sign: number for number, sign in enumerate(dict.fromkeys(signs))}
-            block = [numbers[sign] for sign in signs]
-        return count
+        def signs(state, block):
+            edges, end = self.edges[state], self.end[state]
+            return end is not None and block[end], *((byte, block[edges[byte]]) for byte in sorted(edges))
+        return len(set(refined(dict(enumerate(marks)), signs).values()))
 
 
 class Comparison:

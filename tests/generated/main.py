@@ -1,21 +1,33 @@
 """Makes sources, reads each with the plain reader, runs the program on it, and compares what both
 find.
 
-The words are the paths of the program and of the program of calls and, where just these sources are
-wanted, their seeds.
+  python3 tests/generated/main.py LOGOS CALLS [SEED ..]
+
+`logos` has to print the faults, the charts and the items that the reader finds, and the program of
+calls the same items of inputs that are cut into pieces at random. Where a pattern looks, the reader
+follows the printed chart byte by byte beside what is left of the patterns. At the first difference
+the script fails, with the seed and the source; it fails too where some kind of fault was met in no
+source, or some form of look or class in too few sources that are accepted. What the text of a
+pattern's fault says of its place and kind is left open.
+
+Seeds ask for those sources alone. Without them the program of calls answers the rows of `ROWS`,
+too.
 """
 
 import os
+import re
 import subprocess
 import sys
-import tempfile
 from collections import Counter
 from concurrent.futures import ProcessPoolExecutor
 from itertools import zip_longest
 from random import Random
+
+sys.dont_write_bytecode = True
+from asking import asked
 from byte_sets import partners, runs_of_categories
 from charts import judge_chart
-from earlier import FOLDER, earlier, keep
+from earlier import HERE, earlier, keep
 from faults import texts
 from inputs import make_input
 from matching import TooLarge
@@ -35,6 +47,9 @@ CHARTS, ACCEPTED = 20, 2
 WRONG = [0, 0.1, 0.25, 0, 0.5]
 
 
+# The scripts that write rows for the program of calls.
+ROWS = ('changed', 'automata', 'expressions')
+
 # In a quick test, what was asked for a source: program or calls, the words, the files, the input,
 # and the answer.
 ASKED = []
@@ -44,33 +59,20 @@ class Difference(Exception):
     """What the program answered in place of what the reader found."""
 
 
-def place():
-    """A folder in memory for what the programs read, if there is one."""
-    return '/dev/shm' if os.access('/dev/shm', os.W_OK) else None
-
-
-def answer(done):
-    return done.returncode, done.stdout, done.stderr
-
-
-def answers_as_before(programs, asked):
+def answers_as_before(programs, answers):
     """Whether the programs answer all that was asked for a source in the same way again."""
-    with tempfile.TemporaryDirectory(dir=place()) as room:
-        for number, words, files, given, wanted in asked:
-            for name, content in files.items():
-                write(f'{room}/{name}', content)
-            if answer(subprocess.run([programs[number], *words], cwd=room, input=given, capture_output=True, check=False)) != wanted:
-                return False
-    return True
+    return all(asked(programs[number], words, files, given) == wanted for number, words, files, given, wanted in answers)
 
 
-def run(program, room, *words):
+def run(program, files, *words):
     """The status, the lines of output and those of complaints."""
-    done = subprocess.run([program, *words], cwd=room, capture_output=True, check=False)
-    if FOLDER:
-        files = {name: read(f'{room}/{name}') for name in words if os.path.exists(f'{room}/{name}')}
-        ASKED.append((0, words, files, None, answer(done)))
-    return done.returncode, done.stdout.decode().split('\n'), done.stderr.decode().split('\n')
+    found = asked(program, words, files)
+    ASKED.append((0, words, files, None, found))
+    return split(found)
+
+
+def split(found):
+    return found[0], found[1].decode().split('\n'), found[2].decode().split('\n')
 
 
 def is_alike(line, found):
@@ -93,32 +95,20 @@ def ended(lines):
     return list(lines) + ['']
 
 
-def read(path):
-    with open(path, 'rb') as file:
-        return file.read()
-
-
-def write(path, content):
-    with open(path, 'wb') as file:
-        file.write(content)
-
-
-def compare(program, room, source, reading, inputs):
+def compare(program, source, reading, inputs):
     """Compares all that the program says of a source and these inputs, which it lexes in both
     shapes by turns. Gives the number of comparisons."""
-    write(f'{room}/source', source.encode())
-    faults = reading.lines()
+    files, faults = {'source': source.encode()}, reading.lines()
     if faults:
-        expect('mermaid', (1, [''], ended(faults)), run(program, room, 'mermaid', 'source'))
+        expect('mermaid', (1, [''], ended(faults)), run(program, files, 'mermaid', 'source'))
         return 1
-    compare_chart(reading, run(program, room, 'mermaid', 'source'))
+    compare_chart(reading, run(program, files, 'mermaid', 'source'))
     for number, text in enumerate(inputs):
-        write(f'{room}/input', text)
         items, wanted = reading.items(text), None
         if items is None:
             wanted = 1, [''], [f'NotUtf8 {valid_up_to(text)}', '']
         shape = ['--shape', 'tailcall'] if number % 2 else []
-        expect(f'lex of {text}', wanted or (0, ended(items), ['']), run(program, room, 'lex', 'source', 'input', *shape))
+        expect(f'lex of {text}', wanted or (0, ended(items), ['']), run(program, {**files, 'input': text}, 'lex', 'source', 'input', *shape))
     return len(inputs) + 1
 
 
@@ -144,9 +134,9 @@ def stream(calls, source, reading, inputs, random):
         requests.append(' '.join(map(str, words)).encode() + b'\n' + source.encode() + text)
         valid = valid_up_to(text) if reading.utf8 else len(text)
         wanted += [*reading.items(text[:valid]), f'{"end" if valid == len(text) else "NotUtf8"} {valid}']
-    done = subprocess.run([calls, 'streams'], input=b''.join(requests), capture_output=True, check=False)
-    ASKED.append((1, ('streams',), {}, b''.join(requests), answer(done)))
-    expect(f'streams of {inputs}', (0, ended(wanted), ['']), (done.returncode, done.stdout.decode().split('\n'), done.stderr.decode().split('\n')))
+    found = asked(calls, ('streams',), {}, b''.join(requests))
+    ASKED.append((1, ('streams',), {}, b''.join(requests), found))
+    expect(f'streams of {inputs}', (0, ended(wanted), ['']), split(found))
     return len(inputs)
 
 
@@ -206,14 +196,13 @@ def judge(program, calls, seed):
     # (for edits)
     keep('made', seed, (None if reading.faults.list else (source, reading.utf8, inputs),))
     forms = [] if reading.faults.list else [form for form in FORMS if MET[form]]
-    with tempfile.TemporaryDirectory(dir=place()) as room:
-        try:
-            compared = compare(program, room, source, reading, inputs)
-            streamed = 0 if reading.faults.list else stream(calls, source, reading, inputs, Random(seed))
-            if not reading.faults.list and not streamed:
-                raise Difference('no input is read as a stream')
-        except Difference as difference:
-            return [], 0, 0, [], f'seed {seed}: {difference}\n{source}'
+    try:
+        compared = compare(program, source, reading, inputs)
+        streamed = 0 if reading.faults.list else stream(calls, source, reading, inputs, Random(seed))
+        if not reading.faults.list and not streamed:
+            raise Difference('no input is read as a stream')
+    except Difference as difference:
+        return [], 0, 0, [], f'seed {seed}: {difference}\n{source}'
     found = [code for code, _, _ in reading.faults.list], compared, streamed, forms, None
     keep('generated', seed, (ASKED, found))
     return found
@@ -221,20 +210,47 @@ def judge(program, calls, seed):
 
 def judge_kept(program):
     """Compares the program with the lines that are written down, and the reader with them too."""
-    with tempfile.TemporaryDirectory(dir=place()) as room:
-        for source, faults in map(dict.values, table('kept').KEPT):
-            write(f'{room}/source', source.encode())
-            found = run(program, room, 'mermaid', 'source')
-            expect(source, (1, [''], ended(faults)), found)
-            expect(f'{source} as the reader has it', (1, [''], ended(Reading(source).lines())), found)
+    for source, faults in map(dict.values, table('kept').KEPT):
+        found = run(program, {'source': source.encode()}, 'mermaid', 'source')
+        expect(source, (1, [''], ended(faults)), found)
+        expect(f'{source} as the reader has it', (1, [''], ended(Reading(source).lines())), found)
+
+
+def answer_rows(calls, name):
+    """Has the program of calls answer the rows of a script. Gives how many passed and failed."""
+    rows = earlier('rows', name)
+    if rows is None:
+        rows = subprocess.run([sys.executable, f'{HERE}/{name}.py'], stdout=subprocess.PIPE, check=True).stdout
+        keep('rows', name, rows)
+    done = subprocess.run([calls], input=rows, stdout=subprocess.PIPE, check=False)
+    lines = done.stdout.decode(errors='replace').split('\n')[:-1] or ['']
+    counts = re.fullmatch(r'(\d+) passed, (\d+) failed', lines[-1])
+    passed, failed = map(int, counts.groups()) if counts else (0, 0)
+    if done.returncode == 0 and passed:
+        print(f'generated: the rows of {name}.py are answered as the plain reader has it')
+    else:
+        print('\n'.join(lines[:20]), f'generated: some rows of {name}.py are not answered as the plain reader has it', sep='\n')
+        failed += 1
+    return passed, failed
 
 
 def main(program, calls, seeds):
+    """Compares all. Prints the counts, and gives the status."""
+    counts = [judge_sources(program, calls, seeds)]
+    if seeds == ALL and counts[0][0]:
+        counts += [answer_rows(calls, name) for name in ROWS]
+    passed, failed = map(sum, zip(*counts))
+    print(f'{passed} passed, {failed} failed')
+    return 1 if failed else 0
+
+
+def judge_sources(program, calls, seeds):
+    """Compares the sources of these seeds. Gives how many passed and failed."""
     try:
         judge_kept(program)
     except Difference as difference:
         print(f'generated: {difference}', file=sys.stderr)
-        return 1
+        return 0, 1
     codes, forms, refused, accepted, compared, streamed = Counter(), Counter(), 0, 0, 0, 0
     # What is looked up once for all sources is there before the workers are.
     partners()
@@ -244,7 +260,7 @@ def main(program, calls, seeds):
             if difference:
                 workers.shutdown(cancel_futures=True)
                 print(f'generated: {difference}', file=sys.stderr)
-                return 1
+                return 0, 1
             codes.update(found)
             forms.update(met)
             refused, accepted, compared, streamed = refused + bool(found), accepted + (not found), compared + comparisons, streamed + streams
@@ -254,14 +270,13 @@ def main(program, calls, seeds):
     missed += [form for form in FORMS if forms[form] < (CHARTS if form in LOOKS else ACCEPTED)]
     if missed and len(seeds) == len(ALL):
         print('generated: too few sources had', ', '.join(missed), file=sys.stderr)
-        return 1
+        return 0, 1
     print(f'generated: {refused} sources are refused and {accepted} accepted as the plain reader has it, in {compared} comparisons')
     print(f'generated: the items of {streamed} streams that are cut into pieces are those of the whole, for each of the {accepted} sources')
-    print(f'{refused + accepted + streamed} passed, 0 failed')
-    return 0
+    return refused + accepted + streamed, 0
 
 
 ALL = [*range(SOURCES), *PATTERNS, *WORDS]
 
 if __name__ == '__main__':
-    sys.exit(main(sys.argv[1], sys.argv[2], [int(seed) for seed in sys.argv[3:]] or ALL))
+    sys.exit(main(os.path.realpath(sys.argv[1]), os.path.realpath(sys.argv[2]), [int(seed) for seed in sys.argv[3:]] or ALL))

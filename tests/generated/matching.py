@@ -94,42 +94,39 @@ class Matching:
         """The sets of leaves that are the best of some text together."""
         return sorted({best for found in self.matches.values() for best in found.values() if len(best) > 1})
 
+    def attempt(self, text, at, is_utf8):
+        """The leaf and the end of the item that begins at a place, or None and the end of an
+        error."""
+        state, stop, found = self.start, at, None
+        while stop < len(text):
+            state = self.edges[state][self.first[text[stop]]]
+            if state not in self.live:
+                break
+            stop += 1
+            best = self.matches[state][self.first[text[stop]] if stop < len(text) else None]
+            found = (best[0], stop) if best else found
+        if found:
+            return found
+        stop = max(stop, at + 1)
+        while is_utf8 and stop < len(text) and text[stop] & 0xC0 == 0x80:
+            stop += 1
+        return None, stop
+
     def items(self, text, is_utf8, skips):
         """The lines of the items of an input, where a leaf of `skips` gives none."""
         lines, at = [], 0
         while at < len(text):
-            state, to, leaf, stop = self.start, None, None, at
-            while stop < len(text):
-                state = self.edges[state][self.first[text[stop]]]
-                if state not in self.live:
-                    break
-                stop += 1
-                best = self.matches[state][self.first[text[stop]] if stop < len(text) else None]
-                if best:
-                    to, leaf = stop, best[0]
-            if to is None:
-                to = max(stop, at + 1)
-                while is_utf8 and to < len(text) and text[to] & 0xC0 == 0x80:
-                    to += 1
-                lines.append(f'error {at}..{to}')
-            elif leaf not in skips:
-                lines.append(f'token {leaf} {at}..{to}')
+            leaf, to = self.attempt(text, at, is_utf8)
+            if leaf not in skips:
+                lines.append(f'error {at}..{to}' if leaf is None else f'token {leaf} {at}..{to}')
             at = to
         return lines
 
     def blocks(self):
         """The number of each live state's block, where states are alike that no bytes tell
         apart."""
-        states = self.live | {self.start}
-        block = {state: self.matches[state].get(None, ()) for state in states}
-        count = 0
-        while count != len(set(block.values())):
-            count = len(set(block.values()))
-            signs = {state: (block[state],) + tuple(block[target] if target in self.live else None for target in self.edges[state].values())
-                     for state in states}
-            numbers = {sign: number for number, sign in enumerate(dict.fromkeys(signs.values()))}
-            block = {state: numbers[sign] for state, sign in signs.items()}
-        return block
+        marks = {state: self.matches[state].get(None, ()) for state in self.live | {self.start}}
+        return refined(marks, lambda state, block: (block[it] if it in self.live else None for it in self.edges[state].values()))
 
     def chart(self):
         """The lines of the chart. No pattern may have a look."""
@@ -146,19 +143,37 @@ class Matching:
                         order[block[target]] = len(states)
                         states.append(target)
                     targets.setdefault(order[block[target]], []).append(byte)
-            lines += state_lines(at, self.matches[state].get(None, ()), targets)
+            best = self.matches[state].get(None, ())
+            lines += state_lines(at, f'<br>early({best[0]})' if best else '', labelled(targets))
             at += 1
         return lines
 
 
-def state_lines(number, best, targets):
-    """The lines of a state: its mark, and an edge to each target with the bytes that lead there."""
-    mark = f'<br>early({best[0]})' if best else ''
-    lines = [f'n{number}["State {number}{mark}"]', f'style n{number} stroke:{"#00C853" if best else "#000000"}']
-    for target in sorted(targets):
+def refined(marks, signs_of):
+    """The number of each state's block, where states are alike that have the same mark, and the
+    same signs by the blocks of other states."""
+    block, count = marks, 0
+    while count != len(set(block.values())):
+        count = len(set(block.values()))
+        signs = {state: (block[state], *signs_of(state, block)) for state in block}
+        numbers = {sign: number for number, sign in enumerate(dict.fromkeys(signs.values()))}
+        block = {state: numbers[sign] for state, sign in signs.items()}
+    return block
+
+
+def state_lines(number, mark, edges):
+    """The lines of a state with a mark: those of the state, and of each edge, by its target and its
+    text."""
+    lines = [f'n{number}["State {number}{mark}"]', f'style n{number} stroke:{"#00C853" if mark else "#000000"}']
+    for target, text in edges:
         edge = f'en{number}n{target}'
-        lines += [f'{edge}{{"{label(targets[target])}"}}', f'style {edge} stroke:#000000', f'n{number}-->{edge}', f'{edge}-->n{target}']
+        lines += [f'{edge}{{"{text}"}}', f'style {edge} stroke:#000000', f'n{number}-->{edge}', f'{edge}-->n{target}']
     return lines
+
+
+def labelled(targets):
+    """The edges to targets, each with the bytes that lead there."""
+    return [(target, label(targets[target])) for target in sorted(targets)]
 
 
 def label(letters):

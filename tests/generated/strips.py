@@ -7,11 +7,9 @@ The word is the program's path. The last line has the counts.
 
 import glob
 import os
-import subprocess
 import sys
-import tempfile
-from concurrent.futures import ThreadPoolExecutor
 from random import Random
+from asking import asked, compare_all
 from enums import Unread
 from faults import Faults
 from sources import SourceMaker
@@ -23,7 +21,7 @@ SOURCES = 600
 WRONG = [0, 0.1, 0.25, 0, 0.5]
 # Where the repository has sources, and how many at least.
 ROOT = os.path.join(os.path.dirname(os.path.abspath(__file__)), '..', '..')
-FOLDERS = ['tests/rust_text/sources', 'tests/texts', 'tests/memory/logos', 'bench/lexer/rules', 'docs/guide', 'crates/logos_program/data']
+FOLDERS = ['tests/compiled_rust/sources', 'tests/expected_rust', 'tests/memory/logos', 'bench/lexer/rules', 'docs/guide', 'crates/logos_program/data']
 FILES = 43
 
 
@@ -41,26 +39,18 @@ def wanted_of(source):
     return (1, '', ''.join(line + '\n' for line in faults.lines())), None
 
 
-def found_of(program, source):
-    """Returns the status, the output and the complaint of the program."""
-    with tempfile.TemporaryDirectory() as room:
-        with open(f'{room}/source', 'wb') as file:
-            file.write(source.encode())
-        done = subprocess.run([program, 'strip', 'source'], cwd=room, capture_output=True, check=False)
-    return done.returncode, done.stdout.decode(), done.stderr.decode()
-
-
 def differences(program, name, source):
     """Returns how many comparisons were made of a source, and those in which the program answers
     otherwise."""
     wanted, left = wanted_of(source)
-    asked = [(name, source)] if left is None else [(name, source), (f'what is left of {name}', left)]
+    texts = {name: source} if left is None else {name: source, f'what is left of {name}': left}
     wrong = []
-    for what, text in asked:
-        found = found_of(program, text)
+    for what, text in texts.items():
+        status, *outputs = asked(program, ['strip', 'source'], {'source': text.encode()})
+        found = status, *(it.decode() for it in outputs)
         if found != wanted:
             wrong.append(f'{what}: {found}, wanted {wanted}\n{text}')
-    return len(asked), wrong
+    return len(texts), wrong
 
 
 def sources_of_repository():
@@ -80,17 +70,10 @@ def made_sources():
 def main(program):
     """Compares all, prints the differences and the counts, and returns the status."""
     kept = list(sources_of_repository())
-    wrong, compared = [], 0
     if len(kept) < FILES:
-        wrong.append(f'{len(kept)} sources in {", ".join(FOLDERS)}, wanted at least {FILES}')
-    with ThreadPoolExecutor(len(os.sched_getaffinity(0))) as workers:
-        for count, found in workers.map(lambda pair: differences(program, *pair), [*kept, *made_sources()]):
-            compared += count
-            wrong += found
-    for line in wrong:
-        print(f'strips: {line}')
-    print(f'{compared - len(wrong)} passed, {len(wrong)} failed')
-    return 1 if wrong else 0
+        print(f'strips: {len(kept)} sources in {", ".join(FOLDERS)}, wanted at least {FILES}\n0 passed, 1 failed')
+        return 1
+    return compare_all('strips', lambda pair: differences(program, *pair), [*kept, *made_sources()])
 
 
 if __name__ == '__main__':

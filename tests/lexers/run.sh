@@ -10,7 +10,7 @@
 # warnings are errors. A result is as rustfmt leaves it, but that of `dense`, whose own items stand
 # on one line: rustfmt changes only those. What each lexer finds in its input is compared with what
 # `logos_show` prints, line by line: callbacks give an item for each match. So is what `scan` finds,
-# in the shape that has it. The tables have to compile over a runtime without `scan`, too.
+# in the shape that has it.
 #
 # It needs rustc, and the programs that the gate has built, or the first two arguments. Where
 # rustfmt or clippy is missing it says so.
@@ -79,20 +79,7 @@ deriving() {
 compile() {
     (cd "$room" && rustc --edition 2021 -A warnings --crate-name logos --crate-type rlib --cfg 'feature="std"' -o liblogos.rlib "$root/rust/logos/src/lib.rs" \
         && "$compiler" --edition 2021 --extern logos=liblogos.rlib --crate-name expanded --crate-type rlib -o libexpanded.rlib expanded.rs \
-        && rustc --edition 2021 -A warnings --extern logos=liblogos.rlib --extern expanded=libexpanded.rlib -o lexers main.rs \
-        && compile_plainly)
-}
-
-# Has rustc check the expanded files over a runtime that lacks the names which `scan` reads, and
-# says nothing of vectors.
-compile_plainly() {
-    mkdir -p plain
-    cp -R "$root/rust/logos/src" plain/src
-    sed -i '/_Tables/d; /_fold/d' plain/src/internal.rs
-    sed -i '/const VECTORS/,/;$/d' plain/src/lexer.rs
-    rustc --edition 2021 -A warnings --crate-name logos --crate-type rlib --emit metadata -o plain/liblogos.rmeta plain/src/lib.rs \
-        && rustc --edition 2021 -A warnings --extern logos=plain/liblogos.rmeta --crate-name expanded --crate-type rlib --emit metadata \
-            -o plain/libexpanded.rmeta plain.rs
+        && rustc --edition 2021 -A warnings --extern logos=liblogos.rlib --extern expanded=libexpanded.rlib -o lexers main.rs)
 }
 
 # Prints the arm that lexes by a module: the module, the type of its tokens, and whether it reads
@@ -101,7 +88,7 @@ arm() {
     local source='std::str::from_utf8(&bytes).expect("UTF-8")'
     [ "$3" = text ] || source='&bytes'
     printf '"%s" => print(&mut out, &bytes, logos::Lexer::<expanded::%s::%s>::new(%s).spanned()),\n' "$1" "$1" "$2" "$source"
-    [ -z "${4:-}" ] || printf '"%s_scan" => print(&mut out, &bytes, <expanded::%s::%s as logos::Scan>::scan(%s)),\n' "${1%_tables}" "$1" "$2" "$source"
+    [ -z "${4:-}" ] || printf '"%s_scan" => print(&mut out, &bytes, logos::internal::looking(logos::Lexer::<expanded::%s::%s>::new(%s), true).scan()),\n' "${1%_tables}" "$1" "$2" "$source"
 }
 
 # Writes the names of the files, sources and results, that rustfmt changes.
@@ -151,10 +138,7 @@ for file in "$room"/files/*.rs; do
         grep -vxF -f "$expanded" "$file" | grep -E '^(use|pub (type|const|fn|struct)|impl)' && fail "$name lost these lines"
         printf 'pub mod %s {\n    include!("%s");\n}\n' "${name}_$shape" "$(basename "$expanded")" >> "$room/expanded.rs"
         scans=
-        [ "$shape" != tables ] || {
-            printf 'pub mod %s {\n    include!("%s");\n}\n' "${name}_$shape" "$(basename "$expanded")" >> "$room/plain.rs"
-            [ ! -f "$root/examples/lexers/$name.rs" ] || scans=scan
-        }
+        [ "$shape" != tables ] || [ ! -f "$root/examples/lexers/$name.rs" ] || scans=scan
         arm "${name}_$shape" "${types[$name]:-$enum}" "$reads" "$scans" >> "$room/arms"
         [ -z "$scans" ] || echo "$name" >> "$room/scanning"
         ln "$expanded" "$room/results/$name.$shape.rs"

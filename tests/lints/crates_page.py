@@ -1,14 +1,22 @@
 #!/usr/bin/env python3
 """Makes the page `crates/README.md` from `crates.txt` and from the first comment of each crate, or
-compares it.
+compares it. Compares the rooms and the libraries in `crates.txt` with the crates.
 
-  crates_page.py           fails where the page is not what the crates give, or a crate has no room
+  crates_page.py           fails where the page or `crates.txt` differs from the crates
   crates_page.py --write   writes the page
 
 `crates.txt` has a line `# TITLE: WHAT IT HOLDS` for each room and the crates of the room below it.
+Each crate stands in one room. No crate uses one of a later room, nor one further down in its own.
+The libraries of a crate are those that its `.rt` and `.antt` files cite, as `NAME::` or
+`Rattle.NAME.`, apart from comments: none is missing and none is idle.
+
+`CONTRIBUTING.md` states how many crates depend on some of them, as ``43 crates for `NAME` `` or
+``32 for `NAME` ``: each of these numbers is compared, and `--write` writes it.
+
 What a crate is for is the first paragraph of the comment at the top of its `src/lib.rt` or
 `src/main.rt`. "Used by" are the crates that name it. The last line is
 `crates_page: N passed, M failed`: a crate counts as one, and so does the page."""
+import glob
 import os
 import re
 import textwrap
@@ -16,14 +24,16 @@ import textwrap
 from common import ROOT, finish, has_option, read
 
 PAGE = f"{ROOT}/crates/README.md"
-LEAST = 37
+GUIDE = f"{ROOT}/CONTRIBUTING.md"
+COUNT = re.compile(r"(\d+)( (?:crates )?for\s+`(logos_\w+)`)")
+LEAST = 50
 WIDTH = 100
 HEAD = """\
 # The crates
 
-Each crate has one purpose and is proved by itself. The rooms read from front to back: what a room
-needs stands in the rooms before it. `docs/MAP.md` shows the way of the data through them, and where
-to change what.
+Each crate has one purpose and is proved by itself. The rooms read from front to back: a crate uses
+those of earlier rooms and those above it in its own. `docs/MAP.md` shows the flow of data
+through them, and the files of each thing.
 
 In each crate `src/` is the code with its contracts, `specs/` the definitions that contracts cite,
 `proofs/` the proofs, and `must-fail/` wrong bodies that the prover refuses.
@@ -37,13 +47,46 @@ def rooms():
     they use."""
     found = []
     for line in read("crates.txt").split("\n"):
-        title = re.fullmatch(r"# (\w+): (.*)", line)
+        title = re.fullmatch(r"# (\w+(?: \w+)*): (.*)", line)
         name, colon, below = line.split("#")[0].partition(":")
         if title:
             found.append((title[1], title[2], {}))
         elif colon and found:
             found[-1][2][name.split()[0]] = below.split()
     return found
+
+
+def order_faults(found):
+    """Yields each library that stands further down than a crate that uses it."""
+    above, named = set(), {name for _, _, crates in found for name in crates}
+    for title, _, crates in found:
+        for name, libraries in crates.items():
+            below = [it for it in libraries if it in named - above]
+            yield from (f"crates.txt: {name} of the room {title} uses {it}, which stands further down" for it in below)
+            above.add(name)
+
+
+def cited(crate):
+    """Returns what stands as the name of a library in the files of a crate, comments left out."""
+    found = set()
+    for kind, comment in (("rt", "//"), ("antt", "--")):
+        for folder in ("src", "specs", "proofs"):
+            for path in glob.glob(f"{ROOT}/crates/{crate}/{folder}/**/*.{kind}", recursive=True):
+                text = re.sub(rf"(?m)^ *{comment}.*", "", read(path))
+                found.update(one or other for one, other in re.findall(r"\bRattle\.(\w+)|\b(\w+)::", text))
+    return found - {crate}
+
+
+def library_faults(found):
+    """Yields each library that a crate lists and no file of it cites, and each that one cites and
+    the crate does not list."""
+    every = {name for _, _, crates in found for name in crates}
+    every.update(it for _, _, crates in found for libraries in crates.values() for it in libraries)
+    for _, _, crates in found:
+        for name, libraries in crates.items():
+            used = cited(name) & every
+            yield from (f"crates.txt: no file of {name} cites {it}" for it in libraries if it not in used)
+            yield from (f"crates.txt: {name} cites {it}, which it does not list" for it in sorted(used - set(libraries)))
 
 
 def purpose(crate):
@@ -67,6 +110,21 @@ def users(found):
     return used
 
 
+def above(used, name):
+    """Returns the crates that depend on a crate."""
+    met, ahead = set(), [name]
+    while ahead:
+        ahead.extend(set(used.get(ahead.pop(), [])) - met)
+        met.update(ahead)
+    return met
+
+
+def with_counts(text, found):
+    """Returns the text with the number of crates above each crate of which it states one."""
+    used = users(found)
+    return COUNT.sub(lambda it: f"{len(above(used, it[3]))}{it[2]}", text)
+
+
 def page(found):
     """Returns the text of the page."""
     used = users(found)
@@ -85,16 +143,21 @@ def main():
     is_written = has_option("--write")
     found = rooms()
     text = page(found)
+    guide = with_counts(read(GUIDE), found)
     if is_written:
-        with open(PAGE, "w", encoding="utf-8") as out:
-            out.write(text)
+        for path, made in ((PAGE, text), (GUIDE, guide)):
+            with open(path, "w", encoding="utf-8") as out:
+                out.write(made)
     named = [name for _, _, crates in found for name in crates]
     faults = [f"{name} is in no room of crates.txt" for name in sorted(os.listdir(f"{ROOT}/crates"))
               if os.path.isdir(f"{ROOT}/crates/{name}/src") and name not in named]
     faults += [f"{name} has no comment at its top" for name in named if not purpose(name)]
     faults += [f"{name} is named twice in crates.txt" for name in set(named) if named.count(name) > 1]
+    faults += [*order_faults(found), *library_faults(found)]
     if not os.path.exists(PAGE) or read(PAGE) != text:
         faults.append("crates/README.md is not what the crates give: run crates_page.py --write")
+    if not COUNT.search(guide) or read(GUIDE) != guide:
+        faults.append("CONTRIBUTING.md states other numbers of crates: run crates_page.py --write")
     finish("crates_page", max(len(named) + 1 - len(faults), 0), faults, LEAST)
 
 

@@ -3,7 +3,8 @@
 
   definitions.py
 
-A line of a list under the heading of a crate gives files of its `specs`, and what they define.
+A line of a list under the heading of a crate, or of a module of one, names files of its `specs`,
+and what they define.
 Looked up are
 
 - each file: it is there, and stands on the page once;
@@ -32,7 +33,7 @@ LEAST = 6000
 WORD = re.compile(r"[A-Za-z_][\w-]*")
 PATH = re.compile(r"[a-z_]+(/[A-Za-z_]+)+(\.\w+)?")
 NAME = re.compile(r"[A-Za-z_][A-Za-z0-9_]*(::[A-Za-z_][A-Za-z0-9_]*)*!?")
-FILE = re.compile(r"(\w+/)?[A-Z]\w*")
+FILE = re.compile(r"(\w+/)*[A-Z]\w*")
 USE = re.compile(r"^(?:pub )?use Rattle\.(logos_\w+)\.specs\.([\w.]+)\.\{([^}]*)\}", re.M)
 GHOST_USE = re.compile(r"^ *(?:pub(?:\([^)]*\))? )?ghost use Rattle\.(logos_\w+)\.specs\.([\w.]+?)(?:\.\{([^}]*)\}| as (\w+));", re.M)
 HEAD = re.compile(r"^( *)(?:abbrev |unfoldable )?(?:pub )?(record |data )?(?:pub )?([A-Za-z_][\w-]*)(?: [({].*)? :")
@@ -164,15 +165,15 @@ class Page:
     def __init__(self):
         self.passed, self.faults = 0, []
         self.listed, self.orders, self.codes, self.others = {}, [], {}, []
-        crate, heading = None, ""
+        crate, folder, heading = None, "", ""
         for number, text in items(read(PAGE)):
             if text.startswith("#"):
                 heading = text
-                found = re.search(r"`crates/(\w+)/specs`", text)
-                crate = found[1] if found else None
+                found = re.search(r"`crates/(\w+)/specs((?:/\w+)*)`", text)
+                crate, folder = (found[1], found[2].lstrip("/")) if found else (None, "")
                 self.others += [(number, name) for name in re.findall(r"`([^`]*)`", text)]
             elif text.startswith("- ") and crate:
-                self.add_files(number, crate, text)
+                self.add_files(number, crate, folder, text)
             elif text.startswith("- ") and heading == "## Faults, by their codes":
                 self.add_codes(number, text)
             elif text.startswith("- "):
@@ -185,11 +186,11 @@ class Page:
         self.passed += bool(found)
         self.faults += [] if found else [f"{PAGE}:{number}: {what}"]
 
-    def add_files(self, number, crate, text):
-        """Adds the files of a line."""
+    def add_files(self, number, crate, folder, text):
+        """Adds the files of a line, which stand in a folder of the crate's `specs`."""
         files, _, words = text.partition(": ")
         for name in re.findall(r"`([^`]*)`", files):
-            path = spec(crate, name)
+            path = spec(crate, f"{folder}/{name}" if folder else name)
             self.count((CRATES / path).is_file(), number, f"no such file: {path}")
             self.count(path not in self.listed, number, f"twice on the page: {path}")
             self.listed[path] = number

@@ -2,14 +2,13 @@
 """Counts the lines of code of each function and each file. Contracts, ghost lines, comments and
 blank lines are not code.
 
-  lengths.py           prints for each crate the lines of its longest function and file
-  lengths.py --names   prints the ten longest functions of each crate too
+  lengths.py
 
-A function has at most 40 lines, from its name to its last brace, and a file at most 400. A block of
-`ghost use` lines, at the top of a file or of an `impl`, has at most four, and those of a crate have
-at most 8, and 35 more for each thousand lines of its code. A number of three digits or more in a
-clause has a name, but for 256. Each bound counts once for each crate. The last line is `lengths: N
-passed, M failed`."""
+For each crate it prints the lines of its longest function and file. A function has at most 40
+lines, from its name to its last brace, and a file at most 400. A block of `ghost use` lines, at the
+top of a file or of an `impl`, has at most four, and those of a crate have at most 8, and 35 more
+for each thousand lines of its code. A number of three digits or more in a clause has a name, but
+for 256. Each bound counts once for each crate. The last line is `lengths: N passed, M failed`."""
 import os
 import re
 
@@ -73,7 +72,7 @@ def numbers(path):
 
 
 def main():
-    names = has_option("--names")
+    has_option()
     passed, failed = 0, []
     for crate, folder, paths in sources():
         files = {path: list(lines_of_crate(path)) for path in paths}
@@ -81,8 +80,6 @@ def main():
         longest = max((len(lines), path) for path, lines in files.items())
         of_crate = sum(len(lines) for lines in files.values())
         print(f"{crate:22} {of_crate:5} lines, {len(found):4} functions, the longest {found[0][0] if found else 0:3}; the longest file {longest[0]:4}")
-        if names:
-            print("".join(f"    {count:3} {name} ({os.path.relpath(path, folder)})\n" for count, name, path in found[:10]), end="")
         long = [f"{crate}: {name} in {os.path.relpath(path, folder)} has {count} lines" for count, name, path in found if count > OF_A_FUNCTION]
         walls = [(path, *block) for path in files for block in blocks(path)]
         of_walls = sum(count for _, _, count in walls)

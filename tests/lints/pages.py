@@ -4,12 +4,12 @@
   pages.py
 
 A line of prose has at most 100 columns; rows of tables, blocks of code and lines of one long word
-are left out. `LINES` and `WORDS` say how long a page may be, and `ALL_WORDS` how long all are
-together but the page that is made and those of wrong bodies: words are what stands between blanks,
-the bars of tables and blocks of code included. Each path of a crate in backticks has to be there,
-each page and heading to which a link leads, and each function of the walk in `docs/MAP.md` in its
-file, once on that page. Each page counts as one, and so does each path, link and function. The last
-line is `pages: N passed, M failed`."""
+are left out. `LINES` and `WORDS` are the limits of single pages, and `ALL_WORDS` is that of all
+pages together, except the page that is made and those of wrong bodies. A word is a run of
+characters without blanks that has a letter or a digit, also in blocks of code. Each path of a crate
+in backticks has to be there, each page and heading to which a link leads, and each function of the
+walk in `docs/MAP.md` in its file, once on that page. Each page counts as one, and so does each
+path, link and function. The last line is `pages: N passed, M failed`."""
 import os
 import re
 
@@ -19,7 +19,7 @@ WIDTH = 100
 # With fewer that pass, pages or rows were lost, or are no longer read.
 LEAST = 200
 # The most lines of a page, the most words of one, and of all to be read.
-LINES = {"README.md": 110, "docs/MAP.md": 200}
+LINES = {"README.md": 110, "docs/MAP.md": 220}
 WORDS = {"docs/GUIDE.md": 4500}
 ALL_WORDS = 45000
 MADE = "crates/README.md"
@@ -44,9 +44,14 @@ def width_faults(path, text):
             yield f"{path}:{number}: {len(line)} columns"
 
 
+def count_words(text):
+    """Returns the number of words: bars of tables and lone signs are none."""
+    return len(re.findall(r"\S*\w\S*", text))
+
+
 def length_faults(path, text):
     """Yields what is too long about a page."""
-    lines, words = text.count("\n"), len(text.split())
+    lines, words = text.count("\n"), count_words(text)
     if lines > LINES.get(path, lines):
         yield f"{path}: {lines} lines, at most {LINES[path]}"
     if words > WORDS.get(path, words):
@@ -100,7 +105,7 @@ def main():
         found = [*width_faults(path, text), *length_faults(path, text)]
         passed += not found
         faults += found
-        words += 0 if path == MADE or "/must-fail/" in path else len(text.split())
+        words += 0 if path == MADE or "/must-fail/" in path else count_words(text)
         for fault in [*path_faults(path, text), *link_faults(path, text)]:
             passed += fault is None
             faults += [fault] if fault else []

@@ -1,13 +1,12 @@
 #!/usr/bin/env python3
 """Counts the functions with many parameters, `self` included.
 
-  parameters.py           prints for each crate how many functions it has, and how many of them
-                          have five parameters or more and six
-  parameters.py --names   prints those functions too
+  parameters.py
 
-No function may have more than six parameters, and no crate more than ten functions with five or
-more, but for the program of tests/calls, which only answers rows. Each bound counts once for each
-crate. The last line is `parameters: N passed, M failed`."""
+For each crate it prints how many functions it has, and how many of them have five parameters or
+more and six. No function may have more than six parameters, and no crate more than ten functions
+with five or more, but for `logos_show` and for the program of tests/calls, which only answers rows.
+Each bound counts once for each crate. The last line is `parameters: N passed, M failed`."""
 import re
 
 from common import finish, has_option, read, sources
@@ -15,6 +14,9 @@ from common import finish, has_option, read, sources
 MANY = 5
 MOST = 6
 IN_A_CRATE = 10
+# Contracts of `logos_show` follow files, clock, errors and output to the exit status. They cannot
+# follow a `&mut` inside a struct, so these are parameters of their own.
+IN_SHOW = 25
 TESTS = "tests/calls"
 
 
@@ -58,24 +60,19 @@ def functions(path):
 
 
 def main():
-    names = has_option("--names")
+    has_option()
     passed, failed = 0, []
-    whole = 0
     for crate, _, paths in sources():
         found = [it for path in paths for it in functions(path)]
         many = [it for it in found if it[1] >= MANY]
-        six = sum(count >= MOST for _, count in many)
-        print(f"{crate:22} {len(found):5} functions  {MANY} or more {len(many):3}  {MOST} {six:3}")
-        if names:
-            print("".join(f"    {name} {count}\n" for name, count in many), end="")
-        for bound in (
-            max((count for _, count in found), default=0) <= MOST or f"{crate} has a function with more than {MOST} parameters",
-            len(many) <= IN_A_CRATE or crate == TESTS or f"{crate} has {len(many)} functions with {MANY} parameters or more",
-        ):
-            passed += bound is True
-            failed += [] if bound is True else [bound]
-        whole += len(found)
-    finish("parameters", passed if whole else 0, failed)
+        long = [name for name, count in found if count > MOST]
+        most = IN_SHOW if crate == "logos_show" else len(many) if crate == TESTS else IN_A_CRATE
+        print(f"{crate:22} {len(found):5} functions  {MANY} or more {len(many):3}  {MOST} {sum(count >= MOST for _, count in many):3}")
+        too_many = [f"{crate}: {', '.join(name for name, _ in many)} have {MANY} parameters or more"] * (len(many) > most)
+        for faults in [f"{crate}: {name} has more than {MOST} parameters" for name in long[:1]], too_many:
+            passed += bool(found) and not faults
+            failed += faults
+    finish("parameters", passed, failed)
 
 
 main()

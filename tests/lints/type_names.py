@@ -1,13 +1,13 @@
 #!/usr/bin/env python3
 """Looks for types that have one name and stand in several crates.
 
-  type_names.py          prints the names that stand in several crates, and why they do
-  type_names.py --where  prints where each of them is declared, too
+  type_names.py
 
-A type is a `struct`, an `enum` or a `trait` in `src` of a crate. Its name stands in one crate, but
-for those that are listed here with the crates that have them and the reason why they stay. A name
-that is listed has to stand in each of its crates, so the list only gets shorter. Each name counts
-as one. The last line is `type_names: N passed, M failed`."""
+It prints the names that stand in several crates, and why they do. A type is a `struct`, an `enum`
+or a `trait` in `src` of a crate. Its name stands in one crate, but for those that are listed here
+with the crates that have them and the reason why they stay. A name that is listed has to stand in
+each of its crates, so the list only gets shorter. Each name counts as one. The last line is
+`type_names: N passed, M failed`."""
 import collections
 import glob
 import os
@@ -23,20 +23,19 @@ NOT_YET = "different things, of which one has to get another name"
 STAYS = {
     "Config": ("code graph", "the options of a generator and of a graph, both public"),
     "Note": ("derive layout", "a line under a diagnostic, and a comment in a text that is laid out, both public"),
-    "Piece": ("derive lexeme", "a part of a source in its implementation, which is public, and the value of a part of a string"),
+    "Lexer": ("causes machine", "an accepted source with what was generated from it, and a code on an input, both public"),
+    "Piece": ("lexeme text", "the value of a part of a string, and a part of a source in its generated code, which is public"),
     "Literal": ("pattern token", "a literal of a source, and one that spells a pattern, both public"),
 }
 
 
 def declared():
-    """Returns for each name of a type the crates that declare it, and where they do."""
-    found = collections.defaultdict(lambda: collections.defaultdict(list))
+    """Returns for each name of a type the crates that declare it."""
+    found = collections.defaultdict(set)
     for path in sorted(glob.glob(f"{ROOT}/crates/*/src/**/*.rt", recursive=True)):
         crate = os.path.relpath(path, f"{ROOT}/crates").split("/")[0]
-        text = read(path)
-        for name in TYPE.finditer(text):
-            line = text.count("\n", 0, name.start(1)) + 1
-            found[name[1]][crate].append(f"{os.path.relpath(path, ROOT)}:{line}")
+        for name in TYPE.findall(read(path)):
+            found[name].add(crate)
     return found
 
 
@@ -50,15 +49,13 @@ def fault(name, crates):
 
 
 def main():
-    where = has_option("--where")
+    has_option()
     found = declared()
     several = {name: crates for name, crates in sorted(found.items()) if len(crates) > 1}
     for name, crates in several.items():
         print(f"{name:12} {len(crates)}  {STAYS[name][1] if name in STAYS else 'no reason'}")
-        if where:
-            print("".join(f"    {place}\n" for places in crates.values() for place in places), end="")
     print(f"{len(found)} names of types, {len(several)} in several crates")
-    failed = [it for it in (fault(name, found.get(name, {})) for name in sorted({*found, *STAYS})) if it]
+    failed = [it for it in (fault(name, found.get(name, set())) for name in sorted({*found, *STAYS})) if it]
     finish("type_names", len({*found, *STAYS}) - len(failed), failed, LEAST)
 
 

@@ -2,11 +2,12 @@
 """Looks for words that this repository does not use, for the form of comments, and for the homes of
 words: words.py
 
-Read for words are the comments and the names in `src` and `specs` of each crate and of tests/calls,
-the names of these files, the pages in `docs`, and the README. Text between quotes is left out, and
-so are blocks of code on pages. `docs/GLOSSARY.md` has the words that are not used, with what stands
-in their place; each of them has its patterns here. Each word of that page has a home, which must be
-there.
+Read for words are the comments and the names in `src`, `specs` and `proofs` of each crate, the
+names of these files, the sentences of its wrong bodies, the comments of tests/calls, of the
+packages in `rust` and of the examples, and the pages that people read first. Quoted text is left
+out, and so are blocks of code on pages. `docs/GLOSSARY.md` has the words that are not used, with
+their replacements; each of them has its patterns here. Each word of that page has a home, which
+must exist.
 
 Comments have a form, too. In a crate there is a blank line after `# Errors`, and after the first
 comment of a file in `src`; "if memory runs out" where memory can; and in `specs` a capital letter
@@ -16,7 +17,8 @@ its first paragraph ends with a full stop; a law, which has no body, states a fa
 
 Each crate and each page counts as one for its words, each crate as one for its form, the proofs of
 each crate and the other files of each folder as one for the width of their comments, and each home
-as one. The last line is `words: N passed, M failed`."""
+as one. `tests/lints/names_left.txt` has the names of crates that still have such words; each must
+be there, and counts for none. The last line is `words: N passed, M failed`."""
 import collections
 import io
 import os
@@ -27,70 +29,118 @@ import tokenize
 from common import ROOT, has_option, listed, read
 
 GLOSSARY = "docs/GLOSSARY.md"
+# The pages outside of `docs`, `rust` and `examples` that are read for words.
+PAGES = ("README.md", "CONTRIBUTING.md", "CHANGELOG.md", "tests/README.md", "bench/README.md", "crates/README.md")
 # With fewer that pass, files or rows were lost, or are no longer read.
-LEAST = 250
+LEAST = 400
 COLUMNS = 100
 # The endings of other files that have comments, of those among them that begin with `//`, and the
 # names of lists that have some.
 SLASHED = (".rt", ".rt.in", ".rs", ".c")
 COMMENTED = (*SLASHED, ".antt", ".py", ".sh", ".rows", ".sed")
 LISTS = (".ci/run", "crates.txt", "tests/parts")
-# The crates where a word has its home. On pages it is used, too.
-USED_IN = {
-    "place, outside of graphs": ["logos_places", "logos_automaton"]
-}
 # Each entry of the glossary's last table: the words in a name, and the pattern in a sentence.
 UNUSED = {
     "told, tell": (["told", "tell", "tells", "telling", "teller", "tellers"], r"\b(?:told|tells?|telling|tellers?)\b"),
-    "said, for what was read": (["said"], r"\bsaid\b"),
+    "said, for what was read": (["said", "unsaid"], r"\bsaid\b"),
+    "say, for state": (["say", "says"], r"\b(?:says|say)\b"),
     "misfit": (["misfit", "misfits"], r"\bmisfits?\b"),
     "behind, for after": (["behind"], r"\bbehind\b(?! (?:a |the )?(?:reference|pointer)s?\b)"),
-    "kept, as a name": (["kept"], r"\bwhat is kept\b|\bthe kept\b(?! [a-z])"),
+    "kept, as a name": ([], r"\bwhat is kept\b|\bthe kept\b(?! [a-z])"),
     "list, for report": (
         ["lister", "listers"],
         r"^Lists\b|\bwhich (?:is|are|was|were) listed\b|\bfaults? (?:is|are|was|were) listed\b"
         r"|\blists? (?:its|their|the|a|an|no|one|all|each) faults?\b|\bfaults (?:that )?(?:\w+ )?(?:lists?|listed)\b",
     ),
     "just, for exactly": ([], r"\bjust\b"),
-    "place, outside of graphs": ([], r"(?<=.)(?<!\bin )(?<!\bin its )(?<!\bin their )(?<!\btakes the )(?<!\btook the )\bplaces?\b"),
-    "what is no": ([], r"\bwhat (?:is|are) no\b"),
+    "place": (["place", "places"], r"(?<=.)(?<!\bin )(?<!\bin its )(?<!\bin their )(?<!\btakes the )(?<!\btook the )\bplaces?\b"),
+    "chart": (["chart", "charts"], r"(?<!\bflow )\bcharts?\b"),
+    "words, for arguments": ([], r"\bwords? (?:asks?|requests?|of (?:a|the) (?:command|program|call)|after the program)\b|\bcommand'?s? words\b"),
+    "ask, for call": (["ask", "asks"], r"\b(?:ask|asks|asked|asking)\b"),
+    "give, for return": (["give", "gives", "gave"], r"\b(?:gives|gave)\b|\b(?:they|it|calls?|shapes|tables|files|that|which|who|not) give\b"),
+    "stand, for be": (["stand", "stands", "stood"], r"\b(?:stands?|stood|standing)\b"),
+    "go on, for continue": ([], r"\b(?:go|goes|went|going) on\b"),
+    "hand on, for re-export": ([], r"\bhand(?:s|ed|ing)? (?:\w+ )?on\b"),
+    "mend, cure, for fix": (["mend", "mends", "mended"], r"\b(?:mend(?:s|ed|ing)?|cure[sd]?)\b"),
+    "try, for match attempt": (["tries", "tried"], r"\b(?:a|an|the|each|its|that|one|no|every|next|last) try\b|\b(?:the|its|their|of|all|these|more|many) tries\b|^Tries\b"),
+    "look, for look-around": ([], r"\b(?:a|the|each|no|one|some|its) look\b(?!-)|\blooks (?:hold|are|of)\b"),
+    "believe, for trust": ([], r"\bbeliev\w+"),
+    "status, for exit status": ([], r"(?<=.)(?<!\bexit )\bstatus(?:es)? \d"),
+    "what, for a thing": (
+        [],
+        r"\bwhat (?:(?:is|are|was|were) (?:no|left|made|kept|read|written|done|known|found|given|used|needed|wanted|to|in|of|not|there|printed|shown|meant|proved|lost)"
+        r"|there|stays?|follows|remains|becomes? of|belongs|opens|(?:they|it) (?:has|have) of)\b|\b[Dd]o(?:es)? what\b|\b(?:all|but|than|of|from|with|by|like) what\b",
+    ),
+    "so many": ([], r"\bso (?:many|much)\b(?! that\b)"),
+    "the same, without its other": ([], r"^The same\b(?! \w+ (?:as|that)\b)(?= (?:of|for|in|on|by|with|so|again|holds)\b|[.,:;])|(?<!are )(?<!is )(?<!be )(?<!remain )(?<!stay )\bthe same(?=[.;:])"),
+    "each, at the end": ([], r"\b(?:an?|one) (?:\w+ ){1,3}(?<!for )(?<!of )(?<!in )each(?=[.,;:])"),
+    "that there is not": ([], r"\bthat there (?:is|are|was|were) not\b|\bthat (?:is|are) (?:none|no)\b(?! (?:longer|more|greater|less|part|other))"),
+    "who, without a person": ([], r"^Who\b|(?<=[.;] )Who\b|\bwhoever\b|\b(?:for|to|from|of|and|but) who\b"),
+    "else, for otherwise": ([], r"\b(?:and|,) else\b"),
     "reached, work, as names of types": ([], r"(?!)"),
 }
-WHOLE_NAMES = {"Reached": "reached, work, as names of types", "Work": "reached, work, as names of types"}
-# Names that users of the library know.
-PUBLIC = {"telling", "Telling"}
+# The ends of helps that `logos_help` prints and `docs/FAULTS.md` repeats.
+MESSAGES = ("again what may stand there", "for what gives no token")
+# The comments of crates have no "what": they name the thing.
+IN_COMMENTS = {"what, for a thing": re.compile(r"\bwhat\b", re.I)}
+# The entries for which proofs are not read: their names of facts, and their lists.
+NOT_IN_PROOFS = {"kept, as a name", "list, for report"}
+# The file in `rust` that a program prints.
+MADE = {"rust/rattle-std/src/crates/unicode_tables.rs"}
+WHOLE_NAMES = {"kept": "kept, as a name", "Reached": "reached, work, as names of types", "Work": "reached, work, as names of types"}
+# Names that users of the library know, and those of the standard library and of its contracts.
+PUBLIC = {
+    "telling", "Telling", "from_gives", "next_gives", "into_iter_gives", "write_str_gives", "eqb_tells", "leb_tells", "tells_all_ascii_digits",
+    "told",
+}
+# Names of the laws of a run, which users of the library call.
+LAWS = {"RunsGoOver", "RunsGoLater", "ItemsGoOver", "runs_go_over", "runs_go_later", "items_go_over"}
+# The names that still have such words. No other may join them, and each must still be there.
+LEFT = set(read("tests/lints/names_left.txt").split())
+# Pairs of words in names that are not used.
+NAME_PAIRS = {("go", "on"): "go on, for continue", ("goes", "on"): "go on, for continue", ("going", "on"): "go on, for continue",
+              ("so", "many"): "so many", ("hand", "on"): "hand on, for re-export", ("handed", "on"): "hand on, for re-export"}
 NAME_WORDS = {word: entry for entry, (words, _) in UNUSED.items() for word in words}
-SENTENCES = {entry: re.compile(pattern, re.I if not pattern.startswith("^") else 0) for entry, (_, pattern) in UNUSED.items()}
+SENTENCES = {entry: re.compile(pattern, re.I if "^" not in pattern else 0) for entry, (_, pattern) in UNUSED.items()}
 NAME = re.compile(r"[A-Za-z_][A-Za-z0-9_]*")
+FILE = re.compile(r"\.(?:rs|sh|py|rows|txt|toml)$")
 PART = re.compile(r"[A-Z]?[a-z0-9]+|[A-Z]+(?![a-z])")
 # A text, a byte text, a raw text, a character, or a comment of a source file.
 RATTLE = re.compile(r'(?P<comment>//[^\n]*)|b?r(?P<hashes>#*)".*?"(?P=hashes)|b?"(?:\\.|[^"\\])*"|b?\'(?:\\[^\n]*?|[^\\\n])\'', re.S)
 DEFINITION = re.compile(r'(?P<comment>--[^\n]*)|"(?:\\.|[^"\\])*"', re.S)
+# The names of `LEFT` that were read.
+MET = set()
 LISTS_A_FAULT = re.compile(r"\bfn (list_\w+)")
 
 
 def in_name(name, listing):
     """Yields the entry of each word in a name that is not used."""
-    if name in PUBLIC:
+    if name in LEFT:
+        MET.add(name)
+    if name in PUBLIC or name in LAWS or name in LEFT:
         return
     if name in WHOLE_NAMES:
         yield WHOLE_NAMES[name]
     if name in listing:
         yield "list, for report"
-    for part in PART.findall(name):
-        if part.lower() in NAME_WORDS:
-            yield NAME_WORDS[part.lower()]
+    parts = [part.lower() for part in PART.findall(name)]
+    for part in parts:
+        if part in NAME_WORDS:
+            yield NAME_WORDS[part]
+    for pair in zip(parts, parts[1:]):
+        if pair in NAME_PAIRS:
+            yield NAME_PAIRS[pair]
 
 
-def in_sentence(text):
-    """Yields the entry of each place in a line of text where a word stands that is not used."""
-    for entry, pattern in SENTENCES.items():
+def in_sentence(text, patterns=SENTENCES):
+    """Yields the entry of each word in a line of text that is not used."""
+    for entry, pattern in patterns.items():
         for _ in pattern.finditer(text):
             yield entry
 
 
 def in_code(path, listing):
-    """Yields the line and the entry of each place in a file of a crate."""
+    """Yields the line and the entry of each word in a file of a crate that is not used."""
     text = read(path)
     form = RATTLE if path.endswith((".rt", ".rt.in")) else DEFINITION
     at = 0
@@ -103,25 +153,29 @@ def in_code(path, listing):
             number = text.count("\n", 0, it.start()) + 1
             comment = it["comment"].lstrip("/!- ")
             words, names = apart(comment)
-            yield from ((number, entry) for entry in in_sentence(words))
+            yield from ((number, entry) for entry in in_sentence(words, {**SENTENCES, **IN_COMMENTS}))
             yield from ((number, entry) for name in names for entry in in_name(name, listing))
         at = it.end() if it else at
 
 
 def apart(line):
-    """Returns a line without what stands in backticks, and the names in there."""
-    return re.sub(r"`[^`]*`", "`", line), [name for code in re.findall(r"`([^`]*)`", line) for name in NAME.findall(code)]
+    """Returns a line without its text in backticks and messages, and the names in backticks that
+    are not files of scripts or of Rust."""
+    rest = re.sub(r"`[^`]*`", "`", line)
+    for message in MESSAGES:
+        rest = rest.replace(message, "")
+    return rest, [name for code in re.findall(r"`([^`]*)`", line) if not FILE.search(code) for name in NAME.findall(code)]
 
 
 def in_page(path, listing):
-    """Yields the line and the entry of each place on a page."""
+    """Yields the line and the entry of each word on a page that is not used."""
     fenced = False
     for number, line in enumerate(read(path).split("\n"), 1):
         if path == GLOSSARY and line == "## Words that are not used":
             return
         if line.startswith("```"):
             fenced = not fenced
-        elif not fenced:
+        elif not fenced and not line.startswith("#"):
             words, names = apart(line)
             yield from ((number, entry) for entry in in_sentence(words))
             yield from ((number, entry) for name in names for entry in in_name(name, listing))
@@ -142,15 +196,44 @@ def units():
     for name in sorted(os.listdir(f"{ROOT}/crates")):
         found[name] = below(f"crates/{name}/src", ".rt") + below(f"crates/{name}/specs", ".antt")
     found["tests/calls"] = below("tests/calls/src", ".rt.in")
-    for path in ["README.md", *below("docs", ".md")]:
+    for path in [*PAGES, *below("docs", ".md"), *below("rust", ".md"), *below("examples", ".md")]:
         found[path] = [path]
     return found
 
 
-def places(path, listing):
-    """Yields the line and the entry of each place in a file or in its name."""
+def further_units():
+    """Returns further files that are read for words only: the proofs and the wrong bodies of each
+    crate, the packages in `rust`, and each example."""
+    found = {}
+    for name in sorted(os.listdir(f"{ROOT}/crates")):
+        found[f"{name}/proofs"] = below(f"crates/{name}/proofs", ".antt")
+        found[f"{name}/must-fail"] = below(f"crates/{name}/must-fail", ".md")
+    for room in ("rust", "examples"):
+        for name in sorted(os.listdir(f"{ROOT}/{room}")):
+            if os.path.isdir(f"{ROOT}/{room}/{name}"):
+                paths = below(f"{room}/{name}", (".rs", ".rt.in"))
+                found[f"{room}/{name}"] = [path for path in paths if path not in MADE and "/target/" not in path]
+    return {unit: paths for unit, paths in found.items() if paths}
+
+
+def in_comments(path):
+    """Yields the line and the entry of each word in a Rust file's comments that is not used."""
+    text = read(path)
+    for it in RATTLE.finditer(text):
+        if it["comment"]:
+            words, _ = apart(it["comment"].lstrip("/! "))
+            number = text.count("\n", 0, it.start()) + 1
+            yield from ((number, entry) for entry in in_sentence(words, {**SENTENCES, **IN_COMMENTS}))
+
+
+def unused(path, listing):
+    """Yields the line and the entry of each word in a file, or in its name, that is not used."""
     if path.endswith(".md"):
         yield from in_page(path, listing)
+    elif path.startswith(("rust/", "examples/")):
+        yield from in_comments(path)
+    elif "/proofs/" in path:
+        yield from ((line, entry) for line, entry in in_code(path, listing) if entry not in NOT_IN_PROOFS)
     else:
         for name in path.split("/")[2:]:
             yield from ((0, entry) for entry in in_name(name.split(".")[0], listing))
@@ -288,20 +371,20 @@ def word_faults(found):
     """Yields for each crate and page the words in it that are not used."""
     listing = {name for paths in found.values() for path in paths if path.endswith((".rt", ".rt.in"))
                for name in LISTS_A_FAULT.findall(read(path))}
-    for unit, paths in found.items():
-        yield [f"{path}:{line}: {entry}" for path in paths for line, entry in places(path, listing)
-               if not (entry in USED_IN and (unit in USED_IN[entry] or unit.endswith(".md")))]
+    for paths in found.values():
+        yield [f"{path}:{line}: {entry}" for path in paths for line, entry in unused(path, listing)]
 
 
 def main():
     has_option()
     found = units()
-    checked = [*word_faults(found)]
+    checked = [*word_faults({**found, **further_units()})]
     for crate in (it for it in found if "." not in it):
         checked.append([f"{path}:{line}: {why}" for path in found[crate] for line, why in form_faults(path)])
     for paths in others(found).values():
         checked.append([f"{path}:{line}: {why}" for path in paths for line, why in width_faults(path)])
     checked += [[missing] if missing else [] for missing in homes()]
+    checked.append([f"tests/lints/names_left.txt: {name} is in no file" for name in sorted(LEFT - MET)])
     for faults in checked:
         print("".join(f"words: {line}\n" for line in faults), end="")
     passed = sum(not faults for faults in checked)

@@ -11,9 +11,10 @@
 # out/platforms.
 #
 # It needs Debian's packages rustc-web and cargo-web of one version; for aarch64 also
-# libstd-rust-web-dev:arm64 (after `dpkg --add-architecture arm64`), gcc-aarch64-linux-gnu and
-# qemu-user-static; for s390x rust-web-src, from which the standard library is built,
-# gcc-s390x-linux-gnu and qemu-user-static; for 32 bits rust-web-src.
+# libstd-rust-web-dev:arm64 (after `dpkg --add-architecture arm64`), gcc-aarch64-linux-gnu,
+# libc6-dev-arm64-cross and qemu-user-static; for s390x rust-web-src, from which the standard
+# library is built, gcc-s390x-linux-gnu, libc6-dev-s390x-cross and qemu-user-static; for 32 bits
+# rust-web-src.
 set -uo pipefail
 
 root=$(cd "$(dirname "${BASH_SOURCE[0]}")/../.." && pwd)
@@ -87,7 +88,7 @@ run_all() {
     rows_of logos_cli expansion files rendering
     rows_of logos_show items questions records streams tables
     count python3 tests/rows/run.py calls "$room/bin/calls" tests/rows/calls/*.rows
-    count bash tests/generated/run.sh "$room/bin/logos" "$room/bin/calls" {0..29} {1000..1019} {2000..2009}
+    count python3 tests/generated/main.py "$room/bin/logos" "$room/bin/calls" {0..29} {1000..1019} {2000..2009}
     run_packages
 }
 

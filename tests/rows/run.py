@@ -11,11 +11,9 @@ The first line of a file says how many rows it has, as `# rows: 40`. tests/READM
 rest of the notation.
 
 Prints each row that failed and why, and last a line `N passed, M failed`. The status is 1 if a row
-failed, if a file has another number of rows than it says, if it cannot be read, or if fewer rows
-passed than `--least` asks for.
+failed, if a file has another number of rows than it says, or if it cannot be read.
 """
 
-import argparse
 import concurrent.futures
 import os
 import re
@@ -37,9 +35,6 @@ WAYS = {
 
 class BadRow(Exception):
     """A row, or a file of rows, that does not follow the notation."""
-
-
-# The notation
 
 
 def decoded(text):
@@ -87,9 +82,6 @@ def stated_rows(path, lines):
     if not first:
         raise BadRow(f'{path}:1: the first line does not say how many rows there are')
     return int(first.group(1))
-
-
-# Rows of commands
 
 
 class Row:
@@ -257,27 +249,17 @@ def run_row(program, row):
     return wrong
 
 
-def run_commands(program, paths, pool):
-    """Runs the rows of these files. Returns how many passed, how many failed, and what is wrong."""
-    rows, wrong = [], []
-    for path in paths:
-        found, stated = Reader(path).read()
-        wrong += differences(f'{path}: rows', len(found), stated)
-        rows += found
-    passed = 0
-    for row, faults in zip(rows, pool.map(lambda row: run_row(program, row), rows)):
-        passed += not faults
-        if faults:
-            wrong.append('\n  '.join([f'{row.place}: {row.name}', *faults]))
-    return passed, len(rows) - passed, wrong
+def run_commands(program, row):
+    """Runs a row of commands. Returns whether it passed, and what is wrong."""
+    faults = run_row(program, row)
+    return not faults, ['\n  '.join([f'{row.place}: {row.name}', *faults])] if faults else []
 
 
-# Rows of calls
-
-
-def is_call_row(line):
-    """Whether a line is a row of calls."""
-    return ' => ' in line or line.endswith(' =>')
+def commands_of(path):
+    """Returns the rows of a file of commands, each as one row, and how many the file says that it
+    has."""
+    rows, stated = Reader(path).read()
+    return [(row, 1) for row in rows], stated
 
 
 def batches(path):
@@ -290,7 +272,7 @@ def batches(path):
         cut.append(line)
         if line.startswith('== '):
             header = line
-        count += is_call_row(line)
+        count += ' => ' in line or line.endswith(' =>')
         if count == BATCH:
             found.append((cut, count))
             cut, count = [header], 0
@@ -298,9 +280,8 @@ def batches(path):
     return found, stated
 
 
-def ask(program, batch):
+def run_calls(program, lines):
     """Hands a run of rows to the program of calls. Returns how many passed, and what is wrong."""
-    lines, count = batch
     ended = subprocess.run(
         [program], input=('\n'.join(lines) + '\n').encode(), stdout=subprocess.PIPE, timeout=5 * SECONDS, check=False
     )
@@ -309,49 +290,38 @@ def ask(program, batch):
     if not counts:
         return 0, [f'the program of calls ends with status {ended.returncode} and the line {last!r}']
     passed, failed = map(int, counts.groups())
-    if passed + failed != count or (ended.returncode == 0) != (failed == 0):
-        output.append(f'{count} rows were handed over, and the program ends with status {ended.returncode} and {last!r}')
+    if (ended.returncode == 0) != (failed == 0):
+        output.append(f'the program of calls ends with status {ended.returncode} and {last!r}')
     return passed, output
 
 
-def run_calls(program, paths, pool):
-    """Asks the rows of these files. Returns how many passed, how many failed, and what is wrong."""
-    runs, wrong = [], []
+# What reads a file of each kind, and what runs a part of it.
+KINDS = {'commands': (commands_of, run_commands), 'calls': (batches, run_calls)}
+
+
+def run(kind, program, paths):
+    """Runs the rows of these files. Returns how many passed, how many failed, and what is wrong."""
+    read, run_part = KINDS[kind]
+    parts, wrong, passed = [], [], 0
     for path in paths:
-        found, stated = batches(path)
+        found, stated = read(path)
         wrong += differences(f'{path}: rows', sum(count for _, count in found), stated)
-        runs += found
-    passed = 0
-    for count, output in pool.map(lambda batch: ask(program, batch), runs):
-        passed += count
-        wrong += output
-    return passed, sum(count for _, count in runs) - passed, wrong
+        parts += found
+    with concurrent.futures.ThreadPoolExecutor(len(os.sched_getaffinity(0))) as pool:
+        for count, faults in pool.map(lambda part: run_part(program, part[0]), parts):
+            passed += count
+            wrong += faults
+    return passed, sum(count for _, count in parts) - passed, wrong
 
 
-# The command line
-
-
-def parse_words():
-    """Reads the words of the command line."""
-    parser = argparse.ArgumentParser(description=__doc__, formatter_class=argparse.RawDescriptionHelpFormatter)
-    parser.add_argument('kind', choices=['commands', 'calls'])
-    parser.add_argument('--least', type=int, default=1, metavar='N', help='how many rows have to pass')
-    parser.add_argument('program')
-    parser.add_argument('files', nargs='+')
-    return parser.parse_args()
-
-
-def main():
+def main(kind, program, *paths):
     """Runs the rows, prints what failed and the counts, and returns the status."""
-    given = parse_words()
-    run = run_commands if given.kind == 'commands' else run_calls
     try:
-        with concurrent.futures.ThreadPoolExecutor(len(os.sched_getaffinity(0))) as pool:
-            passed, failed, wrong = run(os.path.abspath(given.program), given.files, pool)
+        passed, failed, wrong = run(kind, os.path.abspath(program), paths)
     except (BadRow, OSError, UnicodeDecodeError, subprocess.TimeoutExpired) as error:
         passed, failed, wrong = 0, 0, [str(error)]
-    if passed < given.least:
-        wrong.append(f'{passed} rows passed, wanted at least {given.least}')
+    if not passed:
+        wrong.append('no row passed')
     for text in wrong:
         print(text)
     print(f'{passed} passed, {max(failed, int(bool(wrong)))} failed')
@@ -359,4 +329,6 @@ def main():
 
 
 if __name__ == '__main__':
-    sys.exit(main())
+    if len(sys.argv) < 4 or sys.argv[1] not in KINDS:
+        sys.exit(__doc__)
+    sys.exit(main(*sys.argv[1:]))

@@ -4,8 +4,12 @@ import os
 import re
 import shutil
 import subprocess
+import sys
 from dataclasses import dataclass, field
 from pathlib import Path
+
+sys.path.insert(0, str(Path(__file__).resolve().parents[2] / 'tools'))
+import crates
 
 PARTS = ('src', 'specs', 'proofs', 'c', 'data')
 # the stored run of a program
@@ -55,27 +59,15 @@ def outcome_of(status, output):
     return outcome
 
 
-def libraries(root):
-    """The libraries that each crate of a checkout uses, by its page crates.txt."""
-    lines = [it.split('#')[0].split(':') for it in (root / 'crates.txt').read_text(encoding='utf-8').split('\n')]
-    return {it[0].split()[0]: it[1].split() for it in lines if len(it) == 2}
+def crates_below(crate):
+    """A crate of the checkout, and all crates below it."""
+    return {crate, *crates.in_order(crates.libraries(), crate)}
 
 
-def crates_below(root, crate):
-    """A crate of a checkout, and all crates below it."""
-    uses, found, left = libraries(root), set(), [crate]
-    while left:
-        name = left.pop()
-        if name in uses and name not in found:
-            found.add(name)
-            left += uses[name]
-    return found
-
-
-def kit():
-    """The folder of the toolchain."""
-    page = subprocess.run(['rt', 'doc'], stdout=subprocess.PIPE, text=True, check=True).stdout.split()[0]
-    return os.path.dirname(os.path.realpath(page))
+def said_by(words, folder):
+    """How a command ends in a folder, with its output and its messages as one text."""
+    how = {'stdin': subprocess.DEVNULL, 'stdout': subprocess.PIPE, 'stderr': subprocess.STDOUT}
+    return subprocess.run(words, cwd=folder, text=True, errors='replace', check=False, **how)
 
 
 def link_or_copy(file, to):
@@ -90,20 +82,19 @@ class Repository:
     """A copy of the checkout's texts of some crates and of those below them, without wrong bodies,
     and with the libraries that `rt ci` builds there."""
 
-    def __init__(self, root: Path, crates, room: Path):
-        self.root, self.room, self.kit = root, room, kit()
-        self.uses = libraries(root)
-        names = set().union(*(crates_below(root, it) for it in crates))
+    def __init__(self, root: Path, tried, room: Path):
+        self.root, self.room, self.kit = root, room, crates.kit()
+        self.uses = crates.libraries()
+        names = set().union(*map(crates_below, tried))
         lines = [f'{it}: {" ".join(uses)}\n' for it, uses in self.uses.items() if it in names]
         (room / 'crates.txt').write_text(''.join(lines), encoding='utf-8')
         if (root / 'HANDLES').is_file():
             shutil.copy2(root / 'HANDLES', room / 'HANDLES')
-        for name, part in ((name, part) for name in names for part in PARTS):
-            if (root / 'crates' / name / part).is_dir():
-                shutil.copytree(root / 'crates' / name / part, room / 'crates' / name / part)
-        for name, file in ((name, file) for name in names for file in RUN):
-            if (root / 'crates' / name / file).is_file():
-                shutil.copy2(root / 'crates' / name / file, room / 'crates' / name / file)
+        for name in names:
+            for it in (*PARTS, *RUN):
+                file, to = root / 'crates' / name / it, room / 'crates' / name / it
+                if file.exists():
+                    (shutil.copytree if file.is_dir() else shutil.copy2)(file, to)
         subprocess.run(['git', 'init', '-q', str(room)], check=True)
 
     def take_libraries(self):
@@ -120,8 +111,7 @@ class Repository:
         if is_proved:
             self.take_libraries()
             return True, ''
-        how = {'stdin': subprocess.DEVNULL, 'stdout': subprocess.PIPE, 'stderr': subprocess.STDOUT, 'text': True, 'errors': 'replace'}
-        done = subprocess.run(['rt', 'ci'], cwd=self.room, check=False, **how)
+        done = said_by(['rt', 'ci'], self.room)
         return done.returncode == 0, done.stdout
 
     def words(self, crate):
@@ -135,7 +125,7 @@ class Repository:
         words += ['-L', f'dependency={at}/rlibs']
         for name in (it for it in uses if it in self.uses):
             words += ['--extern', f'{name}={rlib(name)}']
-        for name in sorted(crates_below(self.root, crate) - {crate}):
+        for name in sorted(crates_below(crate) - {crate}):
             words += ['-L', f'dependency={os.path.dirname(rlib(name))}']
         words += ['--antt-project', f'{at}/rattle/logic/antt-project.json', '--logic-built', f'{at}/logic_built']
         return [*words, '--links', f'{crate}=', '--jobs', '1', '--incremental', 'out/incremental']
@@ -153,8 +143,7 @@ class Copy:
         """What a check says of these functions and of those that they call, or of the whole crate
         if there are none."""
         only = [word for it in functions for word in ('--only', it.path)]
-        how = {'stdin': subprocess.DEVNULL, 'stdout': subprocess.PIPE, 'stderr': subprocess.STDOUT, 'text': True, 'errors': 'replace'}
-        done = subprocess.run([*self.words, *only], cwd=self.folder, check=False, **how)
+        done = said_by([*self.words, *only], self.folder)
         return outcome_of(done.returncode, done.stdout)
 
     def check_with(self, texts, functions):

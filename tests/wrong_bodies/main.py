@@ -13,14 +13,14 @@ from concurrent.futures import ThreadPoolExecutor
 from pathlib import Path
 
 from bodies import BadPage, bodies_of, pages_in
-from checks import PARTS, Copy, Repository, crates_below, kit
+from checks import PARTS, Copy, Repository, crates, crates_below
 from rounds import ACCEPTED, BY_SHAPE, NOT_TRIED, REFUSED, Rounds
 
 ROOT = Path(__file__).resolve().parents[2]
 # What came of the bodies of each crate, for a later run over the same texts.
 RESULTS = ROOT / 'out' / 'wrong_bodies'
 WRITING = threading.Lock()
-# The page of the bodies that the gate tries, and that of all others.
+# The page of the bodies that the gate checks, and that of all others.
 GATE, OTHERS = 'gate.md', 'others.md'
 
 
@@ -61,10 +61,10 @@ def sum_of(crate, names):
     """The sum of all on which the verdicts on the bodies of a crate depend: its texts and those of
     the crates below it, its pages, the toolchain, and these scripts."""
     made = hashlib.sha256()
-    folders = [ROOT / 'crates' / name / part for name in sorted(crates_below(ROOT, crate)) for part in PARTS]
+    folders = [ROOT / 'crates' / name / part for name in sorted(crates_below(crate)) for part in PARTS]
     paths = [it for folder in folders for it in sorted(folder.rglob('*')) if it.is_file()]
     paths += pages_in(ROOT / 'crates' / crate, names)
-    paths += [ROOT / 'crates.txt', Path(kit()) / 'KIT-ID', *sorted(Path(__file__).parent.glob('*.py'))]
+    paths += [ROOT / 'crates.txt', Path(crates.kit()) / 'KIT-ID', *sorted(Path(__file__).parent.glob('*.py'))]
     for path in paths:
         made.update(f'{path.relative_to(ROOT) if path.is_relative_to(ROOT) else path} {hashlib.sha256(path.read_bytes()).hexdigest()}\n'.encode())
     return made.hexdigest()

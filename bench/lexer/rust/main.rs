@@ -2,9 +2,6 @@
 //! attributes, `lexer.rs` the text. Lexes the file that the first argument names, as often as the
 //! second one says, and prints the seconds, and the tokens and errors of one time. Without it, it
 //! lexes three times and until that took a quarter of a second, and prints the least seconds.
-//! With `--cfg scan` the items are those of `Scan::scan`, by `for_each`, and with `--cfg looped` by
-//! a loop. With `--cfg placed` the items have their places, also those of a lexer, and the lengths
-//! of all are added up: else the compiler leaves out what finds the places.
 
 #![allow(warnings)]
 
@@ -24,13 +21,7 @@ fn main() {
         }
         let start = std::time::Instant::now();
         for _ in 0..times.unwrap_or(1) {
-            #[cfg(not(scan))]
-            let items = logos::Lexer::<Rules>::new(std::hint::black_box(source));
-            #[cfg(all(placed, not(scan)))]
-            let items = items.spanned();
-            #[cfg(scan)]
-            let items = <Rules as logos::Scan>::scan(source);
-            (tokens, errors) = count(items);
+            (tokens, errors) = count(logos::Lexer::<Rules>::new(std::hint::black_box(source)));
         }
         let elapsed = start.elapsed().as_secs_f64();
         spent += elapsed;
@@ -41,7 +32,6 @@ fn main() {
 
 /// Returns how many tokens and errors there are. It is a function of its own, so that the counts
 /// stay in registers.
-#[cfg(not(any(scan, placed)))]
 #[inline(never)]
 fn count<Error>(items: impl Iterator<Item = Result<Rules, Error>>) -> (u64, u64) {
     let (mut tokens, mut errors) = (0, 0);
@@ -51,29 +41,6 @@ fn count<Error>(items: impl Iterator<Item = Result<Rules, Error>>) -> (u64, u64)
             Err(_) => errors += 1,
         }
     }
-    (tokens, errors)
-}
-
-/// The same for items with their places.
-#[cfg(any(scan, placed))]
-#[inline(never)]
-fn count<Error>(items: impl Iterator<Item = (Result<Rules, Error>, logos::Span)>) -> (u64, u64) {
-    let (mut tokens, mut errors, mut bytes) = (0, 0, 0);
-    let mut add = |(item, place): (Result<Rules, Error>, logos::Span)| {
-        match item {
-            Ok(_) => tokens += 1,
-            Err(_) => errors += 1,
-        }
-        #[cfg(placed)]
-        (bytes += place.len())
-    };
-    #[cfg(not(looped))]
-    items.for_each(add);
-    #[cfg(looped)]
-    for item in items {
-        add(item);
-    }
-    std::hint::black_box(bytes);
     (tokens, errors)
 }
 

@@ -1,8 +1,8 @@
 -- The lines of variants follow one another.
 use Rattle.std.proofs.Common.{◌≡◌, ◌<◌, ◌≤◌, ◌+◌, ◌-◌, ℕ, suc, List, ◌++◌, length, sym, subst, arith}
 use Rattle.logos_code.specs.declared.code.CodeLeaf.{CodeLeaf}
-use Rattle.logos_report.specs.Pages.{PageValue, Gains}
-use Rattle.logos_report.proofs.PageLemmas.{gains_nothing, gains_then}
+use Rattle.logos_page.specs.Pages.{PageValue, Gains}
+use Rattle.logos_page.proofs.PageLemmas.{gains_nothing, gains_then}
 use Rattle.logos_answers.specs.Counts.{line_after, lines_from, sum_after, sum_with}
 
 module _ (leaves : List CodeLeaf) (counts : List ℕ) (leaf sum : ℕ) where

@@ -2,7 +2,7 @@
 use Rattle.std.proofs.Common.{◌≡◌, ◌<◌, ◌≤◌, ◌+◌, ◌-◌, ℕ, suc, Bool, List, [], ◌++◌, Contains, sym, refl, subst, arith}
 use Rattle.logos_automaton.specs.Faults.{AllStart, AreFaults}
 use Rattle.logos_automaton.specs.Munch.{Rule, priority_of}
-use Rattle.logos_evidence.specs.declared.matching.Match.{Match}
+use Rattle.logos_evidence.specs.declared.matches.Match.{Match}
 use Rattle.logos_evidence.specs.Losses.{IsLoss}
 use Rattle.logos_evidence.specs.Matching.{AreMatches}
 use Rattle.logos_graph.proofs.Automaton.{no_faults}
@@ -10,8 +10,8 @@ use Rattle.logos_graph.specs.GraphOf.{IsGraphOf}
 use Rattle.logos_graph.specs.View.{GraphValue, rules_of}
 use Rattle.logos_hir.specs.Text.{IsBytes}
 use Rattle.logos_pattern.specs.declared.leaf.Leaf.{Leaf}
-use Rattle.logos_report.specs.Pages.{PageValue}
-use Rattle.logos_report.proofs.PageLemmas.{gains_nothing, gains_then}
+use Rattle.logos_page.specs.Pages.{PageValue}
+use Rattle.logos_page.proofs.PageLemmas.{gains_nothing, gains_then}
 use Rattle.logos_answers.specs.Examples.{AreExampleLines, ShowsExample, ShowsExamples}
 
 none_in : (m : Match) → Contains {X = Match} [] m → ⊥

@@ -5,8 +5,8 @@ use Rattle.std.proofs.lemmas.Str.{IsUtf8-from_is_utf8, is_utf8-from_IsUtf8}
 use Rattle.std.specs.List.{flat_map}
 use Rattle.std.specs.Str.{IsUtf8, chars, is_utf8}
 use Rattle.logos_answers.specs.Quoting.{byte_literal, literal, shown_byte, shown_bytes, shown_character, string_literal}
-use Rattle.logos_report.specs.Pages.{PageValue, Gains}
-use Rattle.logos_report.proofs.PageLemmas.{gains_nothing, gains_then}
+use Rattle.logos_page.specs.Pages.{PageValue, Gains}
+use Rattle.logos_page.proofs.PageLemmas.{gains_nothing, gains_then}
 
 module _ {X : Type 0} (f : X → List ℕ) (xs : List X) (k : ℕ) where
   -- the text of the next one, and those of the rest
@@ -14,7 +14,7 @@ module _ {X : Type 0} (f : X → List ℕ) (xs : List X) (k : ℕ) where
   next_gained x {old} {middle} {new} l e one rest =
       subst (λ bytes. Gains bytes old new) (ap (λ y. f y ++ flat_map f (drop (k + 1) xs)) e ∙ sym (at_drop_more (flat_map f) xs k x l)) (gains_then one rest)
 
-  -- the same by the element at the place
+  -- the texts of the element at the index, and of the rest
   pub next_gained_at : (d : X) {old middle new : PageValue} → k < length xs → Gains (f (get_or xs k d)) old middle → Gains (flat_map f (drop (k + 1) xs)) middle new → Gains (flat_map f (drop k xs)) old new
   next_gained_at d {old} {middle} {new} l one rest = subst (λ bytes. Gains bytes old new) (sym (at_drop_more (flat_map f) xs k d l)) (gains_then one rest)
 
@@ -30,7 +30,7 @@ not_utf8 bytes other = go (is_utf8 bytes) refl
     go true e = absurd (other (IsUtf8-from_is_utf8 bytes e))
     go false e = e
 
--- what is shown of bytes that are UTF-8, and of others
+-- the shown form of bytes that are UTF-8, and of others
 pub utf8_shown : (bytes : List ℕ) → IsUtf8 bytes → shown_bytes bytes ≡ flat_map shown_character (chars bytes)
 utf8_shown bytes u = rw (is_utf8-from_IsUtf8 bytes u) refl
 

@@ -2,8 +2,8 @@
 use Rattle.std.proofs.Common.{◌≡◌, ◌≤◌, ◌<◌, ◌+◌, ℕ, zero, suc, List, [], ◌∷◌, ◌++◌, length, get_or, take, drop, map, sym, ap, ◌∙◌, refl, subst}
 use Rattle.std.proofs.lemmas.List.{at_drop_more, at_drop_all}
 use Rattle.std.specs.List.{flat_map}
-use Rattle.logos_report.specs.Pages.{Gains, PageValue}
-use Rattle.logos_report.proofs.PageLemmas.{gains_nothing, gains_then}
+use Rattle.logos_page.specs.Pages.{Gains, PageValue}
+use Rattle.logos_page.proofs.PageLemmas.{gains_nothing, gains_then}
 
 module _ {X : Type 0} (bytes : X → List ℕ) (f : List ℕ → List ℕ) (xs : List X) (k : ℕ) where
   -- the line of the next one, and those of the rest

@@ -1,12 +1,12 @@
 -- The longest match of each leaf.
 use Rattle.std.proofs.Common.{◌≡◌, ◌<◌, ◌≤◌, ◌+◌, ◌++◌, ◌==◌, ℕ, suc, Option, Some, None, List, [], ◌∷◌, if◌then◌else◌, length, get_or, drop, sym, ap, ◌∙◌, refl, subst, arith}
 use Rattle.std.proofs.lemmas.List.{at_drop_more, at_drop_all}
-use Rattle.logos_evidence.specs.declared.matching.Match.{Match}
+use Rattle.logos_evidence.specs.declared.matches.Match.{Match}
 use Rattle.logos_evidence.specs.Matching.{AreMatches}
 use Rattle.logos_graph.specs.View.{rules_of}
 use Rattle.logos_pattern.specs.declared.leaf.Leaf.{Leaf}
-use Rattle.logos_report.specs.Pages.{Gains, PageValue}
-use Rattle.logos_report.proofs.PageLemmas.{gains_then}
+use Rattle.logos_page.specs.Pages.{Gains, PageValue}
+use Rattle.logos_page.proofs.PageLemmas.{gains_then}
 use Rattle.logos_answers.specs.Matches.{IsVerdict, ShowsMatches, last_of, lines_of, longest_from}
 
 -- one match more

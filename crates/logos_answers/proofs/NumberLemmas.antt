@@ -1,4 +1,4 @@
--- Numbers that stand for the variants of leaves.
+-- Numbers for the variants of leaves.
 use Rattle.std.proofs.Common.{◌≡◌, ◌<◌, ◌≤◌, ◌+◌, ◌⊎◌, inl, inr, ℕ, zero, suc, Bool, true, false, if◌then◌else◌, List, [], ◌∷◌, ◌++◌, Option, Some, None, ◌↔◌, length, get_or, slice_get, slice_index, bytes_eq, option_map, sym, ap, ◌∙◌, refl, subst, arith}
 use Rattle.std.proofs.lemmas.Option.{get_or_from_slice_get, slice_get_cases}
 use Rattle.std.proofs.lemmas.Bool.{cases_lt}
@@ -10,7 +10,7 @@ use Rattle.logos_pattern.specs.declared.leaf.Leaf.{Leaf}
 use Rattle.logos_answers.specs.Names.{AreNumbered, variant_at, variant_name}
 use Rattle.logos_answers.specs.inside.Numbers.{AreDistinct, AreNumbers, Grows, IsNumberOf, Table}
 
--- what holds of each element holds of the one at a place
+-- a property of each element holds of the one at an index
 all_at : {X : Type 0} (P : X → Type 0) (xs : List X) (k : ℕ) (x : X) → AllByRecursion P xs → slice_get xs k ≡ Some x → P x
 all_at P [] k x all e = absurd (cc)
 all_at P (y ∷ ys) zero x all e = let same : y ≡ x = cc in subst P same all.0
@@ -22,18 +22,18 @@ not_later name names k other all e same =
     let equal : bytes_eq name.now other.now ≡ true = (bytes_decides name.now other.now).1 same in
     cc
 
--- a name has one place
-pub one_place : (table : Table) → AreDistinct table → (p q : ℕ) (a b : Bor (List ℕ)) → slice_get table p ≡ Some a → slice_get table q ≡ Some b → a.now ≡ b.now → p ≡ q
+-- a name has one index
+pub one_location : (table : Table) → AreDistinct table → (p q : ℕ) (a b : Bor (List ℕ)) → slice_get table p ≡ Some a → slice_get table q ≡ Some b → a.now ≡ b.now → p ≡ q
 unfolding IsDistinct
-one_place [] d p q a b at_p at_q e = absurd (cc)
-one_place (x ∷ xs) d zero zero a b at_p at_q e = refl
-one_place (x ∷ xs) d zero (suc q) a b at_p at_q e =
+one_location [] d p q a b at_p at_q e = absurd (cc)
+one_location (x ∷ xs) d zero zero a b at_p at_q e = refl
+one_location (x ∷ xs) d zero (suc q) a b at_p at_q e =
     let here : x ≡ a = cc in
     absurd (not_later x xs q b d.0 at_q (ap (λ (y : Bor (List ℕ)). y.now) here ∙ e))
-one_place (x ∷ xs) d (suc p) zero a b at_p at_q e =
+one_location (x ∷ xs) d (suc p) zero a b at_p at_q e =
     let here : x ≡ b = cc in
     absurd (not_later x xs p a d.0 at_p (ap (λ (y : Bor (List ℕ)). y.now) here ∙ sym e))
-one_place (x ∷ xs) d (suc p) (suc q) a b at_p at_q e = ap suc (one_place xs d.1 p q a b at_p at_q e)
+one_location (x ∷ xs) d (suc p) (suc q) a b at_p at_q e = ap suc (one_location xs d.1 p q a b at_p at_q e)
 
 module _ (table : Table) (distinct : AreDistinct table) where
   -- two numbers are the same exactly if their variants are
@@ -47,8 +47,8 @@ module _ (table : Table) (distinct : AreDistinct table) where
       forth e =
           let one = a.2 in
           let other = b.2 in
-          let places : a.0 ≡ b.0 = omega arith in
-          let keys : Some a.1 ≡ Some b.1 = sym a.3 ∙ ap (slice_get table) places ∙ b.3 in
+          let locations : a.0 ≡ b.0 = omega arith in
+          let keys : Some a.1 ≡ Some b.1 = sym a.3 ∙ ap (slice_get table) locations ∙ b.3 in
           let key : a.1 ≡ b.1 = cc in
           ap Some (sym a.4 ∙ ap (λ (y : Bor (List ℕ)). y.now) key ∙ b.4)
 
@@ -57,7 +57,7 @@ module _ (table : Table) (distinct : AreDistinct table) where
           let names : v ≡ w = cc in
           let one = a.2 in
           let other = b.2 in
-          let places = one_place table distinct a.0 b.0 a.1 b.1 a.3 b.3 (a.4 ∙ names ∙ sym b.4) in
+          let locations = one_location table distinct a.0 b.0 a.1 b.1 a.3 b.3 (a.4 ∙ names ∙ sym b.4) in
           omega arith
 
   -- two leaves, or two that are not there, have the same number exactly if they have the same
@@ -95,7 +95,7 @@ module _ (table : Table) (distinct : AreDistinct table) where
       go (inr l) (inr n) (inl o) (inr m) = let x = o.1 in let y = m.0 in absurd (omega (arith, x, y, b.long))
       go (inr l) (inr n) (inr o) (inl m) = let x = o.0 in let y = m.1 in absurd (omega (arith, x, y, b.long))
 
--- what stands for a variant in a table stands for it in a table that has grown from it
+-- the number of a variant in a table is its number in a table that has grown from it
 grown_number : (old new : Table) (v : Option (List ℕ)) (n : ℕ) → Grows old new → IsNumberOf old v n → IsNumberOf new v n
 grown_number old new None n g is = is
 grown_number old new (Some v) n g is = (is.0, is.1, is.2, g is.0 is.1 is.3, is.4)
@@ -129,12 +129,12 @@ got_front (x ∷ ks) ys (suc i) k h = got_front ks ys i k h
 
 -- a table with one name more, or without
 pub grows_by : (old new : Table) (name : Bor (List ℕ)) (b : Bool) → new ≡ (if b then old else old ++ name ∷ []) → Grows old new
-grows_by old new name true e place key at = ap (λ (t : Table). slice_get t place) e ∙ at
-grows_by old new name false e place key at = ap (λ (t : Table). slice_get t place) e ∙ got_front old (name ∷ []) place key at
+grows_by old new name true e location key at = ap (λ (t : Table). slice_get t location) e ∙ at
+grows_by old new name false e location key at = ap (λ (t : Table). slice_get t location) e ∙ got_front old (name ∷ []) location key at
 
--- the place at which a name is stored
-pub stored_number : (table : Table) (name key : Bor (List ℕ)) (place number : ℕ) → number ≡ place + 1 → slice_get table place ≡ Some key → bytes_eq name.now key.now ≡ true → IsNumberOf table (Some name.now) number
-stored_number table name key place number e at like = (place, key, e, at, sym ((bytes_decides name.now key.now).0 like))
+-- the index at which a name is stored
+pub stored_number : (table : Table) (name key : Bor (List ℕ)) (location number : ℕ) → number ≡ location + 1 → slice_get table location ≡ Some key → bytes_eq name.now key.now ≡ true → IsNumberOf table (Some name.now) number
+stored_number table name key location number e at like = (location, key, e, at, sym ((bytes_decides name.now key.now).0 like))
 
 pub grows_then : (one other another : Table) → Grows one other → Grows other another → Grows one another
-grows_then one other another g h place key at = h place key (g place key at)
+grows_then one other another g h location key at = h location key (g location key at)

@@ -7,7 +7,7 @@ use Rattle.logos_answers.specs.Expecting.{IsLineStart, is_one_line, is_time, tim
 abbrev pub says_time : List ℕ → Bool
 says_time text = starts_with (λ one other. one == other) text (codes "milliseconds: ")
 
--- LF stands nowhere from an offset on, but perhaps at the end.
+-- LF does not occur from an offset on, except possibly at the end.
 abbrev NoneFrom : List ℕ → ℕ → Type 0
 NoneFrom text start = (k : ℕ) → start ≤ k → k + 1 < length text → slice_index text k ≢ 10
 
@@ -102,7 +102,7 @@ cut_at b rest start is =
     let none : NoneFrom (b ∷ rest) start = λ k l m. is.one k l (omega (arith, m)) in
     cut true (b ∷ rest) start (omega (arith, is.before)) none (begins_at (b ∷ rest) (length (b ∷ rest) - 1) start is)
 
--- The last line says how long something took, or it does not.
+-- The last line is the one with the time, or it is not.
 pub time_cut : (answer : List ℕ) (start : ℕ) → IsLineStart answer (length answer - 1) start → says_time (drop start answer) ≡ true → take start answer ≡ timeless answer
 time_cut [] start is e = none_taken start
 time_cut (b ∷ rest) start is e = sym (cut_at b rest start is ∙ ap (λ t. if t then take start (b ∷ rest) else b ∷ rest) e)

@@ -1,11 +1,21 @@
--- How many items of each kind there are, as lines.
-use Rattle.std.specs.Prelude.{ℕ, zero, suc, ◌+◌, ◌-◌, ◌^◌, ◌==◌, min, Bool, false, List, [], ◌++◌, Option, Some, None, bytes_eq, codes, decimal, if◌then◌else◌, length, option_and_then, slice_get, slice_index}
+-- The number of items of each kind, as lines.
+use Rattle.std.specs.Prelude.{◌≡◌, ◌≢◌, ◌<◌, ℕ, zero, suc, ◌+◌, ◌-◌, ◌^◌, ◌==◌, min, Bool, false, List, [], ◌++◌, Option, Some, None, bytes_eq, codes, decimal, if◌then◌else◌, length, option_and_then, slice_get, slice_index}
 use Rattle.logos_code.specs.declared.code.CodeLeaf.{CodeLeaf}
 use Rattle.logos_answers.specs.Names.{variant_name}
 
--- The variant of the leaf of a code with a number. A skip has none.
+-- The variant of the leaf of a code with this number. A skip has none.
 abbrev pub code_variant : List CodeLeaf → ℕ → Option (List ℕ)
 code_variant leaves leaf = option_and_then (λ (it : CodeLeaf). variant_name it.kind) (slice_get leaves leaf)
+
+-- One more, saturating at the greatest number.
+abbrev pub one_more : ℕ → ℕ
+one_more count = min (count + 1) (2 ^ 64 - 1)
+
+-- The numbers of items of leaves, after one more item of a leaf: all others are unchanged.
+pub record CountsItem (leaf : ℕ) (old new : List ℕ) : Type 0 where
+  pub same_length : length new ≡ length old
+  pub counted : leaf < length old → slice_index new leaf ≡ one_more (slice_index old leaf)
+  pub others : (other : ℕ) → other ≢ leaf → slice_index new other ≡ slice_index old other
 
 -- Two leaves are of one variant.
 abbrev pub is_same_name : Option (List ℕ) → Option (List ℕ) → Bool
@@ -13,7 +23,7 @@ is_same_name (Some one) (Some other) = bytes_eq one other
 is_same_name (Some one) None = false
 is_same_name None other = false
 
--- The leaf after one is of the same variant.
+-- The next leaf is of the same variant.
 abbrev pub goes_on : List CodeLeaf → ℕ → Bool
 goes_on leaves leaf = is_same_name (code_variant leaves leaf) (code_variant leaves (leaf + 1))
 
@@ -21,25 +31,26 @@ goes_on leaves leaf = is_same_name (code_variant leaves leaf) (code_variant leav
 abbrev pub count_line : List ℕ → ℕ → List ℕ
 count_line name count = name ++ (codes ": " ++ (decimal count ++ codes "\n"))
 
--- The line of a variant, which is left out if there are no items.
+-- The line of a variant, which is empty if there are no items.
 abbrev pub variant_line : Option (List ℕ) → ℕ → List ℕ
 variant_line None count = []
 variant_line (Some name) count = if count == 0 then [] else codes "  " ++ count_line name count
 
--- The line of a variant stands at its last leaf.
+-- The line of a variant, at its last leaf.
 abbrev pub line_after : List CodeLeaf → ℕ → ℕ → List ℕ
 line_after leaves leaf sum = if goes_on leaves leaf then [] else variant_line (code_variant leaves leaf) sum
 
--- What the next leaf adds to.
+-- The sum for the next leaf.
 abbrev pub sum_after : List CodeLeaf → ℕ → ℕ → ℕ
 sum_after leaves leaf sum = if goes_on leaves leaf then sum else 0
 
 module _ (leaves : List CodeLeaf) (counts : List ℕ) where
-  -- The items of the leaves of a variant up to this leaf, by those before it.
+  -- The number of items of the leaves of a variant up to this leaf, from the sum of those before
+  -- it.
   abbrev pub sum_with : ℕ → ℕ → ℕ
   sum_with leaf sum = min (sum + slice_index counts leaf) (2 ^ 64 - 1)
 
-  -- The lines of the variants of so many leaves, from a number on.
+  -- The lines of the variants of some leaves, from a number on.
   abbrev pub lines_from : ℕ → ℕ → ℕ → List ℕ
   lines_from leaf sum zero = []
   lines_from leaf sum (suc left) = line_after leaves leaf (sum_with leaf sum) ++ lines_from (suc leaf) (sum_after leaves leaf (sum_with leaf sum)) left
@@ -52,16 +63,16 @@ module _ (leaves : List CodeLeaf) (counts : List ℕ) where
 abbrev pub title_line : List ℕ → List ℕ
 title_line name = codes "\nenum " ++ (name ++ codes "\n")
 
--- How long something took, if that is known.
+-- The line with the milliseconds that passed, if they are known.
 abbrev pub time_line : Option ℕ → List ℕ
 time_line None = []
 time_line (Some passed) = count_line (codes "milliseconds") passed
 
--- How many errors and bytes there are, and how long it took.
+-- The numbers of errors and bytes, and the time.
 abbrev pub ends_text : ℕ → ℕ → Option ℕ → List ℕ
 ends_text errors bytes passed = count_line (codes "errors") errors ++ (count_line (codes "bytes") bytes ++ time_line passed)
 
--- What was counted of an input that the lexer of an enum read: for each leaf how many items it has,
--- how many errors and bytes there are, and how long it took.
+-- The counts for an input that the lexer of an enum read: the number of items of each leaf, the
+-- numbers of errors and bytes, and the time.
 abbrev pub totals_text : List ℕ → List CodeLeaf → List ℕ → ℕ → ℕ → Option ℕ → List ℕ
 totals_text name leaves counts errors bytes passed = title_line name ++ (variant_lines leaves counts ++ ends_text errors bytes passed)

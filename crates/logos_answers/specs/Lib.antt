@@ -1,13 +1,14 @@
 pub mod Comparing
 pub mod Counts
+pub mod Differences
 pub mod Examples
 pub mod Expecting
 pub mod Inputs
 pub mod Matches
 pub mod Names
 pub mod Offsets
-pub mod Places
+pub mod Locations
 pub mod Quoting
 pub mod Views
-pub mod Words
+pub mod Imports
 pub mod inside

@@ -4,7 +4,7 @@ use Rattle.logos_pattern.specs.declared.leaf.Leaf.{Leaf}
 use Rattle.logos_pattern.specs.declared.leaf.VariantKind.{VariantKind}
 use Rattle.logos_pattern.specs.declared.leaf.VariantKind.TheVariants.{Skip, Unit as UnitVariant, Value}
 
--- The name of the variant that a leaf gives, unless it is a skip.
+-- The name of the variant of a leaf, unless it is a skip.
 abbrev pub variant_name : VariantKind → Option (List ℕ)
 variant_name (UnitVariant name) = Some name.text.now
 variant_name (Value name type) = Some name.text.now
@@ -34,12 +34,12 @@ leaf_text leaves leaf = codes "`" ++ (name_at leaves leaf ++ (codes "` (leaf " +
 abbrev pub variant_text : List Leaf → ℕ → Option (List ℕ)
 variant_text leaves leaf = option_and_then (λ (it : Leaf). variant_name it.kind) (slice_get leaves leaf)
 
--- The variant of the leaf with a number, where there is such a leaf: `Some None` for a skip.
+-- The variant of the leaf with a number, if there is such a leaf: `Some None` for a skip.
 abbrev pub variant_at : List Leaf → ℕ → Option (Option (List ℕ))
 variant_at leaves leaf = option_map (λ (it : Leaf). variant_name it.kind) (slice_get leaves leaf)
 
--- The leaves of two lexers are numbered by their variants: two leaves, or two that are not there,
--- have the same number exactly if they have the same variant.
+-- The leaves of two lexers are numbered by their variants: two leaves have equal numbers exactly if
+-- they have the same variant. Numbers without a leaf count as one more leaf.
 abbrev pub AreNumbered : List Leaf → List ℕ → List Leaf → List ℕ → Type 0
 AreNumbered leaves names others other_names =
     (leaf other : ℕ) → (slice_get names leaf ≡ slice_get other_names other) ↔ (variant_at leaves leaf ≡ variant_at others other)

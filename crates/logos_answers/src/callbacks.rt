@@ -1,27 +1,28 @@
-//! Callbacks of two lexers that are written in different ways.
+//! Variants of two lexers whose callbacks are written differently. Called for `--compare`.
 
-use crate::differing::NamedLexer;
+use crate::difference::NamedLexer;
 use crate::names::variant_of;
 use indexmap::IndexSet;
+use logos_page::Page;
 use logos_pattern::leaf::Leaf;
-use logos_report::Page;
 use std::alloc::{AllocError, Global};
 
-/// What is looked up in a lexer.
+/// The variants and callbacks of a lexer, for lookups.
 #[derive(Drop)]
 struct Known<'l> {
     /// The names of its variants, and `skip` if it has skips.
     variants: IndexSet<&'l str>,
-    /// The same with the callbacks of their leaves. A callback that is missing is an empty text.
+    /// The names of its variants with the callbacks of their leaves. A missing callback is an empty
+    /// text.
     callbacks: IndexSet<(&'l str, &'l str)>,
 }
 
-/// Appends a note that names each variant that two lexers have, and for which their callbacks are
-/// written in different ways. Pushes nothing if there is no such variant.
+/// Appends a note that names each common variant of two lexers whose callbacks are written
+/// differently. Appends nothing if there is no such variant.
 ///
 /// # Errors
 ///
-/// Returns `AllocError` if memory runs out. Nothing is pushed then.
+/// Returns `AllocError` if memory runs out. Then nothing was appended.
 pub fn push_callbacks<'l>(
     alloc: Global,
     page: &mut Page,
@@ -32,7 +33,7 @@ pub fn push_callbacks<'l>(
     push_differing(alloc, page, &known, other)
 }
 
-/// Appends the note about a lexer and what is known of another one.
+/// Appends the note about a lexer, given the variants and callbacks of another one.
 fn push_differing<'l>(
     alloc: Global,
     page: &mut Page,
@@ -43,7 +44,7 @@ fn push_differing<'l>(
     push_names_of(alloc, page, known, &other)
 }
 
-/// Appends the note about two lexers, by what is known of them.
+/// Appends the note about two lexers, given their variants and callbacks.
 fn push_names_of<'l>(
     alloc: Global,
     page: &mut Page,
@@ -101,8 +102,7 @@ fn callback_of<'l>(text: &'l str, leaf: &Leaf<'_>) -> &'l str {
     }
 }
 
-/// Adds the variants that both lexers have, and of which one has a callback that the other one does
-/// not have.
+/// Adds the common variants for which one lexer has a callback that the other one does not have.
 fn add_differing<'l>(
     differing: &mut IndexSet<&'l str>,
     known: &Known<'l>,
@@ -129,7 +129,7 @@ fn add_if_differing<'l>(
     }
 }
 
-/// Appends the note about these variants, if there are some.
+/// Appends the note about these variants, if there are any.
 fn push_note(page: &mut Page, variants: &[&str]) {
     if variants.is_empty() {
         return;

@@ -1,21 +1,21 @@
-//! How many items there were of each kind.
+//! Counts the items of each kind. Used by `notes` and `logos_items`.
 
 ghost use Rattle.std.specs.Prelude.{◌≡◌, ◌<◌, length, option_map};
-ghost use Rattle.logos_answers.specs.Words.{Gains, code_variant, count_line, goes_on, is_same_name, line_after, sum_after, time_line, title_line, variant_line};
+ghost use Rattle.logos_answers.specs.Imports.{Gains, code_variant, count_line, goes_on, is_same_name, line_after, sum_after, time_line, title_line, variant_line};
 
 use crate::names::variant_of;
 use logos_code::code::CodeLeaf;
-use logos_report::Page;
+use logos_page::Page;
 use std::alloc::{AllocError, Global};
 
-/// How many items there were of each leaf, and how many errors.
+/// The number of items of each leaf, and the number of errors.
 #[derive(Drop)]
 pub struct Counts {
     by_leaf: Vec<usize>,
     errors: usize,
 }
 
-/// What is measured of a whole input.
+/// The measurements of a whole input.
 #[derive(Clone, Copy)]
 pub struct Totals {
     pub bytes: usize,
@@ -24,38 +24,44 @@ pub struct Totals {
 }
 
 impl Counts {
-    ghost use Rattle.std.specs.Prelude.{◌≡◌, slice_index};
-    ghost use Rattle.logos_answers.specs.Words.{Gains, ends_text, totals_text, variant_lines};
+    ghost use Rattle.std.specs.Prelude.{◌≡◌, IfOk, replicate, slice_index};
+    ghost use Rattle.logos_answers.specs.Imports.{CountsItem, Gains, ends_text, one_more, totals_text, variant_lines};
 
-    /// Returns counts of no item, for this many leaves.
+    /// Returns counts that are zero, for this many leaves.
     ///
     /// # Errors
     ///
     /// Returns `AllocError` if memory runs out.
-    pub fn new(alloc: Global, leaves: usize) -> Result<Counts, AllocError> {
-        let mut by_leaf = Vec::new(alloc);
-        for _ in 0..leaves {
-            by_leaf.push(0)?;
-        }
+    pub fn new(alloc: Global, leaves: usize) -> Result<Counts, AllocError>
+        ensures { IfOk result (λ counts.
+            (counts.by_leaf.items ≡ replicate leaves 0) × (counts.errors ≡ 0)) }
+    {
+        let by_leaf = vec![in alloc; 0; leaves]?;
         Ok(Counts { by_leaf, errors: 0 })
     }
 
     /// Counts an item of a leaf.
     #[inline(always)]
-    pub fn count_token(&mut self, leaf: usize) {
-        if let Some(count) = self.by_leaf.get_mut(leaf) {
-            *count = count.saturating_add(1);
+    pub fn count_token(&mut self, leaf: usize)
+        ensures leaves { CountsItem leaf self.old.by_leaf.items self.new.by_leaf.items }
+        ensures errors { self.new.errors ≡ self.old.errors }
+    {
+        if leaf < self.by_leaf.len() {
+            self.by_leaf[leaf] = self.by_leaf[leaf].saturating_add(1);
         }
     }
 
     /// Counts an error.
-    pub fn count_error(&mut self) {
+    pub fn count_error(&mut self)
+        ensures leaves { self.new.by_leaf.items ≡ self.old.by_leaf.items }
+        ensures errors { self.new.errors ≡ one_more self.old.errors }
+    {
         self.errors = self.errors.saturating_add(1);
     }
 
-    /// Appends what was counted of an input that the lexer of the enum with this name read: the
-    /// name, a line for each variant that has items with their number, how many errors there were,
-    /// and what was measured. The leaves of a variant follow one another.
+    /// Appends the counts for an input that the lexer of the enum with this name read: the name, a
+    /// line for each variant with items that has their number, the number of errors, and the
+    /// measurements. The leaves of a variant are consecutive.
     pub fn push_totals(&self, page: &mut Page, name: &str, leaves: &[CodeLeaf<'_>], totals: Totals)
         ensures { Gains (totals_text name.now leaves.now self.now.by_leaf.items self.now.errors
             totals.bytes totals.passed) page.old page.new }
@@ -80,7 +86,7 @@ impl Counts {
         }
     }
 
-    /// Appends how many errors there were, and what was measured.
+    /// Appends the number of errors, and the measurements.
     fn push_ends(&self, page: &mut Page, totals: Totals)
         ensures { Gains (ends_text self.now.errors totals.bytes totals.passed) page.old page.new }
     {
@@ -89,7 +95,7 @@ impl Counts {
         push_time(page, totals.passed);
     }
 
-    /// Returns how many items there were of a leaf.
+    /// Returns the number of items of a leaf.
     pub(crate) fn of_leaf(&self, number: usize) -> usize
         ensures { result ≡ slice_index self.now.by_leaf.items number }
     {
@@ -110,8 +116,8 @@ fn push_title(page: &mut Page, name: &str)
 }
 
 /// Appends the line of a variant at its last leaf. `sum` is the number of the items of the leaves
-/// of the variant up to this one. Returns what the next leaf adds to: the sum, or 0 where a variant
-/// ends.
+/// of the variant up to this one. Returns the sum for the next leaf, which is 0 after the end of a
+/// variant.
 fn push_sum(page: &mut Page, leaves: &[CodeLeaf<'_>], number: usize, sum: usize) -> usize
     requires { number < length leaves.now }
     ensures line { Gains (line_after leaves.now number sum) page.old page.new }
@@ -124,7 +130,7 @@ fn push_sum(page: &mut Page, leaves: &[CodeLeaf<'_>], number: usize, sum: usize)
     0
 }
 
-/// Returns whether the leaf after one is of the same variant.
+/// Returns whether the next leaf is of the same variant.
 fn goes_on(leaves: &[CodeLeaf<'_>], number: usize) -> bool
     requires { number < length leaves.now }
     ensures { result ≡ goes_on leaves.now number }
@@ -135,7 +141,7 @@ fn goes_on(leaves: &[CodeLeaf<'_>], number: usize) -> bool
     )
 }
 
-/// Returns whether two leaves are of one variant, by its name. Skips are of none.
+/// Returns whether two leaves are of one variant, compared by its name. Skips have no variant.
 fn is_same_name(one: Option<&str>, other: Option<&str>) -> bool
     ensures { result ≡ is_same_name (option_map (λ name. name.now) one.entry)
         (option_map (λ name. name.now) other.entry) }
@@ -146,7 +152,7 @@ fn is_same_name(one: Option<&str>, other: Option<&str>) -> bool
     }
 }
 
-/// Returns the name of the variant of a leaf; `None` for a skip, and where there is no such leaf.
+/// Returns the name of the variant of a leaf; `None` for a skip, and if there is no such leaf.
 pub fn code_name_at<'l>(leaves: &'l [CodeLeaf<'_>], number: usize) -> Option<&'l str>
     ensures { option_map (λ name. name.now) result ≡ code_variant leaves.now number }
 {

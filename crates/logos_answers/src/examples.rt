@@ -1,19 +1,19 @@
-//! What leaves find, and where they lose.
+//! Examples of the inputs that leaves find, and of those that they lose. Called for `--examples`.
 
 ghost use Rattle.std.specs.Prelude.{◌≡◌, ◌++◌, ℕ, [], codes, IfOk, MatchOption, OnOk, length, option_map};
 ghost use Rattle.logos_answers.specs.Views as shown;
-ghost use Rattle.logos_answers.specs.Words.{Gains, IsGraphOf, IsShortestLoss, NeverLoses, leaf_text, quoted, rules_of};
+ghost use Rattle.logos_answers.specs.Imports.{Gains, IsGraphOf, IsShortestLoss, NeverLoses, leaf_text, quoted, rules_of};
 
 use crate::matches::push_head;
 use crate::names::push_leaf;
-use crate::quoting::push_quoted;
+use crate::quotes::push_quoted;
 use logos_evidence::{example, loses, matches_from, winner};
 use logos_graph::graph::Graph;
+use logos_page::Page;
 use logos_pattern::leaf::Leaf;
-use logos_report::Page;
 use std::alloc::{AllocError, Global};
 
-/// What a leaf finds, and where it loses.
+/// An input on which a leaf is found, and one on which it loses to another leaf.
 #[derive(Drop)]
 pub struct Evidence {
     /// A shortest input on which a lexer finds a match of the leaf first, if there is one.
@@ -22,7 +22,7 @@ pub struct Evidence {
     pub loss: Option<Loss>,
 }
 
-/// An input on which a leaf matches and another one is found.
+/// An input on which a leaf matches and another one is found instead.
 #[derive(Drop)]
 pub struct Loss {
     pub input: Vec<u8>,
@@ -32,11 +32,11 @@ pub struct Loss {
 
 /// Appends a line for each leaf of a graph without faults: a shortest input on which a lexer finds
 /// a match of the leaf first, and a shortest one on which the leaf matches and another leaf is
-/// found first, with that leaf. Where a leaf is never found the line says so.
+/// found first, with that leaf. If a leaf is never found, the line states that.
 ///
 /// # Errors
 ///
-/// Returns `AllocError` if memory runs out. Some lines may be pushed then.
+/// Returns `AllocError` if memory runs out. Then some lines may have been appended.
 pub fn push_examples(alloc: Global, page: &mut Page, graph: &Graph<'_>) -> Result<(), AllocError>
     ensures { OnOk result (IsGraphOf graph.now.leaves graph.now.utf8 graph.now →
         graph.now.faults ≡ [] → shown.ShowsExamples graph.now.leaves graph.now.utf8 0
@@ -64,7 +64,8 @@ fn push_example(
     Ok(())
 }
 
-/// Returns what a leaf of a graph without faults finds, and where it loses.
+/// Returns an input on which a leaf of a graph without faults is found, and one on which it loses
+/// to another leaf.
 ///
 /// # Errors
 ///
@@ -80,7 +81,7 @@ pub fn evidence_of(alloc: Global, graph: &Graph<'_>, leaf: usize) -> Result<Evid
     Ok(Evidence { found, loss })
 }
 
-/// Returns where a leaf loses.
+/// Returns an input that a leaf loses, if there is one.
 fn loss_of(alloc: Global, graph: &Graph<'_>, leaf: usize) -> Result<Option<Loss>, AllocError>
     ensures { IfOk result (λ loss. IsGraphOf graph.now.leaves graph.now.utf8 graph.now →
         graph.now.faults ≡ [] → MatchOption (option_map shown.loss_value loss)
@@ -93,7 +94,7 @@ fn loss_of(alloc: Global, graph: &Graph<'_>, leaf: usize) -> Result<Option<Loss>
     }
 }
 
-/// Returns an input on which a leaf loses, with the leaf that is found there first.
+/// Returns an input that a leaf loses, with the leaf that is found there first.
 fn with_winner(alloc: Global, graph: &Graph<'_>, input: Vec<u8>) -> Result<Option<Loss>, AllocError>
     ensures { IfOk result (λ loss. (leaf : ℕ) →
         IsGraphOf graph.now.leaves graph.now.utf8 graph.now → graph.now.faults ≡ [] →
@@ -111,7 +112,7 @@ fn with_winner(alloc: Global, graph: &Graph<'_>, input: Vec<u8>) -> Result<Optio
     }
 }
 
-/// Appends the line of a leaf, by what it finds and where it loses.
+/// Appends the line of a leaf, with the inputs that it finds and loses.
 fn push_evidence(page: &mut Page, leaves: &[Leaf<'_>], leaf: usize, evidence: &Evidence)
     ensures { Gains (shown.evidence_line leaves.now leaf
         (option_map (λ input. input.items) evidence.now.found)
@@ -123,7 +124,7 @@ fn push_evidence(page: &mut Page, leaves: &[Leaf<'_>], leaf: usize, evidence: &E
     page.push("\n");
 }
 
-/// Appends what a leaf finds.
+/// Appends the input that a leaf finds, or that it finds none.
 fn push_found(page: &mut Page, found: &Option<Vec<u8>>)
     ensures { Gains (shown.found_text (option_map (λ input. input.items) found.now))
         page.old page.new }
@@ -134,7 +135,7 @@ fn push_found(page: &mut Page, found: &Option<Vec<u8>>)
     }
 }
 
-/// Appends an input on which a leaf is found.
+/// Appends an input that a leaf finds.
 fn push_example_of(page: &mut Page, input: &[u8])
     ensures { Gains (codes "finds " ++ quoted input.now) page.old page.new }
 {
@@ -142,7 +143,7 @@ fn push_example_of(page: &mut Page, input: &[u8])
     push_quoted(page, input);
 }
 
-/// Appends where a leaf loses, if it does.
+/// Appends the input that a leaf loses, if there is one.
 fn push_loss(page: &mut Page, leaves: &[Leaf<'_>], loss: &Option<Loss>)
     ensures { Gains (shown.loss_text leaves.now (option_map shown.loss_value loss.now))
         page.old page.new }
@@ -152,7 +153,7 @@ fn push_loss(page: &mut Page, leaves: &[Leaf<'_>], loss: &Option<Loss>)
     }
 }
 
-/// Appends an input on which a leaf loses, and to which one.
+/// Appends an input that a leaf loses, and the leaf that wins it.
 fn push_lost(page: &mut Page, leaves: &[Leaf<'_>], input: &[u8], winner: usize)
     ensures { Gains (codes ", loses " ++ (quoted input.now
         ++ (codes " to " ++ leaf_text leaves.now winner))) page.old page.new }

@@ -1,20 +1,20 @@
-//! Inputs that together pass all edges of a graph.
+//! Inputs that together take all edges of a graph. Called for `--inputs`.
 
 ghost use Rattle.std.specs.Prelude.{◌≡◌, IfOk, map, take};
-ghost use Rattle.logos_answers.specs.Words.{flat_map, Gains, ShowsInputs, input_line};
+ghost use Rattle.logos_answers.specs.Imports.{flat_map, Gains, ShowsInputs, input_line};
 
-use crate::quoting::push_literal;
+use crate::quotes::push_literal;
 use logos_evidence::covering_inputs;
 use logos_graph::graph::Graph;
-use logos_report::Page;
+use logos_page::Page;
 use std::alloc::{AllocError, Global};
 
-/// Appends a line for each of the first inputs of those that together pass all edges of a graph, at
-/// most `most` lines, and returns how many inputs there are in all. A line is a literal of Rust.
+/// Appends a line for each of the first `most` inputs that together take all edges of a graph, and
+/// returns the number of all these inputs. A line is a Rust literal.
 ///
 /// # Errors
 ///
-/// Returns `AllocError` if memory runs out. Nothing is pushed then.
+/// Returns `AllocError` if memory runs out. Then nothing was appended.
 pub fn push_inputs(
     alloc: Global,
     page: &mut Page,
@@ -29,7 +29,7 @@ pub fn push_inputs(
     Ok(inputs.len())
 }
 
-/// Returns the first inputs of these, at most so many.
+/// Returns the first inputs, at most `most`.
 pub fn first_of(inputs: &[Vec<u8>], most: usize) -> &[Vec<u8>]
     ensures { result.now ≡ take most inputs.now }
 {

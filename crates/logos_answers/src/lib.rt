@@ -1,37 +1,37 @@
-//! Answers about a lexer, as lines of text: its leaves, its items, what matches from a point, what
-//! a leaf finds, inputs that pass all of its edges, whether two lexers are the same, and whether an
-//! answer is a stored one.
+//! Answers about a lexer, as lines of text: its leaves, its items, the matches from a point,
+//! examples for a leaf, inputs that take all of its edges, whether two lexers are equivalent, and
+//! whether an answer equals a stored one. Called by `logos_show` and `logos_items`.
 
 #![tactic(auto)]
 
 mod callbacks;
-mod comparing;
+mod comparison;
 mod counts;
-mod differing;
+mod difference;
 mod examples;
-mod expecting;
+mod expectation;
 mod inputs;
 mod lines;
+mod locations;
 mod matches;
 mod names;
 mod notes;
 mod offsets;
-mod places;
-mod quoting;
+mod quotes;
 mod table;
 
 pub use callbacks::push_callbacks;
-pub use comparing::{Compared, compare_lexers};
+pub use comparison::{Compared, compare_lexers};
 pub use counts::{Counts, Totals, code_name_at};
-pub use differing::{Finding, NamedLexer, finding_of, push_difference, push_modes};
+pub use difference::{Finding, NamedLexer, finding_of, push_difference, push_modes};
 pub use examples::{Evidence, Loss, evidence_of, push_examples};
-pub use expecting::push_agreement;
+pub use expectation::push_agreement;
 pub use inputs::{first_of, push_inputs};
 pub use lines::{LINE, push_item};
+pub use locations::{location_by_word, number_by_text};
 pub use matches::{bytes_between, longest_of, push_first, push_matches};
 pub use names::{name_at, push_leaf, variant_at, variant_of};
 pub use notes::note_of;
 pub use offsets::offset_of;
-pub use places::{number_by_text, place_by_word};
-pub use quoting::push_quoted;
+pub use quotes::push_quoted;
 pub use table::{push_costs, push_rows};

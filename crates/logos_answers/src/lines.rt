@@ -1,41 +1,41 @@
-//! The line of an item.
+//! The line of an item. Used by `logos_items`.
 
 ghost use Rattle.std.specs.Prelude.{◌≡◌, ◌<◌, ◌≤◌, ◌+◌, length};
 
-use crate::quoting::is_hidden;
+use crate::quotes::is_hidden;
 use itoa::write_digits;
-use logos_lines::Position;
+use logos_lines::Location;
 use std::alloc::AllocError;
 use std::str;
 
-/// How many characters of an item are shown.
+/// The maximum number of characters of an item that are shown.
 const SHOWN: usize = 60;
 
 /// The length in bytes of two numbers of 20 digits and a colon between them.
 const POSITION: usize = 41;
 
-/// The length in bytes of the longest head for which a line is put together at once.
+/// The length in bytes of the longest head for which a line is assembled in one buffer.
 const HEAD: usize = 64;
 
-/// The length in bytes of the longest line that is put together at once: a position, a head, an
-/// escape of four bytes for each byte that is shown, a quote and a line end.
+/// The length in bytes of the longest line that is assembled in one buffer: a position, a head, an
+/// escape of four bytes for each shown byte, a quote and a line end.
 pub const LINE: usize = 347;
 
 /// Appends the line of an item: its position, its head, which names it, and its text in quotes. A
-/// short line is put together in `line` first.
+/// short line is assembled in `line` first.
 ///
 /// # Errors
 ///
-/// Returns `AllocError` if memory runs out. A part of the line may be added then.
+/// Returns `AllocError` if memory runs out. Then a part of the line may have been appended.
 #[inline(always)]
 pub fn push_item(
     block: &mut Vec<u8>,
     line: &mut [u8; LINE],
-    position: Position,
+    location: Location,
     head: &[u8],
     slice: &[u8],
 ) -> Result<(), AllocError> {
-    let from = write_position(line, position);
+    let from = write_location(line, location);
     if head.len() <= HEAD && slice.len() <= SHOWN && slice.is_ascii() {
         let to = write_short(line, head, slice);
         return block.extend_from_slice(&line[from..to]);
@@ -46,19 +46,20 @@ pub fn push_item(
     block.extend_from_slice(b"\n")
 }
 
-/// Writes a position as `line:column` so that it ends at `POSITION`, and returns where it begins.
+/// Writes a position as `line:column` so that it ends at `POSITION`, and returns the index at which
+/// it begins.
 #[inline(always)]
-fn write_position(line: &mut [u8; LINE], position: Position) -> usize
+fn write_location(line: &mut [u8; LINE], location: Location) -> usize
     ensures { result ≤ 41 }
 {
-    let end = write_digits(position.column as u64, line, POSITION);
+    let end = write_digits(location.column as u64, line, POSITION);
     let colon = end - 1;
     line[colon] = b':';
-    write_digits(position.line as u64, line, colon)
+    write_digits(location.line as u64, line, colon)
 }
 
-/// Writes what follows the position of an item whose text is short and ASCII, and returns where it
-/// ends.
+/// Writes the rest of a line after the position of an item with a short ASCII text, and returns the
+/// index at which it ends.
 #[inline(always)]
 fn write_short(line: &mut [u8; LINE], head: &[u8], slice: &[u8]) -> usize
     requires head { length head.now ≤ 64 }
@@ -75,7 +76,7 @@ fn write_short(line: &mut [u8; LINE], head: &[u8], slice: &[u8]) -> usize
     at + 2
 }
 
-/// Writes a text, and returns where it ends.
+/// Writes a text, and returns the index at which it ends.
 #[inline(always)]
 fn write_text(line: &mut [u8], at: usize, text: &[u8]) -> usize
     requires { at + length text.now ≤ length line.old }
@@ -86,8 +87,8 @@ fn write_text(line: &mut [u8], at: usize, text: &[u8]) -> usize
     end
 }
 
-/// Writes a byte that stands for itself in quotes, or the escape of another one, and returns where
-/// that ends.
+/// Writes a byte that needs no escape in quotes, or the escape of another one, and returns the
+/// index at which that ends.
 #[inline(always)]
 fn write_byte(text: &mut [u8], at: usize, byte: u8) -> usize
     requires { at + 4 ≤ length text.old }
@@ -101,13 +102,13 @@ fn write_byte(text: &mut [u8], at: usize, byte: u8) -> usize
     write_escape(text, at, byte)
 }
 
-/// Returns whether a byte is a character of ASCII that stands for itself in quotes.
+/// Returns whether a byte is an ASCII character that needs no escape in quotes.
 #[inline(always)]
 fn is_plain(byte: u8) -> bool {
     (b' ' <= byte) & (byte <= b'~') & (byte != b'"') & (byte != b'\\')
 }
 
-/// Writes the escape of a byte, and returns where it ends.
+/// Writes the escape of a byte, and returns the index at which it ends.
 fn write_escape(text: &mut [u8], at: usize, byte: u8) -> usize
     requires { at + 4 ≤ length text.old }
     ensures after { at ≤ result }
@@ -124,7 +125,7 @@ fn write_escape(text: &mut [u8], at: usize, byte: u8) -> usize
     at + 4
 }
 
-/// Returns what follows the backslash in the escape of a byte that has one of two bytes.
+/// Returns the letter after the backslash in the escape of a byte whose escape has two bytes.
 fn letter_of(byte: u8) -> Option<u8> {
     match byte {
         b'"' | b'\\' => Some(byte),
@@ -135,7 +136,7 @@ fn letter_of(byte: u8) -> Option<u8> {
     }
 }
 
-/// Returns the digit of a number below 16.
+/// Returns the hexadecimal digit of a number below 16.
 fn hexadecimal_digit(number: u8) -> u8
     requires { number < 16 }
 {
@@ -146,14 +147,14 @@ fn hexadecimal_digit(number: u8) -> u8
     }
 }
 
-/// Appends a number in decimal. If memory runs out, nothing is added.
+/// Appends a number in decimal. If memory runs out, nothing was appended.
 fn push_number(block: &mut Vec<u8>, number: usize) -> Result<(), AllocError> {
     let mut digits = [0; 20];
     let from = write_digits(number as u64, &mut digits, 20);
     block.extend_from_slice(&digits[from..])
 }
 
-/// Appends what is shown of an item, and the closing quote.
+/// Appends the shown part of an item, and the closing quote.
 fn push_quoted(block: &mut Vec<u8>, slice: &[u8]) -> Result<(), AllocError> {
     match str::from_utf8(slice) {
         Ok(text) => push_text(block, text),
@@ -161,7 +162,7 @@ fn push_quoted(block: &mut Vec<u8>, slice: &[u8]) -> Result<(), AllocError> {
     }
 }
 
-/// Appends what is shown of a text, and the closing quote.
+/// Appends the shown part of a text, and the closing quote.
 fn push_text(block: &mut Vec<u8>, text: &str) -> Result<(), AllocError> {
     for character in text.chars().take(SHOWN) {
         push_character(block, character)?;
@@ -169,7 +170,7 @@ fn push_text(block: &mut Vec<u8>, text: &str) -> Result<(), AllocError> {
     push_end(block, text.chars().count(), " characters")
 }
 
-/// Appends what is shown of bytes that are not UTF-8, and the closing quote.
+/// Appends the shown part of bytes that are not UTF-8, and the closing quote.
 fn push_bytes(block: &mut Vec<u8>, slice: &[u8]) -> Result<(), AllocError> {
     for byte in slice.iter().take(SHOWN) {
         push_byte(block, *byte)?;
@@ -177,7 +178,7 @@ fn push_bytes(block: &mut Vec<u8>, slice: &[u8]) -> Result<(), AllocError> {
     push_end(block, slice.len(), " bytes")
 }
 
-/// Appends the closing quote, and the length if not all is shown.
+/// Appends the closing quote, and the length if a part is not shown.
 fn push_end(block: &mut Vec<u8>, count: usize, unit: &str) -> Result<(), AllocError> {
     block.extend_from_slice(b"\"")?;
     if count <= SHOWN {
@@ -201,7 +202,7 @@ fn push_character(block: &mut Vec<u8>, character: char) -> Result<(), AllocError
     block.extend_from_slice(character.encode_utf8(&mut bytes).as_bytes())
 }
 
-/// Appends the escape of a character that is not shown as it is, by its number.
+/// Appends the escape of a hidden character, with its number.
 fn push_number_escape(block: &mut Vec<u8>, code: u32) -> Result<(), AllocError> {
     block.extend_from_slice(b"\\u{")?;
     if code > 0xFFFF {

@@ -1,18 +1,18 @@
-//! What matches from an offset of an input.
+//! The matches from an offset of an input. Called for `--at`.
 
 ghost use Rattle.std.specs.Prelude.{◌≡◌, ◌<◌, ◌≤◌, ◌-◌, ◌==◌, ℕ, List, None, Some, IfOk, OnErr, OnOk, codes, get_or, if◌then◌else◌, length};
-ghost use Rattle.logos_answers.specs.Words as shown;
-ghost use Rattle.logos_answers.specs.Words.{AllStart, Gains, IsBytes, IsGraphOf, rules_of};
+ghost use Rattle.logos_answers.specs.Imports as shown;
+ghost use Rattle.logos_answers.specs.Imports.{AllStart, Gains, IsBytes, IsGraphOf, rules_of};
 
 use crate::names::{name_at, push_leaf};
-use crate::quoting::push_quoted;
+use crate::quotes::push_quoted;
 use logos_evidence::{Match, matches_from, winner};
 use logos_graph::graph::Graph;
+use logos_page::Page;
 use logos_pattern::leaf::Leaf;
-use logos_report::Page;
 use std::alloc::{AllocError, Global};
 
-/// An offset of an input, from which leaves match.
+/// An offset of an input, with the leaves that may match from it.
 #[derive(Clone, Copy)]
 struct MatchStart<'a, 's> {
     leaves: &'a [Leaf<'s>],
@@ -21,11 +21,11 @@ struct MatchStart<'a, 's> {
 }
 
 /// Appends a line for each leaf that matches from an offset of an input, with its longest match
-/// from there, and then a line that names the match that a lexer takes there, and says why.
+/// from there, and then a line with the match that a lexer takes there, and the reason.
 ///
 /// # Errors
 ///
-/// Returns `AllocError` if memory runs out. Nothing is pushed then.
+/// Returns `AllocError` if memory runs out. Then nothing was appended.
 pub fn push_matches(
     alloc: Global,
     page: &mut Page,
@@ -56,7 +56,7 @@ pub fn push_matches(
 ///
 /// # Errors
 ///
-/// Returns `AllocError` if memory runs out. Nothing is pushed then.
+/// Returns `AllocError` if memory runs out. Then nothing was appended.
 pub fn push_first(
     alloc: Global,
     page: &mut Page,
@@ -77,8 +77,8 @@ pub fn push_first(
     Ok(true)
 }
 
-/// Returns the last match of each leaf among these, which is its longest one where they stand in
-/// the order of their ends.
+/// Returns the last match of each leaf. If the matches are in the order of their ends, it is the
+/// longest one.
 ///
 /// # Errors
 ///
@@ -97,7 +97,7 @@ pub fn longest_of(
     Ok(longest)
 }
 
-/// Puts a match in place of an earlier one of its leaf.
+/// Replaces an earlier match of the same leaf.
 fn set_longest(longest: &mut Vec<Option<Match>>, found: Match)
     ensures count { length longest.new.items ≡ length longest.old.items }
     ensures each { (leaf : ℕ) → leaf < length longest.old.items →
@@ -152,7 +152,7 @@ pub(crate) fn push_head(page: &mut Page, leaves: &[Leaf<'_>], leaf: usize)
     page.push("  ");
 }
 
-/// Appends how long a match is, and its text.
+/// Appends the length of a match, and its text.
 fn push_extent(page: &mut Page, start: MatchStart<'_, '_>, end: usize)
     ensures { Gains (shown.extent_text start.entry.input.now start.entry.from end) page.old page.new }
 {
@@ -162,7 +162,7 @@ fn push_extent(page: &mut Page, start: MatchStart<'_, '_>, end: usize)
     page.push("\n");
 }
 
-/// Returns how many bytes a match has that ends at an offset.
+/// Returns the length of a match from one offset to another, in bytes.
 fn length_from(from: usize, end: usize) -> usize
     ensures { result ≡ end - from }
 {
@@ -177,14 +177,15 @@ fn push_length(page: &mut Page, count: usize)
     page.push(unit_of(count));
 }
 
-/// Returns what stands after a number of bytes.
+/// Returns the unit after a number of bytes.
 fn unit_of(count: usize) -> &'static str
     ensures { result.now ≡ (if count == 1 then codes " byte" else codes " bytes") }
 {
     if count == 1 { " byte" } else { " bytes" }
 }
 
-/// Returns the bytes of an input between two offsets, or none if it does not have these.
+/// Returns the bytes of an input between two offsets, or no bytes if it does not have these
+/// offsets.
 pub fn bytes_between(input: &[u8], from: usize, to: usize) -> &[u8]
     ensures { result.now ≡ shown.bytes_between input.now from to }
 {
@@ -194,7 +195,7 @@ pub fn bytes_between(input: &[u8], from: usize, to: usize) -> &[u8]
     }
 }
 
-/// Appends the line that names the match that a lexer takes of these.
+/// Appends the line with the match that a lexer takes among these.
 fn push_verdict(page: &mut Page, leaves: &[Leaf<'_>], matches: &[Match])
     ensures { (text : List ℕ) × shown.IsVerdict leaves.now matches.now text
         × Gains text page.old page.new }
@@ -205,7 +206,7 @@ fn push_verdict(page: &mut Page, leaves: &[Leaf<'_>], matches: &[Match])
     }
 }
 
-/// Appends the line that names the match that a lexer takes.
+/// Appends the line with the match that a lexer takes.
 fn push_winner(page: &mut Page, leaves: &[Leaf<'_>], matches: &[Match], found: Match)
     ensures { Gains (shown.winner_text leaves.now matches.now found) page.old page.new }
 {
@@ -213,7 +214,7 @@ fn push_winner(page: &mut Page, leaves: &[Leaf<'_>], matches: &[Match], found: M
     page.push(reason(matches, found));
 }
 
-/// Returns why a match is taken.
+/// Returns the reason that a match is taken.
 fn reason(matches: &[Match], found: Match) -> &'static str
     ensures { result.now ≡ shown.reason matches.now found }
 {
@@ -224,7 +225,7 @@ fn reason(matches: &[Match], found: Match) -> &'static str
     }
 }
 
-/// Returns whether another leaf has a match that is as long.
+/// Returns whether another leaf has a match of the same length.
 fn has_rival(matches: &[Match], found: Match) -> bool
     ensures { result ≡ shown.has_rival matches.now found }
 {

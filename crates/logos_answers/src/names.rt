@@ -1,10 +1,10 @@
-//! The names of leaves.
+//! The names of leaves. Used by `logos_records`.
 
 ghost use Rattle.std.specs.Prelude.{◌≡◌, option_map};
-ghost use Rattle.logos_answers.specs.Words.{Gains, leaf_name, leaf_text, name_at, variant_name, variant_text};
+ghost use Rattle.logos_answers.specs.Imports.{Gains, leaf_name, leaf_text, name_at, variant_name, variant_text};
 
+use logos_page::Page;
 use logos_pattern::leaf::{Leaf, VariantKind};
-use logos_report::Page;
 
 /// Returns the name of the variant of a kind, or `None` for a skip.
 pub fn variant_of<'l>(kind: &'l VariantKind<'_>) -> Option<&'l str>
@@ -17,7 +17,7 @@ pub fn variant_of<'l>(kind: &'l VariantKind<'_>) -> Option<&'l str>
     }
 }
 
-/// Returns the variant of the leaf with a number, or `None` for a skip and where there is no such
+/// Returns the variant of the leaf with a number, or `None` for a skip and if there is no such
 /// leaf.
 pub fn variant_at<'l>(leaves: &'l [Leaf<'_>], leaf: usize) -> Option<&'l str>
     ensures { option_map (λ name. name.now) result ≡ variant_text leaves.now leaf }

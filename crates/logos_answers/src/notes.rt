@@ -1,8 +1,8 @@
-//! The note about callbacks, of which none was called.
+//! The note that callbacks were not called.
 
 use crate::counts::{Counts, code_name_at};
 use logos_code::code::CodeLeaf;
-use logos_report::Page;
+use logos_page::Page;
 use std::alloc::{AllocError, Global};
 
 /// Returns a note that names each variant with items of a leaf that has a callback. It is empty if
@@ -27,7 +27,7 @@ pub fn note_of(
     page.finish()
 }
 
-/// Returns the name of the variant of a leaf that has a callback and items.
+/// Returns the name of the variant of a leaf, if the leaf has a callback and items.
 fn variant_at<'l>(leaves: &'l [CodeLeaf<'_>], counts: &Counts, number: usize) -> Option<&'l str> {
     if counts.of_leaf(number) == 0 {
         return None;
@@ -39,7 +39,7 @@ fn variant_at<'l>(leaves: &'l [CodeLeaf<'_>], counts: &Counts, number: usize) ->
     code_name_at(leaves, number)
 }
 
-/// Appends a variant, unless it is the last one. Returns the last one that was pushed, or an empty
+/// Appends a variant, unless it is `last`. Returns the last variant that was appended, or an empty
 /// text if there is none.
 fn push_variant<'l>(page: &mut Page, variant: Option<&'l str>, last: &'l str) -> &'l str {
     let Some(variant) = variant else {

@@ -1,33 +1,33 @@
-//! The offset of a line and a column.
+//! The offset of a line and a column. Used by `logos_show`.
 
 ghost use Rattle.std.specs.Prelude.{◌≡◌, ◌↔◌, ℕ, IsTrue, MatchOption, false};
-ghost use Rattle.logos_answers.specs.Words.{IsOffsetOf, continues};
+ghost use Rattle.logos_answers.specs.Imports.{IsOffsetOf, continues};
 
-use crate::quoting::continues;
-use logos_lines::{Cursor, Position};
+use crate::quotes::continues;
+use logos_lines::{Cursor, Location};
 
-/// Returns whether a byte begins a character, and its position is this one.
-fn begins_at(byte: u8, here: Position, place: Position) -> bool
-    ensures { IsTrue result ↔ ((continues byte ≡ false) × (here ≡ place)) }
+/// Returns whether a byte begins a character, and its location is `location`.
+fn begins_at(byte: u8, here: Location, location: Location) -> bool
+    ensures { IsTrue result ↔ ((continues byte ≡ false) × (here ≡ location)) }
 {
-    !continues(byte) & (here == place)
+    !continues(byte) & (here == location)
 }
 
 /// Returns the offset of a line and a column of an input, or `None` if it does not have them. Lines
-/// and columns count from 1, and a column counts characters.
-pub fn offset_of(input: &[u8], place: Position) -> Option<usize>
-    ensures { MatchOption result ((at : ℕ) → ¬ IsOffsetOf input.now place at)
-        (IsOffsetOf input.now place) }
+/// and columns are counted from 1, and columns count characters.
+pub fn offset_of(input: &[u8], location: Location) -> Option<usize>
+    ensures { MatchOption result ((at : ℕ) → ¬ IsOffsetOf input.now location at)
+        (IsOffsetOf input.now location) }
 {
     let mut cursor = Cursor::new(input);
     for at in 0..input.len() {
         cursor.go_to(at);
-        if begins_at(input[at], cursor.position(), place) {
+        if begins_at(input[at], cursor.location(), location) {
             return Some(at);
         }
     }
     cursor.go_to(input.len());
-    if cursor.position() == place {
+    if cursor.location() == location {
         return Some(input.len());
     }
     None

@@ -1,16 +1,16 @@
-//! The leaves of a lexer as a table.
+//! The leaves of a lexer as a table. Called by `logos_show`.
 
 use logos_inspect::{Costs, LeafRow};
-use logos_report::{Page, digits};
+use logos_page::{Page, digits};
 use std::cmp::max;
 
-/// How many columns of a page a tab is shown in.
+/// The width of a tab, in columns.
 const TAB: usize = 4;
 
-/// How many bytes of a pattern or a callback are shown.
+/// The maximum number of bytes of a pattern or a callback that are shown.
 const MOST: usize = 60;
 
-/// How many characters the columns of a table have.
+/// The widths of the columns of a table, in characters.
 #[derive(Clone, Copy)]
 struct Widths {
     variant: usize,
@@ -19,7 +19,7 @@ struct Widths {
     callback: usize,
 }
 
-/// Appends a table: the heads of its columns, and the rows of leaves with their numbers.
+/// Appends a table: the headings of its columns, and the rows of leaves with their numbers.
 pub fn push_rows(page: &mut Page, rows: &[LeafRow<'_>]) {
     let widths = widths_of(rows);
     push_heads(page, widths);
@@ -28,7 +28,7 @@ pub fn push_rows(page: &mut Page, rows: &[LeafRow<'_>]) {
     }
 }
 
-/// Appends what a lexer costs.
+/// Appends the cost of a lexer.
 pub fn push_costs(page: &mut Page, costs: Costs) {
     page.push("\n");
     push_cost(page, "states", costs.states);
@@ -37,7 +37,7 @@ pub fn push_costs(page: &mut Page, costs: Costs) {
     page.push("\n");
 }
 
-/// Returns what stands in the column of variants: the variant, or `skip`.
+/// Returns the cell in the column of variants: the variant, or `skip`.
 fn variant_cell<'l>(row: LeafRow<'l>) -> &'l str {
     match row.variant {
         Some(name) => name,
@@ -45,13 +45,13 @@ fn variant_cell<'l>(row: LeafRow<'l>) -> &'l str {
     }
 }
 
-/// Returns what stands in the column of patterns: the first line of the literal.
+/// Returns the cell in the column of patterns: the first line of the literal.
 fn pattern_cell<'l>(row: LeafRow<'l>) -> &'l str {
     first_line(row.pattern)
 }
 
-/// Returns what follows the literal in the column of patterns: the options of the definition, as
-/// its attribute has them.
+/// Returns the text after the literal in the column of patterns: the options of the definition, in
+/// the syntax of its attribute.
 fn options_cell(row: LeafRow<'_>) -> &'static str {
     match (row.options.ignores_case, row.options.allows_greedy) {
         (false, false) => "",
@@ -61,7 +61,7 @@ fn options_cell(row: LeafRow<'_>) -> &'static str {
     }
 }
 
-/// Returns what stands in the column of callbacks: the first line of the callback, or `-`.
+/// Returns the cell in the column of callbacks: the first line of the callback, or `-`.
 fn callback_cell<'l>(row: LeafRow<'l>) -> &'l str {
     match row.callback {
         Some(text) => first_line(text),
@@ -77,7 +77,7 @@ fn first_line(text: &str) -> &str {
     }
 }
 
-/// Returns the widths of the columns that hold these rows and the heads.
+/// Returns the widths of the columns for these rows and the headings.
 fn widths_of(rows: &[LeafRow<'_>]) -> Widths {
     let mut widths = Widths {
         variant: 7,
@@ -91,7 +91,7 @@ fn widths_of(rows: &[LeafRow<'_>]) -> Widths {
     widths
 }
 
-/// Returns the widths that hold one more row.
+/// Returns the widths for one more row.
 fn widened(widths: Widths, row: LeafRow<'_>) -> Widths {
     Widths {
         variant: max(widths.variant, width_of(variant_cell(row))),
@@ -101,12 +101,12 @@ fn widened(widths: Widths, row: LeafRow<'_>) -> Widths {
     }
 }
 
-/// Returns how many characters the pattern of a leaf is shown with, with its options.
+/// Returns the width of the pattern of a leaf with its options.
 fn pattern_width(row: LeafRow<'_>) -> usize {
     cut_width(pattern_cell(row)).saturating_add(options_cell(row).len())
 }
 
-/// Returns how many characters a text is shown with that is cut where it is long.
+/// Returns the width of a text that is cut if it is long.
 fn cut_width(text: &str) -> usize {
     match long_front(text) {
         Some(front) => width_of(front).saturating_add(2),
@@ -114,14 +114,14 @@ fn cut_width(text: &str) -> usize {
     }
 }
 
-/// Returns the front of a text that is shown with two dots after it, if the text is longer than
-/// that.
+/// Returns the prefix of a long text that is shown with two dots after it, or `None` for a short
+/// text.
 fn long_front(text: &str) -> Option<&str> {
     let (front, rest) = text.split_at_checked(text.floor_char_boundary(MOST))?;
     if rest.is_empty() { None } else { Some(front) }
 }
 
-/// Returns how many characters a text is shown with.
+/// Returns the width of a text.
 fn width_of(text: &str) -> usize {
     let mut width: usize = 0;
     for character in text.chars() {
@@ -130,12 +130,12 @@ fn width_of(text: &str) -> usize {
     width
 }
 
-/// Returns how many characters are shown for one.
+/// Returns the width of a character.
 fn columns_of(character: char) -> usize {
     if character == '\t' { TAB } else { 1 }
 }
 
-/// Appends the heads of the columns.
+/// Appends the headings of the columns.
 fn push_heads(page: &mut Page, widths: Widths) {
     page.push("leaf  ");
     push_cell(page, "variant", widths.variant);
@@ -168,13 +168,14 @@ fn push_row(page: &mut Page, number: usize, row: LeafRow<'_>, widths: Widths) {
     page.push("\n");
 }
 
-/// Appends a text as a terminal can show it, with spaces up to a width and two more after it.
+/// Appends a text in a form that cannot control a terminal, with spaces up to a width and two more
+/// after it.
 fn push_cell(page: &mut Page, text: &str, width: usize) {
     page.push_shown(text);
     page.push_times(" ", width.saturating_sub(width_of(text)).saturating_add(2));
 }
 
-/// Appends a text as a terminal can show it, cut where it is long.
+/// Appends a text in a form that cannot control a terminal, cut if it is long.
 fn push_cut(page: &mut Page, text: &str) {
     match long_front(text) {
         Some(front) => {
@@ -185,7 +186,7 @@ fn push_cut(page: &mut Page, text: &str) {
     }
 }
 
-/// Appends a number, with spaces in front of it up to a width, and two spaces after it.
+/// Appends a number, with spaces before it up to a width, and two spaces after it.
 fn push_right(page: &mut Page, number: usize, width: usize) {
     page.push_times(" ", width.saturating_sub(digits(number)));
     page.push_number(number);

@@ -1,4 +1,4 @@
--- What callbacks show.
+-- Views of callbacks.
 use Rattle.std.proofs.Common.{◌≡◌, refl}
 use Rattle.logos_pattern.specs.declared.leaf.Callback.{Callback}
 use Rattle.logos_pattern.specs.declared.leaf.Callback.TheVariants.{Label, Inline}

@@ -1,4 +1,4 @@
--- What literals that were read show.
+-- Views of literals that were read.
 use Rattle.std.proofs.Common.{◌≡◌, Option, Some, None, option_map, refl, sym}
 use Rattle.std.specs.Prelude.{IfSome}
 use Rattle.logos_token.specs.LiteralValues.{IsValue}

@@ -1,4 +1,4 @@
--- The callbacks that values of type `Callback` stand for.
+-- The callbacks that values of type `Callback` represent.
 use Rattle.logos_token.specs.Views.{stream_tokens}
 use Rattle.logos_pattern.specs.declared.leaf.Callback.{Callback}
 use Rattle.logos_pattern.specs.declared.leaf.Callback.TheVariants.{Label, Inline}

@@ -13,7 +13,7 @@ abbrev pub bar : ℕ
 bar = 124
 
 -- The tokens that name a function; or the parameter and the body of a closure, and the span of the
--- whole.
+-- whole closure.
 pub data CallbackView : Type 0 where
   label : (tokens : TokenList) → CallbackView
   inline : (arg : Slice) (body : TokenList) (span : Span) → CallbackView
@@ -28,7 +28,7 @@ callback_closure span = fault CallbackClosure (codes "Inline callbacks must use 
 abbrev pub callback_body : Span → Fault
 callback_body span = fault CallbackBody (codes "Callback missing a body") span
 
--- After the second `|`: the body; a group is the body without its delimiters.
+-- After the second `|`: the body. If it is a group, the body is the tokens inside it.
 abbrev pub body_in : Span → Slice → TokenList → Result CallbackView Fault
 body_in span arg none = Err (callback_body span)
 body_in span arg (also (group delimiter at inside) rest) = Ok (inline arg inside span)
@@ -44,14 +44,14 @@ abbrev pub parameter_in : Span → TokenList → Result CallbackView Fault
 parameter_in span (also (identifier text at) rest) = bar_in span (record { text = text; span = at }) rest
 parameter_in span run = Err (callback_closure span)
 
--- A callback: a closure begins with a lone `|`, anything else names a function.
+-- A callback: a closure begins with a lone `|`, and any other run names a function.
 abbrev pub callback_in : TokenList → Result CallbackView Fault
 callback_in none = Err (callback_closure (run_span none))
 callback_in (also first rest) =
     if is_alone bar first then parameter_in (run_span (also first rest)) rest
     else Ok (label (also first rest))
 
--- The report of a callback that has no name before it: the callback, or none and its fault.
+-- The report of a callback without a name before it: the callback, or its fault.
 abbrev pub callback_report : TokenList → Report (Option CallbackView)
 callback_report run = elim (callback_in run) [ Ok callback ↦ without_faults (Some callback) | Err cause ↦ with_faults None (only cause) ]
 
@@ -67,7 +67,8 @@ callback_no_value span = fault CallbackValue (codes "Not a valid callback") span
 abbrev pub callback_value_fault : TokenList → Fault
 callback_value_fault run = callback_no_value (run_span run)
 
--- The faults of a second `callback = ..`, with its value here and the former callback there.
+-- The faults of a second `callback = ..`. Its value is at `here`, and the former callback at
+-- `there`.
 abbrev pub twice_at : Slice → (here there : Span) → List Fault
 twice_at name here there = callback_twice name here ∷ previous_callback there ∷ []
 
@@ -75,7 +76,7 @@ abbrev pub callback_again : Slice → TokenList → Option CallbackView → List
 callback_again name run None = []
 callback_again name run (Some former) = twice_at name (run_span run) (view_span former)
 
--- The report of `callback = run` after a former callback: the new one replaces it.
+-- The report of `callback = run` after a former callback: the new callback replaces it.
 abbrev pub callback_set : Slice → TokenList → Option CallbackView → Report (Option CallbackView)
 callback_set name run former = elim (callback_in run) [
   | Ok callback ↦ with_faults (Some callback) (callback_again name run former)

@@ -30,7 +30,8 @@ ignore_token token = fault IgnoreToken ((codes "Unexpected token: \"" ++ escaped
 
 abbrev mutual
   -- The report of the flags in `ignore(..)`, up to the first fault. `name` is the word `ignore`,
-  -- and `ignore_case` is what was set before; `found` says whether a flag was read.
+  -- `ignore_case` is whether the flag `case` was set before, and `found` is whether a flag was
+  -- read.
   pub flags_report : Slice → (found ignore_case : Bool) → TokenList → Report Bool
   flags_report name found ignore_case none = with_faults ignore_case (if found then [] else only (ignore_empty name))
   flags_report name found ignore_case (also (identifier text span) rest) =

@@ -9,5 +9,5 @@ pub mod Slices
 pub mod Reports
 pub mod Values
 pub mod inside
-pub mod Words
+pub mod Imports
 pub mod Views

@@ -1,4 +1,4 @@
--- The literals that values of type `Literal` stand for.
+-- The literals that values of type `Literal` represent.
 use Rattle.logos_pattern.specs.declared.pattern.literal.Literal.{Literal}
 use Rattle.logos_pattern.specs.Literals.{token_of, held_value as value_of}
 use Rattle.logos_token.specs.Held.{held_value}

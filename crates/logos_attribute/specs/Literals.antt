@@ -17,7 +17,7 @@ pub record NamedLiteral : Type 0 where
   pub name : Slice
   pub literal : LiteralView
 
--- The fault of a run that is no literal.
+-- The fault of a run that is not a literal.
 abbrev pub literal_syntax : TokenList → Fault
 literal_syntax run = fault LiteralSyntax (codes "expected a literal") (run_span run)
 
@@ -29,7 +29,7 @@ abbrev pub text_by : Slice → Option Held → Option LiteralView
 text_by token (Some held) = Some (record { token = token; held = held })
 text_by token None = None
 
--- The string or byte string that a literal token is.
+-- The string or byte string of a literal token.
 abbrev pub text_in : Slice → Option LiteralView
 text_in token = text_by token (held token.text)
 
@@ -41,13 +41,13 @@ text_or_fault token None = with_faults None (only (not_text token))
 abbrev pub text_report : Slice → Report (Option LiteralView)
 text_report token = text_or_fault token (text_in token)
 
--- The report of the first piece of a definition; a piece without tokens has no fault here.
+-- The report of the first piece of a definition. A piece without tokens has no fault here.
 abbrev pub literal_report : TokenList → Report (Option LiteralView)
 literal_report none = without_faults None
 literal_report (also (literal text span) none) = text_report (record { text = text; span = span })
 literal_report run = with_faults None (only (literal_syntax run))
 
--- The string or byte string that a run is.
+-- The string or byte string that a run consists of.
 abbrev pub string_in : TokenList → Option LiteralView
 string_in (also (literal text span) none) = text_in (record { text = text; span = span })
 string_in run = None

@@ -1,4 +1,4 @@
--- The pieces that the views of an attribute's argument stand for.
+-- The pieces that views of an attribute's argument represent.
 use Rattle.std.specs.Prelude.{◌≡◌, List, ◌∷◌, Option, MatchOption, if◌then◌else◌}
 use Rattle.std.specs.Iterator.{YieldsFirstBy}
 use Rattle.logos_token.specs.Tokens.{TokenList, also}
@@ -13,7 +13,7 @@ use Rattle.logos_attribute.specs.declared.nested.AttributeParser.{AttributeParse
 use Rattle.logos_attribute.specs.Slices.{ident_slice, literal_slice}
 use Rattle.logos_attribute.specs.Pieces.{PieceValue, assigned, beside, grouped, keyed, Piece, unnamed, named, unexpected, pieces, after_group, rest_after_piece, rest_after_group}
 
--- The value of a piece that a view stands for.
+-- The value of a piece that a view represents.
 abbrev pub value_of : NestedValue → PieceValue
 value_of (Assign run) = assigned (tokens_of run)
 value_of (Literal literal) = beside (literal_slice literal)
@@ -25,23 +25,23 @@ piece_of (Unnamed run) = unnamed (tokens_of run)
 piece_of (Named name value) = named (ident_slice name) (value_of value)
 piece_of (Unexpected run) = unexpected (tokens_of run)
 
--- The pieces that are still to come.
+-- The pieces that have not been read.
 abbrev pub pieces_left : AttributeParser → List Piece
 pieces_left parser = if parser.after_group then after_group (tokens_of parser.rest) else pieces (tokens_of parser.rest)
 
--- The tokens that are left after the next piece.
+-- The tokens after the next piece.
 abbrev pub rest_after : AttributeParser → TokenList
 rest_after parser = if parser.after_group then rest_after_group (tokens_of parser.rest) else rest_after_piece (tokens_of parser.rest)
 
--- The parser gives the next of its pieces and takes the comma that ends it; or it has none, and
--- nothing changes.
-abbrev pub GivesNext : AttributeParser → Option Nested → AttributeParser → Type 0
-GivesNext old given new = YieldsFirstBy piece_of pieces_left old given new × MatchOption given (new ≡ old) (λ _. tokens_of new.rest ≡ rest_after old)
+-- The parser returns the next of its pieces and removes the comma that ends it; or it has no piece,
+-- and nothing changes.
+abbrev pub YieldsNext : AttributeParser → Option Nested → AttributeParser → Type 0
+YieldsNext old given new = YieldsFirstBy piece_of pieces_left old given new × MatchOption given (new ≡ old) (λ _. tokens_of new.rest ≡ rest_after old)
 
--- The pieces are this one and those that are still to come, and these tokens are left.
+-- The pieces are this one and those that have not been read, and these tokens are left.
 abbrev pub Cuts : List Piece → TokenList → Nested → AttributeParser → Type 0
 Cuts pieces rest piece parser = (pieces ≡ piece_of piece ∷ pieces_left parser) × (tokens_of parser.rest ≡ rest)
 
--- A run is a tree and the trees after it.
+-- A run consists of a tree and the trees after it.
 abbrev pub IsSplit : Tokens → TokenTree → Tokens → Type 0
 IsSplit run first rest = tokens_of run ≡ also (tree_of first) (tokens_of rest)

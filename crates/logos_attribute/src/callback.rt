@@ -1,4 +1,5 @@
-//! Reads callbacks in the arguments of attributes. Definitions and error types call it.
+//! Reads callbacks in the arguments of attributes. The readers of definitions and of error types
+//! call it.
 
 ghost use Rattle.std.specs.Prelude.{◌≡◌, ◌++◌, ◌∷◌, [], IfOk, OnOk, OnErr, option_map};
 ghost use Rattle.logos_attribute.specs.Views.{run_span, tokens_of, ident_slice, IsReport, AddsFault, body_in, bar_in, parameter_in, callback_in, callback_report, callback_set, twice_at, view_span, callback_closure, callback_body, callback_no_value, callback_view, run_view, callback_fault, read_view};
@@ -26,7 +27,7 @@ enum CallbackFault {
     Body,
 }
 
-/// Returns the closure with this parameter whose body comes next.
+/// Returns the closure with this parameter and the body at the front of the tokens.
 fn body_in<'t, 's>(
     arg: Ident<'s>,
     tokens: Tokens<'t, 's>,
@@ -41,7 +42,7 @@ fn body_in<'t, 's>(
     }
 }
 
-/// Returns the closure with this parameter, after which `|` and the body come next.
+/// Returns the closure with this parameter and the body after the `|` at the front of the tokens.
 fn bar_in<'t, 's>(
     arg: Ident<'s>,
     tokens: Tokens<'t, 's>,
@@ -56,7 +57,7 @@ fn bar_in<'t, 's>(
     }
 }
 
-/// Returns the closure whose parameter comes next.
+/// Returns the closure with the parameter at the front of the tokens.
 fn parameter_in<'t, 's>(tokens: Tokens<'t, 's>) -> Result<CallbackRun<'t, 's>, CallbackFault>
     ensures { (span : Span) → read_view span result ≡ parameter_in span (tokens_of tokens.entry) }
 {
@@ -66,7 +67,7 @@ fn parameter_in<'t, 's>(tokens: Tokens<'t, 's>) -> Result<CallbackRun<'t, 's>, C
     }
 }
 
-/// Returns the callback that a run is.
+/// Returns the callback that a run spells.
 fn callback_in<'t, 's>(tokens: Tokens<'t, 's>) -> Result<CallbackRun<'t, 's>, CallbackFault>
     ensures { read_view (run_span (tokens_of tokens.entry)) result
         ≡ callback_in (tokens_of tokens.entry) }
@@ -125,7 +126,7 @@ fn report_callback(errors: &mut Errors, cause: CallbackFault, span: Span) -> Res
     Ok(())
 }
 
-/// Reads a callback that has no name before it. Reports a run that is not a callback, and returns
+/// Reads a callback without a name before it. Reports a run that is not a callback, and returns
 /// `None` for it.
 ///
 /// # Errors
@@ -191,8 +192,8 @@ fn report_no_callback(errors: &mut Errors, cause: CallbackFault, span: Span) -> 
     errors.append(found)
 }
 
-/// Sets the callback of `callback = ..`, in place of a former one, which is reported. Reports a run
-/// that is not a callback, and sets nothing then.
+/// Sets the callback of `callback = ..`. Reports and replaces a former one. Reports a run that is
+/// not a callback, and sets nothing in that case.
 ///
 /// # Errors
 ///

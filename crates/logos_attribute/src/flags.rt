@@ -1,10 +1,10 @@
-//! Reads the flags in `ignore(..)`.
+//! Reads the flags in `ignore(..)`. The reader of definitions calls it.
 
 ghost use Rattle.std.specs.Prelude.{◌≡◌, OnOk, OnErr, IfOk, false, string_bytes};
 ghost use Rattle.logos_attribute.specs.Views.{also, none, tokens_of, tree_of, printed, Slice, ident_slice, IsReport, AddsFault, flags_report, ignore_ascii, other_flag, ignore_empty, ignore_token, GoesOn, HasCase, IsSplit};
 
 use crate::nested::split;
-use crate::reporting::{report_form, report_named};
+use crate::reports::{report_form, report_named};
 use logos_token::error::{Errors, FaultCode, Memory};
 use logos_token::token::{Ident, TokenTree, Tokens, print};
 use logos_token::util::{is_punct, push_escaped};
@@ -24,7 +24,7 @@ fn first_printed(
     Ok(text)
 }
 
-/// Reports the first token of a run, which stands where a comma should.
+/// Reports the first token of a run, which is not the comma that is expected there.
 fn report_no_comma(
     tokens: Tokens<'_, '_>,
     tree: TokenTree<'_, '_>,
@@ -85,8 +85,8 @@ fn report_none(name: Ident<'_>, errors: &mut Errors) -> Result<(), Memory>
     )
 }
 
-/// Returns the tokens after the comma that follows `case`. `None` if no comma is there; reports a
-/// token that is there in its place.
+/// Returns the tokens after the comma that follows `case`. Returns `None` if there is no comma, and
+/// reports a token in place of the comma.
 fn after_flag<'t, 's>(
     tokens: Tokens<'t, 's>,
     errors: &mut Errors,
@@ -104,8 +104,8 @@ fn after_flag<'t, 's>(
     Ok(None)
 }
 
-/// Returns the tokens after `case` if that comes first. `None` if it does not, and the reading of
-/// flags ends; reports what is wrong if anything is.
+/// Returns the tokens after `case` if that comes first. Otherwise returns `None`, which ends the
+/// reading of flags, and reports the fault if there is one.
 fn read_case<'t, 's>(
     name: Ident<'s>,
     found: bool,
@@ -137,7 +137,7 @@ fn read_case<'t, 's>(
     }
 }
 
-/// Sets what the flags say, and reports the first fault among them. After an error some can be set.
+/// Sets the flags, and reports the first fault among them. After an error some flags may be set.
 fn set_flags<'s>(
     ignore_case: &mut bool,
     name: Ident<'s>,
@@ -161,8 +161,8 @@ fn set_flags<'s>(
     Ok(())
 }
 
-/// Sets what the flags in the group after `ignore` say, and reports the first fault among them.
-/// `name` is the word `ignore`. The flags before a fault stay set.
+/// Sets the flags in the group after `ignore`, and reports the first fault among them. `name` is
+/// the identifier `ignore`. The flags before a fault remain set.
 ///
 /// # Errors
 ///

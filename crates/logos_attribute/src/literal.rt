@@ -1,11 +1,11 @@
-//! Reads strings and byte strings in an attribute's argument. Definitions, subpatterns and the path
-//! of `export_dir` call it.
+//! Reads strings and byte strings in an attribute's argument. The readers of definitions,
+//! subpatterns and the path of `export_dir` call it.
 
 ghost use Rattle.std.specs.Prelude.{◌≡◌, OnOk, OnErr, IfOk, option_map};
-ghost use Rattle.logos_attribute.specs.Words.{tokens_of, literal_slice, IsReport, AddsFault, literal_syntax, not_text, text_in, text_report, literal_report, string_in, literal_view};
+ghost use Rattle.logos_attribute.specs.Imports.{tokens_of, literal_slice, IsReport, AddsFault, literal_syntax, not_text, text_in, text_report, literal_report, string_in, literal_view};
 
 use crate::nested::split;
-use crate::reporting::report_run;
+use crate::reports::report_run;
 use logos_pattern::pattern::Literal;
 use logos_token::error::{Errors, FaultCode, Memory};
 use logos_token::token;
@@ -44,7 +44,7 @@ pub fn report_syntax(tokens: Tokens<'_, '_>, errors: &mut Errors) -> Result<(), 
     )
 }
 
-/// Returns the string or byte string that a literal is. `None` if it is neither.
+/// Returns the string or byte string of a literal. Returns `None` if the literal is neither.
 fn text_in<'s>(alloc: Global, token: token::Literal<'s>) -> Result<Option<Literal<'s>>, Memory>
     ensures { IfOk result (λ literal.
         option_map literal_view literal ≡ text_in (literal_slice token.entry)) }
@@ -103,7 +103,7 @@ pub fn read_literal<'s>(
     }
 }
 
-/// Returns the string or byte string that a run is. `None` if it is neither.
+/// Returns the string or byte string that a run consists of. Returns `None` if it is neither.
 ///
 /// # Errors
 ///

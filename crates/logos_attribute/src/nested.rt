@@ -1,13 +1,13 @@
-//! Cuts the argument of an attribute into pieces: views of its tokens, which copy nothing.
-//! `logos_definition` takes the pieces one by one.
+//! Splits the argument of an attribute into pieces: views of its tokens, which copy nothing.
+//! `logos_definition` reads the pieces one by one.
 
 ghost use Rattle.std.specs.Prelude.{◌≡◌, MatchOption, [], ◌≢◌};
-ghost use Rattle.logos_attribute.specs.Views.{Token, TokenList, none, also, append, rest_of, tokens_of, tree_of, ident_slice, literal_slice, up_to_comma, after_comma, pieces, after_name, after_group, after_keyword, through_comma, without_comma, rest_after_name, rest_after_piece, rest_after_group, name_token, named, assigned, beside, keyed, unnamed, unexpected, first_run, after_mark, item_count, Cuts, IsSplit, piece_of, pieces_left, rest_after, GivesNext};
+ghost use Rattle.logos_attribute.specs.Views.{Token, TokenList, none, also, append, rest_of, tokens_of, tree_of, ident_slice, literal_slice, up_to_comma, after_comma, pieces, after_name, after_group, after_keyword, through_comma, without_comma, rest_after_name, rest_after_piece, rest_after_group, name_token, named, assigned, beside, keyed, unnamed, unexpected, first_run, after_mark, item_count, Cuts, IsSplit, piece_of, pieces_left, rest_after, YieldsNext};
 
 use logos_token::token::{Ident, Literal, TokenTree, Tokens};
 use logos_token::util::is_punct;
 
-/// What follows the name of a piece.
+/// The tokens after the name of a piece.
 #[derive(Clone, Copy)]
 pub enum NestedValue<'t, 's> {
     /// `name = ..`
@@ -23,7 +23,7 @@ pub enum NestedValue<'t, 's> {
 /// A piece of an attribute's argument: a view, which copies nothing.
 #[derive(Clone, Copy)]
 pub enum Nested<'t, 's> {
-    /// Tokens that begin with no name, or with a name and nothing that belongs to it.
+    /// Tokens that do not begin with a name, or a name without a value.
     Unnamed(Tokens<'t, 's>),
     /// A name and its value.
     Named(Ident<'s>, NestedValue<'t, 's>),
@@ -31,7 +31,8 @@ pub enum Nested<'t, 's> {
     Unexpected(Tokens<'t, 's>),
 }
 
-/// Cuts an attribute's argument into pieces, at each comma that no punctuation follows directly.
+/// Splits an attribute's argument into pieces, at each comma that is not directly followed by
+/// punctuation (a lone comma).
 #[derive(Clone, Copy)]
 pub struct AttributeParser<'t, 's> {
     rest: Tokens<'t, 's>,
@@ -39,7 +40,7 @@ pub struct AttributeParser<'t, 's> {
     after_group: bool,
 }
 
-/// Returns the first tree and the trees after it.
+/// Returns the first tree and the trees after it, or `None` if the run is empty.
 pub fn split<'t, 's>(tokens: Tokens<'t, 's>) -> Option<(TokenTree<'t, 's>, Tokens<'t, 's>)>
     ensures { MatchOption result
         (tokens_of tokens.entry ≡ none)
@@ -49,7 +50,7 @@ pub fn split<'t, 's>(tokens: Tokens<'t, 's>) -> Option<(TokenTree<'t, 's>, Token
     Some((tree, tokens.rest()))
 }
 
-/// Returns the first lone comma and what follows it; nothing where there is no such comma.
+/// Returns the tokens from the first lone comma on, or an empty run if there is no such comma.
 fn comma_in<'t, 's>(tokens: Tokens<'t, 's>) -> Tokens<'t, 's>
     ensures parts { tokens_of tokens.entry
         ≡ append (up_to_comma (tokens_of tokens.entry)) (tokens_of result) }
@@ -65,7 +66,7 @@ fn comma_in<'t, 's>(tokens: Tokens<'t, 's>) -> Tokens<'t, 's>
     rest
 }
 
-/// Returns the run up to the first lone comma, and what follows that comma.
+/// Returns the run up to the first lone comma, and the tokens after that comma.
 fn run_at<'t, 's>(tokens: Tokens<'t, 's>) -> (Tokens<'t, 's>, Tokens<'t, 's>)
     ensures run { tokens_of result.0 ≡ up_to_comma (tokens_of tokens.entry) }
     ensures after { tokens_of result.1 ≡ after_comma (tokens_of tokens.entry) }
@@ -74,8 +75,8 @@ fn run_at<'t, 's>(tokens: Tokens<'t, 's>) -> (Tokens<'t, 's>, Tokens<'t, 's>)
     (tokens.before(end), end.rest())
 }
 
-/// Returns the first tree, whatever it is, with the run up to the next lone comma; and what follows
-/// that comma.
+/// Returns the run that consists of the first tree of any kind and the trees up to the next lone
+/// comma. Also returns the tokens after that comma.
 fn run_from<'t, 's>(tokens: Tokens<'t, 's>) -> (Tokens<'t, 's>, Tokens<'t, 's>)
     ensures run { tokens_of result.0 ≡ first_run (tokens_of tokens.entry) }
     ensures after { tokens_of result.1 ≡ after_comma (rest_of (tokens_of tokens.entry)) }
@@ -84,7 +85,7 @@ fn run_from<'t, 's>(tokens: Tokens<'t, 's>) -> (Tokens<'t, 's>, Tokens<'t, 's>)
     (tokens.before(end), end.rest())
 }
 
-/// Returns a parser of the pieces that begin here.
+/// Returns a parser of the pieces of these tokens.
 fn begin<'t, 's>(tokens: Tokens<'t, 's>) -> AttributeParser<'t, 's>
     ensures pieces { pieces_left result ≡ pieces (tokens_of tokens.entry) }
     ensures rest { result.rest ≡ tokens.entry }
@@ -95,7 +96,7 @@ fn begin<'t, 's>(tokens: Tokens<'t, 's>) -> AttributeParser<'t, 's>
     }
 }
 
-/// Reads what is assigned to a name.
+/// Reads the value that is assigned to a name.
 fn assigned_at<'t, 's>(
     name: Ident<'s>,
     tokens: Tokens<'t, 's>,
@@ -110,7 +111,7 @@ fn assigned_at<'t, 's>(
     (Nested::Named(name, NestedValue::Assign(run)), begin(rest))
 }
 
-/// Reads what is assigned to a second name.
+/// Reads the value that is assigned to a second name.
 fn keyed_at<'t, 's>(
     keyword: Ident<'s>,
     name: Ident<'s>,
@@ -130,7 +131,7 @@ fn keyed_at<'t, 's>(
     )
 }
 
-/// Reads a name and a literal, and leaves out the tokens up to the comma.
+/// Reads a name and a literal, and skips the tokens up to the comma.
 fn beside_at<'t, 's>(
     name: Ident<'s>,
     literal: Literal<'s>,
@@ -159,7 +160,7 @@ fn unexpected_at<'t, 's>(tokens: Tokens<'t, 's>) -> (Nested<'t, 's>, AttributePa
     (Nested::Unexpected(run), begin(rest))
 }
 
-/// Reads the first tree, whatever it is, and the tokens up to the comma.
+/// Reads the first tree of any kind, and the tokens up to the comma.
 fn unnamed_at<'t, 's>(tokens: Tokens<'t, 's>) -> (Nested<'t, 's>, AttributeParser<'t, 's>)
     ensures { (first : Token) (rest : TokenList) → tokens_of tokens.entry ≡ also first rest →
         Cuts (through_comma (λ run. unnamed (also first run)) rest) (after_comma rest)
@@ -169,7 +170,7 @@ fn unnamed_at<'t, 's>(tokens: Tokens<'t, 's>) -> (Nested<'t, 's>, AttributeParse
     (Nested::Unnamed(run), begin(rest))
 }
 
-/// Reads what follows two names.
+/// Reads the tokens after two names.
 fn keyword_at<'t, 's>(
     keyword: Ident<'s>,
     name: Ident<'s>,
@@ -193,7 +194,8 @@ fn keyword_at<'t, 's>(
     unexpected_at(tokens)
 }
 
-/// Reads what follows a name, with which `whole` begins, where that is no name, literal or group.
+/// Reads the tokens after the name at the start of `whole`, the first of which is not a name,
+/// literal or group.
 fn mark_at<'t, 's>(
     whole: Tokens<'t, 's>,
     name: Ident<'s>,
@@ -213,8 +215,8 @@ fn mark_at<'t, 's>(
     unnamed_at(whole)
 }
 
-/// Returns a parser of the pieces after a name and a group. A comma there is taken at once, so that
-/// a run that is read next begins after it.
+/// Returns a parser of the pieces after a name and a group. A comma at the front is removed at
+/// once, so that a run that is read next begins after it.
 fn end_group<'t, 's>(tokens: Tokens<'t, 's>) -> AttributeParser<'t, 's>
     ensures pieces { pieces_left result ≡ after_group (tokens_of tokens.entry) }
     ensures rest { tokens_of result.rest ≡ without_comma (tokens_of tokens.entry) }
@@ -228,7 +230,7 @@ fn end_group<'t, 's>(tokens: Tokens<'t, 's>) -> AttributeParser<'t, 's>
     }
 }
 
-/// Reads what follows a name, with which `whole` begins.
+/// Reads the tokens after the name at the start of `whole`.
 fn name_at<'t, 's>(
     whole: Tokens<'t, 's>,
     name: Ident<'s>,
@@ -258,7 +260,7 @@ fn name_at<'t, 's>(
     }
 }
 
-/// Returns the piece that begins here, and a parser of what follows it.
+/// Returns the piece at the front, and a parser of the tokens after it.
 fn piece_at<'t, 's>(tokens: Tokens<'t, 's>) -> Option<(Nested<'t, 's>, AttributeParser<'t, 's>)>
     ensures { MatchOption result
         (pieces (tokens_of tokens.entry) ≡ [])
@@ -276,7 +278,7 @@ fn piece_at<'t, 's>(tokens: Tokens<'t, 's>) -> Option<(Nested<'t, 's>, Attribute
     }
 }
 
-/// Returns the piece that follows a name and a group, and a parser of what follows it.
+/// Returns the piece that follows a name and a group, and a parser of the tokens after it.
 fn piece_after_group<'t, 's>(
     tokens: Tokens<'t, 's>,
 ) -> Option<(Nested<'t, 's>, AttributeParser<'t, 's>)>
@@ -302,8 +304,8 @@ impl<'t, 's> AttributeParser<'t, 's> {
         begin(tokens)
     }
 
-    /// Takes the tokens up to the next comma that cuts, and that comma, and returns these tokens.
-    /// `None` if no token comes before that comma.
+    /// Removes the tokens up to the next lone comma, and that comma, and returns these tokens.
+    /// Returns `None` if no token comes before that comma.
     pub fn run(&mut self) -> Option<Tokens<'t, 's>>
         ensures run { MatchOption result
             (up_to_comma (tokens_of self.old.rest) ≡ none)
@@ -336,12 +338,12 @@ impl<'t, 's> AttributeParser<'t, 's> {
 impl<'t, 's> Iterator for AttributeParser<'t, 's> {
     type Item = Nested<'t, 's>;
 
-    ghost next_gives = { GivesNext };
+    ghost next_gives = { YieldsNext };
 
     ghost remaining = { item_count pieces_left };
 
-    /// Returns the next piece and takes the comma that ends it, so that `run` and `parsed` go on
-    /// after that comma. After `None` nothing has changed.
+    /// Returns the next piece and removes the comma that ends it, so that `run` and `parsed`
+    /// continue after that comma. If the result is `None`, nothing has changed.
     fn next(&mut self) -> Option<Nested<'t, 's>> {
         let (nested, rest) = self.read()?;
         *self = rest;

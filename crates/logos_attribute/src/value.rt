@@ -1,7 +1,8 @@
-//! Reads numbers and booleans in an attribute's argument.
+//! Reads numbers and booleans in an attribute's argument. The readers of definitions and options
+//! call it.
 
 ghost use Rattle.std.specs.Prelude.{◌≡◌};
-ghost use Rattle.logos_attribute.specs.Words.{all_ascii_digits, tokens_of, decimal, number_in, boolean_named, boolean_in};
+ghost use Rattle.logos_attribute.specs.Imports.{all_ascii_digits, tokens_of, decimal, number_in, boolean_named, boolean_in};
 
 use crate::nested::split;
 use logos_token::token::{TokenTree, Tokens};
@@ -18,7 +19,7 @@ fn all_digits(bytes: &[u8]) -> bool
     true
 }
 
-/// Returns the number that decimal digits write, if it fits `usize`.
+/// Returns the number that decimal digits spell, if it fits `usize`.
 #[tactic(auto, using(crate::proofs::NumberLemmas::decimal_parsed))]
 fn decimal(text: &str) -> Option<usize>
     ensures { result ≡ decimal text.now }
@@ -29,8 +30,8 @@ fn decimal(text: &str) -> Option<usize>
     text.parse::<usize>().ok()
 }
 
-/// Returns the number that a run is: one literal of decimal digits, without a suffix, whose value
-/// fits `usize`. `None` if it is anything else.
+/// Returns the number that a run spells: one literal of decimal digits, without a suffix, whose
+/// value fits `usize`. Returns `None` for any other run.
 pub fn number_in(tokens: Tokens<'_, '_>) -> Option<usize>
     ensures { result ≡ number_in (tokens_of tokens.entry) }
 {
@@ -40,7 +41,7 @@ pub fn number_in(tokens: Tokens<'_, '_>) -> Option<usize>
     }
 }
 
-/// Returns the boolean that a word names.
+/// Returns the boolean that a word spells.
 fn boolean_named(text: &str) -> Option<bool>
     ensures { result ≡ boolean_named text.now }
 {
@@ -53,8 +54,8 @@ fn boolean_named(text: &str) -> Option<bool>
     None
 }
 
-/// Returns the boolean that a run is: the identifier `true` or `false` alone. `None` if it is
-/// anything else.
+/// Returns the boolean that a run spells: the identifier `true` or `false` alone. Returns `None`
+/// for any other run.
 pub fn boolean_in(tokens: Tokens<'_, '_>) -> Option<bool>
     ensures { result ≡ boolean_in (tokens_of tokens.entry) }
 {

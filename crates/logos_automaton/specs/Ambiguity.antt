@@ -4,12 +4,13 @@ use Rattle.std.specs.List.Sorted.{IsStrictlyIncreasing}
 use Rattle.logos_hir.specs.Text.{IsBytes}
 use Rattle.logos_automaton.specs.Munch.{Rule, RuleMatches, priority_of}
 
--- The rule matches the span, and none that matches it has a higher priority.
+-- The rule matches the span, and no rule with a higher priority does.
 pub record IsHighest (rules : List Rule) (bytes : List ℕ) (from to leaf : ℕ) : Type 0 where
   pub matches : RuleMatches rules leaf bytes from to
   pub highest : (other : ℕ) → RuleMatches rules other bytes from to → priority_of rules other ≤ priority_of rules leaf
 
--- These are all rules of highest priority at some span of some bytes, and there are two or more.
+-- These are all rules with the highest priority at some span of some bytes, and there are two or
+-- more.
 pub record IsAmbiguous (rules : List Rule) (set : List ℕ) : Type 0 where
   pub several : 2 ≤ length set
   pub ascending : IsStrictlyIncreasing set

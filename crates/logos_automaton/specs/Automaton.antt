@@ -1,11 +1,11 @@
--- What contracts see of an automaton.
+-- The views of an automaton in contracts.
 use Rattle.std.specs.Prelude.{◌≡◌, ℕ, ◌<◌, ◌≤◌, ◌↔◌, ◌⊎◌, List, [], ◌∷◌, ◌++◌, length, Option, None, Some, Contains, slice_get, option_and_then}
 use Rattle.std.specs.List.Sorted.{IsStrictlyIncreasing}
 use Rattle.logos_hir.specs.Text.{IsBytes}
 use Rattle.logos_automaton.specs.Munch.{Rule, RuleMatches}
 
--- An automaton: for each state its targets by bytes, its target at the end, and the leaves that it
--- lists.
+-- An automaton: for each state its targets for bytes, its target for the end, and the leaves that
+-- it lists.
 pub record Automaton : Type 0 where
   pub start : ℕ
   pub by_byte : List (List ℕ)
@@ -39,9 +39,9 @@ pub record ReadsOneByteLate (rules : List Rule) (dfa : Automaton) : Type 0 where
   pub at_end : (bytes : List ℕ) → IsBytes bytes →
       Lists dfa (dfa_at_end dfa bytes) (λ leaf. RuleMatches rules leaf bytes 0 (length bytes))
 
--- Each state has a target by each byte and by the end, and comes after some bytes, or after some
--- bytes and the end. The start lists nothing. After the end comes the dead state, which lists
--- nothing and leads to itself alone.
+-- Each state has a target for each byte and for the end, and is reached by some bytes, or by some
+-- bytes and the end. The start lists nothing. The end leads to the dead state, which lists nothing
+-- and leads only to itself.
 pub record IsTotal (dfa : Automaton) : Type 0 where
   pub start_lists : slice_get dfa.matches dfa.start ≡ Some []
   pub rows : length dfa.by_byte ≡ length dfa.matches

@@ -1,6 +1,6 @@
--- An automaton while it is built, and why there may be none.
+-- An automaton while it is built, and the reasons why it is not built.
 use Rattle.std.specs.Prelude.{◌≡◌, ℕ, ◌<◌, ◌≤◌, Bool, List, length}
-use Rattle.logos_places.specs.Core.{Core}
+use Rattle.logos_positions.specs.Core.{Core}
 use Rattle.logos_automaton.specs.Keys.{start_state, IsAt, AreRising, AreDistinct, AreReached, AreRows}
 use Rattle.logos_automaton.specs.Munch.{Rule}
 use Rattle.logos_automaton.specs.ReadKeys.{HasMoreKeys}
@@ -8,7 +8,7 @@ use Rattle.logos_automaton.specs.declared.errors.BuildError.{BuildError}
 use Rattle.logos_automaton.specs.declared.errors.BuildError.TheVariants.{LimitSize, LimitStates, Memory}
 use Rattle.logos_automaton.specs.declared.key.Key.{Key}
 
--- The first states have their targets, and the states stay within the limit.
+-- The first states have their targets, and the number of states is within the limit.
 pub record IsUnderway (ts : List Core) (looks : Bool) (ks : List Key) (rows : List (List ℕ)) (ends : List ℕ) : Type 0 where
   pub start_is : IsAt ks 0 start_state
   pub rising : AreRising ks
@@ -26,14 +26,14 @@ pub record HasMoreStates (ts : List Core) (looks : Bool) (limit : ℕ) : Type 0 
   pub reached : AreReached ts looks keys
   pub many : limit < length keys
 
--- Why there is no automaton of the patterns.
+-- The condition under which no automaton of the patterns is built.
 abbrev pub FailsOn : List Core → Bool → BuildError → Type 0
 FailsOn ts looks LimitSize = ⊥
 FailsOn ts looks LimitStates = HasMoreStates ts looks 65536
 FailsOn ts looks Memory = Unit {0}
 
--- Why there is no automaton of the rules: their byte strings have more keys than the limit, or
--- there is no memory.
+-- The condition under which no automaton of the rules is built: their byte strings have more keys
+-- than the limit, or memory ran out.
 abbrev pub FailsFor : List Rule → BuildError → Type 0
 FailsFor rules LimitSize = ⊥
 FailsFor rules LimitStates = HasMoreKeys rules 65536

@@ -8,39 +8,39 @@ use Rattle.logos_automaton.specs.Ambiguity.{IsAmbiguous}
 
 -- A fault of rules, by the numbers of its rules.
 pub data Fault : Type 0 where
-  -- Some tree can meet a look before its first byte.
+  -- Some tree can have a look-around assertion before its first byte.
   no_universal_start : Fault
-  -- The leaf can match nothing.
+  -- The leaf can match the empty string.
   empty_match : ℕ → Fault
   -- Length and priority do not distinguish these leaves.
   disambiguation : List ℕ → Fault
 
--- The first list comes before the second, as lists of numbers are compared.
+-- The first list is less than the second in lexicographic order.
 abbrev pub IsBefore : List ℕ → List ℕ → Type 0
 IsBefore [] [] = ⊥
 IsBefore [] (y ∷ ys) = Unit {0}
 IsBefore (x ∷ xs) [] = ⊥
 IsBefore (x ∷ xs) (y ∷ ys) = (x < y) ⊎ ((x ≡ y) × IsBefore xs ys)
 
--- Each list comes before the next.
+-- Each list is less than the next.
 abbrev pub Ascends : List (List ℕ) → Type 0
 Ascends [] = Unit {0}
 Ascends (xs ∷ []) = Unit {0}
 Ascends (xs ∷ ys ∷ rest) = IsBefore xs ys × Ascends (ys ∷ rest)
 
--- Some tree can meet a look before its first byte.
+-- Some tree can have a look-around assertion before its first byte.
 abbrev pub some_leads : List Rule → Bool
 some_leads rules = list_any (λ rule. leads rule.tree) rules
 
--- Some tree can be passed without a byte.
+-- Some tree matches the empty string.
 abbrev pub some_passable : List Rule → Bool
 some_passable rules = list_any (λ rule. passable rule.tree) rules
 
--- No tree can be passed without a byte or meet a look before its first one.
+-- No tree matches the empty string or has a look-around assertion before its first byte.
 abbrev pub AllStart : List Rule → Type 0
 AllStart rules = IsFalse (some_leads rules) × IsFalse (some_passable rules)
 
--- The leaves whose trees can be passed without a byte, in ascending order.
+-- The leaves whose trees match the empty string, in ascending order.
 pub record ArePassable (rules : List Rule) (leaves : List ℕ) : Type 0 where
   pub ascending : IsStrictlyIncreasing leaves
   pub exactly : (leaf : ℕ) → Contains leaves leaf ↔ IsSomeAnd (slice_get rules leaf) (λ rule. IsTrue (passable rule.tree))
@@ -50,8 +50,8 @@ pub record AreAmbiguous (rules : List Rule) (sets : List (List ℕ)) : Type 0 wh
   pub ascending : Ascends sets
   pub exactly : (set : List ℕ) → Contains sets set ↔ IsAmbiguous rules set
 
--- The faults: a missing universal start alone, else the empty matches alone, else the ambiguous
--- sets.
+-- The faults: only the missing universal start if there is one, otherwise only the empty matches if
+-- there are any, and otherwise the ambiguous sets.
 abbrev pub AreFaults : List Rule → List Fault → Type 0
 AreFaults rules faults =
     MatchBool (some_leads rules) (faults ≡ no_universal_start ∷ [])

@@ -14,5 +14,5 @@ pub mod Targets
 pub mod View
 pub mod Walks
 pub mod inside
-pub mod Words
+pub mod Imports
 pub mod Views

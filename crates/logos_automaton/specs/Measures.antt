@@ -1,6 +1,6 @@
 -- The size of rules, and sizes up to the limit.
 use Rattle.std.specs.Prelude.{◌≡◌, ◌<◌, ◌≤◌, ◌^◌, ℕ, List, sum_by, Option, MatchOption}
-use Rattle.logos_places.specs.Size.{size}
+use Rattle.logos_positions.specs.Size.{size}
 use Rattle.logos_automaton.specs.Munch.{Rule}
 
 -- The number, if it is at most 1,048,576.

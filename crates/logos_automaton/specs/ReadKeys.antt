@@ -1,10 +1,10 @@
--- The keys of byte strings, which bound the states of the automaton.
+-- The keys of byte strings, which bound the number of states of the automaton.
 use Rattle.std.specs.Prelude.{◌≡◌, ℕ, ◌<◌, ◌↔◌, List, [], ◌∷◌, ◌++◌, length, Some, if◌then◌else◌, ◌==◌, slice_get, IfSome, IsSomeAnd, AllPairs}
 use Rattle.std.specs.List.{list_any}
 use Rattle.logos_hir.specs.Text.{IsBytes}
 use Rattle.logos_hir.specs.Looks.{is_word}
 use Rattle.logos_automaton.specs.Munch.{Rule, RuleMatches}
-use Rattle.logos_places.specs.Places.{Place, Reads, has_look}
+use Rattle.logos_positions.specs.Positions.{Position, Reads, has_look}
 
 pub data Kind : Type 0 where
   unseen : Kind
@@ -13,7 +13,7 @@ pub data Kind : Type 0 where
   lf : Kind
   other : Kind
 
--- What looks see of a byte.
+-- The kind of a byte, as look-around assertions distinguish it.
 abbrev pub kind_of : ℕ → Kind
 kind_of b = if is_word (Some b) then word else if b == 13 then cr else if b == 10 then lf else other
 
@@ -28,14 +28,14 @@ module _ (rules : List Rule) where
   abbrev pub seen_kind : ℕ → Kind
   seen_kind b = if list_any (λ rule. has_look rule.tree) rules then kind_of b else unseen
 
-  -- The place of the rule can have read the last byte.
-  abbrev pub HasRead : ℕ → Place → List ℕ → ℕ → Type 0
-  HasRead leaf place before last =
-      IsSomeAnd (slice_get rules leaf) (λ rule. Reads rule.tree (before ++ last ∷ []) 0 place (length before))
+  -- The position of the rule can have read the last byte.
+  abbrev pub HasRead : ℕ → Position → List ℕ → ℕ → Type 0
+  HasRead leaf position before last =
+      IsSomeAnd (slice_get rules leaf) (λ rule. Reads rule.tree (before ++ last ∷ []) 0 position (length before))
 
   -- Two byte strings have the same key.
   pub record SameAfter (u : List ℕ) (b : ℕ) (v : List ℕ) (c : ℕ) : Type 0 where
-    pub places : (leaf : ℕ) (place : Place) → HasRead leaf place u b ↔ HasRead leaf place v c
+    pub positions : (leaf : ℕ) (position : Position) → HasRead leaf position u b ↔ HasRead leaf position v c
     pub kind : seen_kind b ≡ seen_kind c
     pub leaves : (leaf : ℕ) → RuleMatches rules leaf (u ++ b ∷ []) 0 (length u) ↔ RuleMatches rules leaf (v ++ c ∷ []) 0 (length v)
 

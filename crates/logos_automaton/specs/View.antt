@@ -1,12 +1,12 @@
--- What contracts see of rules.
+-- The views of rules in contracts.
 use Rattle.std.specs.Prelude.{List, map}
 use Rattle.logos_hir.specs.Hir.{tree_of}
 use Rattle.logos_automaton.specs.Munch.{Rule}
 use Rattle.logos_automaton.specs.declared.rule.RuleView.{RuleView}
 
 abbrev pub rule_of : RuleView → Rule
-rule_of view = record { tree = tree_of view.tree.now; priority = view.priority; use_of = record { skips = view.skips; asks = view.asks } }
+rule_of view = record { tree = tree_of view.tree.now; priority = view.priority; use_of = record { skips = view.skips; calls_back = view.calls_back } }
 
--- The rules that a call is given.
+-- The rules that an argument represents.
 abbrev pub rules_of : List RuleView → List Rule
 rules_of = map rule_of

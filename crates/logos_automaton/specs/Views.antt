@@ -1,5 +1,5 @@
--- Definitions that clauses cite: those of `Words`, and those that name types of this crate.
-pub use Rattle.logos_automaton.specs.Words.{All, AllStart, AreAmbiguous, AreFaults, AreFree, AreMeasured, ArePassable, AreRuleCores, AreTopSets, Ascends, Core, Has, IsFirstFrom, IsReachable, IsRising, IsTopIn, IsTopSet, IsTotal, Node, ReadsOneByteLate, YieldsFirstBy, byte_in, core_of, dfa_next, disambiguation, empty_match, highest_of, is_in, is_measured, item_count, kind_of_byte, pairs, priority_of, range_with_len, reader_of, size_of, spelled, top_of, width_of, with_priority}
+-- Definitions that contracts cite: those of `Imports`, and those that name types of this crate.
+pub use Rattle.logos_automaton.specs.Imports.{All, AllStart, AreAmbiguous, AreFaults, AreFree, AreMeasured, ArePassable, AreRuleCores, AreTopSets, Ascends, Core, Has, IsFirstFrom, IsReachable, IsRising, IsTopIn, IsTopSet, IsTotal, Node, ReadsOneByteLate, YieldsFirstBy, byte_in, core_of, dfa_next, disambiguation, empty_match, highest_of, is_in, is_measured, item_count, kind_of_byte, pairs, priority_of, range_with_len, reader_of, size_of, spelled, top_of, width_of, with_priority}
 pub use Rattle.logos_automaton.specs.Building.{FailsFor, FailsOn, IsUnderway}
 pub use Rattle.logos_automaton.specs.DfaView.{dfa_of}
 pub use Rattle.logos_automaton.specs.Errors.{fault_of, numbers}

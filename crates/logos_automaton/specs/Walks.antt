@@ -1,4 +1,4 @@
--- What the iterators over an automaton still give.
+-- The elements that the iterators over an automaton have not returned yet.
 use Rattle.std.specs.Prelude.{ℕ, ◌-◌, List, [], ◌∷◌, ◌++◌, Option, Some, None}
 use Rattle.std.specs.List.{range_with_len}
 use Rattle.logos_automaton.specs.declared.dfa.walks.Matches.{Matches}
@@ -9,12 +9,12 @@ use Rattle.logos_automaton.specs.declared.dfa.walks.DfaStates.{DfaStates}
 abbrev pub matches_left : Matches → List ℕ
 matches_left matches = matches.leaves.now
 
--- The one, if there is one.
+-- The element, if there is one.
 abbrev pub at_most_one : Option ℕ → List ℕ
 at_most_one None = []
 at_most_one (Some n) = n ∷ []
 
--- The numbers of states, as targets by bytes and then by the end.
+-- The numbers of states: targets for bytes and then for the end.
 abbrev pub children_left : Children → List ℕ
 children_left children = children.row.now ++ at_most_one children.end
 

@@ -1,39 +1,61 @@
-//! The steps of trees, which are made once for each state of a tree. `row` takes the steps from
-//! here while it fills the row of a state.
+//! The steps of trees, which are computed once for each state of a tree. `row` reads the steps from
+//! this cache while it fills the row of a state.
 
 ghost use Rattle.std.specs.Prelude.{◌≡◌, ◌∷◌, ◌++◌, ◌+◌, ◌<◌, ◌≤◌, ◌↔◌, List, ℕ, [], false, IfOk, IsTrue, OnOk, length, slice_index, slice_index_or, if◌then◌else◌};
 ghost use Rattle.logos_automaton.specs.Views.{Node, kind_of_byte, Has, IsRising, state_of, Trees, AreKindBytes, IsPrepared, IsCacheOf, AreAlmostCached, AreCached, AreLive, HasSteps, IsTreeState, Keeps, state_after, step_of, tree_view};
 
-use crate::alike::{add_bytes, first_by_kind};
+use crate::byte_equivalence::{add_bytes, first_by_kind};
 use crate::key::{Key, next_kind};
-use crate::tree_steps::making::steps_of;
+use crate::tree_steps::construction::steps_of;
 use crate::tree_steps::{TreeState, TreeSteps};
 use crate::trees::Trees;
 use indexmap::IndexSet;
-use logos_places::places::all::next_tree;
-use logos_places::places::tree::marks_between;
+use logos_positions::positions::set::first_from;
+use logos_positions::positions::trees::next_tree;
 use std::alloc::{AllocError, Global};
 
-/// How many states of trees are stored. Before more are added, all are removed, so that they take
-/// little memory.
+/// The greatest number of states of trees that are stored. Before more are added, all are removed,
+/// which bounds the memory of the cache.
 const MAX_TREE_STATES: usize = 32_768;
 
-/// The states of trees met so far, and the steps from each.
+/// The states of trees that have occurred, and the steps from each.
 #[derive(Drop)]
 pub struct StepCache {
     /// The states.
     pub states: IndexSet<TreeState>,
-    /// The steps from each state, by the index of the state.
+    /// The steps from each state, at the index of the state.
     pub steps: Vec<TreeSteps>,
 }
 
-/// A tree that has a place that read the last byte.
+/// A tree that has a position that read the last byte.
 #[derive(Clone, Copy)]
 pub struct LiveTree {
     /// The number of the tree.
     pub tree: usize,
-    /// The index of its steps in the cache.
+    /// The index of the tree's steps in the cache.
     pub steps: usize,
+}
+
+/// Returns the positions from `low` up to but not including `high`.
+///
+/// # Errors
+///
+/// Returns `AllocError` if memory runs out.
+fn marks_between(
+    alloc: Global,
+    marks: &[usize],
+    low: usize,
+    high: usize,
+) -> Result<Vec<usize>, AllocError>
+    requires rising { IsRising marks.now }
+    requires order { low ≤ high }
+    ensures rising { IfOk result (λ own. IsRising own.items) }
+    ensures has { IfOk result (λ own. (q : ℕ) → low ≤ q → q < high →
+        Has own.items q ↔ Has marks.now q) }
+{
+    let from = first_from(marks, low);
+    let to = first_from(marks, high);
+    Vec::from_slice(alloc, &marks[from..to])
 }
 
 /// Returns the state of a tree in a state of all trees.
@@ -43,7 +65,7 @@ pub struct LiveTree {
 /// Returns `AllocError` if memory runs out.
 fn tree_state(trees: &Trees<'_>, key: &Key, tree: usize) -> Result<TreeState, AllocError>
     requires prepared { IsPrepared trees.now }
-    requires rising { IsRising key.now.places.items }
+    requires rising { IsRising key.now.positions.items }
     requires within { tree < length trees.now.nodes.now }
     ensures there { IfOk result (λ state.
         IsTreeState trees.now.nodes.now trees.now.starts.now (tree_view state)) }
@@ -51,14 +73,14 @@ fn tree_state(trees: &Trees<'_>, key: &Key, tree: usize) -> Result<TreeState, Al
     ensures kind { IfOk result (λ state. state.kind ≡ key.now.kind) }
     ensures has { IfOk result (λ state. (q : ℕ) → slice_index trees.now.starts.now tree ≤ q →
         q < slice_index trees.now.starts.now (tree + 1) →
-        Has state.places.items q ↔ Has key.now.places.items q) }
+        Has state.positions.items q ↔ Has key.now.positions.items q) }
 {
     let low = trees.starts[tree];
     let high = trees.starts[tree + 1];
-    let places = marks_between(trees.alloc, &key.places, low, high)?;
+    let positions = marks_between(trees.alloc, &key.positions, low, high)?;
     Ok(TreeState {
         tree,
-        places,
+        positions,
         kind: key.kind,
     })
 }
@@ -109,7 +131,7 @@ impl StepCache {
         }
     }
 
-    /// Returns the index of the steps from a state, which are made if the state is new.
+    /// Returns the index of the steps from a state. The steps are computed if the state is new.
     ///
     /// # Errors
     ///
@@ -135,52 +157,52 @@ impl StepCache {
     /// Returns `AllocError` if memory runs out.
     pub fn live_trees(&mut self, trees: &Trees<'_>, key: &Key) -> Result<Vec<LiveTree>, AllocError>
         requires prepared { IsPrepared trees.now }
-        requires rising { IsRising key.now.places.items }
+        requires rising { IsRising key.now.positions.items }
         requires cached { IsCacheOf trees.now self.old }
         ensures cached { OnOk result (IsCacheOf trees.now self.new) }
         ensures live { IfOk result (λ lives. AreLive trees.now.nodes.now trees.now.starts.now
-            key.now.places.items key.now.kind self.new.steps.items
+            key.now.positions.items key.now.kind self.new.steps.items
             0 lives.items (length trees.now.nodes.now)) }
     {
         let mut lives = Vec::new(trees.alloc);
-        let mut tree = next_tree(trees.starts, &key.places, false, 0);
+        let mut tree = next_tree(trees.starts, &key.positions, false, 0);
         while tree < trees.nodes.len() {
             let state = tree_state(trees, key, tree)?;
             let steps = self.index_of(trees, state)?;
             lives.push(LiveTree { tree, steps })?;
-            tree = next_tree(trees.starts, &key.places, false, tree + 1);
+            tree = next_tree(trees.starts, &key.positions, false, tree + 1);
         }
         Ok(lives)
     }
 }
 
-/// The steps from a state by each byte: those of its live trees.
+/// The steps from a state for each byte: those of its live trees.
 #[derive(Clone, Copy)]
 pub struct StateSteps<'c> {
-    /// The allocator of the states after it.
+    /// The allocator of the states that the steps lead to.
     pub alloc: Global,
     /// The live trees of the state, ascending.
     pub lives: &'c [LiveTree],
-    /// The steps to which these refer.
+    /// The steps that the live trees index.
     pub steps: &'c [TreeSteps],
-    /// Whether some tree has a look.
+    /// Whether some tree has a look-around assertion.
     pub looks: bool,
 }
 
-/// Appends the places of a tree that read a byte, and returns whether the tree can be left before
-/// it.
+/// Appends the positions of a tree that read a byte, and returns whether the tree can be left
+/// before it.
 ///
 /// # Errors
 ///
 /// Returns `AllocError` if memory runs out.
-fn push_places(
+fn push_positions(
     steps: &[TreeSteps],
     live: LiveTree,
     byte: u8,
-    places: &mut Vec<usize>,
+    positions: &mut Vec<usize>,
 ) -> Result<bool, AllocError>
-    ensures places { OnOk result (places.new.items ≡
-        places.old.items ++ (step_of steps.now live byte).places) }
+    ensures positions { OnOk result (positions.new.items ≡
+        positions.old.items ++ (step_of steps.now live byte).positions) }
     ensures left { IfOk result (λ left. left ≡ (step_of steps.now live byte).left) }
 {
     let Some(of_tree) = steps.get(live.steps) else {
@@ -190,7 +212,7 @@ fn push_places(
     let Some(step) = of_tree.found.get(index) else {
         return Ok(false);
     };
-    places.extend_from_slice(&step.places)?;
+    positions.extend_from_slice(&step.positions)?;
     Ok(step.left)
 }
 
@@ -209,7 +231,7 @@ fn push_if(numbers: &mut Vec<usize>, number: usize, is_one: bool) -> Result<(), 
     Ok(())
 }
 
-/// Sets the flags of the bytes whose step on a tree differs from that of the byte before.
+/// Marks each byte whose step on a tree differs from that of the byte before it.
 fn add_changes(steps: &[TreeSteps], live: LiveTree, first: &mut [bool; 256])
     ensures { (x : ℕ) → x + 1 < 256 → slice_index_or first.new (x + 1) false ≡ false →
         (slice_index_or first.old (x + 1) false ≡ false)
@@ -230,20 +252,20 @@ impl StateSteps<'_> {
         ensures { IfOk result (λ made. state_of made ≡
             state_after self.entry.looks self.entry.steps.now self.entry.lives.now byte) }
     {
-        let mut places = Vec::new(self.alloc);
+        let mut positions = Vec::new(self.alloc);
         let mut matches = Vec::new(self.alloc);
         for live in self.lives {
-            let left = push_places(self.steps, *live, byte, &mut places)?;
+            let left = push_positions(self.steps, *live, byte, &mut positions)?;
             push_if(&mut matches, live.tree, left)?;
         }
         Ok(Key {
-            kind: next_kind(self.looks, &places, byte),
-            places,
+            kind: next_kind(self.looks, &positions, byte),
+            positions,
             matches,
         })
     }
 
-    /// Sets the flags of the bytes that can lead to another state than the byte before.
+    /// Returns flags of the bytes that can lead to another state than the byte before them.
     pub fn changes(self, kinds: &[bool; 256]) -> [bool; 256]
         requires kinds { AreKindBytes kinds.now }
         ensures { (x : ℕ) → x + 1 < 256 → slice_index_or result (x + 1) false ≡ false →

@@ -1,10 +1,11 @@
-//! The automaton of rules, which lists each match one byte late.
+//! The automaton of rules, which lists each match one byte late. `logos_graph` reduces it to a
+//! graph.
 
 ghost use Rattle.std.specs.Prelude.{◌≡◌, ◌<◌, length, vec_len};
-ghost use Rattle.logos_automaton.specs.Words.{AreReachable, AreByteRows, LeadWithin, EndWithin};
+ghost use Rattle.logos_automaton.specs.Imports.{AreReachable, AreByteRows, LeadWithin, EndWithin};
 ghost use Rattle.logos_automaton.specs.Keys.{automaton_of};
 
-pub mod build;
+pub mod builder;
 pub mod parts;
 pub mod walks;
 
@@ -13,8 +14,8 @@ pub use crate::row::Row;
 pub use walks::{Children, DfaStates, Matches, StateId};
 
 /// An automaton that reads bytes and the end of the input. A state lists the leaves that match all
-/// bytes read but the last one, or all of them if the end was read. Each state has a target by each
-/// byte and by the end.
+/// bytes read but the last one, or all bytes if the end was read. Each state has a target for each
+/// byte and for the end.
 #[derive(Drop)]
 pub struct Dfa {
     states: Vec<Key>,

@@ -1,4 +1,5 @@
-//! Faults of rules, and the reasons for which an automaton is refused.
+//! Faults of rules, and the reasons why an automaton is not built. `faults` and `dfa::builder`
+//! return them.
 
 ghost use Rattle.std.specs.Prelude.{◌≡◌};
 ghost use Rattle.logos_automaton.specs.declared.errors.BuildError.TheVariants.{Memory};
@@ -9,19 +10,19 @@ use std::alloc::{AllocError, AllocFailed};
 /// A fault of a list of leaves.
 #[derive(Debug, Drop)]
 pub enum GraphError {
-    /// A pattern can meet a look before its first byte.
+    /// A pattern can have a look-around assertion before its first byte.
     NoUniversalStart,
-    /// The leaf's pattern can match nothing.
+    /// The leaf's pattern can match the empty string.
     EmptyMatch(LeafId),
     /// These leaves have the highest priority among all that match some text. There are two or
     /// more, in ascending order.
     Disambiguation(Vec<LeafId>),
 }
 
-/// The reason for which a graph is refused.
+/// The reasons why a graph is not built.
 #[derive(Clone, Copy, Debug, PartialEq, Eq)]
 pub enum BuildError {
-    /// The size of all trees passes 1,048,576.
+    /// The size of all trees exceeds 1,048,576.
     LimitSize,
     /// The automaton has more than 65,536 states.
     LimitStates,

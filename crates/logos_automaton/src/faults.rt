@@ -1,4 +1,4 @@
-//! The faults of a list of rules. `Graph::new` of `logos_graph` asks for them once the automaton is
+//! The faults of a list of rules. `Graph::new` of `logos_graph` calls it once the automaton is
 //! built.
 
 ghost use Rattle.std.specs.Prelude.{◌≡◌, ℕ, ◌≤◌, ◌⊎◌, ◌↔◌, IfOk, OnOk, List, map, Contains, vec_len};
@@ -13,7 +13,7 @@ use logos_hir::leaf::LeafId;
 use std::alloc::{AllocError, Global};
 use std::collections::BTreeSet;
 
-/// Returns the leaves whose trees can be passed without a byte, ascending.
+/// Returns the leaves whose trees match the empty string, ascending.
 ///
 /// # Errors
 ///
@@ -40,7 +40,7 @@ pub fn priority_at(rules: &[RuleView<'_>], leaf: usize) -> usize
     }
 }
 
-/// Returns the highest priority among the leaves listed, or 0 if there are none.
+/// Returns the highest priority among `listed`, or 0 if there are none.
 fn highest(rules: &[RuleView<'_>], listed: &[usize]) -> usize
     ensures { result ≡ highest_of (rules_of rules.now) listed.now }
 {
@@ -51,7 +51,7 @@ fn highest(rules: &[RuleView<'_>], listed: &[usize]) -> usize
     highest
 }
 
-/// Returns those of the leaves listed that have this priority.
+/// Returns the leaves of `listed` that have this priority.
 ///
 /// # Errors
 ///
@@ -74,7 +74,7 @@ fn with_priority(
     Ok(chosen)
 }
 
-/// Adds the set of the leaves of highest priority among those listed, if there are two or more of
+/// Adds the set of the leaves with the highest priority among `listed`, if there are two or more of
 /// them.
 ///
 /// # Errors
@@ -168,8 +168,8 @@ fn in_order(alloc: Global, sets: &BTreeSet<Vec<usize>>) -> Result<Vec<Vec<LeafId
     Ok(named)
 }
 
-/// Returns the sets of leaves that length and priority do not distinguish, each once and in
-/// ascending order.
+/// Returns the sets of leaves that length and priority do not distinguish, without duplicates and
+/// in ascending order.
 ///
 /// # Errors
 ///
@@ -188,7 +188,7 @@ pub fn ambiguous_sets(
     in_order(alloc, &sets)
 }
 
-/// Returns a fault for each leaf that can match nothing.
+/// Returns a fault for each leaf that can match the empty string.
 ///
 /// # Errors
 ///

@@ -1,5 +1,5 @@
-//! The keys of states, by which a state is found while the automaton is built. The loop of
-//! `dfa::build` begins with the key of the start, and `row` makes that of each target.
+//! The keys of states, by which a state is looked up while the automaton is built. The loop of
+//! `dfa::builder` begins with the key of the start, and `row` computes the key of each target.
 
 ghost use Rattle.std.specs.Prelude.{◌≡◌, ◌<◌, ◌≤◌, ◌+◌, Bool, List, IfOk, OnOk, length};
 ghost use Rattle.logos_automaton.specs.Views.{Core, IsRising, IsPrepared, cores_of};
@@ -7,16 +7,16 @@ ghost use Rattle.logos_automaton.specs.Keys as keys;
 
 use crate::trees::Trees;
 use indexmap::IndexSet;
-use logos_places::places::all::{Forest, exits_all, step_all};
-use logos_places::places::look::{ByteKind, Context, kind_of};
-use logos_places::places::step::ReadByte;
+use logos_positions::positions::look::{ByteKind, Context, kind_of};
+use logos_positions::positions::step::ReadByte;
+use logos_positions::positions::trees::{Forest, exits_all, step_all};
 use std::alloc::{AllocError, Global};
 
-/// What an automaton remembers of the bytes read so far: the key of a state.
+/// The key of a state: the information that an automaton keeps about the bytes that it has read.
 #[derive(PartialEq, Eq, Hash, Drop)]
 pub struct Key {
-    /// The places that can have read the last byte, ascending.
-    pub places: Vec<usize>,
+    /// The positions that can have read the last byte, ascending.
+    pub positions: Vec<usize>,
     /// The kind of that byte, if it is remembered.
     pub kind: ByteKind,
     /// The numbers of the trees that match all bytes before that byte, or all bytes if the end was
@@ -24,19 +24,19 @@ pub struct Key {
     pub matches: Vec<usize>,
 }
 
-/// Returns what is remembered of a byte that is read at these places: its kind, if there are places
-/// and some tree has a look.
-pub fn next_kind(looks: bool, places: &[usize], byte: u8) -> ByteKind
-    ensures { result ≡ keys.next_kind looks places.now byte }
+/// Returns the kind of a byte that is read at these positions, if there are positions and some tree
+/// has a look-around assertion.
+pub fn next_kind(looks: bool, positions: &[usize], byte: u8) -> ByteKind
+    ensures { result ≡ keys.next_kind looks positions.now byte }
 {
-    if looks && !places.is_empty() {
+    if looks && !positions.is_empty() {
         kind_of(byte)
     } else {
         ByteKind::Unseen
     }
 }
 
-/// Returns whether nothing was read.
+/// Returns whether no byte was read.
 pub fn is_start(kind: ByteKind) -> bool
     ensures { result ≡ keys.is_start kind }
 {
@@ -48,7 +48,7 @@ pub fn start_key(alloc: Global) -> Key
     ensures { keys.state_of result ≡ keys.start_state }
 {
     Key {
-        places: Vec::new(alloc),
+        positions: Vec::new(alloc),
         kind: ByteKind::Start,
         matches: Vec::new(alloc),
     }
@@ -61,7 +61,7 @@ pub fn start_key(alloc: Global) -> Key
 /// Returns `AllocError` if memory runs out.
 pub fn step_key(trees: &Trees<'_>, key: &Key, byte: u8) -> Result<Key, AllocError>
     requires prepared { IsPrepared trees.now }
-    requires rising { IsRising key.now.places.items }
+    requires rising { IsRising key.now.positions.items }
     ensures { IfOk result (λ made. keys.IsNext (cores_of trees.now) trees.now.looks
         (keys.state_of key.now) byte (keys.state_of made)) }
 {
@@ -71,7 +71,7 @@ pub fn step_key(trees: &Trees<'_>, key: &Key, byte: u8) -> Result<Key, AllocErro
     };
     let by = ReadByte {
         byte,
-        marks: &key.places,
+        marks: &key.positions,
         at,
     };
     let forest = Forest {
@@ -80,8 +80,8 @@ pub fn step_key(trees: &Trees<'_>, key: &Key, byte: u8) -> Result<Key, AllocErro
     };
     let step = step_all(trees.alloc, forest, by, is_start(key.kind))?;
     Ok(Key {
-        kind: next_kind(trees.looks, &step.places, byte),
-        places: step.places,
+        kind: next_kind(trees.looks, &step.positions, byte),
+        positions: step.positions,
         matches: step.left,
     })
 }
@@ -93,7 +93,7 @@ pub fn step_key(trees: &Trees<'_>, key: &Key, byte: u8) -> Result<Key, AllocErro
 /// Returns `AllocError` if memory runs out.
 pub fn end_key(trees: &Trees<'_>, key: &Key) -> Result<Key, AllocError>
     requires prepared { IsPrepared trees.now }
-    requires rising { IsRising key.now.places.items }
+    requires rising { IsRising key.now.positions.items }
     ensures { IfOk result (λ made. keys.IsLast (cores_of trees.now) (keys.state_of key.now)
         (keys.state_of made)) }
 {
@@ -105,9 +105,9 @@ pub fn end_key(trees: &Trees<'_>, key: &Key) -> Result<Key, AllocError>
         nodes: trees.nodes,
         starts: trees.starts,
     };
-    let matches = exits_all(trees.alloc, forest, &key.places, at, is_start(key.kind))?;
+    let matches = exits_all(trees.alloc, forest, &key.positions, at, is_start(key.kind))?;
     Ok(Key {
-        places: Vec::new(trees.alloc),
+        positions: Vec::new(trees.alloc),
         kind: ByteKind::Unseen,
         matches,
     })
@@ -122,20 +122,20 @@ pub fn ended_key(alloc: Global, matches: &[usize]) -> Result<Key, AllocError>
     ensures { IfOk result (λ made. keys.state_of made ≡ keys.ended_state matches.now) }
 {
     Ok(Key {
-        places: Vec::new(alloc),
+        positions: Vec::new(alloc),
         kind: ByteKind::Unseen,
         matches: Vec::from_slice(alloc, matches)?,
     })
 }
 
-/// Returns the number of a state, which is added if it is new.
+/// Returns the number of the state with this key, which is added if it is new.
 ///
 /// # Errors
 ///
 /// Returns `AllocError` if memory runs out.
 pub fn number_of(states: &mut IndexSet<Key>, key: Key) -> Result<usize, AllocError>
     ensures grows { OnOk result (keys.Grows states.old.keys states.new.keys) }
-    ensures rising { keys.AreRising states.old.keys → IsRising key.places.items →
+    ensures rising { keys.AreRising states.old.keys → IsRising key.positions.items →
         OnOk result (keys.AreRising states.new.keys) }
     ensures distinct { keys.AreDistinct states.old.keys →
         OnOk result (keys.AreDistinct states.new.keys) }

@@ -1,8 +1,10 @@
-//! The automaton of rules, which reads matches one byte late, and the faults of rules.
+//! The automaton of rules, which lists matches one byte late, and the faults of rules.
+//! `logos_graph` builds graphs from it.
 
 #![tactic(auto)]
 
-mod alike;
+mod boundaries;
+mod byte_equivalence;
 mod cache;
 pub mod dfa;
 pub mod errors;
@@ -14,4 +16,3 @@ mod row;
 pub mod rule;
 mod tree_steps;
 mod trees;
-mod walk;

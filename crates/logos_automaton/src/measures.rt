@@ -1,17 +1,18 @@
-//! Measures of trees. None of them allocates memory. `rule` and `faults` ask whether a tree can be
-//! passed or looks, and `logos_graph` how large trees are.
+//! Measures of trees. None of them allocates. `rule` and `faults` use them to decide whether a tree
+//! matches the empty string or has a look-around assertion, and `logos_graph` computes the size of
+//! trees with them.
 
 ghost use Rattle.std.specs.Prelude.{◌≡◌, ℕ, ◌+◌, ◌*◌, ◌^◌, ◌≤◌, ◌↔◌, IsTrue, length, max, map};
-ghost use Rattle.logos_automaton.specs.Words.{class_tree, tree_of, trees, IsWithinLimit, size, sizes};
+ghost use Rattle.logos_automaton.specs.Imports.{class_tree, tree_of, trees, IsWithinLimit, size, sizes};
 ghost use Rattle.logos_hir.specs.Passable as tree;
-ghost use Rattle.logos_places.specs.Places as places;
+ghost use Rattle.logos_positions.specs.Positions as positions;
 
 use logos_hir::hir::{Class, Hir};
 
-/// The greatest size that all trees together may have.
+/// The greatest size that all trees together can have.
 const SIZE_LIMIT: usize = 1 << 20;
 
-/// Returns whether a tree can be passed without a byte.
+/// Returns whether a tree matches the empty string.
 #[cycle(passable)]
 pub fn passable(hir: &Hir) -> bool
     ensures { result ≡ tree.passable (tree_of hir.now) }
@@ -27,7 +28,7 @@ pub fn passable(hir: &Hir) -> bool
     }
 }
 
-/// Returns whether all of the trees can be passed.
+/// Returns whether all of the trees match the empty string.
 #[cycle(passable)]
 fn all_passable(parts: &[Hir]) -> bool
     ensures { result ≡ tree.all_passable (trees (map tree_of parts.now)) }
@@ -40,7 +41,7 @@ fn all_passable(parts: &[Hir]) -> bool
     true
 }
 
-/// Returns whether one of the trees can be passed.
+/// Returns whether one of the trees matches the empty string.
 #[cycle(passable)]
 fn some_passable(branches: &[Hir]) -> bool
     ensures { result ≡ tree.some_passable (trees (map tree_of branches.now)) }
@@ -53,7 +54,7 @@ fn some_passable(branches: &[Hir]) -> bool
     false
 }
 
-/// Returns whether a tree can meet a look before its first byte.
+/// Returns whether a tree can have a look-around assertion before its first byte.
 #[cycle(leads)]
 pub fn leads(hir: &Hir) -> bool
     ensures { result ≡ tree.leads (tree_of hir.now) }
@@ -67,8 +68,8 @@ pub fn leads(hir: &Hir) -> bool
     }
 }
 
-/// Returns whether one of the trees can meet a look before its first byte, and all trees before it
-/// can be passed.
+/// Returns whether one of the trees can have a look-around assertion before its first byte, and all
+/// trees before it match the empty string.
 #[cycle(leads)]
 fn leads_in_order(parts: &[Hir]) -> bool
     ensures { result ≡ tree.leads_in_order (trees (map tree_of parts.now)) }
@@ -84,7 +85,7 @@ fn leads_in_order(parts: &[Hir]) -> bool
     false
 }
 
-/// Returns whether one of the trees can meet a look before its first byte.
+/// Returns whether one of the trees can have a look-around assertion before its first byte.
 #[cycle(leads)]
 fn some_leads(branches: &[Hir]) -> bool
     ensures { result ≡ tree.some_leads (trees (map tree_of branches.now)) }
@@ -97,10 +98,10 @@ fn some_leads(branches: &[Hir]) -> bool
     false
 }
 
-/// Returns whether a tree has a look.
+/// Returns whether a tree has a look-around assertion.
 #[cycle(has_look)]
 pub fn has_look(hir: &Hir) -> bool
-    ensures { result ≡ places.has_look (tree_of hir.now) }
+    ensures { result ≡ positions.has_look (tree_of hir.now) }
 {
     match hir {
         Hir::Empty | Hir::Literal(_) | Hir::Class(_) => false,
@@ -110,10 +111,10 @@ pub fn has_look(hir: &Hir) -> bool
     }
 }
 
-/// Returns whether one of the trees has a look.
+/// Returns whether one of the trees has a look-around assertion.
 #[cycle(has_look)]
 fn some_has_look(hirs: &[Hir]) -> bool
-    ensures { result ≡ places.some_has_look (trees (map tree_of hirs.now)) }
+    ensures { result ≡ positions.some_has_look (trees (map tree_of hirs.now)) }
 {
     for hir in hirs {
         if has_look(hir) {
@@ -123,9 +124,9 @@ fn some_has_look(hirs: &[Hir]) -> bool
     false
 }
 
-// Below, `None` stands for a size beyond the limit.
+// In the following functions `None` is a size that exceeds the limit.
 
-/// Returns the size, if it is within the limit.
+/// Returns the size, or `None` if it exceeds the limit.
 fn limited(size: usize) -> Option<usize>
     ensures { IsWithinLimit size result }
 {
@@ -135,16 +136,16 @@ fn limited(size: usize) -> Option<usize>
     Some(size)
 }
 
-/// Returns the sum of two sizes, if both and the sum are within the limit.
+/// Returns the sum of two sizes, or `None` if one of them or the sum exceeds the limit.
 pub fn plus(a: Option<usize>, b: Option<usize>) -> Option<usize>
     ensures { (m n : ℕ) → IsWithinLimit m a → IsWithinLimit n b → IsWithinLimit (m + n) result }
 {
     limited(a?.checked_add(b?)?)
 }
 
-/// Returns how often the body of a repetition counts.
+/// Returns the factor by which the body of a repetition counts in its size.
 fn copies(min: u32, max: Option<u32>) -> usize
-    ensures count { result ≡ places.copies min max }
+    ensures count { result ≡ positions.copies min max }
     ensures some { 1 ≤ result }
     ensures few { result ≤ 2 ^ 32 }
 {
@@ -154,14 +155,15 @@ fn copies(min: u32, max: Option<u32>) -> usize
     }
 }
 
-/// Returns the size of a repetition of a body of this size, if both are within the limit.
+/// Returns the size of a repetition with a body of this size, or `None` if one of them exceeds the
+/// limit.
 fn times(body: Option<usize>, min: u32, max: Option<u32>) -> Option<usize>
-    ensures { (n : ℕ) → IsWithinLimit n body → IsWithinLimit (n * places.copies min max) result }
+    ensures { (n : ℕ) → IsWithinLimit n body → IsWithinLimit (n * positions.copies min max) result }
 {
     limited(body?.checked_mul(copies(min, max))?)
 }
 
-/// Returns the size of a class, if it is within the limit.
+/// Returns the size of a class, or `None` if it exceeds the limit.
 fn class_size(class: &Class) -> Option<usize>
     ensures { IsWithinLimit (size (class_tree class.now)) result }
 {
@@ -171,7 +173,8 @@ fn class_size(class: &Class) -> Option<usize>
     }
 }
 
-/// Returns the size of a class of characters with so many ranges, if it is within the limit.
+/// Returns the size of a class of characters with `ranges` ranges, or `None` if it exceeds the
+/// limit.
 fn ranges_size(ranges: usize) -> Option<usize>
     ensures { IsWithinLimit (max 1 (4 * ranges)) result }
 {
@@ -181,7 +184,7 @@ fn ranges_size(ranges: usize) -> Option<usize>
     limited((4 * ranges).max(1))
 }
 
-/// Returns the size of a tree, if it is within the limit.
+/// Returns the size of a tree, or `None` if it exceeds the limit.
 #[cycle(size)]
 pub fn limited_size(hir: &Hir) -> Option<usize>
     ensures { IsWithinLimit (size (tree_of hir.now)) result }
@@ -197,7 +200,7 @@ pub fn limited_size(hir: &Hir) -> Option<usize>
     }
 }
 
-/// Returns the sum of the sizes of trees, if it is within the limit.
+/// Returns the sum of the sizes of trees, or `None` if it exceeds the limit.
 #[cycle(size)]
 fn limited_sizes(hirs: &[Hir]) -> Option<usize>
     ensures { IsWithinLimit (sizes (trees (map tree_of hirs.now))) result }

@@ -1,11 +1,11 @@
-//! The trees of rules, prepared for the automaton. `dfa::build` makes them before its loop.
+//! Prepares the trees of rules for the automaton. `dfa::builder` calls it before its loop.
 
 ghost use Rattle.std.specs.Prelude.{◌^◌, ◌≤◌, IfOk, map};
 ghost use Rattle.logos_automaton.specs.Views.{core_of, AreMeasured, AreRuleCores, size_of, rules_of};
 
 use crate::rule::RuleView;
-use logos_places::node::Node;
-use logos_places::prepare::prepare;
+use logos_positions::node::Node;
+use logos_positions::preparation::prepare;
 use std::alloc::{AllocError, Global};
 
 /// Prepares the trees of rules. Their size must be within the limit.

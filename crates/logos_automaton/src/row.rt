@@ -1,27 +1,27 @@
-//! The targets of states, while the automaton is built. The loop of `dfa::build` asks for those of
+//! The targets of states, while the automaton is built. The loop of `dfa::builder` calls it for
 //! each state in turn.
 
 ghost use Rattle.std.specs.Prelude.{Bool, List, ℕ, ◌≡◌, ◌^◌, ◌<◌, ◌≤◌, ◌+◌, IfOk, IfSome, IsFalse, OnOk, false, length, slice_index};
 ghost use Rattle.logos_automaton.specs.Views.{Core, AreKindBytes, IsCacheOf, IsPrepared, cores_of, Foresees, IsNotStart, state_after, AreRising, AreReached, AreFirstIn, Extends, Grows, IsAt, LeadsTo, EndsIn, IsRow};
 
-use crate::alike::first_bytes;
+use crate::byte_equivalence::first_bytes;
 use crate::cache::{LiveTree, StateSteps, StepCache};
 use crate::key::{Key, end_key, ended_key, is_start, number_of, step_key};
 use crate::trees::Trees;
 use indexmap::IndexSet;
 use std::alloc::AllocError;
 
-/// The targets of a state by bytes.
+/// The targets of a state, indexed by byte.
 pub type Row = [u16; 256];
 
-/// The number of symbols: each byte, and after them the end of the input.
+/// The number of symbols: all bytes, and the end of the input.
 pub const SYMBOLS: usize = 257;
 
-/// The targets of a state by bytes while the automaton is built, which may then have a few more
+/// The targets of a state, indexed by byte, while the automaton is built and may have a few more
 /// states than the limit.
 pub type DraftRow = [u32; 256];
 
-/// Returns the target of a state by a byte. The target is added if it is new.
+/// Returns the target of a state for `byte`, which is added if it is new.
 ///
 /// # Errors
 ///
@@ -50,7 +50,7 @@ fn target_of(
     Ok(target as u32)
 }
 
-/// Returns the target of a state by the end. The target is added if it is new.
+/// Returns the target of a state for the end, which is added if it is new.
 ///
 /// # Errors
 ///
@@ -73,9 +73,9 @@ fn end_of(trees: &Trees<'_>, states: &mut IndexSet<Key>, state: usize) -> Result
     Ok(target as u32)
 }
 
-/// Returns the target of a state by the end, if no tree has a look. The leaves that match before
-/// the end are those that match before a byte, so they are listed by `by_zero`, the target by the
-/// byte 0. The target by the end is added if it is new.
+/// Returns the target of a state for the end, if no tree has a look-around assertion. The leaves
+/// that match before the end are those that match before a byte, so they are listed by `by_zero`,
+/// the target for the byte 0. The target for the end is added if it is new.
 ///
 /// # Errors
 ///
@@ -103,8 +103,8 @@ fn end_as_by_zero(
     Ok(target as u32)
 }
 
-/// Returns the target of a state by the end. `by_zero` is its target by the byte 0. The target by
-/// the end is added if it is new.
+/// Returns the target of a state for the end, where `by_zero` is its target for the byte 0. The
+/// target for the end is added if it is new.
 ///
 /// # Errors
 ///
@@ -131,7 +131,7 @@ pub fn end_after(
     end_as_by_zero(trees, states, state, by_zero)
 }
 
-/// Returns the target of a state by a byte: the one that is known, if there is one.
+/// Returns the target of a state for `byte`, which is `known` if that is not `None`.
 ///
 /// # Errors
 ///
@@ -161,7 +161,7 @@ fn next_target(
     }
 }
 
-/// Sets the flags of the bytes that a state distinguishes from the byte before.
+/// Returns flags of the bytes that a state distinguishes from the byte before them.
 fn first_in(trees: &Trees<'_>, states: &IndexSet<Key>, state: usize) -> [bool; 256]
     requires prepared { IsPrepared trees.now }
     requires within { state < length states.now.keys }
@@ -169,12 +169,12 @@ fn first_in(trees: &Trees<'_>, states: &IndexSet<Key>, state: usize) -> [bool; 2
     ensures { AreFirstIn (cores_of trees.now) trees.now.looks states.now.keys state result }
 {
     match states.get_index(state) {
-        Some(key) => first_bytes(trees, &key.places, is_start(key.kind)),
+        Some(key) => first_bytes(trees, &key.positions, is_start(key.kind)),
         None => unreachable!(),
     }
 }
 
-/// Returns all targets of a state by bytes, without the steps in the cache.
+/// Returns all targets of a state for bytes, without the cache of steps.
 ///
 /// # Errors
 ///
@@ -205,7 +205,7 @@ fn plain_row(
     Ok(row)
 }
 
-/// Returns the target of a state by a byte, by the steps of its live trees.
+/// Returns the target of a state for `byte`, computed from the steps of its live trees.
 ///
 /// # Errors
 ///
@@ -225,7 +225,8 @@ fn target_by(steps: StateSteps<'_>, states: &mut IndexSet<Key>, byte: u8) -> Res
     Ok(target as u32)
 }
 
-/// Returns the target of a state by a byte: the one that is known, if there is one.
+/// Returns the target of a state for `byte`, which is `known` if that is not `None`, and computed
+/// from the steps of its live trees otherwise.
 ///
 /// # Errors
 ///
@@ -253,7 +254,7 @@ fn known_or_target_by(
     }
 }
 
-/// Returns all targets of a state by bytes, by the steps of its live trees.
+/// Returns all targets of a state for bytes, computed from the steps of its live trees.
 ///
 /// # Errors
 ///
@@ -320,9 +321,9 @@ fn is_start_at(states: &IndexSet<Key>, state: usize) -> bool
     }
 }
 
-/// Returns all targets of a state by bytes. The start enters each tree, and its steps serve no
-/// other state, so they are not stored; nor are those of a single tree, whose states seldom come
-/// twice.
+/// Returns all targets of a state for bytes. The steps of the start are not stored, since it enters
+/// each tree and no other state shares its steps. The steps of a single tree are not stored either,
+/// since its states seldom occur twice.
 ///
 /// # Errors
 ///
@@ -360,7 +361,7 @@ pub fn row_of(
     row_by(steps, trees.kinds, states)
 }
 
-/// Returns the row in half the memory. Each target must have a number below 65,536.
+/// Returns the row in half the memory. Each target must be less than 65,536.
 pub fn narrowed(row: &DraftRow) -> Row
     requires { (byte : ℕ) → byte < 256 → slice_index row.now byte < 2 ^ 16 }
     ensures wide { length result ≡ 256 }

@@ -1,4 +1,4 @@
-//! The parts of a leaf that an automaton needs. `logos_graph` makes one for each of its leaves.
+//! The parts of a leaf that an automaton needs. `logos_graph` creates one for each of its leaves.
 
 ghost use Rattle.std.specs.Prelude.{◌≡◌};
 ghost use Rattle.logos_automaton.specs.Faults as faults;
@@ -15,13 +15,13 @@ pub struct RuleView<'h> {
     pub tree: &'h Hir,
     /// The leaf's priority.
     pub priority: usize,
-    /// Whether its matches are skipped.
+    /// Whether the leaf's matches are skipped.
     pub skips: bool,
     /// Whether a callback is called for each match.
-    pub asks: bool,
+    pub calls_back: bool,
 }
 
-/// Returns whether the tree of some rule can meet a look before its first byte.
+/// Returns whether the tree of some rule can have a look-around assertion before its first byte.
 pub fn some_leads(rules: &[RuleView<'_>]) -> bool
     ensures { result ≡ faults.some_leads (rules_of rules.now) }
 {
@@ -33,7 +33,7 @@ pub fn some_leads(rules: &[RuleView<'_>]) -> bool
     false
 }
 
-/// Returns whether the tree of some rule can be passed without a byte.
+/// Returns whether the tree of some rule matches the empty string.
 pub fn some_passable(rules: &[RuleView<'_>]) -> bool
     ensures { result ≡ faults.some_passable (rules_of rules.now) }
 {
@@ -45,7 +45,7 @@ pub fn some_passable(rules: &[RuleView<'_>]) -> bool
     false
 }
 
-/// Returns whether the tree of some rule has a look.
+/// Returns whether the tree of some rule has a look-around assertion.
 pub fn some_look(rules: &[RuleView<'_>]) -> bool
     ensures { result ≡ inner.some_look (rules_of rules.now) }
 {

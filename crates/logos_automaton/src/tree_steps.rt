@@ -1,31 +1,32 @@
-//! The steps of one tree by each byte. `tree_steps::making` makes them, and `cache` stores them.
+//! The steps of one tree for each byte. `tree_steps::construction` computes them, and `cache`
+//! stores them.
 
 ghost use Rattle.logos_automaton.specs.inside.Alike.{AreChangesOf};
 
-pub mod making;
+pub mod construction;
 
-use logos_places::places::look::ByteKind;
-use logos_places::places::tree::TreeStep;
+use logos_positions::positions::look::ByteKind;
+use logos_positions::positions::tree::TreeStep;
 
 /// A state of one tree that is not entered: all that its steps depend on.
 #[derive(PartialEq, Eq, Hash, Drop)]
 pub struct TreeState {
     /// The number of the tree.
     pub tree: usize,
-    /// The places of the tree that read the last byte, ascending.
-    pub places: Vec<usize>,
+    /// The positions of the tree that read the last byte, ascending.
+    pub positions: Vec<usize>,
     /// The kind of that byte, if it is remembered.
     pub kind: ByteKind,
 }
 
-/// The steps of one tree from one of its states, by each byte.
+/// The steps of one tree from one of its states, for each byte.
 #[derive(Drop)]
 pub struct TreeSteps {
-    /// The different steps.
+    /// The distinct steps.
     pub found: Vec<TreeStep>,
-    /// The index of the step by each byte.
+    /// The index of the step for each byte.
     pub by_byte: [u8; 256],
-    /// The bytes whose step differs from that of the byte before, ascending.
+    /// The bytes whose step differs from that of the byte before them, ascending.
     pub changes: Vec<u8>,
     ghost changed: { AreChangesOf by_byte changes.items },
 }

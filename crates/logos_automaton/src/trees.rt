@@ -1,19 +1,46 @@
-//! The input of the building of states. `dfa::build` puts it together before its loop.
+//! The input of the construction of states. `dfa::builder` creates it before its loop.
 
-use logos_places::node::Node;
-use std::alloc::Global;
+ghost use Rattle.std.specs.Prelude.{◌^◌, ◌<◌, IfOk, map};
+ghost use Rattle.logos_automaton.specs.Imports.{AreMeasured, AreStarts, core_of, width_of};
 
-/// The trees of an automaton, and what is known of them before its first state is built.
+use logos_positions::node::{Node, width};
+use std::alloc::{AllocError, Global};
+
+/// The trees of an automaton, and the values that are computed from them before the first state is
+/// built.
 #[derive(Clone, Copy)]
 pub struct Trees<'n> {
-    /// The allocator of all that is built.
+    /// The allocator of everything that is built.
     pub alloc: Global,
     /// The trees.
     pub nodes: &'n [Node],
-    /// Where the places of each tree begin, and where those of the last tree end.
+    /// The first position of each tree, and the position after the last tree.
     pub starts: &'n [usize],
-    /// Whether some tree has a look, so that states remember the kind of the last byte.
+    /// Whether some tree has a look-around assertion, so that states remember the kind of the last
+    /// byte.
     pub looks: bool,
-    /// Sets the flags of the bytes that looks can distinguish from the byte before.
+    /// Flags of the bytes that look-around assertions can distinguish from the byte before them.
     pub kinds: &'n [bool; 256],
+}
+
+/// Returns the first position of each tree, and the end of the positions of the last tree.
+///
+/// # Errors
+///
+/// Returns `AllocError` if memory runs out.
+pub fn starts_of(alloc: Global, nodes: &[Node]) -> Result<Vec<usize>, AllocError>
+    requires fits { width_of (map core_of nodes.now) < 2 ^ 64 }
+    requires measured { AreMeasured nodes.now }
+    ensures { IfOk result (λ starts. AreStarts nodes.now starts.items) }
+{
+    let mut starts = Vec::new(alloc);
+    let mut base = 0;
+    let mut number = 0;
+    while number < nodes.len() {
+        starts.push(base)?;
+        base += width(&nodes[number]);
+        number += 1;
+    }
+    starts.push(base)?;
+    Ok(starts)
 }

@@ -8,7 +8,7 @@ use Rattle.std.specs.Range.{range_inclusive_start, range_inclusive_end}
 use Rattle.std.specs.declared.ops.RangeInclusive.{RangeInclusive}
 use Rattle.logos_byte_class.specs.Bytes.{bounds, AreSeparatedFrom, Comparison, compares, some_compares, is_among, join, joined}
 
--- A comparison that is begun, in front of comparisons: the first one is joined to it if just one
+-- A comparison that is begun, in front of comparisons: the first one is joined to it if exactly one
 -- byte lies between them.
 abbrev pub join_to : ℕ → ℕ → List ℕ → List Comparison → List Comparison
 join_to first last except [] = record { first = first; last = last; except = except } ∷ []
@@ -82,7 +82,7 @@ is_in-push (x ∷ rs) r b = rw (is_in-push rs r b) (or_assoc (nat_le x.0 b && na
     or_assoc true u v = refl
     or_assoc false u v = refl
 
--- a range of marked bytes is added: the bytes below the next one are told
+-- a range of marked bytes is added: the bytes below the next one are determined
 pub members_more : (rs : List (ℕ × ℕ)) (start end next : ℕ) (test : ℕ → Bool) → start < end → end ≤ next →
     ((b : ℕ) → b < start → is_in rs b ≡ test b) → ((b : ℕ) → start ≤ b → is_in rs b ≡ false) →
     ((b : ℕ) → start ≤ b → b < end → test b ≡ true) → ((b : ℕ) → end ≤ b → b < next → test b ≡ false) →
@@ -140,7 +140,7 @@ separated_more rs start end next some le over done small rest h none =
     go (inl x) = AreSeparatedFrom-less (end - 1 + 2) next rest (omega arith) h
     go (inr x) = let e : rest ≡ [] = none (over (omega arith)) in rw e tt
 
--- a mark tells two places apart
+-- a mark distinguishes two positions
 pub marks_differ : (test : ℕ → Bool) (a b : ℕ) → a ≤ b → (a < 256 → test a ≡ true) → (b < 256 → test b ≡ false) → a < 256 → a < b
 marks_differ test a b le x y small = go (cases a b)
   where

@@ -19,23 +19,23 @@ ranges_of class = map bounds class.ranges.items
 abbrev pub has_byte : ByteClass → ℕ → Bool
 has_byte class b = is_in (ranges_of class) b
 
--- Each range holds a byte, the first starts at `least` or later, and before each other one lies a
--- byte of neither.
+-- Each range is non-empty, the first starts at `least` or later, and before each other one there is
+-- a byte that is in neither range.
 abbrev pub AreSeparatedFrom : ℕ → List (ℕ × ℕ) → Type 0
 AreSeparatedFrom least [] = Unit {0}
 AreSeparatedFrom least (r ∷ rest) = (least ≤ r.0) × (r.0 ≤ r.1) × AreSeparatedFrom (r.1 + 2) rest
 
--- Ranges ascend, with a byte of neither between any two.
+-- Ranges ascend, with a byte that is in neither between any two.
 abbrev pub AreSeparated : List (ℕ × ℕ) → Type 0
 AreSeparated = AreSeparatedFrom 0
 
--- A range of bytes, its last one included, without some of them.
+-- A range of bytes, which includes its last one, except for some of them.
 pub record Comparison : Type 0 where
   pub first : ℕ
   pub last : ℕ
   pub except : List ℕ
 
--- The range and the exceptions that a value of type `Comparisons` stands for.
+-- The range and the exceptions that a value of type `Comparisons` represents.
 abbrev pub comparison_of : Comparisons → Comparison
 comparison_of c = record { first = range_inclusive_start c.range; last = range_inclusive_end c.range; except = c.except.items }
 
@@ -50,8 +50,8 @@ compares c b = nat_le c.first b && nat_le b c.last && not (is_among c.except b)
 abbrev pub some_compares : List Comparison → ℕ → Bool
 some_compares cs b = list_any (λ c. compares c b) cs
 
--- A range before comparisons. The first comparison takes it in if exactly one byte lies between
--- them, which becomes an exception.
+-- A range before comparisons. If exactly one byte lies between the range and the first comparison,
+-- they share that comparison, and the byte is an exception.
 abbrev pub join : ℕ × ℕ → List Comparison → List Comparison
 join r [] = record { first = r.0; last = r.1; except = [] } ∷ []
 join r (c ∷ cs) =
@@ -63,8 +63,8 @@ abbrev pub joined : List (ℕ × ℕ) → List Comparison
 joined [] = []
 joined (r ∷ rest) = join r (joined rest)
 
--- The number of operations that test a byte: one for a single byte, else one for each end that a
--- byte can pass; and one for each exception.
+-- The number of operations that test a byte: one for a single byte, otherwise one for each end that
+-- a byte can pass, and one for each exception.
 abbrev pub operations : Comparison → ℕ
 operations c =
     (if c.first == c.last then 1 else (if nat_lt 0 c.first then 1 else 0) + (if nat_lt c.last 255 then 1 else 0)) + length c.except

@@ -1,9 +1,9 @@
--- How bytes and sets of bytes print.
+-- The printed text of bytes and of sets of bytes.
 use Rattle.std.specs.Prelude.{ℕ, ◌+◌, ◌/◌, ◌%◌, ◌&&◌, Option, Some, None, ◌==◌, nat_le, nat_lt, List, [], ◌∷◌, ◌++◌, codes, if◌then◌else◌}
 use Rattle.std.specs.List.{flat_map, join_by}
 
--- The letter that follows `\` for a byte that prints so: tab, CR, LF, and both quotes and `\` as
--- themselves.
+-- The letter that follows `\` for a byte that prints as such an escape: tab, CR, LF, and both
+-- quotes and `\` as themselves.
 abbrev pub letter_of : ℕ → Option ℕ
 letter_of b =
     if b == 9 then Some 116
@@ -13,7 +13,8 @@ letter_of b =
 abbrev pub lower_digit : ℕ → ℕ
 lower_digit n = if nat_lt n 10 then 48 + n else 87 + n
 
--- A byte that has no such letter: itself if it is a printable character, else `\xNN`.
+-- The text of a byte without such a letter: the byte itself if it is printable, and `\xNN`
+-- otherwise.
 abbrev pub plain_byte_text : ℕ → List ℕ
 plain_byte_text b = if nat_le 32 b && nat_lt b 127 then b ∷ [] else 92 ∷ 120 ∷ lower_digit (b / 16) ∷ lower_digit (b % 16) ∷ []
 
@@ -24,14 +25,14 @@ text_by (Some letter) b = 92 ∷ letter ∷ []
 abbrev pub byte_text : ℕ → List ℕ
 byte_text b = text_by (letter_of b) b
 
--- One byte, or the first and the last one.
+-- One byte, or the first and the last one of a range.
 abbrev pub range_text : ℕ × ℕ → List ℕ
 range_text range = if range.0 == range.1 then byte_text range.0 else byte_text range.0 ++ codes "..=" ++ byte_text range.1
 
--- Ranges, each after a text.
+-- Ranges, each after a separator.
 abbrev pub next_ranges_text : List ℕ → List (ℕ × ℕ) → List ℕ
 next_ranges_text between ranges = flat_map (λ range. between ++ range_text range) ranges
 
--- Ranges, with a text between them.
+-- Ranges, with a separator between them.
 abbrev pub class_text : List ℕ → List (ℕ × ℕ) → List ℕ
 class_text between ranges = join_by range_text between ranges

@@ -1,4 +1,4 @@
 pub mod Bytes
 pub mod ClassText
-pub mod Words
+pub mod Imports
 pub mod Views

@@ -1,4 +1,5 @@
-//! Sets of bytes, and the comparisons that test for them.
+//! Sets of bytes, and the comparisons that test for them. Graphs label edges with classes, and
+//! generators turn classes into comparisons.
 
 ghost use Rattle.std.specs.Prelude.{◌≡◌, ℕ, ◌<◌, ◌≤◌, ◌↔◌, ◌||◌, not, IsTrue, IfOk, OnOk, OnErr, false, [], ◌∷◌, length, map, drop, slice_index_or};
 ghost use Rattle.logos_byte_class.specs.Views.{is_in, bounds, ranges_of, has_byte, AreSeparated, comparison_of, compares, some_compares, joined, operations};
@@ -15,7 +16,7 @@ pub struct ByteClass {
 }
 
 impl ByteClass {
-    /// Returns whether the class holds the byte.
+    /// Returns whether the class contains the byte.
     fn has(&self, byte: u8) -> bool
         ensures { result ≡ has_byte self.now byte }
     {
@@ -27,8 +28,8 @@ impl ByteClass {
         false
     }
 
-    /// Returns whether each range holds a byte, and the ranges ascend with at least one byte
-    /// between each two.
+    /// Returns whether each range is non-empty and the ranges ascend with at least one byte between
+    /// any two.
     pub fn is_separated(&self) -> bool
         ensures { IsTrue result ↔ AreSeparated (ranges_of self.now) }
     {
@@ -44,7 +45,7 @@ impl ByteClass {
         true
     }
 
-    /// Returns a table that says for each byte whether the class holds it.
+    /// Returns a table with an entry for each byte, which is whether the class contains it.
     pub fn to_table(&self) -> [bool; 256]
         ensures { (b : ℕ) → b < 256 → slice_index_or result b false ≡ has_byte self.now b }
     {
@@ -58,11 +59,11 @@ impl ByteClass {
 
 impl ByteClass {
     /// Adds the bytes of the other class. Afterwards the ranges ascend with at least one byte
-    /// between each two, whatever they were before.
+    /// between any two, regardless of their order before.
     ///
     /// # Errors
     ///
-    /// Returns `Memory` if memory runs out. The class is then as it was.
+    /// Returns `Memory` if memory runs out. The class is then unchanged.
     pub fn merge(&mut self, alloc: Global, other: &ByteClass) -> Result<(), Memory>
         ensures union { OnOk result ((b : ℕ) → b < 256 →
             has_byte self.new b ≡ (has_byte self.old b || has_byte other.now b)) }
@@ -75,7 +76,8 @@ impl ByteClass {
         Ok(())
     }
 
-    /// Returns a table that says for each byte whether one of the two classes holds it.
+    /// Returns a table with an entry for each byte, which is whether one of the two classes
+    /// contains it.
     fn table_with(&self, other: &ByteClass) -> [bool; 256]
         ensures { (b : ℕ) → b < 256 → slice_index_or result b false
             ≡ (has_byte self.now b || has_byte other.now b) }
@@ -148,8 +150,8 @@ fn ranges_of_table(alloc: Global, table: &[bool]) -> Result<Vec<RangeInclusive<u
     Ok(made)
 }
 
-/// Returns the comparison for as many of the first ranges as it can take in, and the number of
-/// these ranges.
+/// Returns one comparison for as many of the first ranges as possible, and the number of these
+/// ranges.
 fn first_comparison(
     alloc: Global,
     ranges: &[RangeInclusive<u8>],
@@ -177,12 +179,12 @@ fn first_comparison(
     ))
 }
 
-/// A range of bytes without some of them.
+/// A range of bytes, except for some of them.
 #[derive(Debug, Drop)]
 pub struct Comparisons {
     /// The bytes from its start to its end, both included.
     pub range: RangeInclusive<u8>,
-    /// The bytes of the range that are left out.
+    /// The bytes of the range that are excluded.
     pub except: Vec<u8>,
 }
 
@@ -199,8 +201,8 @@ impl Comparisons {
         }
     }
 
-    /// Returns the number of operations that test a byte: one for a single byte, else one for a
-    /// start above 0 and one for an end below 255; and one for each exception.
+    /// Returns the number of operations that test a byte: one for a single byte, otherwise one for
+    /// a start above 0 and one for an end below 255, and one for each exception.
     pub fn count_ops(&self) -> usize
         ensures { result ≡ operations (comparison_of self.now) }
     {

@@ -1,4 +1,5 @@
-//! Sets of bytes, the comparisons that test for them, and how they print.
+//! Sets of bytes, the comparisons that test for them, and their printed text. Graphs, codes and the
+//! printers of generated code use them.
 
 #![tactic(auto)]
 

@@ -1,4 +1,4 @@
-//! How bytes and sets of bytes print.
+//! Prints bytes and sets of bytes. State diagrams and generated code print them with it.
 
 ghost use Rattle.std.specs.Prelude.{◌≡◌, ◌<◌, ◌≤◌, ◌↔◌, IsTrue, IsFalse, IfSome, Some, codes, map};
 ghost use Rattle.logos_byte_class.specs.Views.{letter_of, lower_digit, byte_text, range_text, next_ranges_text, class_text, bounds, ranges_of};
@@ -13,7 +13,7 @@ const ASCII: u32 = 128;
 /// The control character after the last byte that prints as itself.
 const DELETE: u8 = 127;
 
-/// Returns the letter that follows `\` where the byte prints as an escape with a letter.
+/// Returns the letter that follows `\` if the byte prints as an escape with a letter.
 pub fn letter_of(byte: u8) -> Option<char>
     ensures is { result ≡ letter_of byte }
     ensures ascii { IfSome result (λ letter. letter < ASCII) }
@@ -87,7 +87,7 @@ impl fmt::Display for RangeText {
     }
 }
 
-/// Prints ranges of bytes, each after a text.
+/// Prints ranges of bytes, each after a separator.
 #[derive(Clone, Copy)]
 struct NextRanges<'c> {
     ranges: &'c [RangeInclusive<u8>],
@@ -108,14 +108,14 @@ impl fmt::Display for NextRanges<'_> {
     }
 }
 
-/// Returns the text between two ranges.
+/// Returns the separator between two ranges.
 fn between(alternate: bool) -> &'static str
     ensures { IsFalse alternate → result.now ≡ codes "|" }
 {
     if alternate { "\n" } else { "|" }
 }
 
-/// Prints the ranges with `|` between them, or with line ends in the alternate form.
+/// Prints the ranges, separated by `|`, or by line ends in the alternate form.
 impl fmt::Display for ByteClass {
     ghost output = { λ class. Some (class_text (codes "|") (ranges_of class)) };
 

@@ -6,12 +6,12 @@ use Rattle.logos_token.specs.Spelling.{Spells}
 use Rattle.logos_token.specs.Tokens.{TokenList, depth_of}
 use Rattle.logos_enum.specs.Enum.{Reads}
 use Rattle.logos_enum.specs.EnumValues.{EnumValue}
-use Rattle.logos_enum.specs.Rules.{Stands}
+use Rattle.logos_enum.specs.Rules.{Occurs}
 use Rattle.logos_enum.specs.declared.error.ReadError.{ReadError}
 use Rattle.logos_enum.specs.declared.error.ReadError.TheVariants.{NotAnEnum, Grammar, TypeUnsupported, LimitTypeNesting, Memory}
 use Rattle.logos_parser.specs.Analyses.{IsEnumAnalysis}
 use Rattle.logos_parser.specs.AnalysisViews.{analysis_view}
-use Rattle.logos_parser.specs.Endings.{GivesEnum, misread}
+use Rattle.logos_parser.specs.Endings.{YieldsEnum, misread}
 use Rattle.logos_parser.specs.declared.analysis.Analysis.{Analysis}
 use Rattle.logos_causes.specs.Sets.{HasSets, LeavesHaveSets, read, unread}
 
@@ -23,21 +23,21 @@ misread_has source tokens (TypeUnsupported span) sizes s shallow is_read other n
 misread_has source tokens (LimitTypeNesting span) sizes s shallow is_read other none = unread (misread s shallow (record { error = LimitTypeNesting span; reads = is_read; are = refl })) none
 misread_has source tokens Memory sizes s shallow is_read other none = absurd (other refl)
 
-pub misread_all : {A E : Type 0} (f : A → List ℕ) (result : Result A E) (source : List ℕ) (tokens : TokenList) (error : ReadError) → Spells source tokens → depth_of tokens ≤ 128 → Stands (λ e. Reads tokens (Err e)) error →
+pub misread_all : {A E : Type 0} (f : A → List ℕ) (result : Result A E) (source : List ℕ) (tokens : TokenList) (error : ReadError) → Spells source tokens → depth_of tokens ≤ 128 → Occurs (λ e. Reads tokens (Err e)) error →
     IfOk result (λ known. f known ≡ []) → IfOk result (λ known. error ≢ Memory) → IfOk result (λ known. HasSets source (f known))
-misread_all f (Ok known) source tokens error s shallow stands none other =
-    elim stands [ inl e ↦ absurd (other e) | inr is_read ↦ misread_has source tokens error (f known) s shallow is_read other none ]
-misread_all f (Err failed) source tokens error s shallow stands none other = tt
+misread_all f (Ok known) source tokens error s shallow occurs none other =
+    elim occurs [ inl e ↦ absurd (other e) | inr is_read ↦ misread_has source tokens error (f known) s shallow is_read other none ]
+misread_all f (Err failed) source tokens error s shallow occurs none other = tt
 
 -- the sets of the leaves of an analysis are those of its source
-analysis_has : (source : List ℕ) (item : EnumValue) (span : Span) (analysis : Analysis) (sizes : List ℕ) → GivesEnum source item span → IsEnumAnalysis item span (analysis_view analysis) →
+analysis_has : (source : List ℕ) (item : EnumValue) (span : Span) (analysis : Analysis) (sizes : List ℕ) → YieldsEnum source item span → IsEnumAnalysis item span (analysis_view analysis) →
     LeavesHaveSets analysis.leaves.items sizes → HasSets source sizes
 analysis_has source item span analysis sizes given is sets =
     read {analysis = analysis_view analysis} {leaves = analysis.leaves.items}
-    (record { enum = item; says = subst (λ (at : Span). GivesEnum source item at) is.is_span given; is_name = is.is_name; enum_says = is.says; is_type = is.is_type })
+    (record { enum = item; says = subst (λ (at : Span). YieldsEnum source item at) is.is_span given; is_name = is.is_name; enum_says = is.says; is_type = is.is_type })
     refl sets
 
-pub analysis_all : {A E : Type 0} (f : A → List ℕ) (result : Result A E) (source : List ℕ) (item : EnumValue) (span : Span) (analysis : Analysis) → GivesEnum source item span → IsEnumAnalysis item span (analysis_view analysis) →
+pub analysis_all : {A E : Type 0} (f : A → List ℕ) (result : Result A E) (source : List ℕ) (item : EnumValue) (span : Span) (analysis : Analysis) → YieldsEnum source item span → IsEnumAnalysis item span (analysis_view analysis) →
     IfOk result (λ known. LeavesHaveSets analysis.leaves.items (f known)) → IfOk result (λ known. HasSets source (f known))
 analysis_all f (Ok known) source item span analysis given is sets = analysis_has source item span analysis (f known) given is sets
 analysis_all f (Err failed) source item span analysis given is sets = tt

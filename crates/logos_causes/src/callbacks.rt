@@ -1,45 +1,84 @@
-//! What callbacks lose, and what is probably not meant as one.
+//! Warnings for callbacks: tokens that a callback loses, and tokens that were probably not meant as
+//! a callback. Used by `explanation`.
 
+use crate::closures::{closure_start, closure_starts, runs_at};
 use logos_pattern::leaf::{Callback, InlineCallback, Leaf};
 use logos_report::Warning;
 use logos_token::error::Memory;
-use logos_token::token::{Delimiter, Group, Span, TokenError, TokenTree, Tokens, tokenize};
+use logos_token::token::{Delimiter, Group, Punct, Span, TokenTree, Tokens};
 use logos_token::util::begins_with;
 use logos_warnings::fixed_warning;
 use std::alloc::Global;
 
-/// What a callback belongs to.
+/// The owner of a callback.
 #[derive(Clone, Copy)]
 pub(crate) enum CallbackOwner {
     Leaf,
     ErrorType,
 }
 
-/// Adds the warnings of the callbacks of these leaves of a source.
+/// Adds the warnings of the callbacks of these leaves of a source with these tokens.
 pub(crate) fn add_callbacks(
     alloc: Global,
-    source: &str,
+    tokens: Tokens<'_, '_>,
     leaves: &[Leaf<'_>],
     warnings: &mut Vec<Warning>,
 ) -> Result<(), Memory> {
+    let starts = closure_starts(alloc, leaves)?;
+    let runs = runs_at(alloc, tokens, &starts)?;
+    let mut next = 0;
     for leaf in leaves {
         let callback = leaf.callback.as_ref();
-        add_callback(alloc, source, CallbackOwner::Leaf, callback, warnings)?;
+        add_callback(
+            CallbackOwner::Leaf,
+            callback,
+            runs.get(next).copied(),
+            warnings,
+        )?;
+        next = after_callback(callback, next);
     }
     Ok(())
 }
 
-/// Adds the warnings of a callback, if there is one.
-pub(crate) fn add_callback(
+/// Returns the index of the next closure after a callback, if the index of the next one before it
+/// is `next`.
+fn after_callback(callback: Option<&Callback<'_>>, next: usize) -> usize {
+    match callback {
+        Some(Callback::Inline(_)) => next.saturating_add(1),
+        _ => next,
+    }
+}
+
+/// Adds the warnings of the callback for errors of a source with these tokens, if it has one.
+pub(crate) fn add_error_callback(
     alloc: Global,
-    source: &str,
+    tokens: Tokens<'_, '_>,
+    callback: Option<&Callback<'_>>,
+    warnings: &mut Vec<Warning>,
+) -> Result<(), Memory> {
+    let mut starts = Vec::new(alloc);
+    if let Some(start) = closure_start(callback) {
+        starts.push(start)?;
+    }
+    let runs = runs_at(alloc, tokens, &starts)?;
+    add_callback(
+        CallbackOwner::ErrorType,
+        callback,
+        runs.first().copied(),
+        warnings,
+    )
+}
+
+/// Adds the warnings of a callback, if there is one. `run` begins with its closure, if it is one.
+fn add_callback(
     owner: CallbackOwner,
     callback: Option<&Callback<'_>>,
+    run: Option<Tokens<'_, '_>>,
     warnings: &mut Vec<Warning>,
 ) -> Result<(), Memory> {
     match callback {
         Some(Callback::Label(label)) => add_label(owner, label.run(), warnings),
-        Some(Callback::Inline(closure)) => add_closure(alloc, source, closure, warnings),
+        Some(Callback::Inline(closure)) => add_closure(closure, run, warnings),
         None => Ok(()),
     }
 }
@@ -58,7 +97,7 @@ fn add(
 
 const PATH: &str = "write the path of a function, or a closure with one parameter, as `|lex| ..`";
 
-/// Adds the warning of a callback that is not a closure, if it has one.
+/// Adds the warning for a callback that is not a closure, if it has one.
 fn add_label(
     owner: CallbackOwner,
     label: Tokens<'_, '_>,
@@ -84,7 +123,7 @@ fn add_label(
     Ok(())
 }
 
-/// Returns what to do about an option without a value.
+/// Returns the help for an option without a value.
 fn help_for_option(owner: CallbackOwner, label: Tokens<'_, '_>) -> &'static str {
     match owner {
         CallbackOwner::Leaf => "write its value, as in `priority = 3` or `ignore(case)`",
@@ -92,7 +131,7 @@ fn help_for_option(owner: CallbackOwner, label: Tokens<'_, '_>) -> &'static str 
     }
 }
 
-/// Returns what to do about a callback that is neither a path nor a closure.
+/// Returns the help for a callback that is neither a path nor a closure.
 fn help_for_label(owner: CallbackOwner, label: Tokens<'_, '_>) -> &'static str {
     match owner {
         CallbackOwner::Leaf => help_for_leaf(label),
@@ -100,8 +139,7 @@ fn help_for_label(owner: CallbackOwner, label: Tokens<'_, '_>) -> &'static str {
     }
 }
 
-/// Returns what to do about such a callback of an error type, which has the option `callback`
-/// alone.
+/// Returns the help for such a callback of an error type, whose only option is `callback`.
 fn help_for_error(label: Tokens<'_, '_>) -> &'static str {
     match label.first() {
         Some(TokenTree::Ident(name)) if name.text == "callback" => {
@@ -111,7 +149,7 @@ fn help_for_error(label: Tokens<'_, '_>) -> &'static str {
     }
 }
 
-/// Returns what to do about such a callback of a leaf, by its first token.
+/// Returns the help for such a callback of a leaf, chosen by its first token.
 fn help_for_leaf(label: Tokens<'_, '_>) -> &'static str {
     match label.first() {
         Some(TokenTree::Ident(name)) if is_option(name.text) => {
@@ -127,7 +165,7 @@ fn help_for_leaf(label: Tokens<'_, '_>) -> &'static str {
     }
 }
 
-/// Returns whether a run is the name of an option alone.
+/// Returns whether a run consists of the name of an option.
 fn names_option(label: Tokens<'_, '_>) -> bool {
     match label.first() {
         Some(TokenTree::Ident(name)) => label.rest().is_empty() & is_option(name.text),
@@ -141,7 +179,7 @@ fn is_option(name: &str) -> bool {
     is_argument | (name == "ignore") | (name == "ignore_case") | (name == "ignore_ascii_case")
 }
 
-/// Returns whether all of a run can be the path of a function.
+/// Returns whether a whole run can be the path of a function.
 fn is_path(label: Tokens<'_, '_>) -> bool {
     let mut rest = label;
     while let Some(tree) = rest.first() {
@@ -153,7 +191,7 @@ fn is_path(label: Tokens<'_, '_>) -> bool {
     begins_path(label)
 }
 
-/// Returns whether a run begins as a path does.
+/// Returns whether a run begins like a path.
 fn begins_path(label: Tokens<'_, '_>) -> bool {
     match label.first() {
         Some(TokenTree::Ident(name)) => name.text != "move",
@@ -162,7 +200,7 @@ fn begins_path(label: Tokens<'_, '_>) -> bool {
     }
 }
 
-/// Returns whether a token can be a part of the path of a function, also of types in it.
+/// Returns whether a token can be a part of the path of a function, including the types in it.
 fn is_path_part(tree: TokenTree<'_, '_>) -> bool {
     match tree {
         TokenTree::Ident(_) => true,
@@ -172,55 +210,46 @@ fn is_path_part(tree: TokenTree<'_, '_>) -> bool {
     }
 }
 
-/// Adds the warnings of a closure.
+/// Adds the warnings of a closure, with which `run` begins.
 fn add_closure(
-    alloc: Global,
-    source: &str,
     closure: &InlineCallback<'_>,
+    run: Option<Tokens<'_, '_>>,
     warnings: &mut Vec<Warning>,
 ) -> Result<(), Memory> {
     add_escapes(closure.body.run(), warnings)?;
-    let span = closure.span;
-    let Some(text) = source.get(span.from..span.to) else {
-        return Ok(());
-    };
-    match tokenize(alloc, text) {
-        Ok(stream) => add_body(span.from, after_bars(stream.run()), warnings),
-        Err(TokenError::Memory) => Err(Memory),
-        Err(_) => Ok(()),
+    match run {
+        Some(run) => add_body(closure.span.to, after_bars(run), warnings),
+        None => Ok(()),
     }
 }
 
-/// Returns what follows the parameter of a closure and the bars around it.
+/// Returns the tokens after the parameter of a closure and the bars around it.
 fn after_bars<'t, 's>(closure: Tokens<'t, 's>) -> Tokens<'t, 's> {
     closure.rest().rest().rest()
 }
 
-/// Adds the warnings of the body of a closure, whose text begins in the source at an offset.
-fn add_body(
-    offset: usize,
-    body: Tokens<'_, '_>,
-    warnings: &mut Vec<Warning>,
-) -> Result<(), Memory> {
+/// Adds the warnings of the body of a closure, which ends at an offset.
+fn add_body(to: usize, body: Tokens<'_, '_>, warnings: &mut Vec<Warning>) -> Result<(), Memory> {
     match body.first() {
-        Some(TokenTree::Group(group)) => { add_group(offset, group, body.rest(), warnings) }
-        Some(TokenTree::Punct(_)) => add_type(offset, body, warnings),
+        Some(TokenTree::Group(group)) => add_group(to, group, body.rest(), warnings),
+        Some(TokenTree::Punct(punct)) => add_type(to, punct, body.rest(), warnings),
         _ => Ok(()),
     }
 }
 
 const BRACES: &str = "put all of the body in braces";
 
-/// Adds the warning of a body that begins with a group, if more follows or its brackets matter.
+/// Adds the warning of a body that begins with a group and ends at an offset, if more follows the
+/// group there or its brackets matter.
 fn add_group(
-    offset: usize,
+    to: usize,
     group: Group<'_, '_>,
     rest: Tokens<'_, '_>,
     warnings: &mut Vec<Warning>,
 ) -> Result<(), Memory> {
-    if !rest.is_empty() {
+    if let Some(span) = dropped(to, rest) {
         return add(
-            moved(rest.span(), offset),
+            span,
             "the body of this closure ends before this, which is dropped",
             BRACES,
             warnings,
@@ -228,13 +257,23 @@ fn add_group(
     }
     if loses_brackets(group.delimiter, group.run()) {
         return add(
-            moved(group.span, offset),
+            group.span,
             "the body of this closure loses its outer brackets",
             BRACES,
             warnings,
         );
     }
     Ok(())
+}
+
+/// Returns the span of the tokens of a run up to an offset, if there are some.
+fn dropped(to: usize, run: Tokens<'_, '_>) -> Option<Span> {
+    let from = run.first()?.span().from;
+    if from < to {
+        Some(Span { from, to })
+    } else {
+        None
+    }
 }
 
 /// Returns whether a body means something else without the brackets around it.
@@ -246,7 +285,7 @@ fn loses_brackets(delimiter: Delimiter, inside: Tokens<'_, '_>) -> bool {
     }
 }
 
-/// Returns whether a comma stands in a run, outside of its groups.
+/// Returns whether a run contains a comma outside of its groups.
 fn has_comma(run: Tokens<'_, '_>) -> bool {
     let mut rest = run;
     while !rest.is_empty() {
@@ -258,15 +297,18 @@ fn has_comma(run: Tokens<'_, '_>) -> bool {
     false
 }
 
-/// Adds the warning of a body that begins with the type of its value.
+/// Adds the warning of a body that begins with this punctuation and ends at an offset, if the type
+/// of its value is in front of it.
 fn add_type(
-    offset: usize,
-    body: Tokens<'_, '_>,
+    to: usize,
+    first: Punct,
+    rest: Tokens<'_, '_>,
     warnings: &mut Vec<Warning>,
 ) -> Result<(), Memory> {
-    if begins_with('-', body) && begins_with('>', body.rest()) {
+    let from = first.span.from;
+    if (first.character == '-') & begins_with('>', rest) {
         return add(
-            moved(body.span(), offset),
+            Span { from, to },
             "the type in front of the body of this closure becomes a part of the body",
             "leave the type out, or write a function and name it",
             warnings,
@@ -275,7 +317,7 @@ fn add_type(
     Ok(())
 }
 
-/// Adds a warning for each token of a body that leaves more than the closure.
+/// Adds a warning for each token of a body that exits the function around the closure.
 fn add_escapes(body: Tokens<'_, '_>, warnings: &mut Vec<Warning>) -> Result<(), Memory> {
     let mut rest = body;
     while let Some(tree) = rest.first() {
@@ -285,7 +327,7 @@ fn add_escapes(body: Tokens<'_, '_>, warnings: &mut Vec<Warning>) -> Result<(), 
     Ok(())
 }
 
-/// Adds a warning for a token of a body, if it leaves more than the closure.
+/// Adds a warning for a token of a body, if it exits the function around the closure.
 fn add_escape(tree: TokenTree<'_, '_>, warnings: &mut Vec<Warning>) -> Result<(), Memory> {
     match tree {
         TokenTree::Ident(name) if name.text == "return" => add(
@@ -301,13 +343,5 @@ fn add_escape(tree: TokenTree<'_, '_>, warnings: &mut Vec<Warning>) -> Result<()
             warnings,
         ),
         _ => Ok(()),
-    }
-}
-
-/// Returns a span that counts from an offset as one of the source.
-fn moved(span: Span, offset: usize) -> Span {
-    Span {
-        from: span.from.saturating_add(offset),
-        to: span.to.saturating_add(offset),
     }
 }

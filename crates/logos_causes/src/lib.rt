@@ -1,14 +1,16 @@
-//! Why a lexer has faults of its graph, and what of it is probably a mistake: where ambiguous
-//! leaves meet, which patterns look first, which leaves are never found, and what callbacks lose.
+//! Explains the faults of a graph, and finds probable mistakes in a lexer: the texts on which
+//! ambiguous leaves meet, the patterns that begin with a look-around assertion, the leaves that are
+//! never found, and the tokens that callbacks lose. Called by the programs and the derive macro.
 
 #![tactic(auto)]
 
 mod callbacks;
-mod explaining;
-mod hidden;
+mod closures;
+mod explanation;
+mod leading_looks;
 mod meetings;
 mod names;
-mod quoting;
-mod starts;
+mod quotes;
+mod shadowed_leaves;
 
-pub use explaining::{Explained, explain, explain_enum, lexer_warnings};
+pub use explanation::{Explained, Lexer, accepted_warnings, explain, explain_enum};

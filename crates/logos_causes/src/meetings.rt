@@ -1,22 +1,23 @@
-//! What is known of the sets of ambiguous leaves of a graph.
+//! The clues about the sets of ambiguous leaves of a graph. Used by `explanation`.
 
 ghost use Rattle.std.specs.Prelude.{◌≡◌, ◌≤◌, ◌++◌, ◌∷◌, [], IfOk, IsTrue, OnOk, length, map};
 ghost use Rattle.std.specs.List.Sorted.{IsStrictlyIncreasing};
-ghost use Rattle.logos_causes.specs.Words.{fault_of, numbers, set_size, set_sizes, size_of};
+ghost use Rattle.logos_causes.specs.Imports.{fault_of, numbers, set_size, set_sizes, size_of};
 
 use crate::names::name_of;
-use crate::quoting::push_quoted;
+use crate::quotes::push_quoted;
 use logos_evidence::{Match, matches_from, meeting};
 use logos_graph::graph::{Graph, GraphError};
 use logos_hir::leaf::LeafId;
+use logos_page::Page;
 use logos_pattern::leaf::Leaf;
-use logos_report::{Meeting, Page};
+use logos_report::Meeting;
 use std::alloc::{AllocError, Global};
 
-/// For how many sets the text on which they meet is searched.
+/// The maximum number of sets for which a text is searched on which they meet.
 const SEARCHED: usize = 10;
 
-/// Returns what is known of each set of ambiguous leaves of a graph, in order.
+/// Returns the clue about each set of ambiguous leaves of a graph, in order.
 pub(crate) fn meetings_of(alloc: Global, graph: &Graph<'_>) -> Result<Vec<Meeting>, AllocError>
     ensures { IfOk result (λ meetings. map size_of meetings.items ≡ set_sizes graph.now.faults) }
 {
@@ -28,7 +29,7 @@ pub(crate) fn meetings_of(alloc: Global, graph: &Graph<'_>) -> Result<Vec<Meetin
     Ok(meetings)
 }
 
-/// Adds what is known of a set of ambiguous leaves, if this is one.
+/// Adds the clue about a set of ambiguous leaves, if the fault is one.
 fn add_fault(
     alloc: Global,
     graph: &Graph<'_>,
@@ -45,7 +46,7 @@ fn add_fault(
     }
 }
 
-/// Adds what is known of the set of ambiguous leaves with these numbers.
+/// Adds the clue about the set of ambiguous leaves with these numbers.
 fn add_set(
     alloc: Global,
     graph: &Graph<'_>,
@@ -73,7 +74,7 @@ fn numbers_of(alloc: Global, leaves: &[LeafId]) -> Result<Vec<usize>, AllocError
     Ok(set)
 }
 
-/// Returns what is known of a set of ambiguous leaves.
+/// Returns the clue about a set of ambiguous leaves.
 fn meeting_of(
     alloc: Global,
     graph: &Graph<'_>,
@@ -108,7 +109,8 @@ fn name_at(alloc: Global, leaves: &[Leaf<'_>], number: usize) -> Result<String, 
     String::from_str(alloc, name)
 }
 
-/// Returns on what text the leaves of a set meet, and which priority would decide.
+/// Returns the note with the text on which the leaves of a set meet, and the priority that would
+/// decide.
 fn note_of(
     alloc: Global,
     graph: &Graph<'_>,
@@ -141,7 +143,7 @@ fn priority_of(leaves: &[Leaf<'_>], set: &[usize]) -> usize {
     }
 }
 
-/// Appends the priority of a set, and the least one that would decide.
+/// Appends the priority of a set, and the lowest one that would decide.
 fn push_priority(page: &mut Page, priority: usize) {
     page.push(" with priority ");
     page.push_number(priority);
@@ -196,8 +198,8 @@ fn ascends(set: &[usize]) -> bool
     true
 }
 
-/// Appends the text on which leaves meet, which is the beginning of an input up to an end, and what
-/// follows it there, if something has to.
+/// Appends the text on which leaves meet, which is the prefix of an input up to `end`, and the
+/// bytes that follow it there, if some have to.
 fn push_found(page: &mut Page, input: &[u8], end: usize)
     requires { end ≤ length input.now }
 {
@@ -208,7 +210,7 @@ fn push_found(page: &mut Page, input: &[u8], end: usize)
     }
 }
 
-/// Returns where a match of exactly these leaves ends, or the largest number.
+/// Returns the end of a match of exactly these leaves, or the greatest number.
 fn end_of(matches: &[Match], set: &[usize]) -> usize {
     for one in matches {
         if is_first(*one, set) && is_met(matches, *one, set) {
@@ -226,8 +228,8 @@ fn is_first(one: Match, set: &[usize]) -> bool {
     }
 }
 
-/// Returns whether as many leaves as a set has match up to the end of a match with no lower
-/// priority, all of them of the set.
+/// Returns whether exactly the leaves of a set match up to the end of `one` with at least its
+/// priority.
 fn is_met(matches: &[Match], one: Match, set: &[usize]) -> bool {
     let mut count: usize = 0;
     for other in matches {

@@ -1,7 +1,7 @@
-//! The names of leaves in messages.
+//! The names of leaves in messages. Used by `leading_looks`, `meetings` and `shadowed_leaves`.
 
+use logos_page::Page;
 use logos_pattern::leaf::{Leaf, VariantKind};
-use logos_report::Page;
 use std::alloc::{AllocError, Global};
 
 /// Returns the name of the variant of a leaf, or `skip`.

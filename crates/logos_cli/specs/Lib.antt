@@ -1,5 +1,5 @@
 pub mod Orders
 pub mod Runs
 pub mod inside
-pub mod Words
+pub mod Imports
 pub mod Views

@@ -1,14 +1,15 @@
--- What the words of a command line ask for.
-use Rattle.std.specs.Prelude.{ℕ, ◌&&◌, ◌==◌, ◌-◌, ◌++◌, List, Bool, true, false, Option, Some, None, if◌then◌else◌, option_map, bytes_eq, codes, is_some, length, map, not, slice_index, string_bytes}
+-- The request of `logos_cli`, read from its arguments.
+use Rattle.std.specs.Prelude.{ℕ, ◌&&◌, ◌==◌, ◌-◌, ◌++◌, List, Bool, Option, Some, None, if◌then◌else◌, option_map, bytes_eq, codes, length, map, not, slice_index, string_bytes}
+use Rattle.logos_code.specs.Shapes.{shape_named as code_named}
 use Rattle.logos_host.specs.Paths.{file_name}
 use Rattle.logos_host.specs.declared.color.Color.{Color}
-use Rattle.logos_host.specs.declared.color.Color.TheVariants.{Auto}
 use Rattle.logos_host.specs.declared.message_format.MessageFormat.{MessageFormat}
-use Rattle.logos_host.specs.declared.message_format.MessageFormat.TheVariants.{Human}
-use Rattle.logos_options.specs.Given.{GivenValue, given_of, given_or}
+use Rattle.logos_options.specs.Arguments.{ArgumentsValue, arguments_of, is_set, setting}
 use Rattle.logos_options.specs.Paths.{paths_of}
-use Rattle.logos_options.specs.declared.given.Answer.{Answer}
-use Rattle.logos_options.specs.declared.given.Answer.TheVariants as answers
+use Rattle.logos_options.specs.Styles.{style_given}
+use Rattle.logos_options.specs.declared.message_style.MessageStyle.{MessageStyle}
+use Rattle.logos_options.specs.declared.options.OptionName.{OptionName}
+use Rattle.logos_options.specs.declared.options.OptionName.TheVariants as options
 use Rattle.logos_options.specs.declared.program.Program.TheVariants.{Cli}
 use Rattle.logos_cli.specs.declared.options.Batch.{Batch}
 use Rattle.logos_cli.specs.declared.options.ExpandOrder.{ExpandOrder}
@@ -18,7 +19,7 @@ use Rattle.logos_tables.specs.declared.shape.Shape.{Shape}
 use Rattle.logos_tables.specs.declared.shape.Shape.TheVariants.{Code, Tables}
 
 -- A file to expand: its path, the path of the file for the result, whether that is only compared,
--- the shape of the lexers, how messages are written, whether warnings are denied, and when messages
+-- the shape of the lexers, the format of messages, whether warnings are denied, and when messages
 -- have colors.
 pub record OrderValue : Type 0 where
   pub input : List ℕ
@@ -29,22 +30,18 @@ pub record OrderValue : Type 0 where
   pub denies : Bool
   pub color : Color
 
--- What is asked for.
-pub data Asked : Type 0 where
-  asks_help : Asked
-  asks_version : Asked
-  asks_expansion : (order : OrderValue) → Asked
-  asks_each : (orders : List OrderValue) → Asked
+-- A request.
+pub data Requested : Type 0 where
+  requests_help : Requested
+  requests_version : Requested
+  requests_expansion : (order : OrderValue) → Requested
+  requests_each : (orders : List OrderValue) → Requested
 
--- The shapes of lexers, by their names.
+-- The shape of lexers with this name.
 abbrev pub shape_named : List ℕ → Option Shape
-shape_named name =
-    if bytes_eq name (codes "state_machine") then Some (Code (record { use_state_machine_codegen = true }))
-    else (if bytes_eq name (codes "tailcall") then Some (Code (record { use_state_machine_codegen = false }))
-    else (if bytes_eq name (codes "tables") then Some Tables
-    else None))
+shape_named name = if bytes_eq name (codes "tables") then Some Tables else option_map Code (code_named name)
 
--- The shape with the name that is given, or tables.
+-- The shape with the given name, or `Tables` if none is given.
 abbrev pub named_shape : Option (List ℕ) → Option Shape
 named_shape None = Some Tables
 named_shape (Some name) = shape_named name
@@ -53,54 +50,64 @@ named_shape (Some name) = shape_named name
 abbrev pub is_folder : List ℕ → Bool
 is_folder path = slice_index path (length path - 1) == 47
 
--- The same of another file, whose result goes into a folder under the name of that file.
+-- The order for another file, whose result is written into a folder under the name of that file.
 abbrev pub order_into : OrderValue → List ℕ → List ℕ → OrderValue
 order_into order folder path = record order { input = path; output = Some (folder ++ file_name path) }
 
--- The same of several files.
+-- The orders for several files, whose results are written into a folder.
 abbrev pub orders_into : OrderValue → List ℕ → List (List ℕ) → List OrderValue
 orders_into order folder paths = map (order_into order folder) paths
 
--- A file to expand, which is the only one.
-abbrev pub one_order : OrderValue → Option (List ℕ) → Option Asked
-one_order order None = Some (asks_expansion order)
+-- The request for a single file.
+abbrev pub one_order : OrderValue → Option (List ℕ) → Option Requested
+one_order order None = Some (requests_expansion order)
 one_order order (Some second) = None
 
--- The same, or all files of the words, whose results go into a folder.
-abbrev pub placed : List (List ℕ) → OrderValue → Option (List ℕ) → Option (List ℕ) → Option Asked
-placed words order None second = one_order order second
-placed words order (Some output) second =
-    if is_folder output then Some (asks_each (orders_into order output (paths_of words))) else one_order order second
+-- The request for a single file, or for all files in the arguments, whose results are written into
+-- a folder.
+abbrev pub placed : List (List ℕ) → OrderValue → Option (List ℕ) → Option (List ℕ) → Option Requested
+placed arguments order None second = one_order order second
+placed arguments order (Some output) second =
+    if is_folder output then Some (requests_each (orders_into order output (paths_of arguments))) else one_order order second
 
--- Files to expand; what is only compared needs a file for the result.
-abbrev pub file_given : List (List ℕ) → GivenValue → List ℕ → Shape → Option Asked
-file_given words given input shape =
-    if given.switches.is_check && not (is_some given.values.output) then None
-    else placed words (record { input = input; output = given.values.output; is_check = given.switches.is_check; shape = shape; format = given_or Human given.values.format; denies = given.switches.denies; color = given_or Auto given.values.color }) given.values.output given.second
+-- Files to expand, with messages in this style. A check needs a file for the result.
+abbrev pub shaped_given : List (List ℕ) → ArgumentsValue → List ℕ → MessageStyle → Option Shape → Option Requested
+shaped_given arguments parsed input style None = None
+shaped_given arguments parsed input style (Some shape) =
+    if is_set options.Check parsed.settings && not (is_set options.Output parsed.settings) then None
+    else placed arguments
+    (record { input = input; output = setting options.Output parsed.settings; is_check = is_set options.Check parsed.settings; shape = shape; format = style.format; denies = is_set options.DenyWarnings parsed.settings; color = style.color })
+    (setting options.Output parsed.settings) parsed.second
 
-abbrev pub shaped_given : List (List ℕ) → GivenValue → List ℕ → Option Shape → Option Asked
-shaped_given words given input None = None
-shaped_given words given input (Some shape) = file_given words given input shape
+-- Files to expand, with messages in this style and in the given shape.
+abbrev pub file_given : List (List ℕ) → ArgumentsValue → List ℕ → MessageStyle → Option Requested
+file_given arguments parsed input style = shaped_given arguments parsed input style (named_shape (setting options.Shape parsed.settings))
 
--- What is asked of the input, if there is one.
-abbrev pub order_given : List (List ℕ) → GivenValue → Option (List ℕ) → Option Asked
-order_given words given None = None
-order_given words given (Some input) = shaped_given words given input (named_shape given.values.shape)
+abbrev pub style_requested : List (List ℕ) → ArgumentsValue → List ℕ → Option MessageStyle → Option Requested
+style_requested arguments parsed input None = None
+style_requested arguments parsed input (Some style) = file_given arguments parsed input style
 
-abbrev pub answer_given : List (List ℕ) → GivenValue → Option Answer → Option Asked
-answer_given words given (Some answers.Help) = Some asks_help
-answer_given words given (Some answers.Version) = Some asks_version
-answer_given words given None = order_given words given given.first
+-- The request for the input, if there is one.
+abbrev pub order_given : List (List ℕ) → ArgumentsValue → Option (List ℕ) → Option Requested
+order_given arguments parsed None = None
+order_given arguments parsed (Some input) = style_requested arguments parsed input (style_given parsed.settings)
 
--- What the words ask for.
-abbrev pub asked_given : List (List ℕ) → Option GivenValue → Option Asked
-asked_given words None = None
-asked_given words (Some given) = answer_given words given given.answer
+-- A text, or files to expand.
+abbrev pub request_given : List (List ℕ) → ArgumentsValue → Option OptionName → Option Requested
+request_given arguments parsed (Some options.Version) = Some requests_version
+request_given arguments parsed (Some option) = Some requests_help
+request_given arguments parsed None = order_given arguments parsed parsed.first
 
-abbrev pub asked : List (List ℕ) → Option Asked
-asked words = asked_given words (given_of Cli words)
+-- The request of these arguments.
+abbrev pub requested_given : List (List ℕ) → Option ArgumentsValue → Option Requested
+requested_given arguments None = None
+requested_given arguments (Some parsed) = request_given arguments parsed parsed.text
 
--- The same of what the program keeps.
+-- The request of a command line, if its arguments are valid.
+abbrev pub requested : List (List ℕ) → Option Requested
+requested arguments = requested_given arguments (arguments_of Cli arguments)
+
+-- The views of the program's types.
 abbrev pub order_value : ExpandOrder → OrderValue
 order_value order = record {
   input = order.input.now;
@@ -112,13 +119,13 @@ order_value order = record {
   color = order.color;
 }
 
--- What is asked for each of several files, as values.
+-- The views of the orders for several files.
 abbrev pub batch_value : Batch → List OrderValue
-batch_value batch = orders_into (order_value batch.order) batch.folder.now (paths_of (map string_bytes batch.words.now))
+batch_value batch = orders_into (order_value batch.order) batch.folder.now (paths_of (map string_bytes batch.arguments.now))
 
--- What is asked for, as a value.
-abbrev pub request_value : Request → Asked
-request_value requests.Help = asks_help
-request_value requests.Version = asks_version
-request_value (requests.Expand order) = asks_expansion (order_value order)
-request_value (requests.ExpandEach batch) = asks_each (batch_value batch)
+-- The view of a request.
+abbrev pub request_value : Request → Requested
+request_value requests.Help = requests_help
+request_value requests.Version = requests_version
+request_value (requests.Expand order) = requests_expansion (order_value order)
+request_value (requests.ExpandEach batch) = requests_each (batch_value batch)

@@ -1,97 +1,99 @@
--- What a run of the program does, by what its files give. `gives` holds of files, a path, all bytes
--- that are read there, and the files after that; `makes` of files, a path, the bytes of the file
--- there from then on, and the files after that; `finds` of files, a path, some bytes, how the file
--- there compares with them, and the files after that.
+-- The effects of a run of the program, determined by the content of its files. `yields` holds of
+-- files, a path, the bytes that are read there, and the files after the read; `makes` of files, a
+-- path, the bytes that are written there, and the files after the write; `finds` of files, a path,
+-- some bytes, how the file there compares with them, and the files after the comparison.
 use Rattle.std.specs.Prelude.{◌≡◌, ◌≢◌, ◌⊎◌, ◌++◌, ◌||◌, ℕ, List, [], ◌∷◌, All, Bool, Contains, true, false, IsTrue, Option, Some, None, IfSome, bytes_eq, map, unwrap_or}
 use Rattle.std.specs.Io.KnownBytes.{Appends, Keeps}
-use Rattle.logos_host.specs.declared.comparing.Standing.{Standing}
-use Rattle.logos_host.specs.declared.comparing.Standing.TheVariants.{Same}
+use Rattle.logos_host.specs.declared.comparison.Occurrence.{Occurrence}
+use Rattle.logos_host.specs.declared.comparison.Occurrence.TheVariants.{Same}
 use Rattle.logos_host.specs.Reading.{Reads}
 use Rattle.logos_expand.specs.Expanding.{IsExpanded}
 use Rattle.logos_expand.specs.Gathering.{IsCause}
-use Rattle.logos_cli.specs.Orders.{Asked, asks_help, asks_version, asks_expansion, asks_each, OrderValue}
-use Rattle.logos_text.specs.Standing.{StandInOrder}
+use Rattle.logos_cli.specs.Orders.{Requested, requests_help, requests_version, requests_expansion, requests_each, OrderValue}
+use Rattle.logos_text.specs.Occurrence.{OccurInOrder}
 
--- A file has other bytes than these, or cannot be read.
-pub record IsOther {F : Type 0} (finds : F → List ℕ → List ℕ → Standing → F → Type 0) (path bytes : List ℕ) (files after : F) : Type 0 where
-  pub standing : Standing
-  pub found : finds files path bytes standing after
-  pub other : standing ≢ Same
+-- A file has bytes other than these, or cannot be read.
+pub record IsOther {F : Type 0} (finds : F → List ℕ → List ℕ → Occurrence → F → Type 0) (path bytes : List ℕ) (files after : F) : Type 0 where
+  pub occurrence : Occurrence
+  pub found : finds files path bytes occurrence after
+  pub other : occurrence ≢ Same
 
 -- A file had other bytes, and these were written to it.
-pub record IsRewritten {F : Type 0} (makes : F → List ℕ → List ℕ → F → Type 0) (finds : F → List ℕ → List ℕ → Standing → F → Type 0) (path bytes : List ℕ) (files after : F) : Type 0 where
+pub record IsRewritten {F : Type 0} (makes : F → List ℕ → List ℕ → F → Type 0) (finds : F → List ℕ → List ℕ → Occurrence → F → Type 0) (path bytes : List ℕ) (files after : F) : Type 0 where
   pub between : F
   pub other : IsOther finds path bytes files between
   pub made : makes between path bytes after
 
-module _ {F : Type 0} (gives makes : F → List ℕ → List ℕ → F → Type 0) (finds : F → List ℕ → List ℕ → Standing → F → Type 0) where
+module _ {F : Type 0} (yields makes : F → List ℕ → List ℕ → F → Type 0) (finds : F → List ℕ → List ℕ → Occurrence → F → Type 0) where
   -- A file has these bytes, and was not written.
   abbrev pub IsThere : List ℕ → List ℕ → F → F → Type 0
-  IsThere path bytes files after = finds files path bytes Same after × gives files path bytes after
+  IsThere path bytes files after = finds files path bytes Same after × yields files path bytes after
 
-  -- The result is in a file: it was there, or it was written, and not only to be compared.
+  -- The result is in a file: the file had it, or, unless it was only to be compared, it was
+  -- written.
   abbrev pub IsSettled : OrderValue → List ℕ → List ℕ → F → F → Type 0
   IsSettled order path bytes files after = IsThere path bytes files after ⊎ ((order.is_check ≡ false) × IsRewritten makes finds path bytes files after)
 
-  -- The result is where it was asked for: in a file, or at the end of standard output. What goes to
-  -- one leaves the other as it is.
+  -- The result was delivered as requested: to a file, or to the end of standard output. The other
+  -- one stays unchanged.
   abbrev pub IsDelivered : OrderValue → Option (List ℕ) → List ℕ → F → F → Option (List ℕ) → Option (List ℕ) → Type 0
   IsDelivered order None bytes files after old new = (after ≡ files) × Appends old new bytes
   IsDelivered order (Some path) bytes files after old new = IsSettled order path bytes files after × Keeps old new
 
-  -- The file is read and expanded, and the result is where it was asked for.
+  -- The file is read and expanded, and the result was delivered as requested.
   abbrev pub IsCarriedOut : OrderValue → F → F → Option (List ℕ) → Option (List ℕ) → Type 0
   IsCarriedOut order files after old new =
-      Reads gives files order.input (λ text read. (bytes : List ℕ) × IsExpanded order.shape text bytes × IsDelivered order order.output bytes read after old new)
+      Reads yields files order.input (λ text read. (bytes : List ℕ) × IsExpanded order.shape order.input text bytes × IsDelivered order order.output bytes read after old new)
 
-  -- Files are read and expanded one after another, and each result is where it was asked for.
+  -- Files are read and expanded one after another, and each result was delivered as requested.
   abbrev pub AreCarriedOut : List OrderValue → F → F → Option (List ℕ) → Option (List ℕ) → Type 0
   AreCarriedOut [] files after old new = (after ≡ files) × (new ≡ old)
   AreCarriedOut (order ∷ rest) files after old new =
       (between : F) × (middle : Option (List ℕ)) × IsCarriedOut order files between old middle × AreCarriedOut rest between after middle new
 
-  -- What is asked for is done.
-  abbrev pub IsDone : Asked → F → F → Option (List ℕ) → Option (List ℕ) → Type 0
-  IsDone asks_help files after old new = after ≡ files
-  IsDone asks_version files after old new = after ≡ files
-  IsDone (asks_expansion order) files after old new = IsCarriedOut order files after old new
-  IsDone (asks_each orders) files after old new = AreCarriedOut orders files after old new
+  -- The request is fulfilled.
+  abbrev pub IsDone : Requested → F → F → Option (List ℕ) → Option (List ℕ) → Type 0
+  IsDone requests_help files after old new = after ≡ files
+  IsDone requests_version files after old new = after ≡ files
+  IsDone (requests_expansion order) files after old new = IsCarriedOut order files after old new
+  IsDone (requests_each orders) files after old new = AreCarriedOut orders files after old new
 
-  -- The file is read, and has faults, which this text shows, or warnings, which are denied; or its
-  -- expansion was only to be compared, and is not what the other file has. No file is written.
+  -- The file is read, and has faults, which the text shows, or warnings, which are denied; or its
+  -- expansion was only to be compared, and differs from the other file. No file is written.
   abbrev pub IsDeniedOrder : OrderValue → F → F → List ℕ → Type 0
   IsDeniedOrder order files after shown =
-      Reads gives files order.input (λ text read. ((after ≡ read) × IsCause order.format order.denies order.shape (record { path = order.input; text = text }) shown)
-      ⊎ (IsTrue order.is_check × ((bytes : List ℕ) × IsExpanded order.shape text bytes × IfSome order.output (λ path. IsOther finds path bytes read after))))
+      Reads yields files order.input (λ text read. ((after ≡ read) × IsCause order.format order.denies order.shape (record { path = order.input; text = text }) shown)
+      ⊎ (IsTrue order.is_check × ((bytes : List ℕ) × IsExpanded order.shape order.input text bytes × IfSome order.output (λ path. IsOther finds path bytes read after))))
 
-  -- What is asked of a file is done, or it is refused, for what a text says.
+  -- The order for a file is fulfilled, or refused with a text.
   abbrev pub EndsOne : OrderValue → F → F → List (List ℕ) → Type 0
   EndsOne order files after texts =
       ((old new : Option (List ℕ)) × IsCarriedOut order files after old new × (texts ≡ [])) ⊎ ((shown : List ℕ) × IsDeniedOrder order files after shown × (texts ≡ shown ∷ []))
 
-  -- The same of files one after another, of which these texts say why they are refused.
+  -- The orders for files, one after another, are fulfilled or refused. These texts are those of the
+  -- refusals.
   abbrev pub AreEnded : List OrderValue → F → F → List (List ℕ) → Type 0
   AreEnded [] files after texts = (after ≡ files) × (texts ≡ [])
   AreEnded (order ∷ rest) files after texts =
       (between : F) × (first more : List (List ℕ)) × (texts ≡ first ++ more) × EndsOne order files between first × AreEnded rest between after more
 
-  -- Some of these files are refused, for texts that stand in this one, in order, and what is asked
-  -- of the others is done.
+  -- Some of these orders are refused with texts that occur in `shown`, in order, and the others are
+  -- fulfilled.
   abbrev pub AreDenied : List OrderValue → F → F → List ℕ → Type 0
-  AreDenied orders files after shown = (texts : List (List ℕ)) × (texts ≢ []) × AreEnded orders files after texts × StandInOrder texts shown
+  AreDenied orders files after shown = (texts : List (List ℕ)) × (texts ≢ []) × AreEnded orders files after texts × OccurInOrder texts shown
 
-  -- What is asked for is refused, for what this text says.
-  abbrev pub IsDenied : Asked → F → F → List ℕ → Type 0
-  IsDenied asks_help files after shown = ⊥
-  IsDenied asks_version files after shown = ⊥
-  IsDenied (asks_expansion order) files after shown = IsDeniedOrder order files after shown
-  IsDenied (asks_each orders) files after shown = AreDenied orders files after shown
+  -- The request is refused with this text.
+  abbrev pub IsDenied : Requested → F → F → List ℕ → Type 0
+  IsDenied requests_help files after shown = ⊥
+  IsDenied requests_version files after shown = ⊥
+  IsDenied (requests_expansion order) files after shown = IsDeniedOrder order files after shown
+  IsDenied (requests_each orders) files after shown = AreDenied orders files after shown
 
--- The path of the file for a result, of which there is one.
+-- The path of the file for the result of an order that has one.
 abbrev pub output_of : OrderValue → List ℕ
 output_of order = unwrap_or order.output []
 
--- A path is one of these.
+-- A path is among these.
 abbrev pub is_among : List ℕ → List (List ℕ) → Bool
 is_among path [] = false
 is_among path (other ∷ rest) = bytes_eq other path || is_among path rest
@@ -102,26 +104,26 @@ has_twins [] = false
 has_twins (path ∷ rest) = is_among path rest || has_twins rest
 
 module _ {F : Type 0} (same : F → List ℕ → List ℕ → Bool → Type 0) where
-  -- The file at a path is none of those that are read; `same` holds of files, two paths, and
-  -- whether these lead to one file.
+  -- The path leads to none of the inputs. `same` holds of files, two paths, and whether these lead
+  -- to one file.
   abbrev pub IsNoInput : List OrderValue → F → List ℕ → Type 0
   IsNoInput orders files path = All (λ order. same files order.input path false) orders
 
-  -- It is one of those.
+  -- The path leads to one of the inputs.
   abbrev pub IsInput : List OrderValue → F → List ℕ → Type 0
   IsInput orders files path = (order : OrderValue) × Contains orders order × same files order.input path true
 
-  -- A file for a result is a file that is read, or that for another result.
-  abbrev pub IsOwnOutput : Asked → F → Type 0
-  IsOwnOutput asks_help files = ⊥
-  IsOwnOutput asks_version files = ⊥
-  IsOwnOutput (asks_expansion order) files = IfSome order.output (λ path. same files order.input path true)
-  IsOwnOutput (asks_each orders) files =
+  -- A file for a result is an input, or the file for another result.
+  abbrev pub IsOwnOutput : Requested → F → Type 0
+  IsOwnOutput requests_help files = ⊥
+  IsOwnOutput requests_version files = ⊥
+  IsOwnOutput (requests_expansion order) files = IfSome order.output (λ path. same files order.input path true)
+  IsOwnOutput (requests_each orders) files =
       ((order : OrderValue) × Contains orders order × IsInput orders files (output_of order)) ⊎ (has_twins (map output_of orders) ≡ true)
 
-  -- Each is another file.
-  abbrev pub IsApart : Asked → F → Type 0
-  IsApart asks_help files = Unit {0}
-  IsApart asks_version files = Unit {0}
-  IsApart (asks_expansion order) files = IfSome order.output (λ path. same files order.input path false)
-  IsApart (asks_each orders) files = All (λ order. IsNoInput orders files (output_of order)) orders × (has_twins (map output_of orders) ≡ false)
+  -- No file for a result is an input or the file for another result.
+  abbrev pub IsApart : Requested → F → Type 0
+  IsApart requests_help files = Unit {0}
+  IsApart requests_version files = Unit {0}
+  IsApart (requests_expansion order) files = IfSome order.output (λ path. same files order.input path false)
+  IsApart (requests_each orders) files = All (λ order. IsNoInput orders files (output_of order)) orders × (has_twins (map output_of orders) ≡ false)

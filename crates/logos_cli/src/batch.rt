@@ -1,11 +1,11 @@
-//! Files whose results go into a folder.
+//! Expands several files into a folder. Called by `program`.
 
 ghost use Rattle.std.specs.Prelude.{◌≡◌, ◌≢◌, ◌⊎◌, ◌≤◌, ◌++◌, ◌∷◌, [], ℕ, All, Contains, IfOk, IsTrue, List, MatchOption, OnOk, drop, false, map, true};
-ghost use Rattle.logos_cli.specs.Views.{Appends, AreCarriedOut, AreDenied, IsApart, IsOwnOutput, Keeps, OrderValue, asks_each, batch_value, batch_file_order, has_twins, is_among, order_into, order_value, orders_into, orders_of, output_text, texts_of};
+ghost use Rattle.logos_cli.specs.Views.{Appends, AreCarriedOut, AreDenied, IsApart, IsOwnOutput, Keeps, OrderValue, requests_each, batch_value, batch_file_order, has_twins, is_among, order_into, order_value, orders_into, orders_of, output_text, texts_of};
 ghost use Rattle.logos_cli.specs.declared.batch.BatchFile.{BatchFile as BatchFileValue};
 
 use crate::options::{Batch, ExpandOrder};
-use crate::running::{Ending, carry_out, failed};
+use crate::program::{Ending, carry_out, failed};
 use logos_host::{ComparableFiles, Failure, file_name};
 use logos_options::{misuse, paths_of};
 use logos_token::error::Memory;
@@ -21,10 +21,10 @@ struct BatchFile<'w> {
     output: String,
 }
 
-/// Expands files, and writes each result into a folder, under the name of its file. A file that is
-/// refused, or that fails, does not keep the others from that. The status is the highest one of all
-/// files. No result takes the place of a file that is read, or of another result: else the status
-/// is 2, and nothing is read or written.
+/// Expands files, and writes each result into a folder, under the name of its file. If a file is
+/// refused or fails, the others are still expanded. The exit status is the highest one of all
+/// files. If a result would overwrite an input or another result, the status is 2, and nothing is
+/// read or written.
 pub(crate) fn run_batch<F: ComparableFiles, O: Write, E: Write + IsTerminal>(
     alloc: Global,
     batch: Batch<'_>,
@@ -33,14 +33,14 @@ pub(crate) fn run_batch<F: ComparableFiles, O: Write, E: Write + IsTerminal>(
     err: &mut E,
 ) -> Ending
     ensures own { result.status ≡ 2 →
-        IsOwnOutput F.same_finds (asks_each (batch_value batch.entry)) files.old }
+        IsOwnOutput F.same_finds (requests_each (batch_value batch.entry)) files.old }
     ensures apart { result.status ≡ 0 →
-        IsApart F.same_finds (asks_each (batch_value batch.entry)) files.old }
+        IsApart F.same_finds (requests_each (batch_value batch.entry)) files.old }
     ensures untouched { result.status ≡ 2 →
         (files.new ≡ files.old) × Keeps (O.contents out.old) (O.contents out.new) }
-    ensures done { result.status ≡ 0 → AreCarriedOut F.read_gives F.write_makes F.compare_finds
+    ensures done { result.status ≡ 0 → AreCarriedOut F.read_yields F.write_makes F.compare_finds
         (batch_value batch.entry) files.old files.new (O.contents out.old) (O.contents out.new) }
-    ensures denied { result.status ≡ 1 → (shown : List ℕ) × AreDenied F.read_gives F.write_makes
+    ensures denied { result.status ≡ 1 → (shown : List ℕ) × AreDenied F.read_yields F.write_makes
         F.compare_finds (batch_value batch.entry) files.old files.new shown
         × (IsTrue result.is_written → (front : List ℕ)
         × Appends (E.contents err.old) (E.contents err.new) (front ++ shown)) }
@@ -65,7 +65,7 @@ fn batch_files_of<'w>(alloc: Global, batch: Batch<'w>) -> Result<Vec<BatchFile<'
     ensures { IfOk result (λ batch_files.
         orders_of (order_value batch.entry.order) batch_files.items ≡ batch_value batch.entry) }
 {
-    let paths = paths_of(alloc, batch.words)?;
+    let paths = paths_of(alloc, batch.arguments)?;
     batch_files_at(alloc, batch, &paths)
 }
 
@@ -112,7 +112,7 @@ fn batch_file_of<'w>(alloc: Global, folder: &str, input: &'w str) -> Result<Batc
     Ok(BatchFile { input, output })
 }
 
-/// Returns the path of a result that leads to a file that is read, if there is one.
+/// Returns the path of a result that leads to an input, if there is one.
 fn own_output_in<'e, F: ComparableFiles>(
     batch_files: &'e [BatchFile<'_>],
     files: &F,
@@ -132,7 +132,7 @@ fn own_output_in<'e, F: ComparableFiles>(
     None
 }
 
-/// Returns whether a path leads to a file that is read.
+/// Returns whether a path leads to an input.
 fn is_input<F: ComparableFiles>(batch_files: &[BatchFile<'_>], path: &str, files: &F) -> bool
     ensures apart { result ≡ false →
         All (λ other. F.same_finds files.now other.input.now path.now false) batch_files.now }
@@ -147,7 +147,7 @@ fn is_input<F: ComparableFiles>(batch_files: &[BatchFile<'_>], path: &str, files
     false
 }
 
-/// Returns the path of two results, if there is one.
+/// Returns a path that two results share, if there is one.
 fn twin_in<'e>(batch_files: &'e [BatchFile<'_>]) -> Option<&'e str>
     ensures { MatchOption result (has_twins (map output_text batch_files.now) ≡ false)
         (λ path. has_twins (map output_text batch_files.now) ≡ true) }
@@ -161,7 +161,7 @@ fn twin_in<'e>(batch_files: &'e [BatchFile<'_>]) -> Option<&'e str>
     None
 }
 
-/// Returns whether a path is that of a result.
+/// Returns whether a path is the path of a result.
 fn is_output(batch_files: &[BatchFile<'_>], path: &str) -> bool
     ensures { result ≡ is_among path.now (map output_text batch_files.now) }
 {
@@ -182,10 +182,10 @@ fn run_each<F: ComparableFiles, O: Write, E: Write + IsTerminal>(
     out: &mut O,
     err: &mut E,
 ) -> Ending
-    ensures done { result.status ≡ 0 → AreCarriedOut F.read_gives F.write_makes F.compare_finds
+    ensures done { result.status ≡ 0 → AreCarriedOut F.read_yields F.write_makes F.compare_finds
         (orders_of (order_value order.entry) batch_files.now) files.old files.new
         (O.contents out.old) (O.contents out.new) }
-    ensures denied { result.status ≡ 1 → (shown : List ℕ) × AreDenied F.read_gives F.write_makes
+    ensures denied { result.status ≡ 1 → (shown : List ℕ) × AreDenied F.read_yields F.write_makes
         F.compare_finds (orders_of (order_value order.entry) batch_files.now) files.old files.new shown
         × (IsTrue result.is_written → (front : List ℕ)
         × Appends (E.contents err.old) (E.contents err.new) (front ++ shown)) }
@@ -205,7 +205,7 @@ fn run_each<F: ComparableFiles, O: Write, E: Write + IsTerminal>(
     ending
 }
 
-/// Returns what is asked for a file.
+/// Returns the order for one file.
 fn order_at<'e>(order: ExpandOrder<'_>, batch_file: &'e BatchFile<'_>) -> ExpandOrder<'e>
     ensures { order_value result ≡ batch_file_order (order_value order.entry) batch_file.now }
 {
@@ -220,7 +220,7 @@ fn order_at<'e>(order: ExpandOrder<'_>, batch_file: &'e BatchFile<'_>) -> Expand
     }
 }
 
-/// Returns how two runs ended: with the higher status.
+/// Returns the ending of two runs: the one with the higher status.
 fn joined(one: Ending, other: Ending) -> Ending
     ensures status { (result.status ≡ one.status) ⊎ (result.status ≡ other.status) }
     ensures highest { (one.status ≤ result.status) × (other.status ≤ result.status) }

@@ -1,24 +1,24 @@
-//! How a file differs from the result that it is compared with.
+//! The difference between a file and the result with which it is compared. Called for `--check`.
 
 ghost use Rattle.std.specs.Prelude.{⊤};
 ghost use Rattle.logos_cli.specs.Views.{FailsBy, IsRefusedFor};
 
 use logos_expand::shape_name;
-use logos_host::{ComparableFiles, Failure, Standing};
-use logos_report::Page;
+use logos_host::{ComparableFiles, Failure, Occurrence};
+use logos_page::Page;
 use logos_tables::Shape;
 use std::alloc::{AllocError, Global};
 
-/// How many lines of each text are shown.
+/// The maximum number of lines of each text that are shown.
 const SHOWN_LINES: usize = 3;
 
-/// How many bytes of a line are shown.
+/// The maximum number of bytes of a line that are shown.
 const SHOWN_BYTES: usize = 100;
 
 /// The names of the shapes.
 const NAMES: [&str; 3] = ["tables", "tailcall", "state_machine"];
 
-/// A file that is not the result that was asked for.
+/// A file that differs from the requested result.
 #[derive(Clone, Copy)]
 pub(crate) struct StaleFile<'t> {
     /// The path of the file that was expanded.
@@ -28,13 +28,13 @@ pub(crate) struct StaleFile<'t> {
     /// The shape of the result.
     pub(crate) shape: Shape,
     /// How the file compares with the result.
-    pub(crate) standing: Standing,
+    pub(crate) occurrence: Occurrence,
     /// The result.
     pub(crate) made: &'t [u8],
 }
 
-/// Returns the refusal of a file that is not the result. It shows the first lines that differ, and
-/// the shape of which the file's first line speaks, if that is another one.
+/// Returns the refusal of a file that differs from the result. It shows the first lines that
+/// differ, and the shape that the file's first line names, if that is another one.
 pub(crate) fn difference<'w, F: ComparableFiles>(
     alloc: Global,
     stale: &StaleFile<'_>,
@@ -59,7 +59,7 @@ fn refused<'w>(alloc: Global, stale: &StaleFile<'_>, found: &[u8]) -> Failure<'w
     }
 }
 
-/// Returns the lines that say how a file with these bytes differs.
+/// Returns the lines that describe the difference of a file with these bytes.
 fn difference_text(
     alloc: Global,
     stale: &StaleFile<'_>,
@@ -74,12 +74,12 @@ fn difference_text(
     page.finish()
 }
 
-/// Appends the line that says what is wrong.
+/// Appends the line with the error.
 fn push_what(page: &mut Page, stale: &StaleFile<'_>) {
     page.push("error: ");
     page.push_shown(stale.path);
-    match stale.standing {
-        Standing::Missing => page.push(" is missing\n"),
+    match stale.occurrence {
+        Occurrence::Missing => page.push(" is missing\n"),
         _ => {
             page.push(" is not what ");
             page.push_shown(stale.input);
@@ -105,7 +105,7 @@ fn push_lines(page: &mut Page, found: &str, made: &str) {
     push_both(page, number, rests.0, rests.1);
 }
 
-/// Returns what follows the first lines of two texts, if these are the same.
+/// Returns the texts after their first lines, if these are equal.
 fn after_same<'t>(found: &'t str, made: &'t str) -> Option<(&'t str, &'t str)> {
     let (one, found) = found.split_once('\n')?;
     let (other, made) = made.split_once('\n')?;
@@ -136,7 +136,7 @@ fn push_side(page: &mut Page, sign: &str, number: usize, text: &str) {
     }
 }
 
-/// Returns the first line of a text, and what follows it; `None` if the text is empty.
+/// Returns the first line of a text, and the rest after it; `None` if the text is empty.
 fn first_line(text: &str) -> Option<(&str, &str)> {
     if text.is_empty() {
         return None;
@@ -147,7 +147,7 @@ fn first_line(text: &str) -> Option<(&str, &str)> {
     }
 }
 
-/// Appends the front of a line, and a line end.
+/// Appends a prefix of a line, and a line end.
 fn push_cut(page: &mut Page, line: &str) {
     if let Some((front, rest)) = line.split_at_checked(line.floor_char_boundary(SHOWN_BYTES)) {
         page.push_shown(front);
@@ -158,7 +158,7 @@ fn push_cut(page: &mut Page, line: &str) {
     page.push("\n");
 }
 
-/// Appends the shape of which a file's first line speaks, if that is not the one of the result.
+/// Appends the shape that a file's first line names, if that is not the one of the result.
 fn push_shape(page: &mut Page, found: &str, stale: &StaleFile<'_>) {
     let wanted = shape_name(stale.shape);
     match named_shape(found) {
@@ -175,7 +175,7 @@ fn push_shape(page: &mut Page, found: &str, stale: &StaleFile<'_>) {
     }
 }
 
-/// Returns the name of the shape of which the first line of a file speaks.
+/// Returns the name of the shape that the first line of a file names.
 fn named_shape(found: &str) -> Option<&'static str> {
     let (line, _) = found.split_once('\n')?;
     let front = line.strip_suffix("; do not edit")?;

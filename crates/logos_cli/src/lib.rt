@@ -1,29 +1,22 @@
-//! What the program `logos_cli` does: it expands the derive of the lexers in a Rust file.
+//! The program `logos_cli`: it expands the derive of the lexers in a Rust file.
 
 #![tactic(auto)]
 
 mod batch;
 mod difference;
 mod options;
-mod running;
+mod program;
 
-use logos_host::{SourceDisk, refuse_words, words};
-use running::{USAGE, run};
+use logos_host::{SourceDisk, arguments};
+use program::run_with;
 
-/// Does what the words ask for with which the program was called. Returns the exit status.
+/// Runs `logos_cli` with the arguments of the process. Returns the exit status.
 pub fn run_logos_cli(rt: &HostRuntime) -> u8 {
-    let mut files = SourceDisk { rt };
-    match words(rt) {
-        Ok(words) => {
-            run(
-                rt.alloc(),
-                words.as_slice(),
-                &mut files,
-                &mut rt.stdout(),
-                &mut rt.stderr(),
-            )
-            .status
-        }
-        Err(error) => refuse_words(error.kind(), USAGE, &mut rt.stderr()),
-    }
+    run_with(
+        rt.alloc(),
+        arguments(rt),
+        &mut SourceDisk { rt },
+        &mut rt.stdout(),
+        &mut rt.stderr(),
+    )
 }

@@ -1,35 +1,37 @@
-//! What the words of a command line ask for.
+//! The request of `logos_cli`, read from its arguments. Used by `batch` and `program`.
 
 ghost use Rattle.std.specs.Prelude.{◌≡◌, IfErr, IfOk, None, Some, is_some, map, option_map, string_bytes};
-ghost use Rattle.logos_cli.specs.Views.{asked, asked_given, file_given, given_value, is_folder, named_shape, order_given, order_value, placed, request_value, shape_named, status_of};
+ghost use Rattle.logos_cli.specs.Views.{arguments_value, requested, file_given, is_folder, named_shape, order_given, order_value, placed, request_given, request_value, shape_named, status_of};
 
 use logos_codegen::generator::Config;
 use logos_host::{Color, Failure, MessageFormat};
-use logos_options::{Answer, Given, Program, given_by, misuse};
+use logos_options::{
+    Arguments, MessageStyle, OptionName, Program, arguments_of, misuse, style_given,
+};
 use logos_tables::Shape;
 
-/// What is asked for.
+/// A request.
 #[derive(Clone, Copy)]
 pub(crate) enum Request<'w> {
     Help,
     Version,
     Expand(ExpandOrder<'w>),
-    /// The results of files go into a folder.
+    /// Expand files into a folder.
     ExpandEach(Batch<'w>),
 }
 
-/// A file to expand.
+/// An order to expand a file.
 #[derive(Clone, Copy)]
 pub(crate) struct ExpandOrder<'w> {
     /// The path of the file.
     pub(crate) input: &'w str,
-    /// The path of the file for the result; without one it goes to standard output.
+    /// The path of the file for the result. Without one it is written to standard output.
     pub(crate) output: Option<&'w str>,
     /// Whether that file is only compared with the result.
     pub(crate) is_check: bool,
     /// The shape of the lexers.
     pub(crate) shape: Shape,
-    /// How messages are written.
+    /// The format of messages.
     pub(crate) format: MessageFormat,
     /// Whether a file with warnings is refused.
     pub(crate) denies: bool,
@@ -37,110 +39,125 @@ pub(crate) struct ExpandOrder<'w> {
     pub(crate) color: Color,
 }
 
-/// Files to expand, whose results go into a folder.
+/// Files to expand into a folder.
 #[derive(Clone, Copy)]
 pub(crate) struct Batch<'w> {
-    /// The words of the command line, which have the paths of the files.
-    pub(crate) words: &'w [String],
-    /// What is asked for each of them, as for the first one.
+    /// The arguments of the command line, which contain the paths of the files.
+    pub(crate) arguments: &'w [String],
+    /// The order for each of them, written for the first one.
     pub(crate) order: ExpandOrder<'w>,
     /// The path of the folder, which ends in `/`.
     pub(crate) folder: &'w str,
 }
 
-/// Returns what the words ask for.
+/// Reads the arguments of `logos_cli`.
 ///
 /// # Errors
 ///
-/// Returns `Misuse` or `UnknownOption` if they are not a command.
-pub(crate) fn request_of(words: &[String]) -> Result<Request<'_>, Failure<'_>>
-    ensures asked { IfOk result (λ request.
-        asked (map string_bytes words.now) ≡ Some (request_value request)) }
+/// Returns `Misuse` or `UnknownOption` if they are invalid.
+pub(crate) fn request_of(arguments: &[String]) -> Result<Request<'_>, Failure<'_>>
+    ensures requested { IfOk result (λ request.
+        requested (map string_bytes arguments.now) ≡ Some (request_value request)) }
     ensures misuse { IfErr result (λ failure.
-        (asked (map string_bytes words.now) ≡ None) × (status_of failure ≡ 2)) }
+        (requested (map string_bytes arguments.now) ≡ None) × (status_of failure ≡ 2)) }
 {
-    match given_by(Program::Cli, words) {
-        Ok(given) => request_given(words, given),
+    match arguments_of(Program::Cli, arguments) {
+        Ok(parsed) => request_given(arguments, parsed),
         Err(failure) => Err(failure),
     }
 }
 
-/// Returns what the words ask for, by what they give.
-fn request_given<'w>(words: &'w [String], given: Given<'w>) -> Result<Request<'w>, Failure<'w>>
-    ensures asked { IfOk result (λ request. asked_given (map string_bytes words.now)
-        (Some (given_value given.entry)) ≡ Some (request_value request)) }
-    ensures misuse { IfErr result (λ failure. (asked_given (map string_bytes words.now)
-        (Some (given_value given.entry)) ≡ None) × (status_of failure ≡ 2)) }
+/// Returns the request of arguments.
+fn request_given<'w>(
+    arguments: &'w [String],
+    parsed: Arguments<'w>,
+) -> Result<Request<'w>, Failure<'w>>
+    ensures requested { IfOk result (λ request. request_given (map string_bytes arguments.now)
+        (arguments_value parsed.entry) (arguments_value parsed.entry).text
+        ≡ Some (request_value request)) }
+    ensures misuse { IfErr result (λ failure. (request_given (map string_bytes arguments.now)
+        (arguments_value parsed.entry) (arguments_value parsed.entry).text ≡ None)
+        × (status_of failure ≡ 2)) }
 {
-    match given.answer {
-        Some(Answer::Help) => Ok(Request::Help),
-        Some(Answer::Version) => Ok(Request::Version),
-        None => order_given(words, given),
+    match parsed.text {
+        Some(OptionName::Version) => Ok(Request::Version),
+        Some(_) => Ok(Request::Help),
+        None => order_given(arguments, parsed),
     }
 }
 
 /// Returns the files to expand.
-fn order_given<'w>(words: &'w [String], given: Given<'w>) -> Result<Request<'w>, Failure<'w>>
-    ensures asked { IfOk result (λ request. order_given (map string_bytes words.now)
-        (given_value given.entry) (given_value given.entry).first
+fn order_given<'w>(
+    arguments: &'w [String],
+    parsed: Arguments<'w>,
+) -> Result<Request<'w>, Failure<'w>>
+    ensures requested { IfOk result (λ request. order_given (map string_bytes arguments.now)
+        (arguments_value parsed.entry) (arguments_value parsed.entry).first
         ≡ Some (request_value request)) }
-    ensures misuse { IfErr result (λ failure. (order_given (map string_bytes words.now)
-        (given_value given.entry) (given_value given.entry).first ≡ None)
+    ensures misuse { IfErr result (λ failure. (order_given (map string_bytes arguments.now)
+        (arguments_value parsed.entry) (arguments_value parsed.entry).first ≡ None)
         × (status_of failure ≡ 2)) }
 {
-    let Some(input) = given.first else {
+    let Some(input) = parsed.first else {
         return Err(misuse("no input file", ""));
     };
-    let shape = match shape_given(given.values.shape) {
+    let style = match style_given(&parsed.settings) {
+        Ok(style) => style,
+        Err(failure) => return Err(failure),
+    };
+    file_given(arguments, parsed, input, style)
+}
+
+/// Returns the files to expand, with messages in this style.
+fn file_given<'w>(
+    arguments: &'w [String],
+    parsed: Arguments<'w>,
+    input: &'w str,
+    style: MessageStyle,
+) -> Result<Request<'w>, Failure<'w>>
+    ensures requested { IfOk result (λ request. file_given (map string_bytes arguments.now)
+        (arguments_value parsed.entry) input.now style ≡ Some (request_value request)) }
+    ensures misuse { IfErr result (λ failure. (file_given (map string_bytes arguments.now)
+        (arguments_value parsed.entry) input.now style ≡ None) × (status_of failure ≡ 2)) }
+{
+    let settings = &parsed.settings;
+    let shape = match shape_given(settings.value(OptionName::Shape)) {
         Ok(shape) => shape,
         Err(failure) => return Err(failure),
     };
-    file_given(words, given, input, shape)
-}
-
-/// Returns the files to expand.
-fn file_given<'w>(
-    words: &'w [String],
-    given: Given<'w>,
-    input: &'w str,
-    shape: Shape,
-) -> Result<Request<'w>, Failure<'w>>
-    ensures asked { IfOk result (λ request. file_given (map string_bytes words.now)
-        (given_value given.entry) input.now shape ≡ Some (request_value request)) }
-    ensures misuse { IfErr result (λ failure. (file_given (map string_bytes words.now)
-        (given_value given.entry) input.now shape ≡ None) × (status_of failure ≡ 2)) }
-{
-    if given.switches.is_check & !is_given(given.values.output) {
+    let is_check = settings.has(OptionName::Check);
+    let output = settings.value(OptionName::Output);
+    if is_check & !is_given(output) {
         return Err(misuse("`--check` needs `--output FILE`", ""));
     }
     let order = ExpandOrder {
         input,
-        output: given.values.output,
-        is_check: given.switches.is_check,
+        output,
+        is_check,
         shape,
-        format: given.values.format_or_human(),
-        denies: given.switches.denies,
-        color: given.values.color_or_auto(),
+        format: style.format,
+        denies: settings.has(OptionName::DenyWarnings),
+        color: style.color,
     };
-    placed(words, order, given.second)
+    placed(arguments, order, parsed.second)
 }
 
-/// Returns the file to expand, or the files whose results go into a folder.
+/// Returns the order for one file, or the batch of files to expand into a folder.
 fn placed<'w>(
-    words: &'w [String],
+    arguments: &'w [String],
     order: ExpandOrder<'w>,
     second: Option<&'w str>,
 ) -> Result<Request<'w>, Failure<'w>>
-    ensures asked { IfOk result (λ request. placed (map string_bytes words.now)
+    ensures requested { IfOk result (λ request. placed (map string_bytes arguments.now)
         (order_value order.entry) (order_value order.entry).output
         (option_map (λ path. path.now) second.entry) ≡ Some (request_value request)) }
-    ensures misuse { IfErr result (λ failure. (placed (map string_bytes words.now)
+    ensures misuse { IfErr result (λ failure. (placed (map string_bytes arguments.now)
         (order_value order.entry) (order_value order.entry).output
         (option_map (λ path. path.now) second.entry) ≡ None) × (status_of failure ≡ 2)) }
 {
     match (order.output, second) {
         (Some(folder), _) if is_folder(folder) => Ok(Request::ExpandEach(Batch {
-            words,
+            arguments,
             order,
             folder,
         })),
@@ -149,7 +166,7 @@ fn placed<'w>(
     }
 }
 
-/// Returns whether a path is that of a folder: whether it ends in `/`.
+/// Returns whether a path ends in `/`, and thus is the path of a folder.
 fn is_folder(path: &str) -> bool
     ensures { result ≡ is_folder path.now }
 {
@@ -166,7 +183,7 @@ fn is_given(path: Option<&str>) -> bool
     }
 }
 
-/// Returns the shape with the name that is given, or tables.
+/// Returns the shape with the given name, or `Tables` if none is given.
 fn shape_given<'w>(name: Option<&'w str>) -> Result<Shape, Failure<'w>>
     ensures shape { IfOk result (λ shape.
         named_shape (option_map (λ name. name.now) name.entry) ≡ Some shape) }
@@ -190,18 +207,11 @@ fn shape_given<'w>(name: Option<&'w str>) -> Result<Shape, Failure<'w>>
 fn shape_by_name(name: &str) -> Option<Shape>
     ensures { result ≡ shape_named name.now }
 {
-    if name == "state_machine" {
-        return Some(Shape::Code(Config {
-            use_state_machine_codegen: true,
-        }));
-    }
-    if name == "tailcall" {
-        return Some(Shape::Code(Config {
-            use_state_machine_codegen: false,
-        }));
-    }
     if name == "tables" {
         return Some(Shape::Tables);
     }
-    None
+    match Config::by_name(name) {
+        Some(config) => Some(Shape::Code(config)),
+        None => None,
+    }
 }

@@ -27,7 +27,7 @@ some_of_power (suc (suc n)) power h p = absurd (omega (arith, h))
 pub small_power : (i : ℕ) → i < 8 → 1 * 2 ^ i % 256 ≡ 2 ^ i
 small_power i h = let p : 2 ^ i < 2 ^ 8 = pow-lt h in omega arith
 
--- a mask of one bit tells what the test of that bit tells
+-- the bit of a mask of one bit is the result of the test of that bit
 pub mask_tests : (tables : List (List ℕ)) (k : ℕ) (table : List ℕ) → k < 8 * length tables → table ≡ get_or tables (k / 8) table →
     (b : ℕ) → has_mask table (1 * 2 ^ (k % 8) % 256) b ≡ passes_test tables k b
 mask_tests tables k table h is b =
@@ -37,12 +37,12 @@ mask_tests tables k table h is b =
     rw (found, small_power (k % 8) small, and_pow (slice_index table b) (k % 8))
     (some_of_power (bit_at (slice_index table b) (k % 8)) (2 ^ (k % 8)) (bit_at-lt (slice_index table b) (k % 8)) (pow_pos (k % 8)))
 
--- what holds of each element of a mapped list
+-- a property of each element of a mapped list
 pub All-map : {A B : Type 0} (P : B → Type 0) (f : A → B) (xs : List A) (i : ℕ) (x : A) → All P (map f xs) → i < length xs → x ≡ get_or xs i x → P (f x)
 All-map P f xs i x all h is =
     rw (← is) at (rw (get_or-map f xs i x (f x) h) at (all i (f x) (rw length-map h)))
 
--- what a state names is there
+-- the tables and states that a state names exist
 pub state_names : (code : CodeParts) (s : ℕ) (state : TheState) → IsSound (code_of code) → s < length (code_of code).states →
     state ≡ get_or code.states.items s state → NamesWhatIsThere (code_of code) (state_of code.jump_tables.items state)
 state_names code s state sound l is =

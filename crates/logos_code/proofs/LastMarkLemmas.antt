@@ -1,4 +1,4 @@
--- The last marks of a code, from what is checked of them.
+-- The last marks of a code, from the conditions that are checked of them.
 use Rattle.std.proofs.Common.{◌≡◌, ℕ, ◌+◌, ◌-◌, ◌<◌, ◌≤◌, ◌⊎◌, ⊎_elim, Bool, true, false, ◌&&◌, ◌==◌, IsTrue, IfSome, IsSomeAnd, All, List, [], length, drop, find, get_or, slice_index, Option, Some, None, option_map, slice_get, refl, sym, ap, subst, ◌∙◌, arith, if◌then◌else◌}
 use Rattle.std.proofs.lemmas.List.{length-map, get_or-map}
 use Rattle.std.proofs.lemmas.Option.{slice_get-get_or, get_or_from_slice_get}
@@ -6,8 +6,8 @@ use Rattle.std.proofs.Math.ListN.{get_or-eq_default}
 use Rattle.logos_code.specs.Code.{CodeValue, CodeState, Condition, Mark, by_conditions, by_table}
 use Rattle.logos_code.specs.CodeView.{state_at, no_state, state_of, code_of, mark_of, fork_of, jumps_of, entry_of}
 use Rattle.logos_code.specs.Headline.{IsSound, IsRoot, IsEnd, IsLate, NamesWhatIsThere}
-use Rattle.logos_code.specs.LastMarks.{Stood, first_stand, next_stand, Holds, AreLastMarks, last_mark_at}
-use Rattle.logos_code.specs.Runs.{Stand, Turn, enters, acts, returns, led, forked, turn, Does, passes, target, looped, marked}
+use Rattle.logos_code.specs.LastMarks.{Stood, first_status, next_status, Holds, AreLastMarks, last_mark_at}
+use Rattle.logos_code.specs.Runs.{Status, Turn, enters, acts, returns, led, forked, turn, Does, passes, target, looped, marked}
 use Rattle.logos_code.specs.inside.LastMarks.{IsOwn, Follows, BeginsUnmarked, FollowsAt, ForkAgrees, StateAgrees, Agree}
 use Rattle.logos_code.specs.declared.code.last_marks.LastMark.{LastMark}
 use Rattle.logos_code.specs.declared.code.last_marks.LastMark.TheVariants.{Unseen, Varies, Never, Back}
@@ -23,7 +23,7 @@ some_pair a b c d e f = cc
 acts_same : (c d : Option (ℕ × ℕ)) (o p : ℕ) → acts c o ≡ acts d p → (c ≡ d) × (o ≡ p)
 acts_same c d o p e = (cc, cc)
 
-enters_same : (s t : Stand) → enters s ≡ enters t → s ≡ t
+enters_same : (s t : Status) → enters s ≡ enters t → s ≡ t
 enters_same s t e = cc
 
 -- where a state has a mark of its own
@@ -72,18 +72,18 @@ root_mark code sound = go (slice_get code.states code.root) refl sound.root
         ap (λ (s : CodeState). s.mark) same ∙ h.mark
 
 module _ (code : CodeValue) (sound : IsSound code) (marks : List LastMark) (agree : Agree code marks) (bytes : List ℕ) (start : ℕ) where
-  -- where the fast loop ends of a stand's state
-  abbrev stop_of : Stand → ℕ
+  -- the end of the fast loop of a status's state
+  abbrev stop_of : Status → ℕ
   stop_of at = at.offset + looped code (state_at code at.state).fast_loop (drop at.offset bytes)
 
-  abbrev passed_of : Stand → Option (ℕ × ℕ)
+  abbrev passed_of : Status → Option (ℕ × ℕ)
   passed_of at = marked (state_at code at.state).mark (stop_of at) at.context
 
-  record Knows (at : Stand) : Type 0 where
+  record Knows (at : Status) : Type 0 where
     pub there : at.state < length code.states
     pub holds : Holds (last_mark_at marks at.state) (passed_of at) (stop_of at)
 
-  abbrev first : Stand
+  abbrev first : Status
   first = record { state = code.root; offset = start; context = None }
 
   knows_first : Knows first
@@ -98,7 +98,7 @@ module _ (code : CodeValue) (sound : IsSound code) (marks : List LastMark) (agre
       unmarked Never b = passed
       unmarked (Back leaf n) b = absurd b
 
-  module _ (at : Stand) (k : Knows at) where
+  module _ (at : Status) (k : Knows at) where
     abbrev state : CodeState
     state = state_at code at.state
 
@@ -117,8 +117,8 @@ module _ (code : CodeValue) (sound : IsSound code) (marks : List LastMark) (agre
     abbrev fresh : Bool
     fresh = at.state == code.root && stop_of at == start
 
-    -- the stand after a byte, or after the end
-    abbrev after : ℕ → Stand
+    -- the status after a byte, or after the end
+    abbrev after : ℕ → Status
     after t = record { state = t; offset = stop_of at + 1; context = passed_of at }
 
     knows_after : (t : ℕ) → t < length code.states → FollowsAt code marks (last_mark_at marks at.state) t → Knows (after t)
@@ -131,11 +131,11 @@ module _ (code : CodeValue) (sound : IsSound code) (marks : List LastMark) (agre
             let own : IsOwn (last_mark_at marks t) (Some mark) = rw e at s.own in
             holds_own mark (last_mark_at marks t) (stop_of (after t)) (passed_of at) own
 
-    module _ (next : Stand) where
+    module _ (next : Status) where
       entered : (t : ℕ) → t < length code.states → FollowsAt code marks (last_mark_at marks at.state) t → enters (after t) ≡ enters next → Knows next
       entered t there follows e =
-          let same : Path Stand (after t) next = enters_same (after t) next e in
-          subst (λ (n : Stand). Knows n) same (knows_after t there follows)
+          let same : Path Status (after t) next = enters_same (after t) next e in
+          subst (λ (n : Status). Knows n) same (knows_after t there follows)
 
       by_byte : (b : ℕ) (o : Option ℕ) → target code state.fork b ≡ o → led o (stop_of at) (passed_of at) ≡ enters next → Knows next
       by_byte b None leads e = absurd (cc)
@@ -163,7 +163,7 @@ module _ (code : CodeValue) (sound : IsSound code) (marks : List LastMark) (agre
           go (Some b) e = by_byte b (target code state.fork b) refl e
           go None e = by_end fresh e
 
-    -- what a try passed that ends here
+    -- the mark that a match attempt passed that ends here
     module _ (passed : Option (ℕ × ℕ)) (offset : ℕ) where
       acted : acts (passed_of at) (stop_of at) ≡ acts passed offset → Holds (last_mark_at marks at.state) passed offset
       acted e =
@@ -186,9 +186,9 @@ module _ (code : CodeValue) (sound : IsSound code) (marks : List LastMark) (agre
           go (Some b) e = by_lead (target code state.fork b) e
           go None e = by_over fresh e
 
-  knows : {at : Stand} → Stood code bytes start at → Knows at
-  knows first_stand = knows_first
-  knows (next_stand at next s d) = knows_next at (knows s) next d
+  knows : {at : Status} → Stood code bytes start at → Knows at
+  knows first_status = knows_first
+  knows (next_status at next s d) = knows_next at (knows s) next d
 
 -- last marks that agree are right
 pub are_last_marks : (code : CodeValue) → IsSound code → (marks : List LastMark) → Agree code marks → AreLastMarks code marks
@@ -202,7 +202,7 @@ no_last_marks code s bytes start at passed offset are stood e d =
     let none : last_mark_at [] s ≡ Unseen = get_or-eq_default [] Unseen {n = s} (omega arith) in
     subst (λ (m : LastMark). Holds m passed offset) (sym none) tt
 
--- what holds of each element so far, and of one more
+-- a property of each element so far, and of one more
 pub one_more : {A : Type 0} (P : A → Type 0) (xs : List A) (i : ℕ) (x : A) → i < length xs → x ≡ get_or xs i x → P x → ((j : ℕ) (d : A) → j < i → P (get_or xs j d)) →
     (j : ℕ) (d : A) → j < i + 1 → P (get_or xs j d)
 one_more P xs i x h is holds before j d l = ⊎_elim (before j d) now (either j i l)
@@ -219,7 +219,7 @@ one_more P xs i x h is holds before j d l = ⊎_elim (before j d) now (either j 
     now : i ≡ j → P (get_or xs j d)
     now e = subst (λ (n : ℕ). P (get_or xs n d)) e here
 
--- where branches lead, what holds of all of their targets holds
+-- where branches lead, a property of all of their targets holds
 pub branches_follow : (code : CodeValue) (marks : List LastMark) (from : LastMark) (edges : List (Condition × ℕ)) → All (λ edge. FollowsAt code marks from edge.1) edges →
     ForkAgrees code marks from (by_conditions edges)
 branches_follow code marks from edges all b t leads =

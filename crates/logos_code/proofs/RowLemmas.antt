@@ -1,4 +1,4 @@
--- Rows, and what a state does by its row.
+-- Rows, and the turn of a state by its row.
 use Rattle.std.proofs.Common.{◌≡◌, ℕ, zero, suc, ◌+◌, ◌*◌, ◌-◌, ◌/◌, ◌%◌, ◌<◌, ◌≤◌, ◌⊎◌, inl, inr, ⊎_elim, ◌++◌, true, false, IfSome, List, length, take, drop, get_or, slice_index, slice_get, Option, Some, None, refl, sym, ap, subst, ◌∙◌, arith, length-drop, Fits, w8}
 use Rattle.std.proofs.Math.Facts.{Fits-lt-pow}
 use Rattle.std.proofs.lemmas.List.{length-map, get_or-map, get_or-drop, get_or_append_left, get_or-append-add, take_all}
@@ -14,10 +14,10 @@ use Rattle.logos_code.specs.Headline.{NamesFork, NamesState}
 use Rattle.logos_code.specs.CodeView.{state_at, state_of, code_of, no_state}
 use Rattle.logos_code.specs.Runs.{stays, looped, target}
 use Rattle.logos_code.specs.inside.Alike.{EndsRun}
-use Rattle.logos_code.specs.Rows.{IsStepOf, Says, SaysAtEnd, IsHalting, IsEntry, IsLastEntry, IsRow, AreRows, IsFirstOf, IsFirstRow, LeadsToPlace}
+use Rattle.logos_code.specs.Rows.{IsStepOf, Says, SaysAtEnd, IsHalting, IsEntry, IsLastEntry, IsRow, AreRows, IsFirstOf, IsFirstRow, LeadsToRowStart}
 use Rattle.logos_code.proofs.TargetLemmas.{target_there}
 use Rattle.logos_code.specs.declared.code.rows.MatchUse.{MatchUse}
-use Rattle.logos_code.specs.declared.code.rows.MatchUse.TheVariants.{Emits, Skips, Asks}
+use Rattle.logos_code.specs.declared.code.rows.MatchUse.TheVariants.{Emits, Skips, CallsBack}
 use Rattle.logos_code.specs.declared.code.rows.Step.{Step}
 use Rattle.logos_code.specs.declared.code.rows.Step.TheVariants.{Leads, Stays, Halts, Looks, Closes, Stuck, Unsaid}
 use Rattle.logos_code.specs.declared.code.CodeParts.{CodeParts}
@@ -62,15 +62,15 @@ read_entry code rows s b entry all there within is =
     let same : slice_index rows (272 * s + b) ≡ entry = get_or_from_slice_get rows (272 * s + b) entry 0 got in
     rw same at (all.each s b there within)
 
--- an entry as it is read from the rest of the rows after so many
-pub read_column : (code : CodeValue) (rows : List ℕ) (place b : ℕ) → AreRows code rows → 272 * (place / 272) ≡ place → place / 272 < length code.states → b < 256 →
-    IsEntry code (state_at code (place / 272)) b (get_or (take (length rows - b) (drop b rows)) place 0)
-read_column code rows place b all is there within =
+-- an entry that is read from the rest of the rows after this number of rows
+pub read_column : (code : CodeValue) (rows : List ℕ) (row_start b : ℕ) → AreRows code rows → 272 * (row_start / 272) ≡ row_start → row_start / 272 < length code.states → b < 256 →
+    IsEntry code (state_at code (row_start / 272)) b (get_or (take (length rows - b) (drop b rows)) row_start 0)
+read_column code rows row_start b all is there within =
     let rest : take (length rows - b) (drop b rows) ≡ drop b rows = take_all (length rows - b) (drop b rows) (omega (arith, length-drop b rows)) in
-    let index : 272 * (place / 272) + b ≡ b + place = omega (arith, is) in
-    let read : get_or (take (length rows - b) (drop b rows)) place 0 ≡ get_or rows (272 * (place / 272) + b) 0 =
-    ap (λ (l : List ℕ). get_or l place 0) rest ∙ get_or-drop b rows place 0 ∙ ap (λ (n : ℕ). get_or rows n 0) (sym index) in
-    subst (λ (entry : ℕ). IsEntry code (state_at code (place / 272)) b entry) (sym read) (all.each (place / 272) b there within)
+    let index : 272 * (row_start / 272) + b ≡ b + row_start = omega (arith, is) in
+    let read : get_or (take (length rows - b) (drop b rows)) row_start 0 ≡ get_or rows (272 * (row_start / 272) + b) 0 =
+    ap (λ (l : List ℕ). get_or l row_start 0) rest ∙ get_or-drop b rows row_start 0 ∙ ap (λ (n : ℕ). get_or rows n 0) (sym index) in
+    subst (λ (entry : ℕ). IsEntry code (state_at code (row_start / 272)) b entry) (sym read) (all.each (row_start / 272) b there within)
 
 -- the byte after the fast loop does not stay
 pub loop_stops : (code : CodeValue) (loop : Option ℕ) (bytes : List ℕ) (at d : ℕ) → at + looped code loop (drop at bytes) < length bytes →
@@ -101,7 +101,7 @@ abbrev before_byte : (used : MatchUse) (late leaf : ℕ) → Step
 before_byte used zero n = Halts (record { 0 = n }) used
 before_byte used (suc k) n = Looks (record { 0 = n }) used
 
--- the step that an entry of this kind stands for
+-- the step that an entry of this kind represents
 abbrev decoded : (kind named : ℕ) → Step
 decoded zero n = Leads (n / 272)
 decoded (suc zero) n = Stays n
@@ -109,8 +109,8 @@ decoded (suc (suc zero)) n = before_byte Skips (n / 134217728) (n % 134217728)
 decoded (suc (suc (suc zero))) n = before_byte Emits (n / 134217728) (n % 134217728)
 decoded (suc (suc (suc (suc zero)))) n = Closes (record { 0 = n }) Emits
 decoded (suc (suc (suc (suc (suc zero))))) n = Closes (record { 0 = n }) Skips
-decoded (suc (suc (suc (suc (suc (suc zero)))))) n = before_byte Asks (n / 134217728) (n % 134217728)
-decoded (suc (suc (suc (suc (suc (suc (suc zero))))))) n = Closes (record { 0 = n }) Asks
+decoded (suc (suc (suc (suc (suc (suc zero)))))) n = before_byte CallsBack (n / 134217728) (n % 134217728)
+decoded (suc (suc (suc (suc (suc (suc (suc zero))))))) n = Closes (record { 0 = n }) CallsBack
 decoded (suc (suc (suc (suc (suc (suc (suc (suc zero)))))))) n = Stuck
 decoded (suc (suc (suc (suc (suc (suc (suc (suc (suc k))))))))) n = Unsaid
 
@@ -139,17 +139,17 @@ decodes entry (Looks s Emits) f =
     rw (k, l, n) refl
 decodes entry (Closes s Emits) f = let k : entry / 268435456 ≡ 4 = omega (arith, f.0, f.1) in let n : entry % 268435456 ≡ s.0 = omega (arith, f.0, f.1) in rw (k, n) refl
 decodes entry (Closes s Skips) f = let k : entry / 268435456 ≡ 5 = omega (arith, f.0, f.1) in let n : entry % 268435456 ≡ s.0 = omega (arith, f.0, f.1) in rw (k, n) refl
-decodes entry (Halts s Asks) f =
+decodes entry (Halts s CallsBack) f =
     let k : entry / 268435456 ≡ 6 = omega (arith, f.0, f.1) in
     let l : entry % 268435456 / 134217728 ≡ 0 = omega (arith, f.0, f.1) in
     let n : entry % 268435456 % 134217728 ≡ s.0 = omega (arith, f.0, f.1) in
     rw (k, l, n) refl
-decodes entry (Looks s Asks) f =
+decodes entry (Looks s CallsBack) f =
     let k : entry / 268435456 ≡ 6 = omega (arith, f.0, f.1) in
     let l : entry % 268435456 / 134217728 ≡ 1 = omega (arith, f.0, f.1) in
     let n : entry % 268435456 % 134217728 ≡ s.0 = omega (arith, f.0, f.1) in
     rw (k, l, n) refl
-decodes entry (Closes s Asks) f = let k : entry / 268435456 ≡ 7 = omega (arith, f.0, f.1) in let n : entry % 268435456 ≡ s.0 = omega (arith, f.0, f.1) in rw (k, n) refl
+decodes entry (Closes s CallsBack) f = let k : entry / 268435456 ≡ 7 = omega (arith, f.0, f.1) in let n : entry % 268435456 ≡ s.0 = omega (arith, f.0, f.1) in rw (k, n) refl
 decodes entry Stuck f = let k : entry / 268435456 ≡ 8 = omega (arith, f.0, f.1) in rw k refl
 decodes entry Unsaid f = past (entry / 268435456) (omega (arith, f))
   where
@@ -158,43 +158,43 @@ decodes entry Unsaid f = past (entry / 268435456) (omega (arith, f))
         let e : k ≡ suc (suc (suc (suc (suc (suc (suc (suc (suc (k - 9))))))))) = omega (arith, h) in
         subst (λ j. Unsaid ≡ decoded j (entry % 268435456)) (sym e) refl
 
--- an entry stands for one step
+-- an entry represents one step
 pub same_step : (entry : ℕ) (a b : Step) → IsStepOf entry a → IsStepOf entry b → b ≡ a
 same_step entry a b f g = decodes entry b g ∙ sym (decodes entry a f)
 
--- what holds of one step that an entry stands for holds of each; the entry may stand for nothing
+-- a property of one step that an entry represents holds of each; the entry may represent none
 only_step : (P : Step → Type 0) (entry : ℕ) (step : Step) → (IsStepOf entry step ⊎ IsStepOf entry Unsaid) → P step → P Unsaid → (other : Step) → IsStepOf entry other → P other
 only_step P entry step (inl f) said none other g = subst P (sym (same_step entry step other f g)) said
 only_step P entry step (inr f) said none other g = subst P (sym (same_step entry Unsaid other f g)) none
 
--- an entry that leads is a place
-step_place : (entry : ℕ) (step : Step) → IsStepOf entry step → LeadsToPlace entry
-step_place entry (Leads s) f h = omega (arith, f.0)
-step_place entry (Stays s) f h = absurd (omega (arith, f.0, h))
-step_place entry (Halts s Emits) f h = absurd (omega (arith, f.0, h))
-step_place entry (Halts s Skips) f h = absurd (omega (arith, f.0, h))
-step_place entry (Halts s Asks) f h = absurd (omega (arith, f.0, h))
-step_place entry (Looks s Emits) f h = absurd (omega (arith, f.0, h))
-step_place entry (Looks s Skips) f h = absurd (omega (arith, f.0, h))
-step_place entry (Looks s Asks) f h = absurd (omega (arith, f.0, h))
-step_place entry (Closes s Emits) f h = absurd (omega (arith, f.0, h))
-step_place entry (Closes s Skips) f h = absurd (omega (arith, f.0, h))
-step_place entry (Closes s Asks) f h = absurd (omega (arith, f.0, h))
-step_place entry Stuck f h = absurd (omega (arith, f.0, h))
-step_place entry Unsaid f h = absurd (omega (arith, f, h))
+-- an entry that leads is a row offset
+step_row_start : (entry : ℕ) (step : Step) → IsStepOf entry step → LeadsToRowStart entry
+step_row_start entry (Leads s) f h = omega (arith, f.0)
+step_row_start entry (Stays s) f h = absurd (omega (arith, f.0, h))
+step_row_start entry (Halts s Emits) f h = absurd (omega (arith, f.0, h))
+step_row_start entry (Halts s Skips) f h = absurd (omega (arith, f.0, h))
+step_row_start entry (Halts s CallsBack) f h = absurd (omega (arith, f.0, h))
+step_row_start entry (Looks s Emits) f h = absurd (omega (arith, f.0, h))
+step_row_start entry (Looks s Skips) f h = absurd (omega (arith, f.0, h))
+step_row_start entry (Looks s CallsBack) f h = absurd (omega (arith, f.0, h))
+step_row_start entry (Closes s Emits) f h = absurd (omega (arith, f.0, h))
+step_row_start entry (Closes s Skips) f h = absurd (omega (arith, f.0, h))
+step_row_start entry (Closes s CallsBack) f h = absurd (omega (arith, f.0, h))
+step_row_start entry Stuck f h = absurd (omega (arith, f.0, h))
+step_row_start entry Unsaid f h = absurd (omega (arith, f, h))
 
 module _ (code : CodeValue) (state : CodeState) where
   -- the entry of a step
   pub entry_says : (b entry : ℕ) (step : Step) → (IsStepOf entry step ⊎ IsStepOf entry Unsaid) → Says code state b step → IsEntry code state b entry
   entry_says b entry step is said = record {
     says = only_step (Says code state b) entry step is said tt;
-    place = ⊎_elim (step_place entry step) (step_place entry Unsaid) is;
+    row_start = ⊎_elim (step_row_start entry step) (step_row_start entry Unsaid) is;
   }
 
   -- the entry of a byte is that of one which does the same
   same_entry : (b k entry : ℕ) → stays code state.fast_loop k ≡ stays code state.fast_loop b → target code state.fork k ≡ target code state.fork b → IsEntry code state b entry →
       IsEntry code state k entry
-  same_entry b k entry loop leads is = record { says = λ step h. says step (is.says step h); place = is.place }
+  same_entry b k entry loop leads is = record { says = λ step h. says step (is.says step h); row_start = is.row_start }
     where
       says : (step : Step) → Says code state b step → Says code state k step
       says (Leads next) h = (loop ∙ h.0, leads ∙ h.1)
@@ -225,7 +225,7 @@ module _ (code : CodeValue) (state : CodeState) where
   first_says b entry first is (inl e) = subst (IsEntry code state b) (sym e) is
   first_says b entry first is (inr h) = entry_says b first Unsaid (inl h) tt
 
-  -- what a state does where no byte leads on
+  -- the step of a state if no byte leads on
   pub halting_says : (b : ℕ) (step : Step) → stays code state.fast_loop b ≡ false → target code state.fork b ≡ None → IsHalting code state.mark step → Says code state b step
   halting_says b (Leads s) out none is = absurd is
   halting_says b (Stays s) out none is = absurd is
@@ -249,7 +249,7 @@ module _ (code : CodeValue) (state : CodeState) where
   last_named entry (Stays s) is f = absurd is
   last_named entry (Halts leaf Emits) is f = omega (arith, f.0)
   last_named entry (Halts leaf Skips) is f = omega (arith, f.0)
-  last_named entry (Halts leaf Asks) is f = omega (arith, f.0)
+  last_named entry (Halts leaf CallsBack) is f = omega (arith, f.0)
   last_named entry (Looks leaf used) is f = absurd is
   last_named entry (Closes leaf used) is f = absurd is
   last_named entry Stuck is f = omega (arith, f.0)
@@ -262,11 +262,11 @@ module _ (code : CodeValue) (state : CodeState) where
     last = ⊎_elim (last_named entry step halts) (λ h. omega (arith, h)) is;
   }
 
-  -- where the end leads on, the entry says nothing
+  -- if the end leads on, the entry does not describe the step
   pub last_unsaid : IsLastEntry code state 2415919104
   last_unsaid = record { says = only_step (SaysAtEnd code state) 2415919104 Unsaid (inl (omega arith)) tt tt; last = omega arith }
 
-  -- the entry of a byte that does not stay leads on or ends the try
+  -- the entry of a byte that does not stay leads on or ends the attempt
   pub entry_moves : (b entry : ℕ) → IsEntry code state b entry → stays code state.fast_loop b ≡ false → (entry < 268435456) ⊎ (536870912 ≤ entry)
   entry_moves b entry is out = ⊎_elim (λ h. h) (λ h. absurd (clash h)) (either entry)
     where
@@ -279,11 +279,11 @@ module _ (code : CodeValue) (state : CodeState) where
           let e : true ≡ false = sym said.0 ∙ out in
           cc
 
-  -- what an entry that leads says of its byte
+  -- the meaning of an entry that leads for its byte
   pub entry_leads : (b entry : ℕ) → IsEntry code state b entry → entry < 268435456 → target code state.fork b ≡ Some (entry / 272)
   entry_leads b entry is h =
-      let place = is.place h in
-      let said : Says code state b (Leads (entry / 272)) = is.says (Leads (entry / 272)) (sym place, omega (arith, h)) in
+      let row_start = is.row_start h in
+      let said : Says code state b (Leads (entry / 272)) = is.says (Leads (entry / 272)) (sym row_start, omega (arith, h)) in
       said.1
 
   -- and one of a byte that leads nowhere

@@ -1,23 +1,23 @@
--- A code value: what a lexer does in each state.
+-- A code value, which defines the steps of a lexer in each state.
 use Rattle.std.specs.Prelude.{ℕ, Bool, List, Option}
 use Rattle.logos_automaton.specs.Munch.{Use}
 use Rattle.logos_byte_class.specs.Bytes.{Comparison}
 use Rattle.logos_code.specs.declared.code.CodeLeaf.{CodeLeaf}
 use Rattle.logos_code.specs.declared.code.Header.{Header}
 
--- A match of this leaf ends here, or one byte before where it is late.
+-- A match of this leaf ends at the state, or one byte before it if the mark is late.
 pub record Mark : Type 0 where
   pub leaf : ℕ
   pub late : Bool
 
--- What a byte is tested by.
+-- A condition on a byte.
 pub data Condition : Type 0 where
-  -- One of these holds.
+  -- One of these comparisons holds.
   by_comparisons : List Comparison → Condition
   -- The test with this number.
   by_test : ℕ → Condition
 
--- Where a byte leads.
+-- The transitions of a state on bytes.
 pub data Fork : Type 0 where
   -- To the state of the first condition that holds.
   by_conditions : List (Condition × ℕ) → Fork
@@ -25,21 +25,22 @@ pub data Fork : Type 0 where
   by_table : List (Option ℕ) → Fork
 
 pub record CodeState : Type 0 where
-  -- The test of the bytes that stay in the state.
+  -- The test of the bytes on which the state does not change.
   pub fast_loop : Option ℕ
   pub mark : Option Mark
   pub fork : Fork
-  -- Where the end leads.
+  -- The target of the end of the input.
   pub at_end : Option ℕ
 
--- A code value: its states, its tables, the uses of leaves, and the header of its text.
+-- A code value: its states, its tables, the uses of its leaves, and the header of the generated
+-- code.
 pub record CodeValue : Type 0 where
   pub states : List CodeState
   pub bit_tables : List (List ℕ)
   pub leaves : List Use
   pub root : ℕ
   pub utf8 : Bool
-  -- No run reads these; a fork by a table holds the entries of its table.
+  -- The jump tables, which no run reads: a fork by a table holds the entries of its table.
   pub jump_tables : List (List ℕ)
   pub header : Header
   pub code_leaves : List CodeLeaf

@@ -1,4 +1,4 @@
--- What contracts see of a code value.
+-- The views of a code value in contracts.
 use Rattle.std.specs.Prelude.{◌≡◌, ℕ, ◌<◌, Bool, not, List, [], map, length, false, Option, Some, None, option_map, if◌then◌else◌, ◌==◌, is_some, slice_index, slice_index_or, slice_get}
 use Rattle.std.specs.Int.Bits.{bit_and}
 use Rattle.std.specs.Option.{option_map_or}
@@ -26,14 +26,14 @@ condition_of (Test k) = by_test k
 abbrev pub branch_of : TheCondition × ℕ → Condition × ℕ
 branch_of branch = (condition_of branch.0, branch.1)
 
--- An entry of a jump table is a state, or the number that stands for none.
+-- An entry of a jump table is a state, or the number that represents none.
 abbrev pub entry_of : ℕ → Option ℕ
 entry_of entry = if entry == 4294967295 then None else Some entry
 
 abbrev pub jumps_of : List ℕ → List (Option ℕ)
 jumps_of table = map entry_of table
 
--- A fork by the number of its jump table.
+-- A fork, given the number of its jump table.
 abbrev pub fork_of : List (List ℕ) → TheFork → Fork
 fork_of tables (Conditions all) = by_conditions (map branch_of all.items)
 fork_of tables (Table k) = by_table (jumps_of (slice_index_or tables k []))
@@ -47,9 +47,9 @@ state_of tables state = record {
 }
 
 abbrev pub use_of : CodeLeaf → Use
-use_of leaf = record { skips = is_skip leaf.kind; asks = is_some leaf.callback }
+use_of leaf = record { skips = is_skip leaf.kind; calls_back = is_some leaf.callback }
 
--- The code value that given parts make.
+-- The code value of these parts.
 abbrev pub code_of : CodeParts → CodeValue
 code_of code = record {
   states = map (state_of code.jump_tables.items) code.states.items;
@@ -62,23 +62,23 @@ code_of code = record {
   code_leaves = code.leaves.items;
 }
 
--- A state without anything, for the states that are not there.
+-- A state without steps, for numbers without a state.
 abbrev pub no_state : CodeState
 no_state = record { fast_loop = None; mark = None; fork = by_conditions []; at_end = None }
 
--- The state of a number, and one without anything where there is none.
+-- The state with this number, or a state without steps if there is none.
 abbrev pub state_at : CodeValue → ℕ → CodeState
 state_at code s = slice_index_or code.states s no_state
 
--- A callback is asked for the matches of the leaf.
-abbrev pub asks_for : CodeValue → ℕ → Bool
-asks_for code leaf = option_map_or (λ use_of. use_of.asks) (slice_get code.leaves leaf) false
+-- A callback is called for the matches of the leaf.
+abbrev pub calls_back_for : CodeValue → ℕ → Bool
+calls_back_for code leaf = option_map_or (λ use_of. use_of.calls_back) (slice_get code.leaves leaf) false
 
--- The matches of the leaf are left out.
+-- The matches of the leaf are skipped.
 abbrev pub skips_over : CodeValue → ℕ → Bool
 skips_over code leaf = option_map_or (λ use_of. use_of.skips) (slice_get code.leaves leaf) false
 
--- One of the mask's bits stands in the table's entry for the byte.
+-- The table's entry for the byte has one of the mask's bits.
 abbrev pub has_mask : List ℕ → ℕ → ℕ → Bool
 has_mask table mask b = not (bit_and (slice_index table b) mask == 0)
 

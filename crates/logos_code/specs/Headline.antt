@@ -1,21 +1,21 @@
--- What a code value promises.
+-- The contract of a code value.
 use Rattle.std.specs.Prelude.{◌≡◌, ℕ, ◌+◌, ◌-◌, ◌*◌, ◌<◌, ◌≤◌, ◌↔◌, Bool, List, map, length, Option, Some, None, IfSome, IsTrue, IsCharBoundary, IsSomeAnd, slice_get}
 use Rattle.std.specs.List.{All}
 use Rattle.logos_hir.specs.Text.{IsBytes}
 use Rattle.logos_automaton.specs.Munch.{Rule, IsInput, Found, Finds}
 use Rattle.logos_code.specs.Code.{CodeValue, CodeState, Condition, by_comparisons, by_test, Fork, by_conditions, by_table}
-use Rattle.logos_code.specs.Runs.{Tries, CodeFinds, target}
+use Rattle.logos_code.specs.Runs.{Attempts, CodeFinds, target}
 use Rattle.logos_code.specs.Items.{Item, token, error}
 
--- The headline: at each point of each input the code finds exactly what maximal munch finds there,
--- and its leaves are used as the rules say.
+-- At each point of each input the code has exactly the result of maximal munch, and its leaves are
+-- used as the rules require.
 pub record IsLexer (rules : List Rule) (utf8 : Bool) (code : CodeValue) : Type 0 where
   pub mode : code.utf8 ≡ utf8
   pub uses : code.leaves ≡ map (λ rule. rule.use_of) rules
   pub finds : (bytes : List ℕ) (from : ℕ) (found : Found) → IsInput utf8 bytes → CodeFinds code bytes from found ↔ Finds rules utf8 bytes from found
-  pub steps : (bytes : List ℕ) (from n : ℕ) (found : Found) → IsBytes bytes → from ≤ length bytes → Tries code bytes from found n → n ≤ (length bytes - from) + 2
+  pub steps : (bytes : List ℕ) (from n : ℕ) (found : Found) → IsBytes bytes → from ≤ length bytes → Attempts code bytes from found n → n ≤ (length bytes - from) + 2
 
--- Each name that a state has is there.
+-- Each state that is referred to exists.
 abbrev pub NamesState : CodeValue → ℕ → Type 0
 NamesState code s = s < length code.states
 
@@ -52,7 +52,7 @@ pub record IsRoot (code : CodeValue) (state : CodeState) : Type 0 where
   pub fork : (b t : ℕ) → target code state.fork b ≡ Some t → ¬ IsLate code t
   pub at_end : (t : ℕ) → state.at_end ≡ Some t → ¬ IsLate code t
 
--- A state that the end leads to has a late mark, and the end leads no further.
+-- A state to which the end leads has a late mark, and the end leads no further from it.
 abbrev pub IsEnd : CodeValue → Option ℕ → Type 0
 IsEnd code at_end = IfSome at_end (λ t. IsLate code t × IsSomeAnd (slice_get code.states t) (λ next. next.at_end ≡ None))
 

@@ -10,33 +10,33 @@ pub data Item : Type 0 where
   token : (leaf from to : ℕ) (slice : List ℕ) → Item
   error : (leaf : Option ℕ) (from to : ℕ) (slice : List ℕ) → Item
 
--- The callback, as what it may answer to a leaf and a slice.
+-- A callback, as the relation between a leaf, a slice and the possible actions.
 abbrev pub Callback : Type 1
 Callback = ℕ → List ℕ → Action → Type 0
 
--- From a point, what is found there.
+-- The relation between a point and the result of a match attempt from there.
 abbrev pub Search : Type 1
 Search = ℕ → Found → Type 0
 
 -- Uses of the leaves by number, a callback, and the input.
 module _ (uses : List Use) (callback : Callback) (bytes : List ℕ) where
-  abbrev pub asks : ℕ → Bool
-  asks leaf = option_map_or (λ use_of. use_of.asks) (slice_get uses leaf) false
+  abbrev pub calls_back : ℕ → Bool
+  calls_back leaf = option_map_or (λ use_of. use_of.calls_back) (slice_get uses leaf) false
 
   abbrev pub skips : ℕ → Bool
   skips leaf = option_map_or (λ use_of. use_of.skips) (slice_get uses leaf) false
 
-  -- What may be answered to a match; a leaf without a callback emits.
+  -- The possible actions for a match. A leaf without a callback emits.
   abbrev pub MayAnswer : ℕ → List ℕ → Action → Type 0
-  MayAnswer leaf slice answer = MatchBool (asks leaf) (callback leaf slice answer) (answer ≡ Emit)
+  MayAnswer leaf slice answer = MatchBool (calls_back leaf) (callback leaf slice answer) (answer ≡ Emit)
 
-  -- The items that a match gives.
+  -- The items of a match.
   abbrev pub items_of : Action → ℕ → ℕ → ℕ → List Item
   items_of Emit leaf from to = if skips leaf then [] else token leaf from to (slice_range bytes from to) ∷ []
   items_of Skip leaf from to = []
   items_of Error leaf from to = error (Some leaf) from to (slice_range bytes from to) ∷ []
 
-  -- The items from a point on, where a search says what is found at each.
+  -- The items from a point on, where a search determines the result at each point.
   pub data Lexes (search : Search) : ℕ → List Item → Type 0 where
     over : (from : ℕ) → search from ended → Lexes search from []
     match : (from to leaf : ℕ) (answer : Action) (rest : List Item) →
@@ -46,12 +46,12 @@ module _ (uses : List Use) (callback : Callback) (bytes : List ℕ) where
         search from (failed to) → Lexes search to rest →
         Lexes search from (error None from to (slice_range bytes from to) ∷ rest)
 
-  -- The next item from a point on, and the point after it: matches that give none are passed.
+  -- The next item from a point on, and the point after it. Matches without an item are skipped.
   pub data NextItem (search : Search) : ℕ → Item → ℕ → Type 0 where
     passes : (from to leaf : ℕ) (answer : Action) (item : Item) (end : ℕ) →
         search from (matched leaf to) → MayAnswer leaf (slice_range bytes from to) answer → items_of answer leaf from to ≡ [] →
         NextItem search to item end → NextItem search from item end
-    gives : (from to leaf : ℕ) (answer : Action) (item : Item) →
+    yields : (from to leaf : ℕ) (answer : Action) (item : Item) →
         search from (matched leaf to) → MayAnswer leaf (slice_range bytes from to) answer → items_of answer leaf from to ≡ item ∷ [] →
         NextItem search from item to
     fails : (from to : ℕ) → search from (failed to) → NextItem search from (error None from to (slice_range bytes from to)) to

@@ -1,28 +1,28 @@
--- What contracts see of the last marks of a code.
+-- The views of the last marks of a code in contracts.
 use Rattle.std.specs.Prelude.{◌≡◌, ℕ, ◌-◌, List, Option, Some, None, slice_index_or}
 use Rattle.logos_hir.specs.Text.{IsBytes}
 use Rattle.logos_code.specs.Code.{CodeValue}
-use Rattle.logos_code.specs.Runs.{Stand, enters, acts, Does}
+use Rattle.logos_code.specs.Runs.{Status, enters, acts, Does}
 use Rattle.logos_code.specs.declared.code.last_marks.LastMark.{LastMark}
 use Rattle.logos_code.specs.declared.code.last_marks.LastMark.TheVariants.{Unseen, Varies, Never, Back}
 
 module _ (code : CodeValue) (bytes : List ℕ) (start : ℕ) where
-  -- The stands of a try: the first one, and each to which a stand leads.
-  pub data Stood : Stand → Type 0 where
-    first_stand : Stood (record { state = code.root; offset = start; context = None })
-    next_stand : (at next : Stand) → Stood at → Does code bytes start at (enters next) → Stood next
+  -- The statuses of an attempt: the first one, and each status to which one leads.
+  pub data Stood : Status → Type 0 where
+    first_status : Stood (record { state = code.root; offset = start; context = None })
+    next_status : (at next : Status) → Stood at → Does code bytes start at (enters next) → Stood next
 
--- What is known of the last mark passed: its leaf and where the match ends, for a try that ends at
--- the offset.
+-- The value of the last mark passed, which is its leaf and the end of its match, for an attempt
+-- that ends at the offset.
 abbrev pub Holds : LastMark → Option (ℕ × ℕ) → ℕ → Type 0
 Holds Unseen passed offset = Unit {0}
 Holds Varies passed offset = Unit {0}
 Holds Never passed offset = passed ≡ None
 Holds (Back leaf bytes) passed offset = passed ≡ Some (leaf.0, offset - bytes)
 
--- It is the last mark of each try that ends in the state.
+-- This is the last mark of each attempt that ends in the state.
 abbrev pub IsLastMark : CodeValue → ℕ → LastMark → Type 0
-IsLastMark code s mark = (bytes : List ℕ) (start : ℕ) (at : Stand) (passed : Option (ℕ × ℕ)) (offset : ℕ) →
+IsLastMark code s mark = (bytes : List ℕ) (start : ℕ) (at : Status) (passed : Option (ℕ × ℕ)) (offset : ℕ) →
     IsBytes bytes → Stood code bytes start at → at.state ≡ s → Does code bytes start at (acts passed offset) → Holds mark passed offset
 
 -- The last mark in the state with this number.

@@ -12,5 +12,5 @@ pub mod Masks
 pub mod LastMarks
 pub mod inside
 pub mod Shapes
-pub mod Words
+pub mod Imports
 pub mod Views

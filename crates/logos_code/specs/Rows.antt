@@ -1,31 +1,31 @@
--- What contracts see of the rows of a code.
+-- The views of the rows of a code in contracts.
 use Rattle.std.specs.Prelude.{◌≡◌, ℕ, ◌+◌, ◌*◌, ◌/◌, ◌<◌, ◌≤◌, ◌⊎◌, true, false, List, [], length, Option, Some, None, slice_index, slice_get}
 use Rattle.logos_automaton.specs.Munch.{Use}
 use Rattle.logos_code.specs.Code.{CodeValue, CodeState, Mark, by_conditions}
 use Rattle.logos_code.specs.CodeView.{state_at}
 use Rattle.logos_code.specs.Runs.{stays, target}
 use Rattle.logos_code.specs.declared.code.rows.MatchUse.{MatchUse}
-use Rattle.logos_code.specs.declared.code.rows.MatchUse.TheVariants.{Emits, Skips, Asks}
+use Rattle.logos_code.specs.declared.code.rows.MatchUse.TheVariants.{Emits, Skips, CallsBack}
 use Rattle.logos_code.specs.declared.code.rows.Step.{Step}
 use Rattle.logos_code.specs.declared.code.rows.Step.TheVariants.{Leads, Stays, Halts, Looks, Closes, Stuck, Unsaid}
 
--- A state that has this mark, and does nothing else.
+-- A state that has this mark and no other step.
 abbrev pub closing : Mark → CodeState
 closing mark = record { fast_loop = None; mark = Some mark; fork = by_conditions []; at_end = None }
 
--- The first entry of those for matches that end before the byte.
+-- The first entry of the kind for matches that end before the byte.
 abbrev pub first_halting : MatchUse → ℕ
 first_halting Skips = 536870912
 first_halting Emits = 805306368
-first_halting Asks = 1610612736
+first_halting CallsBack = 1610612736
 
--- And of those for matches that end after it.
+-- The first entry of the kind for matches that end after the byte.
 abbrev pub first_closing : MatchUse → ℕ
 first_closing Emits = 1073741824
 first_closing Skips = 1342177280
-first_closing Asks = 1879048192
+first_closing CallsBack = 1879048192
 
--- The entry stands for this step.
+-- The entry represents this step.
 abbrev pub IsStepOf : ℕ → Step → Type 0
 IsStepOf entry (Leads state) = (entry ≡ 272 * state) × (state < 986896)
 IsStepOf entry (Stays test) = (entry ≡ 268435456 + test) × (test < 268435456)
@@ -35,29 +35,29 @@ IsStepOf entry (Closes leaf used) = (entry ≡ first_closing used + leaf.0) × (
 IsStepOf entry Stuck = (2147483648 ≤ entry) × (entry < 2415919104)
 IsStepOf entry Unsaid = 2415919104 ≤ entry
 
--- The offset of a state: 272 times its number.
-abbrev pub IsPlace : CodeValue → ℕ → Type 0
-IsPlace code place = (272 * (place / 272) ≡ place) × (place / 272 < length code.states)
+-- The row offset of a state: 272 times its number.
+abbrev pub IsRowStart : CodeValue → ℕ → Type 0
+IsRowStart code row_start = (272 * (row_start / 272) ≡ row_start) × (row_start / 272 < length code.states)
 
--- What becomes of matches without a callback.
+-- The use of matches without a callback.
 abbrev pub IsPlainUse : Use → MatchUse → Type 0
-IsPlainUse leaf Emits = leaf ≡ record { skips = false; asks = false }
-IsPlainUse leaf Skips = leaf ≡ record { skips = true; asks = false }
-IsPlainUse leaf Asks = ⊥
+IsPlainUse leaf Emits = leaf ≡ record { skips = false; calls_back = false }
+IsPlainUse leaf Skips = leaf ≡ record { skips = true; calls_back = false }
+IsPlainUse leaf CallsBack = ⊥
 
--- What becomes of the matches of a leaf; a callback may be asked for any.
+-- The use of the matches of a leaf. A callback may be called for any of them.
 abbrev pub IsUse : CodeValue → ℕ → MatchUse → Type 0
-IsUse code leaf Emits = slice_get code.leaves leaf ≡ Some (record { skips = false; asks = false })
-IsUse code leaf Skips = slice_get code.leaves leaf ≡ Some (record { skips = true; asks = false })
-IsUse code leaf Asks = Unit {0}
+IsUse code leaf Emits = slice_get code.leaves leaf ≡ Some (record { skips = false; calls_back = false })
+IsUse code leaf Skips = slice_get code.leaves leaf ≡ Some (record { skips = true; calls_back = false })
+IsUse code leaf CallsBack = Unit {0}
 
--- The byte leads to a state that has this mark, and does nothing else.
+-- The byte leads to a state that has this mark and no other step.
 pub record LeadsToClosing (code : CodeValue) (state : CodeState) (b : ℕ) (mark : Mark) : Type 0 where
   pub next : ℕ
   pub leads : target code state.fork b ≡ Some next
   pub closes : slice_get code.states next ≡ Some (closing mark)
 
--- What a step says of a byte.
+-- The meaning of a step for a byte.
 abbrev pub Says : CodeValue → CodeState → ℕ → Step → Type 0
 Says code state b (Leads next) = (stays code state.fast_loop b ≡ false) × (target code state.fork b ≡ Some next)
 Says code state b (Stays test) = (stays code state.fast_loop b ≡ true) × (state.fast_loop ≡ Some test)
@@ -68,7 +68,7 @@ Says code state b (Closes leaf used) = (stays code state.fast_loop b ≡ false) 
 Says code state b Stuck = (stays code state.fast_loop b ≡ false) × (target code state.fork b ≡ None)
 Says code state b Unsaid = Unit {0}
 
--- A step of a state with this mark, where nothing leads on.
+-- A step of a state with this mark if there is no transition.
 abbrev pub IsHalting : CodeValue → Option Mark → Step → Type 0
 IsHalting code mark (Leads next) = ⊥
 IsHalting code mark (Stays test) = ⊥
@@ -78,7 +78,7 @@ IsHalting code mark (Closes leaf used) = ⊥
 IsHalting code mark Stuck = Unit {0}
 IsHalting code mark Unsaid = ⊥
 
--- What a step says of the end of the input.
+-- The meaning of a step for the end of the input.
 abbrev pub SaysAtEnd : CodeValue → CodeState → Step → Type 0
 SaysAtEnd code state (Leads next) = ⊥
 SaysAtEnd code state (Stays test) = ⊥
@@ -88,16 +88,16 @@ SaysAtEnd code state (Closes leaf used) = ⊥
 SaysAtEnd code state Stuck = Unit {0}
 SaysAtEnd code state Unsaid = Unit {0}
 
--- An entry that leads is a multiple of 272.
-abbrev pub LeadsToPlace : ℕ → Type 0
-LeadsToPlace entry = entry < 268435456 → 272 * (entry / 272) ≡ entry
+-- An entry that leads to a state is a multiple of 272.
+abbrev pub LeadsToRowStart : ℕ → Type 0
+LeadsToRowStart entry = entry < 268435456 → 272 * (entry / 272) ≡ entry
 
--- The entry of a byte: what it stands for is so.
+-- The entry of a byte, which represents its step.
 pub record IsEntry (code : CodeValue) (state : CodeState) (b entry : ℕ) : Type 0 where
   pub says : (step : Step) → IsStepOf entry step → Says code state b step
-  pub place : LeadsToPlace entry
+  pub row_start : LeadsToRowStart entry
 
--- The entry of the end of the input; it leads nowhere.
+-- The entry of the end of the input, which leads nowhere.
 pub record IsLastEntry (code : CodeValue) (state : CodeState) (entry : ℕ) : Type 0 where
   pub says : (step : Step) → IsStepOf entry step → SaysAtEnd code state step
   pub last : 536870912 ≤ entry
@@ -111,18 +111,19 @@ pub record AreRows (code : CodeValue) (rows : List ℕ) : Type 0 where
   pub count : length rows ≡ 272 * length code.states
   pub each : (s b : ℕ) → s < length code.states → b < 256 → IsEntry code (state_at code s) b (slice_index rows (272 * s + b))
 
--- An entry that leads to a state, or comes after those of halting states.
+-- An entry that leads to a state, or whose kind comes after those of matches that end before the
+-- byte.
 abbrev pub BeginsTry : ℕ → Type 0
 BeginsTry entry = (entry < 268435456) ⊎ (1073741824 ≤ entry)
 
--- The entry where it begins a try, or one that says nothing.
+-- The entry itself if it can begin an attempt, and one of the kind `UNDESCRIBED` otherwise.
 abbrev pub IsFirstEntry : ℕ → ℕ → Type 0
 IsFirstEntry entry first = ((first ≡ entry) ⊎ (2415919104 ≤ first)) × BeginsTry first
 
 abbrev pub IsFirstOf : List ℕ → ℕ → List ℕ → Type 0
 IsFirstOf rows root first = (length first ≡ 256) × ((b : ℕ) → b < 256 → IsFirstEntry (slice_index rows (272 * root + b)) (slice_index first b))
 
--- The entry of the first byte of a try.
+-- The entry of the first byte of an attempt.
 abbrev pub IsFirst : CodeValue → ℕ → ℕ → Type 0
 IsFirst code b entry = IsEntry code (state_at code code.root) b entry × BeginsTry entry
 

@@ -1,4 +1,4 @@
--- What a code value does on an input.
+-- The runs of a code value on an input.
 use Rattle.std.specs.Prelude.{◌≡◌, ℕ, suc, ◌+◌, ◌-◌, ◌≤◌, max, Bool, ◌&&◌, List, length, drop, Option, Some, None, option_map, if◌then◌else◌, ◌==◌, slice_get, false, IsTrue, IsCharBoundary, find, slice_index_or}
 use Rattle.std.specs.List.{take_while}
 use Rattle.std.specs.Option.{option_map_or}
@@ -8,16 +8,16 @@ use Rattle.logos_code.specs.Code.{CodeValue, CodeState, Mark, Condition, by_comp
 use Rattle.logos_automaton.specs.Munch.{Found, ended, matched, failed}
 use Rattle.logos_code.specs.Items.{Callback, Item, Lexes, NextItem}
 
--- Where a try stands as it enters a state.
-pub record Stand : Type 0 where
+-- The status of an attempt as it enters a state.
+pub record Status : Type 0 where
   pub state : ℕ
   pub offset : ℕ
-  -- The last mark passed: its leaf, and where the match ends.
+  -- The last mark passed: its leaf, and the end of its match.
   pub context : Option (ℕ × ℕ)
 
--- A try goes on in another state, or it is over.
+-- An attempt continues in another state, or it ends.
 pub data Turn : Type 0 where
-  enters : Stand → Turn
+  enters : Status → Turn
   acts : Option (ℕ × ℕ) → (offset : ℕ) → Turn
   returns : Turn
 
@@ -26,7 +26,7 @@ abbrev pub marked : Option Mark → ℕ → Option (ℕ × ℕ) → Option (ℕ 
 marked None offset context = context
 marked (Some mark) offset context = Some (mark.leaf, if mark.late then offset - 1 else offset)
 
--- On to the target, if there is one.
+-- The attempt continues in the target, if there is one.
 abbrev pub led : Option ℕ → ℕ → Option (ℕ × ℕ) → Turn
 led target offset context = option_map_or (λ next. enters (record { state = next; offset = offset + 1; context = context })) target (acts context offset)
 
@@ -40,60 +40,60 @@ module _ (code : CodeValue) where
   target (by_conditions edges) b = option_map (λ edge. edge.1) (find (λ edge. passes edge.0 b) edges)
   target (by_table entries) b = slice_index_or entries b None
 
-  -- The fast loop takes the byte.
+  -- The byte passes the test of the fast loop.
   abbrev pub stays : Option ℕ → ℕ → Bool
   stays None b = false
   stays (Some k) b = passes_test code.bit_tables k b
 
-  -- The bytes that the fast loop takes: all at the front that pass its test.
+  -- The number of bytes at the front that pass the test of the fast loop.
   abbrev pub looped : Option ℕ → List ℕ → ℕ
   looped None rest = 0
   looped (Some k) rest = length (take_while (passes_test code.bit_tables k) rest)
 
-  -- What the fork's byte does, if there is one, or the end of the input.
+  -- The turn of a fork at the next byte, if there is one, or at the end of the input.
   abbrev pub forked : CodeState → Option ℕ → Bool → ℕ → Option (ℕ × ℕ) → Turn
   forked state (Some b) fresh offset context = led (target state.fork b) offset context
   forked state None fresh offset context = if fresh then returns else led state.at_end offset context
 
   module _ (bytes : List ℕ) (start : ℕ) where
-    -- What a state does: its fast loop, its mark, and its fork.
-    abbrev pub turn : CodeState → Stand → Turn
+    -- The turn of a state: its fast loop, its mark, and its fork.
+    abbrev pub turn : CodeState → Status → Turn
     turn state at =
         let offset = at.offset + looped state.fast_loop (drop at.offset bytes) in
         forked state (slice_get bytes offset) (at.state == code.root && offset == start) offset (marked state.mark offset at.context)
 
-    -- The state that is entered does this.
-    abbrev pub Does : Stand → Turn → Type 0
+    -- This is the turn of the state that is entered.
+    abbrev pub Does : Status → Turn → Type 0
     Does at what = (state : CodeState) × (slice_get code.states at.state ≡ Some state) × (turn state at ≡ what)
 
-    -- Where an error ends that has come to the offset: after one byte at least, and in UTF-8 mode
-    -- between characters.
+    -- The end of an error of an attempt that has reached the offset: after at least one byte, and
+    -- in UTF-8 mode between characters.
     pub record EndsError (offset to : ℕ) : Type 0 where
       pub past : max offset (start + 1) ≤ to
       pub boundary : IsTrue code.utf8 → IsCharBoundary bytes to
       pub least : (other : ℕ) → max offset (start + 1) ≤ other → (IsTrue code.utf8 → IsCharBoundary bytes other) → to ≤ other
 
-    -- The action of a context.
+    -- The result of an attempt that ends with this context.
     abbrev pub Acts : Option (ℕ × ℕ) → ℕ → Found → Type 0
     Acts (Some context) offset found = found ≡ matched context.0 context.1
     Acts None offset ended = ⊥
     Acts None offset (matched leaf to) = ⊥
     Acts None offset (failed to) = EndsError offset to
 
-    -- From a stand on, the try finds this, and enters this many states.
-    pub data Goes : Stand → Found → ℕ → Type 0 where
-      goes_on : (at next : Stand) (found : Found) (n : ℕ) → Does at (enters next) → Goes next found n → Goes at found (suc n)
-      is_over : (at : Stand) → Does at returns → Goes at ended 1
-      acts_on : (at : Stand) (context : Option (ℕ × ℕ)) (offset : ℕ) (found : Found) →
+    -- From this status on, the attempt has this result, and enters this number of states.
+    pub data Goes : Status → Found → ℕ → Type 0 where
+      goes_on : (at next : Status) (found : Found) (n : ℕ) → Does at (enters next) → Goes next found n → Goes at found (suc n)
+      is_over : (at : Status) → Does at returns → Goes at ended 1
+      acts_on : (at : Status) (context : Option (ℕ × ℕ)) (offset : ℕ) (found : Found) →
           Does at (acts context offset) → Acts context offset found → Goes at found 1
 
-    -- A try from the start finds this, and enters this many states.
-    abbrev pub Tries : Found → ℕ → Type 0
-    Tries = Goes (record { state = code.root; offset = start; context = None })
+    -- A match attempt from the start has this result, and enters this number of states.
+    abbrev pub Attempts : Found → ℕ → Type 0
+    Attempts = Goes (record { state = code.root; offset = start; context = None })
 
--- What a code value finds at a point.
+-- The result of a code value at a point.
 abbrev pub CodeFinds : CodeValue → List ℕ → ℕ → Found → Type 0
-CodeFinds code bytes from found = (n : ℕ) × Tries code bytes from found n
+CodeFinds code bytes from found = (n : ℕ) × Attempts code bytes from found n
 
 -- The items of a run of the code value, from a point on.
 abbrev pub Runs : CodeValue → Callback → List ℕ → ℕ → List Item → Type 0

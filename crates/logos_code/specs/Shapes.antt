@@ -1,4 +1,4 @@
--- The shapes of the text of a code, by their names.
+-- The shapes of generated code, by their names.
 use Rattle.std.specs.Prelude.{ℕ, List, Option, Some, None, true, false, codes, bytes_eq, if◌then◌else◌}
 use Rattle.logos_code.specs.declared.code.Config.{Config}
 

@@ -1,4 +1,4 @@
--- What contracts see of the uses of leaves.
+-- The views of the uses of leaves in contracts.
 use Rattle.std.specs.Prelude.{◌≡◌, ℕ, List, map}
 use Rattle.logos_automaton.specs.Munch.{Use}
 use Rattle.logos_code.specs.CodeView.{code_of, IsValid}
@@ -12,9 +12,9 @@ use Rattle.logos_code.specs.declared.code.signs.Sign.{Sign}
 use Rattle.logos_code.specs.declared.code.uses.LeafUse.{LeafUse}
 
 abbrev pub use_by : LeafUse → Use
-use_by flags = record { skips = flags.skips; asks = flags.asks }
+use_by flags = record { skips = flags.skips; calls_back = flags.calls_back }
 
--- The parts are valid, and the tables beside them agree with them.
+-- The parts are valid, and the tables agree with them.
 pub record IsWhole (parts : CodeParts) (first rows : List ℕ) (masks : List (List ℕ)) (signs : List Sign) (last_marks : List LastMark) (uses : List LeafUse) : Type 0 where
   pub valid : IsValid parts
   pub first_row : IsFirstRow (code_of parts) first

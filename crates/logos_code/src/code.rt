@@ -1,11 +1,12 @@
-//! Code values: what a lexer does in each state.
+//! Code values, which define the steps of a lexer in each state. `logos_generator` makes them, and
+//! `logos_machine` and the printers of generated code read them.
 
 ghost use Rattle.std.specs.Prelude.{◌≡◌, ◌*◌, ◌<◌, ◌/◌, length, option_map, option_copied, IfSome};
-ghost use Rattle.logos_code.specs.Views.{passes_test, IsSound, NamesTest, entry_of, state_at, asks_for, skips_over, code_of, IsValid, target, IsLastMark, IsMask, IsEntry, IsFirst, IsLastEntry, IsPlace, shape_named, mark_by};
+ghost use Rattle.logos_code.specs.Views.{passes_test, IsSound, NamesTest, entry_of, state_at, calls_back_for, skips_over, code_of, IsValid, target, IsLastMark, IsMask, IsEntry, IsFirst, IsLastEntry, IsRowStart, shape_named, mark_by};
 
-mod alike;
+mod byte_runs;
+pub(crate) mod construction;
 pub mod last_marks;
-pub(crate) mod making;
 mod masks;
 pub mod rows;
 pub mod signs;
@@ -22,7 +23,7 @@ use signs::Sign;
 use std::marker::Model;
 use uses::LeafUse;
 
-/// A match of this leaf ends where the state is entered, or one byte before if the mark is late.
+/// A match of this leaf ends at the state, or one byte before it if the mark is late.
 #[derive(Clone, Copy, Debug, PartialEq, Eq)]
 pub struct Mark {
     pub leaf: LeafId,
@@ -38,7 +39,7 @@ pub enum Condition {
     Test(usize),
 }
 
-/// Where each byte leads from a state.
+/// The transitions of a state on bytes.
 #[derive(Drop)]
 pub enum Fork {
     /// To the state of the first condition that holds.
@@ -50,19 +51,19 @@ pub enum Fork {
 /// The entry of a jump table for a byte that leads nowhere.
 pub const NOWHERE: u32 = u32::MAX;
 
-/// What is done in a state: first its fast loop, then its mark, then its fork or, at the end of the
-/// input, its end branch. States are named by their numbers.
+/// The steps of a state: first its fast loop, then its mark, then its fork or, at the end of the
+/// input, its end branch. States are identified by their numbers.
 #[derive(Drop)]
 pub struct CodeState {
-    /// The number of the test of the bytes that stay in the state.
+    /// The number of the test of the bytes on which the state does not change.
     pub fast_loop: Option<usize>,
     pub mark: Option<Mark>,
     pub fork: Fork,
-    /// Where the end of the input leads.
+    /// The target of the end of the input.
     pub at_end: Option<usize>,
 }
 
-/// What becomes of the matches of a leaf.
+/// How the matches of a leaf are used.
 #[derive(Drop)]
 pub struct CodeLeaf<'s> {
     pub kind: VariantKind<'s>,
@@ -70,10 +71,10 @@ pub struct CodeLeaf<'s> {
     pub callback: Option<Callback<'s>>,
 }
 
-/// The options of a generator.
+/// The code shape, an option of a generator.
 #[derive(Clone, Copy, Debug, PartialEq, Eq)]
 pub struct Config {
-    /// One loop over a state variable, in place of a function for each state. Both shapes give the
+    /// One loop over a state variable, instead of a function for each state. Both shapes yield the
     /// same items.
     pub use_state_machine_codegen: bool,
 }
@@ -103,10 +104,10 @@ impl Config {
     }
 }
 
-/// The header of a code's text. The generator copies it from what it is given beside the graph.
+/// The header of the generated code. The generator copies it from its arguments besides the graph.
 #[derive(Drop)]
 pub struct Header<'s> {
-    /// The shape of its text.
+    /// The shape of the generated code.
     pub shape: Config,
     /// The name of the enum.
     pub name: Ident<'s>,
@@ -116,40 +117,40 @@ pub struct Header<'s> {
     pub error_callback: Option<Callback<'s>>,
 }
 
-/// The parts of a code value: its nodes, and the tables that they name by number.
+/// The parts of a code value: its nodes, and the tables that they index.
 #[derive(Drop)]
 pub struct CodeParts<'s> {
     pub header: Header<'s>,
     pub states: Vec<CodeState>,
-    /// Test number k is bit k mod 8 of the entries of table k / 8.
+    /// Test number `k` is bit `k % 8` of the entries of table `k / 8`.
     pub bit_tables: Vec<[u8; 256]>,
-    /// An entry for each byte: the state that it leads to, or `NOWHERE`.
+    /// An entry for each byte: the state to which it leads, or `NOWHERE`.
     pub jump_tables: Vec<[u32; 256]>,
-    /// What becomes of the matches of each leaf, in the order of their numbers.
+    /// How the matches of each leaf are used, in the order of their numbers.
     pub leaves: Vec<CodeLeaf<'s>>,
-    /// The state in which each try begins.
+    /// The state in which each attempt begins.
     pub root: usize,
-    /// Errors end between characters, and the input has to be UTF-8.
+    /// Whether errors end between characters and the input has to be UTF-8.
     pub utf8: bool,
 }
 
-/// The code of a lexer. Each state, table, test and leaf that it names exists, and no two of its
-/// jump tables are equal. `Generator::generate` makes one.
+/// The code of a lexer. Each state, table, test and leaf that it refers to exists, and no two of
+/// its jump tables are equal. `Generator::generate` makes it.
 #[derive(Drop)]
 pub struct Code<'s> {
     parts: CodeParts<'s>,
-    /// What each byte does at the start of a try.
+    /// The step for each byte at the start of a match attempt.
     first: [u32; 256],
-    /// What each byte does in each state, so that running the code takes one look a byte. `rows`
-    /// describes the layout.
+    /// The step for each byte in each state, so that running the code takes one load for each byte.
+    /// `rows` describes the layout.
     rows: Vec<u32>,
     /// The tests, for sixteen bytes at once.
     masks: Vec<[u8; 32]>,
     /// The mark of each state.
     signs: Vec<Sign>,
-    /// The last mark that a try has passed, where it ends in each state.
+    /// The last mark that an attempt has passed, for each state in which it can end.
     last_marks: Vec<LastMark>,
-    /// What becomes of the matches of each leaf.
+    /// How the matches of each leaf are used.
     uses: Vec<LeafUse>,
 }
 
@@ -171,7 +172,7 @@ impl<'s> Model for Code<'s> {
 }
 
 impl<'s> Code<'s> {
-    /// Returns the shape of its text.
+    /// Returns the shape of the generated code.
     pub fn shape(&self) -> Config
         ensures { result ≡ self.now.header.shape }
     {
@@ -193,7 +194,7 @@ impl<'s> Code<'s> {
     }
 
     /// Returns the parts of the code: its nodes and its tables. Each state, table, test and leaf
-    /// that they name exists, and no two jump tables are equal.
+    /// that they refer to exists, and no two jump tables are equal.
     pub fn parts(&self) -> &CodeParts<'s>
         ensures is { code_of result.now ≡ self.now }
         ensures valid { IsValid result.now }
@@ -208,7 +209,7 @@ impl<'s> Code<'s> {
         self.parts.header.error_callback.as_ref()
     }
 
-    /// Returns the leaves, in the order of their numbers: what becomes of the matches of each.
+    /// Returns the leaves, in the order of their numbers, with the use of the matches of each.
     pub fn leaves(&self) -> &[CodeLeaf<'s>]
         ensures { result.now ≡ self.now.code_leaves }
     {
@@ -217,7 +218,7 @@ impl<'s> Code<'s> {
 }
 
 impl Code<'_> {
-    /// Returns the number of the state in which each try begins.
+    /// Returns the number of the state in which each attempt begins.
     pub fn root(&self) -> usize
         ensures root { result ≡ self.now.root }
         ensures sound { IsSound self.now }
@@ -232,29 +233,29 @@ impl Code<'_> {
         self.parts.utf8
     }
 
-    /// Returns the entry of the first byte of a try. It leads to a state, closes a match or says
-    /// nothing.
+    /// Returns the entry of the first byte of an attempt. It leads to a state, ends a match, or is
+    /// `UNDESCRIBED`.
     #[inline(always)]
     pub fn first_entry(&self, byte: u8) -> u32
         ensures first { IsFirst self.now byte result }
         ensures sound { IsSound self.now }
     {
-        // A read of a field brings the invariant of the type into the proof.
+        // Reading a field brings the invariant of the type into the proof.
         let _ = &self.parts;
         self.first[byte as usize]
     }
 
-    /// Returns the entry of the byte in the state at the offset, which is `WIDTH` times the number
-    /// of the state.
+    /// Returns the entry of `byte` in the state with this row offset, which is `WIDTH` times the
+    /// number of the state.
     #[inline(always)]
-    pub fn entry(&self, place: usize, byte: u8) -> u32
-        requires { IsPlace self.now place }
-        ensures { IsEntry self.now (state_at self.now (place / WIDTH)) byte result }
+    pub fn entry(&self, row_start: usize, byte: u8) -> u32
+        requires { IsRowStart self.now row_start }
+        ensures { IsEntry self.now (state_at self.now (row_start / WIDTH)) byte result }
     {
-        // In this order the offset, which comes from the entry before, need not be added before the
-        // load.
+        // In this order the row offset, which comes from the entry before, need not be added before
+        // the load.
         let column = &self.rows[byte as usize..];
-        column[place]
+        column[row_start]
     }
 
     /// Returns whether the byte passes the test.
@@ -265,8 +266,8 @@ impl Code<'_> {
         self.parts.passes_test(test, byte)
     }
 
-    /// Returns the mask of the test. Bit `b / 16 % 8` of entry `16 * (b / 128) + b % 16` is set
-    /// where byte `b` passes it.
+    /// Returns the mask of the test. Bit `b / 16 % 8` of entry `16 * (b / 128) + b % 16` is set if
+    /// byte `b` passes it.
     #[inline(always)]
     pub fn mask(&self, test: usize) -> &[u8; 32]
         requires { NamesTest self.now test }
@@ -275,7 +276,7 @@ impl Code<'_> {
         &self.masks[test]
     }
 
-    /// Returns the state to which the byte leads from this state, if it leads anywhere.
+    /// Returns the state to which `byte` leads from this state, or `None` if it leads nowhere.
     pub fn target(&self, state: usize, byte: u8) -> Option<usize>
         requires { state < length self.now.states }
         ensures { result ≡ target self.now (state_at self.now state).fork byte }
@@ -290,14 +291,14 @@ impl Code<'_> {
         self.parts.target(&self.parts.states[state].fork, byte)
     }
 
-    /// Returns the entry of the end of the input in the state at the offset.
+    /// Returns the entry of the end of the input in the state with this row offset.
     #[cold]
     #[inline(never)]
-    pub fn last_entry(&self, place: usize) -> u32
-        requires { IsPlace self.now place }
-        ensures { IsLastEntry self.now (state_at self.now (place / WIDTH)) result }
+    pub fn last_entry(&self, row_start: usize) -> u32
+        requires { IsRowStart self.now row_start }
+        ensures { IsLastEntry self.now (state_at self.now (row_start / WIDTH)) result }
     {
-        let state = &self.parts.states[place / WIDTH];
+        let state = &self.parts.states[row_start / WIDTH];
         if state.at_end.is_some() {
             return UNSAID;
         }
@@ -313,7 +314,7 @@ impl Code<'_> {
         self.parts.states[state].fast_loop
     }
 
-    /// Returns the sign of the state: its mark.
+    /// Returns the accept sign of the state, which is its mark.
     #[inline(always)]
     pub fn sign(&self, state: usize) -> Sign
         requires { state < length self.now.states }
@@ -322,26 +323,27 @@ impl Code<'_> {
         self.signs[state]
     }
 
-    /// Returns what is known of the last mark that a try has passed, where it ends in the state at
-    /// the offset. It spares a lexer a second walk, and may be `Unseen` or `Varies` of any state.
+    /// Returns the last mark that an attempt has passed if it ends in the state with this row
+    /// offset. It saves a lexer a second pass, and may be `Unseen` or `Varies` for any state.
     #[cold]
     #[inline(never)]
-    pub fn last_mark(&self, place: usize) -> LastMark
-        ensures { IsLastMark self.now (place / WIDTH) result }
+    pub fn last_mark(&self, row_start: usize) -> LastMark
+        ensures { IsLastMark self.now (row_start / WIDTH) result }
     {
-        last_mark_at(&self.last_marks, place / WIDTH)
+        last_mark_at(&self.last_marks, row_start / WIDTH)
     }
 
-    /// Returns the offset of the state in which each try begins.
+    /// Returns the row offset of the state in which each match attempt begins.
     #[inline(always)]
-    pub fn root_place(&self) -> usize
-        ensures place { result ≡ WIDTH * self.now.root }
+    pub fn root_row_start(&self) -> usize
+        ensures row_start { result ≡ WIDTH * self.now.root }
         ensures state { result / WIDTH ≡ self.now.root }
     {
         WIDTH * self.parts.root
     }
 
-    /// Returns the state to which the end of the input leads from this state, if it leads anywhere.
+    /// Returns the state to which the end of the input leads from this state, or `None` if it leads
+    /// nowhere.
     #[inline(always)]
     pub fn at_end(&self, state: usize) -> Option<usize>
         requires { state < length self.now.states }
@@ -352,11 +354,11 @@ impl Code<'_> {
 
     /// Returns whether the leaf has a callback.
     #[inline(always)]
-    pub fn asks(&self, leaf: LeafId) -> bool
+    pub fn calls_back(&self, leaf: LeafId) -> bool
         requires { leaf.0 < length self.now.leaves }
-        ensures { result ≡ asks_for self.now leaf.0 }
+        ensures { result ≡ calls_back_for self.now leaf.0 }
     {
-        self.uses[leaf.0].asks
+        self.uses[leaf.0].calls_back
     }
 
     /// Returns whether the leaf's matches are skipped.
@@ -369,7 +371,7 @@ impl Code<'_> {
     }
 }
 
-/// Returns the state that an entry of a jump table stands for.
+/// Returns the state that an entry of a jump table represents, or `None` for `NOWHERE`.
 fn target_of(entry: u32) -> Option<usize>
     ensures { result ≡ entry_of entry }
 {

@@ -1,8 +1,8 @@
-//! Code values: what a lexer does in each state, and what its runs are.
+//! Code values, which define the steps of a lexer in each state, and the definition of their runs.
 
 #![tactic(auto)]
 
 pub mod action;
 pub mod code;
 
-pub use code::making::make_code;
+pub use code::construction::make_code;

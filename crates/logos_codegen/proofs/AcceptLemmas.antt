@@ -14,7 +14,7 @@ use Rattle.logos_leaf.proofs.agreement.Sources.{source_once}
 use Rattle.logos_automaton.specs.Munch.{Rule}
 use Rattle.logos_automaton.specs.Faults.{AreFaults}
 use Rattle.logos_automaton.proofs.ambiguity.OneFaults.{faults_once}
-use Rattle.logos_parser.specs.Endings.{GivesEnum, EndsTokens, EndsReading, source_limit, nesting_limit, unreadable, misread}
+use Rattle.logos_parser.specs.Endings.{YieldsEnum, EndsTokens, EndsReading, source_limit, nesting_limit, unreadable, misread}
 use Rattle.logos_parser.specs.Refusals.{Refuses, IsMemory}
 use Rattle.logos_parser.specs.Analyses.{ReadsEnum, type_faults}
 use Rattle.logos_parser.specs.Utf8Faults.{utf8_faults}
@@ -63,7 +63,7 @@ enum_once enum leaves others options other faults a b =
       same,
     )
 
--- it gives tokens of the same kinds
+-- it has tokens of the same kinds
 kinds_alike : (enum : EnumValue) (leaves others : List LeafView) (options other : OptionsView) → ReadsEnum enum leaves options [] → ReadsEnum enum others other [] → kinds_of_views leaves ≡ kinds_of_views others
 kinds_alike enum leaves others options other a b =
     let none = silent enum leaves options a in
@@ -72,8 +72,8 @@ kinds_alike enum leaves others options other a b =
 
 -- ---- a source is one enum at most
 
-pub one_value : (source : List ℕ) (value other : EnumValue) (item place : Span) → GivesEnum source value item → GivesEnum source other place → (value ≡ other) × (item ≡ place)
-one_value source value other item place a b =
+pub one_value : (source : List ℕ) (value other : EnumValue) (item row_start : Span) → YieldsEnum source value item → YieldsEnum source other row_start → (value ≡ other) × (item ≡ row_start)
+one_value source value other item row_start a b =
     let tokens = spells-one source a.tokens b.tokens a.spelled b.spelled in
     let reads : Reads b.tokens (Ok value) = rw tokens at a.reads in
     let same : Ok value ≡ Ok other = once-reads b.tokens _ _ reads b.reads in
@@ -86,7 +86,7 @@ tokens_exclude tokens value faults reads ends =
     absurd (cc)
 
 -- the reading of an enum within the limits is not ended by a fault
-ends_excludes : (source : List ℕ) (rules : List Rule) (value : EnumValue) (item : Span) (fault : SourceFault) → GivesEnum source value item → IsWithinLimits source rules → EndsReading source fault → ⊥
+ends_excludes : (source : List ℕ) (rules : List Rule) (value : EnumValue) (item : Span) (fault : SourceFault) → YieldsEnum source value item → IsWithinLimits source rules → EndsReading source fault → ⊥
 ends_excludes source rules value item fault says limits (source_limit l is) = let s = limits.sizes.short in omega arith
 ends_excludes source rules value item fault says limits (nesting_limit deep is) =
     let more = deep-excludes source _ says.tokens deep says.spelled in
@@ -113,15 +113,15 @@ accepted_once source rules rules' utf8 utf8' a b =
     let once = enum_once b.enum a.leaves b.leaves a.options b.options [] says b.enum_says in
     (a.same_rules ∙ once.1 ∙ sym b.same_rules, a.same_mode ∙ ap utf8_mode once.2 ∙ sym b.same_mode)
 
--- a source without faults gives tokens of the kinds of its leaves
-pub kinds_as_analyzed : (source : List ℕ) (rules : List Rule) (utf8 : Bool) (enum : EnumValue) (item : Span) (leaves : List LeafView) (options : OptionsView) → GivesEnum source enum item → ReadsEnum enum leaves options [] →
+-- a source without faults has tokens of the kinds of its leaves
+pub kinds_as_analyzed : (source : List ℕ) (rules : List Rule) (utf8 : Bool) (enum : EnumValue) (item : Span) (leaves : List LeafView) (options : OptionsView) → YieldsEnum source enum item → ReadsEnum enum leaves options [] →
     (a : IsAccepted source rules utf8) → kinds_of_views leaves ≡ kinds_of_views a.leaves
 kinds_as_analyzed source rules utf8 enum item leaves options says enum_says a =
     let same = one_value source enum a.enum item a.item says a.says in
     let own : ReadsEnum a.enum leaves options [] = rw same.0 at enum_says in
     kinds_alike a.enum leaves a.leaves options a.options own a.enum_says
 
--- a source that is accepted gives tokens of one list of kinds
+-- a source that is accepted has tokens of one list of kinds
 pub kinds_once : (source : List ℕ) (rules rules' : List Rule) (utf8 utf8' : Bool) (a : IsAccepted source rules utf8) (b : IsAccepted source rules' utf8') → kinds_of_views a.leaves ≡ kinds_of_views b.leaves
 kinds_once source rules rules' utf8 utf8' a b = kinds_as_analyzed source rules' utf8' a.enum a.item a.leaves a.options a.says a.enum_says b
 

@@ -1,4 +1,4 @@
--- From a lexer's items to what the tokenizer of expressions makes of them.
+-- From a lexer's items to the tokens of the tokenizer of expressions.
 use Rattle.std.proofs.Common.{◌≡◌, ℕ, ◌+◌, ◌<◌, ◌≤◌, drop, get_or, Bool, true, false, List, [], ◌∷◌, ◌++◌, length, map, slice_range, refl, sym, ap, ◌∙◌, append_assoc, append-nil, MatchBool, arith, None, IsUtf8}
 use Rattle.std.proofs.lemmas.List.{drop_more}
 use Rattle.logos_pattern.specs.Leaf.{kind_value}
@@ -9,11 +9,11 @@ use Rattle.logos_automaton.proofs.munch.Unique.{finds_one}
 use Rattle.logos_hir.specs.Text.{IsBytes}
 use Rattle.logos_code.specs.Code.{CodeValue}
 use Rattle.logos_code.specs.Headline.{IsLexer}
-use Rattle.logos_machine.specs.LexerValue.{LexerValue, Gives, Ends}
+use Rattle.logos_machine.specs.LexerValue.{LexerValue, Yields, Ends}
 use Rattle.logos_code.specs.Runs.{Runs, RunsOn}
 use Rattle.logos_code.specs.declared.action.Action.{Action}
 use Rattle.logos_code.specs.declared.action.Action.TheVariants.{Emit, Skip, Error}
-use Rattle.logos_code.specs.Items.{Callback, Search, Item, token, error, asks, MayAnswer, items_of, over, match, fault, NextItem, passes, gives as gives_item, fails, Items, IsNext}
+use Rattle.logos_code.specs.Items.{Callback, Search, Item, token, error, calls_back, MayAnswer, items_of, over, match, fault, NextItem, passes, yields as yields_item, fails, Items, IsNext}
 use Rattle.logos_generator.proofs.Compose.{runs_iff, next_iff}
 use Rattle.logos_generator.proofs.InOrder.{best_within, stop_within}
 use Rattle.logos_generator.proofs.Once.{items_once}
@@ -27,24 +27,24 @@ use Rattle.logos_codegen.specs.declared.expr.ExprKind.{ExprKind}
 use Rattle.logos_lexeme.specs.declared.lexeme.Span.{Span}
 use Rattle.logos_codegen.specs.Language.{IsLanguage}
 use Rattle.logos_codegen.specs.declared.expr.TheConstants.{SOURCE}
-use Rattle.logos_codegen.specs.Tokenizing.{Token, Outcome, gives, bad, emits, kind_at, kind_given, kinds_of_views, in_front, IsErrorAt, outcome_of, AreRead, all_read, token_read, error_read, Tokenizes, IsOutcome, IsRefusalOf, IsThatError}
+use Rattle.logos_codegen.specs.Tokenizing.{Token, Outcome, yields, bad, emits, kind_at, kind_given, kinds_of_views, in_front, IsErrorAt, outcome_of, AreRead, all_read, token_read, error_read, Tokenizes, IsOutcome, IsRefusalOf, IsThatError}
 use Rattle.logos_codegen.proofs.AcceptLemmas.{accepted_once, kinds_once}
 use Rattle.logos_machine.proofs.ItemsLemmas.{may_by, lexes_by}
 
 -- in front of nothing
 pub in_front_none : (outcome : Outcome) → in_front [] outcome ≡ outcome
-in_front_none (gives tokens) = refl
+in_front_none (yields tokens) = refl
 in_front_none (bad from to) = refl
 
 in_front_both : (first second : List Token) (outcome : Outcome) → in_front first (in_front second outcome) ≡ in_front (first ++ second) outcome
-in_front_both first second (gives tokens) = ap gives (sym (append_assoc first second tokens))
+in_front_both first second (yields tokens) = ap yields (sym (append_assoc first second tokens))
 in_front_both first second (bad from to) = refl
 
-one_given : (t u : Token) → gives (t ∷ []) ≡ gives (u ∷ []) → t ≡ u
+one_given : (t u : Token) → yields (t ∷ []) ≡ yields (u ∷ []) → t ≡ u
 one_given t u e = cc
 
 module _ (kinds : List ExprKind) (rules : List Rule) (utf8 : Bool) (text : List ℕ) where
-  -- behind the tokens, what is read from the place on is what is read from the start
+  -- the tokens, and those that are read from the offset on, are those that are read from the start
   pub record GoesOn (tokens : List Token) (at : ℕ) : Type 0 where
     pub on : (rest : List Item) → AreRead rules utf8 text at rest →
         (items : List Item) × AreRead rules utf8 text 0 items × (outcome_of kinds items ≡ in_front tokens (outcome_of kinds rest))
@@ -54,7 +54,7 @@ module _ (kinds : List ExprKind) (rules : List Rule) (utf8 : Bool) (text : List 
 
   -- one token more
   pub token_on : (tokens : List Token) (at next : ℕ) (item : Item) (t : Token) → GoesOn tokens at → IsNext rules emits utf8 text at item next →
-      outcome_of kinds (item ∷ []) ≡ gives (t ∷ []) → GoesOn (tokens ++ t ∷ []) next
+      outcome_of kinds (item ∷ []) ≡ yields (t ∷ []) → GoesOn (tokens ++ t ∷ []) next
   token_on tokens at next (token leaf from to slice) t goes n e = record {
     on = λ rest r.
         let u : Token = record { kind = kind_at kinds leaf; from = from; to = to; slice = slice } in
@@ -75,10 +75,10 @@ module _ (kinds : List ExprKind) (rules : List Rule) (utf8 : Bool) (text : List 
 
   -- no more items
   pub end_on : (tokens : List Token) (at : ℕ) → GoesOn tokens at → Items rules emits utf8 text at [] →
-      (items : List Item) × AreRead rules utf8 text 0 items × (outcome_of kinds items ≡ gives tokens)
+      (items : List Item) × AreRead rules utf8 text 0 items × (outcome_of kinds items ≡ yields tokens)
   end_on tokens at goes o =
       let read = goes.on [] (all_read at o) in
-      (read.0, read.1, read.2 ∙ ap gives (append-nil tokens))
+      (read.0, read.1, read.2 ∙ ap yields (append-nil tokens))
 
 -- ---- the kinds of leaves
 
@@ -90,7 +90,7 @@ kinds_turn leaves i d old new x lt is same before =
     let split = append_assoc old (x ∷ []) (map (λ (leaf : Leaf). kind_given (kind_value leaf.kind)) (drop (i + 1) leaves)) in
     rw is (split ∙ ap (λ u. old ++ (u ∷ map (λ (leaf : Leaf). kind_given (kind_value leaf.kind)) (drop (i + 1) leaves))) same ∙ (rw (drop_more leaves i d lt) at before))
 
--- the kinds of leaves as an enum says them
+-- the kinds of leaves of an enum
 pub kinds_viewed : (leaves : List Leaf) → map (λ leaf. kind_given (kind_value leaf.kind)) leaves ≡ kinds_of_views (map leaf_view leaves)
 kinds_viewed [] = refl
 kinds_viewed (leaf ∷ leaves) = ap (λ (kinds : List ExprKind). kind_given (kind_value leaf.kind) ∷ kinds) (kinds_viewed leaves)
@@ -102,9 +102,9 @@ next_by : (uses : List Use) (bytes : List ℕ) (search : Search) (callback other
 next_by uses bytes search callback other h (passes from to leaf Emit item end s m e n) = passes from to leaf Emit item end s (may_by uses bytes callback other h leaf _ Emit m) e (next_by uses bytes search callback other h n)
 next_by uses bytes search callback other h (passes from to leaf Skip item end s m e n) = passes from to leaf Skip item end s (may_by uses bytes callback other h leaf _ Skip m) e (next_by uses bytes search callback other h n)
 next_by uses bytes search callback other h (passes from to leaf Error item end s m e n) = passes from to leaf Error item end s (may_by uses bytes callback other h leaf _ Error m) e (next_by uses bytes search callback other h n)
-next_by uses bytes search callback other h (gives_item from to leaf Emit item s m e) = gives_item from to leaf Emit item s (may_by uses bytes callback other h leaf _ Emit m) e
-next_by uses bytes search callback other h (gives_item from to leaf Skip item s m e) = gives_item from to leaf Skip item s (may_by uses bytes callback other h leaf _ Skip m) e
-next_by uses bytes search callback other h (gives_item from to leaf Error item s m e) = gives_item from to leaf Error item s (may_by uses bytes callback other h leaf _ Error m) e
+next_by uses bytes search callback other h (yields_item from to leaf Emit item s m e) = yields_item from to leaf Emit item s (may_by uses bytes callback other h leaf _ Emit m) e
+next_by uses bytes search callback other h (yields_item from to leaf Skip item s m e) = yields_item from to leaf Skip item s (may_by uses bytes callback other h leaf _ Skip m) e
+next_by uses bytes search callback other h (yields_item from to leaf Error item s m e) = yields_item from to leaf Error item s (may_by uses bytes callback other h leaf _ Error m) e
 next_by uses bytes search callback other h (fails from to s) = fails from to s
 
 module _ (rules : List Rule) (utf8 : Bool) (code : CodeValue) (text : List ℕ) (lexer : IsLexer rules utf8 code) (input : IsInput utf8 text)
@@ -128,7 +128,7 @@ module _ (rules : List Rule) (utf8 : Bool) (text : List ℕ) where
   uses_of = map (λ rule. rule.use_of) rules
 
   answer_is : (leaf : ℕ) (slice : List ℕ) (answer : Action) → MayAnswer uses_of emits text leaf slice answer → answer ≡ Emit
-  answer_is leaf slice answer m = go (asks uses_of emits text leaf) m
+  answer_is leaf slice answer m = go (calls_back uses_of emits text leaf) m
     where
       go : (b : Bool) → MatchBool b (answer ≡ Emit) (answer ≡ Emit) → answer ≡ Emit
       go true m = m
@@ -157,30 +157,30 @@ module _ (rules : List Rule) (utf8 : Bool) (text : List ℕ) where
     inside : next ≤ length text
 
   begins_with : {at next : ℕ} {item : Item} {all : List Item} → at ≤ length text → IsNext rules emits utf8 text at item next → Items rules emits utf8 text at all → BeginsWith item next all
-  begins_with inside (passes from to leaf answer item end s m e n) (over place t) = absurd (let f : matched leaf to ≡ ended = finds_one rules utf8 text from inside (matched leaf to) ended s t in cc)
-  begins_with inside (passes from to leaf answer item end s m e n) (match place to' other reply others t m' k) =
+  begins_with inside (passes from to leaf answer item end s m e n) (over row_start t) = absurd (let f : matched leaf to ≡ ended = finds_one rules utf8 text from inside (matched leaf to) ended s t in cc)
+  begins_with inside (passes from to leaf answer item end s m e n) (match row_start to' other reply others t m' k) =
       let f = one_end from leaf to other to' inside s t in
       let u : to ≡ to' = cc in
       let k' : Items rules emits utf8 text to others = rw u k in
       let on = begins_with (best_within rules text from to leaf inside s) n k' in
       record { rest = on.rest; are = ap (λ x. x ++ others) (same_items from leaf to other to' answer reply f m m' ∙ e) ∙ on.are; items = on.items; inside = on.inside }
-  begins_with inside (passes from to leaf answer item end s m e n) (fault place to' others t k) = absurd (let f : matched leaf to ≡ failed to' = finds_one rules utf8 text from inside (matched leaf to) (failed to') s t in cc)
-  begins_with inside (gives_item from to leaf answer item s m e) (over place t) = absurd (let f : matched leaf to ≡ ended = finds_one rules utf8 text from inside (matched leaf to) ended s t in cc)
-  begins_with inside (gives_item from to leaf answer item s m e) (match place to' other reply others t m' k) =
+  begins_with inside (passes from to leaf answer item end s m e n) (fault row_start to' others t k) = absurd (let f : matched leaf to ≡ failed to' = finds_one rules utf8 text from inside (matched leaf to) (failed to') s t in cc)
+  begins_with inside (yields_item from to leaf answer item s m e) (over row_start t) = absurd (let f : matched leaf to ≡ ended = finds_one rules utf8 text from inside (matched leaf to) ended s t in cc)
+  begins_with inside (yields_item from to leaf answer item s m e) (match row_start to' other reply others t m' k) =
       let f = one_end from leaf to other to' inside s t in
       let u : to ≡ to' = cc in
       let k' : Items rules emits utf8 text to others = rw u k in
       record { rest = others; are = ap (λ x. x ++ others) (same_items from leaf to other to' answer reply f m m' ∙ e); items = k'; inside = best_within rules text from to leaf inside s }
-  begins_with inside (gives_item from to leaf answer item s m e) (fault place to' others t k) = absurd (let f : matched leaf to ≡ failed to' = finds_one rules utf8 text from inside (matched leaf to) (failed to') s t in cc)
-  begins_with inside (fails from to s) (over place t) = absurd (let f : failed to ≡ ended = finds_one rules utf8 text from inside (failed to) ended s t in cc)
-  begins_with inside (fails from to s) (match place to' other reply others t m' k) = absurd (let f : failed to ≡ matched other to' = finds_one rules utf8 text from inside (failed to) (matched other to') s t in cc)
-  begins_with inside (fails from to s) (fault place to' others t k) =
+  begins_with inside (yields_item from to leaf answer item s m e) (fault row_start to' others t k) = absurd (let f : matched leaf to ≡ failed to' = finds_one rules utf8 text from inside (matched leaf to) (failed to') s t in cc)
+  begins_with inside (fails from to s) (over row_start t) = absurd (let f : failed to ≡ ended = finds_one rules utf8 text from inside (failed to) ended s t in cc)
+  begins_with inside (fails from to s) (match row_start to' other reply others t m' k) = absurd (let f : failed to ≡ matched other to' = finds_one rules utf8 text from inside (failed to) (matched other to') s t in cc)
+  begins_with inside (fails from to s) (fault row_start to' others t k) =
       let f : failed to ≡ failed to' = finds_one rules utf8 text from inside (failed to) (failed to') s t in
       let u : to ≡ to' = cc in
       let k' : Items rules emits utf8 text to others = rw u k in
       record { rest = others; are = ap (λ x. error None from x (slice_range text from x) ∷ others) (sym u); items = k'; inside = stop_within rules utf8 text from to s.0 s.2 }
 
-  -- what is read has the outcome of all items
+  -- the items that were read have the outcome of all items
   read_outcome : (kinds : List ExprKind) {at : ℕ} {items all : List Item} → at ≤ length text → AreRead rules utf8 text at items → Items rules emits utf8 text at all → outcome_of kinds items ≡ outcome_of kinds all
   read_outcome kinds inside (all_read at o) a = ap (outcome_of kinds) (items_once rules emits emits_once utf8 text inside o a)
   read_outcome kinds inside (token_read at leaf from to slice next items n r) a =
@@ -208,24 +208,24 @@ error_outcome kinds (error leaf from to slice) span e = rw (e.0, e.1) refl
 module _ {C : Type 0} (callback : Callback) (answers : (leaf : ℕ) (slice : List ℕ) (answer : Action) → callback leaf slice answer → answer ≡ Emit)
     (code : CodeValue) (kinds : List ExprKind) (text : List ℕ) (bytes : IsBytes text) (valid : IsUtf8 text) (old new : LexerValue C) (same_code : old.code ≡ code) (same_input : old.input ≡ text)
     (tokens : List Token) (goes_on : (rules : List Rule) (utf8 : Bool) → IsLexer rules utf8 code → GoesOn kinds rules utf8 text tokens old.to) where
-  next_read : (rules : List Rule) (utf8 : Bool) → IsLexer rules utf8 code → (item : Item) → Gives callback old new item → IsNext rules emits utf8 text old.to item new.to
+  next_read : (rules : List Rule) (utf8 : Bool) → IsLexer rules utf8 code → (item : Item) → Yields callback old new item → IsNext rules emits utf8 text old.to item new.to
   next_read rules utf8 lexer item g =
       let is : RunsOn code callback text old.to item new.to = rw (same_code, same_input) at g.is in
       next_emitted rules utf8 code text lexer (bytes, λ t. valid) callback answers old.to item new.to is
 
   -- one token more
-  pub token_more : (item : Item) (t : Token) → Gives callback old new item → outcome_of kinds (item ∷ []) ≡ gives (t ∷ []) →
+  pub token_more : (item : Item) (t : Token) → Yields callback old new item → outcome_of kinds (item ∷ []) ≡ yields (t ∷ []) →
       (rules : List Rule) (utf8 : Bool) → IsLexer rules utf8 code → GoesOn kinds rules utf8 text (tokens ++ t ∷ []) new.to
   token_more item t g e rules utf8 lexer = token_on kinds rules utf8 text tokens old.to new.to item t (goes_on rules utf8 lexer) (next_read rules utf8 lexer item g) e
 
   -- the first error
-  pub tokenized_bad : IsLanguage (record { code = code; kinds = kinds }) → (item : Item) (start end : ℕ) → Gives callback old new item → outcome_of kinds (item ∷ []) ≡ bad start end → Tokenizes text (bad start end)
+  pub tokenized_bad : IsLanguage (record { code = code; kinds = kinds }) → (item : Item) (start end : ℕ) → Yields callback old new item → outcome_of kinds (item ∷ []) ≡ bad start end → Tokenizes text (bad start end)
   tokenized_bad l item start end g e =
       let read = error_on kinds l.rules l.utf8 text tokens old.to new.to start end item (goes_on l.rules l.utf8 l.lexer) (next_read l.rules l.utf8 l.lexer item g) e in
       record { rules = l.rules; utf8 = l.utf8; accepted = l.accepted; items = read.0; read = read.1; is = sym read.2 ∙ ap (λ k. outcome_of k read.0) l.kinds }
 
   -- no more items
-  pub tokenized_all : IsLanguage (record { code = code; kinds = kinds }) → Ends callback old new → Tokenizes text (gives tokens)
+  pub tokenized_all : IsLanguage (record { code = code; kinds = kinds }) → Ends callback old new → Tokenizes text (yields tokens)
   tokenized_all l g =
       let over : Runs code callback text old.to [] = rw (same_code, same_input) at g.over in
       let read = end_on kinds l.rules l.utf8 text tokens old.to (goes_on l.rules l.utf8 l.lexer) (none_emitted l.rules l.utf8 code text l.lexer (bytes, λ t. valid) callback answers old.to over) in

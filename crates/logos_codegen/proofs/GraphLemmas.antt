@@ -14,7 +14,7 @@ use Rattle.logos_pattern.specs.declared.leaf.Callback.{Callback}
 use Rattle.logos_attribute.specs.CallbackViews.{callback_view}
 use Rattle.logos_leaf.specs.Leaves.{LeafView}
 use Rattle.logos_leaf.specs.LeafViews.{leaf_view}
-use Rattle.logos_parser.specs.Endings.{GivesEnum, IsShallow}
+use Rattle.logos_parser.specs.Endings.{YieldsEnum, IsShallow}
 use Rattle.logos_parser.specs.Refusals.{Refuses as RefusesSource}
 use Rattle.logos_parser.specs.Analyses.{ReadsEnum}
 use Rattle.logos_parser.specs.Utf8Faults.{kind_name}
@@ -118,12 +118,12 @@ kind_skips (UnitVariant name) = refl
 kind_skips (Value name type) = refl
 kind_skips Skip = refl
 
-callback_asks : (callback : Option Callback) → is_some callback ≡ is_some (option_map callback_view callback)
-callback_asks None = refl
-callback_asks (Some callback) = refl
+callback_calls_back : (callback : Option Callback) → is_some callback ≡ is_some (option_map callback_view callback)
+callback_calls_back None = refl
+callback_calls_back (Some callback) = refl
 
 named_is : (leaf : Leaf) → named_rule leaf ≡ named_of_view (leaf_view leaf)
-named_is leaf = rw (kind_names leaf.kind, kind_skips leaf.kind, callback_asks leaf.callback) refl
+named_is leaf = rw (kind_names leaf.kind, kind_skips leaf.kind, callback_calls_back leaf.callback) refl
 
 named_are : (leaves : List Leaf) → map named_rule leaves ≡ map named_of_view (map leaf_view leaves)
 named_are [] = refl
@@ -140,7 +140,7 @@ rules_view leaves = sym (rules_of_named (map leaf_view leaves)) ∙ ap rules_in 
 -- ---- an enum, and the graph of its leaves
 
 module _ (source : List ℕ) (enum : EnumValue) (item : Span) (leaves : List Leaf) (options : OptionsView) (before : List SourceFault)
-    (says : GivesEnum source enum item) (enum_says : ReadsEnum enum (map leaf_view leaves) options before) where
+    (says : YieldsEnum source enum item) (enum_says : ReadsEnum enum (map leaf_view leaves) options before) where
   -- all faults
   abbrev AllReported : List SourceFault → Type 0
   AllReported faults = AreReported enum item faults (map leaf_view leaves)

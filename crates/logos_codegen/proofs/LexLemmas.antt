@@ -1,14 +1,18 @@
 -- From a code value's runs to the items of maximal munch.
-use Rattle.std.proofs.Common.{◌≡◌, ℕ, Bool, true, false, List, [], ◌∷◌, ◌++◌, length, map, refl, sym, ◌∙◌, arith, if◌then◌else◌, IsTrue, IsUtf8, Result, Ok, Err, IfOk, IfErr, Vec, Global}
+use Rattle.std.proofs.Common.{◌≡◌, ℕ, Bool, true, false, List, [], ◌∷◌, ◌++◌, length, map, refl, sym, subst, ◌∙◌, arith, if◌then◌else◌, IsTrue, IsUtf8, Result, Ok, Err, IfOk, IfErr, Vec, Global}
 use Rattle.std.proofs.lemmas.Str.{IsCharBoundary-start}
 use Rattle.std.proofs.lemmas.List.Elements.{All-nil, All-cons}
 use Rattle.std.specs.List.{All}
 use Rattle.logos_hir.specs.Text.{IsBytes}
-use Rattle.logos_automaton.specs.Munch.{Rule, IsInput}
+use denote.Param.Members.{Shared}
+use denote.Ref.{Bor}
+use Rattle.logos_automaton.specs.Munch.{Rule, Use, IsInput}
 use Rattle.logos_code.specs.Code.{CodeValue}
 use Rattle.logos_code.specs.Headline.{IsLexer, IsCut}
 use Rattle.logos_code.specs.Items.{Callback, Item, Items}
-use Rattle.logos_machine.specs.LexerValue.{item_of}
+use Rattle.logos_code.specs.declared.action.Action.{Action}
+use Rattle.logos_hir.specs.declared.leaf.LeafId.{LeafId}
+use Rattle.logos_machine.specs.LexerValue.{TakesMatches, TakesMatchesOf, has_callback, item_of}
 use Rattle.logos_machine.specs.declared.machine.Item.{Item as TheItem}
 use Rattle.logos_hir.specs.Measure.{is_text}
 use Rattle.logos_attribute.specs.Reports.{only}
@@ -46,7 +50,7 @@ accepted_texts source rules a =
     let text : utf8_faults true a.leaves ≡ [] = rw (sym a.same_mode) at (silent a.enum a.leaves a.options a.enum_says).text in
     rw a.same_rules (texts_are a.leaves text)
 
--- what is no refusal of the source is none of lexing
+-- a result that is not a refusal of the source is not one of lexing
 pub memory_no_refusal : (refusal : Refusal) (error : LexSourceError) → IsThatRefusal refusal error → IsMemory refusal → IsNoRefusal error
 memory_no_refusal (Errors faults) error e m = absurd m
 memory_no_refusal Memory error e m = rw e tt
@@ -85,7 +89,7 @@ module _ (source : List ℕ) (rules : List Rule) (utf8 : Bool) (code : CodeValue
   runs_are_cut text bytes items are valid runs =
       are_cut anything bytes items (are, λ t. valid) runs rules (rw text at accepted)
 
--- what is not lexed by the code of an accepted source
+-- the inputs that the code of an accepted source does not lex
 pub unlexed_just : (source : List ℕ) (rules : List Rule) (utf8 : Bool) (code : CodeValue) (input : List ℕ) → IsAccepted source rules utf8 → IsLexer rules utf8 code →
     {T : Type 0} (result : Result T LexSourceError) → IfErr result (IsUnlexed code input) → IfErr result (IsJust source input)
 unlexed_just source rules utf8 code input a l (Ok items) h = tt
@@ -99,7 +103,7 @@ unlexed_no_refusal code input (Err (Refused faults)) h = h
 unlexed_no_refusal code input (Err (NotUtf8 valid_up_to)) h = tt
 unlexed_no_refusal code input (Err OutOfMemory) h = tt
 
--- ---- what `lex_source` says of its result
+-- ---- the contract of `lex_source`
 
 module _ (source : List ℕ) (rules : List Rule) (utf8 : Bool) (code : CodeValue) (accepted : IsAccepted source rules utf8) (lexer : IsLexer rules utf8 code)
     (callback : Callback) (bytes : List ℕ) (are : IsBytes bytes) where
@@ -130,3 +134,8 @@ module _ (source : List ℕ) (rules : List Rule) (utf8 : Bool) (code : CodeValue
       (others : List Rule) (other : Bool) (next : CodeValue) → IsAccepted source others other → IsLexer others other next → IfOk result (λ items. Runs next callback bytes 0 (map item_of items.items))
   shapes_of_result (Ok items) r text others other next a l = are_run source rules utf8 code accepted lexer callback bytes (map item_of items.items) (input_of text) r others other next a l
   shapes_of_result (Err error) r text others other next a l = tt
+
+-- a closure that takes the matches of the rules takes those of their code
+pub takes_by_rules : {C : Type 0} (g : Shared C (LeafId × (Bor (List ℕ) × Unit {0})) Action) (rules : List Rule) (code : CodeValue) (f : C) → code.leaves ≡ map (λ rule. rule.use_of) rules →
+    TakesMatchesOf g rules f → TakesMatches g code f
+takes_by_rules g rules code f same takes leaf slice calls_back = takes leaf slice (subst (λ (uses : List Use). IsTrue (has_callback uses leaf.0)) same calls_back)

@@ -1,5 +1,5 @@
--- Leaves that differ only in where the names of their variants lie stand for the same rules, have
--- the same faults and give tokens of the same kinds.
+-- Leaves that differ only in the spans of the names of their variants have the same rules, the same
+-- faults and tokens of the same kinds.
 use Rattle.std.proofs.Common.{◌≡◌, ℕ, Bool, true, false, not, List, [], ◌∷◌, ◌++◌, map, flat_map, codes, Option, Some, None, is_some, refl, sym, ◌∙◌, ap, if◌then◌else◌}
 use Rattle.logos_token.specs.declared.error.fault_code.FaultCode.TheVariants.{Utf8Pattern}
 use Rattle.logos_token.specs.Faults.{Fault as SourceFault}
@@ -19,7 +19,7 @@ use Rattle.logos_codegen.specs.declared.expr.ExprKind.{ExprKind}
 use Rattle.logos_codegen.specs.declared.expr.ExprKind.TheVariants.{Close}
 
 abbrev rule_shown : Shown → Rule
-rule_shown s = record { tree = s.0.tree; priority = s.0.priority; use_of = record { skips = not (is_some s.1); asks = is_some s.0.callback } }
+rule_shown s = record { tree = s.0.tree; priority = s.0.priority; use_of = record { skips = not (is_some s.1); calls_back = is_some s.0.callback } }
 
 skips_shown : (kind : KindValue) → skips kind ≡ not (is_some (shown_kind kind))
 skips_shown (plain name) = refl
@@ -27,13 +27,13 @@ skips_shown (holding name type) = refl
 skips_shown skipped = refl
 
 rule_is_shown : (leaf : LeafView) → rule_of_view leaf ≡ rule_shown (shown leaf)
-rule_is_shown leaf = ap (λ (b : Bool). record { tree = leaf.tree; priority = leaf.priority; use_of = record { skips = b; asks = is_some leaf.callback } }) (skips_shown leaf.kind)
+rule_is_shown leaf = ap (λ (b : Bool). record { tree = leaf.tree; priority = leaf.priority; use_of = record { skips = b; calls_back = is_some leaf.callback } }) (skips_shown leaf.kind)
 
 rules_shown : (leaves : List LeafView) → rules_of_views leaves ≡ map rule_shown (map shown leaves)
 rules_shown [] = refl
 rules_shown (leaf ∷ leaves) = rw (rule_is_shown leaf, rules_shown leaves) refl
 
--- leaves that are shown alike stand for the same rules
+-- leaves that are shown alike have the same rules
 pub same_rules : (leaves others : List LeafView) → map shown leaves ≡ map shown others → rules_of_views leaves ≡ rules_of_views others
 same_rules leaves others e = rules_shown leaves ∙ ap (map rule_shown) e ∙ sym (rules_shown others)
 

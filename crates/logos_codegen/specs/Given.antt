@@ -1,4 +1,4 @@
--- What `generate` gives for a source without faults.
+-- The result of `generate` for a source without faults.
 use Rattle.std.specs.Prelude.{◌≡◌, ℕ, List, [], map, Option, Some, None, option_map, slice_get}
 use Rattle.logos_lexeme.specs.declared.lexeme.Span.{Span}
 use Rattle.logos_token.specs.declared.token.Ident.{Ident}
@@ -12,7 +12,7 @@ use Rattle.logos_definition.specs.Options.{OptionsView, utf8_mode}
 use Rattle.logos_pattern.specs.Leaf.{kind_value, variant_name}
 use Rattle.logos_pattern.specs.declared.leaf.Leaf.{Leaf}
 use Rattle.logos_leaf.specs.LeafViews.{leaf_view}
-use Rattle.logos_parser.specs.Endings.{GivesEnum}
+use Rattle.logos_parser.specs.Endings.{YieldsEnum}
 use Rattle.logos_parser.specs.EnumTypes.{enum_type}
 use Rattle.logos_parser.specs.Analyses.{ReadsEnum}
 use Rattle.logos_graph.specs.GraphOf.{IsGraphOf}
@@ -27,7 +27,7 @@ use Rattle.logos_code.specs.declared.code.Config.{Config}
 pub record IsGraphOfSource (source : List ℕ) (name : Slice) (options : OptionsView) (graph : GraphValue) : Type 0 where
   pub enum : EnumValue
   pub item : Span
-  pub says : GivesEnum source enum item
+  pub says : YieldsEnum source enum item
   pub is_name : enum.name ≡ name
   pub enum_says : ReadsEnum enum (map leaf_view graph.leaves) options []
   pub same_mode : graph.utf8 ≡ utf8_mode options
@@ -47,15 +47,15 @@ pub record KeepsEnum (config : Config) (name : Slice) (options : OptionsView) (g
   pub on_error : option_map callback_view code.header.error_callback ≡ error_callback options
   pub leaves : map code_leaf_value code.code_leaves ≡ map leaf_value graph.leaves
 
--- What a source without faults gives: its graph, a code in this shape, its name, and the path of
--- its chart, if the options have one.
+-- The result for a source without faults: its graph, a code in this shape, its name, and the path
+-- of its state diagram, if the options have one.
 pub record IsGiven (source : List ℕ) (config : Config) (graph : GraphValue) (code : CodeValue) (name : Slice) (export : Option (List ℕ)) : Type 0 where
   pub options : OptionsView
   pub of_source : IsGraphOfSource source name options graph
   pub keeps : KeepsEnum config name options graph code
   pub exports : export ≡ option_map (λ e. e.path) options.export_path
 
--- The name of the variant of the leaf of this number. A skip has none, and where there is no such
--- leaf there is none.
+-- The name of the variant of the leaf with this number. A skip has none, and neither has a number
+-- without a leaf.
 abbrev pub variant_at : List Leaf → ℕ → Option Ident
 variant_at leaves number = elim (slice_get leaves number) [ None ↦ None | Some leaf ↦ variant_name (kind_value leaf.kind) ]

@@ -13,9 +13,9 @@ pub record LanguageValue : Type 0 where
   pub code : CodeValue
   pub kinds : List ExprKind
 
--- From each point of each input the code finds what maximal munch finds there by the leaves of the
--- enum, so each of its runs on a text gives exactly the items of maximal munch. The kinds are those
--- of the names of the leaves' variants.
+-- From each point of each input the code finds the match of maximal munch under the leaves of the
+-- enum, so each of its runs on a text has exactly the items of maximal munch. The kinds are those
+-- with the names of the leaves' variants.
 pub record IsLanguage (language : LanguageValue) : Type 0 where
   pub rules : List Rule
   pub utf8 : Bool

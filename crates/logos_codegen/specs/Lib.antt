@@ -1,12 +1,13 @@
-pub mod Fronts
 pub mod Texts
 pub mod Rules
 pub mod Source
 pub mod Given
+pub mod Around
+pub mod Fronts
 pub mod Refusals
 pub mod RunLaws
 pub mod Tokenizing
 pub mod Language
 pub mod inside
-pub mod Words
+pub mod Imports
 pub mod Views

@@ -1,4 +1,4 @@
--- What holds of each run of a code, whatever callbacks answer.
+-- Properties of each run of a code, whatever callbacks answer.
 use Rattle.std.specs.Prelude.{ℕ, List, IsUtf8}
 use Rattle.std.specs.List.{All}
 use Rattle.logos_hir.specs.Text.{IsBytes}
@@ -7,7 +7,7 @@ use Rattle.logos_code.specs.Headline.{IsCut}
 use Rattle.logos_code.specs.Items.{Callback, Item}
 use Rattle.logos_code.specs.Runs.{Runs}
 
--- A callback that may give any answer to any leaf and slice.
+-- A callback that may return any answer for any leaf and slice.
 abbrev pub anything : Callback
 anything leaf slice answer = Unit {0}
 

@@ -5,7 +5,7 @@ use Rattle.logos_token.specs.Faults.{Fault as SourceFault}
 use Rattle.logos_enum.specs.EnumValues.{EnumValue}
 use Rattle.logos_definition.specs.Options.{OptionsView, utf8_mode}
 use Rattle.logos_leaf.specs.Leaves.{LeafView}
-use Rattle.logos_parser.specs.Endings.{GivesEnum, EndsReading, IsShallow}
+use Rattle.logos_parser.specs.Endings.{YieldsEnum, EndsReading, IsShallow}
 use Rattle.logos_parser.specs.Analyses.{ReadsEnum}
 use Rattle.logos_automaton.specs.Munch.{Rule}
 use Rattle.logos_automaton.specs.Faults.{AreFaults}
@@ -28,7 +28,7 @@ pub record AreReported (enum : EnumValue) (item : Span) (faults : List SourceFau
 pub record IsAccepted (source : List ℕ) (rules : List Rule) (utf8 : Bool) : Type 0 where
   pub enum : EnumValue
   pub item : Span
-  pub says : GivesEnum source enum item
+  pub says : YieldsEnum source enum item
   pub leaves : List LeafView
   pub options : OptionsView
   pub enum_says : ReadsEnum enum leaves options []
@@ -41,7 +41,7 @@ pub record IsAccepted (source : List ℕ) (rules : List Rule) (utf8 : Bool) : Ty
 pub data IsRefused (source : List ℕ) (faults : List SourceFault) : Type 0 where
   unread : {fault : SourceFault} → EndsReading source fault → faults ≡ fault ∷ [] → IsRefused source faults
   faulty : {enum : EnumValue} {item : Span} {leaves : List LeafView} → length source ≤ 16777216 → IsShallow source →
-      GivesEnum source enum item → AreReported enum item faults leaves → faults ≢ [] → IsRefused source faults
+      YieldsEnum source enum item → AreReported enum item faults leaves → faults ≢ [] → IsRefused source faults
 
 -- The length of the source and the nesting of its delimiters are within their limits, and so is the
 -- size of the trees of the rules.
@@ -50,8 +50,8 @@ pub record IsWithinSizes (source : List ℕ) (rules : List Rule) : Type 0 where
   pub shallow : IsShallow source
   pub small : size_of rules ≤ 2 ^ 20
 
--- A source with these rules that no limit refuses, but for the nesting of patterns and types, which
--- is a fault of the enum: it is within the sizes, and has no more keys than the limit of states.
+-- No limit refuses the source with these rules, except the nesting of patterns and types, which is
+-- a fault of the enum: it is within the sizes, and has no more keys than the limit of states.
 pub record IsWithinLimits (source : List ℕ) (rules : List Rule) : Type 0 where
   pub sizes : IsWithinSizes source rules
   pub few_keys : ¬ HasMoreKeys rules 65536

@@ -1,4 +1,4 @@
--- The tokens that the tokenizer of expressions gives for a text.
+-- The tokens of a text, as the tokenizer of expressions returns them.
 use Rattle.std.specs.Prelude.{◌≡◌, ℕ, Bool, List, [], ◌∷◌, ◌++◌, map, Option, unwrap_or, if◌then◌else◌, slice_get, bytes_eq, codes, Result, Ok, Err, Vec}
 use Rattle.std.specs.Global.{Global}
 use Rattle.logos_automaton.specs.Munch.{Rule}
@@ -28,16 +28,16 @@ pub record Token : Type 0 where
 abbrev pub token_value : ExprToken → Token
 token_value t = record { kind = t.kind; from = t.span.from; to = t.span.to; slice = t.slice.now }
 
--- What a text gives: its tokens, in order, or an error at this span.
+-- The outcome of a text: its tokens, in order, or an error at this span.
 pub data Outcome : Type 0 where
-  gives : List Token → Outcome
+  yields : List Token → Outcome
   bad : (from to : ℕ) → Outcome
 
 -- Every match is a token.
 abbrev pub emits : Callback
 emits leaf slice answer = answer ≡ Emit
 
--- The kind with this name; `Close` where no other has it.
+-- The kind with this name; `Close` if no other kind has it.
 abbrev pub kind_named : List ℕ → ExprKind
 kind_named name =
     if bytes_eq name (codes "Number") then Number else (if bytes_eq name (codes "Name") then Name
@@ -47,7 +47,7 @@ kind_named name =
     else (if bytes_eq name (codes "Slash") then Slash else (if bytes_eq name (codes "Open") then Open
     else Close)))))))))
 
--- The kind of a leaf's tokens, by the name of its variant. A skip gives no token.
+-- The kind of a leaf's tokens, determined by the name of its variant. A skip has no tokens.
 abbrev pub kind_given : KindValue → ExprKind
 kind_given (plain name) = kind_named name.text.now
 kind_given (holding name type) = kind_named name.text.now
@@ -63,31 +63,30 @@ kind_at kinds leaf = unwrap_or (slice_get kinds leaf) Close
 
 -- The outcome with these tokens before its own.
 abbrev pub in_front : List Token → Outcome → Outcome
-in_front tokens (gives others) = gives (tokens ++ others)
+in_front tokens (yields others) = yields (tokens ++ others)
 in_front tokens (bad from to) = bad from to
 
--- Kinds of leaves, by their numbers.
+-- Under the kinds of leaves, by leaf number.
 module _ (kinds : List ExprKind) where
-  -- The outcome of items: where an error is among them, the span of the first; else the tokens in
-  -- order, each of its leaf's kind.
+  -- The outcome of items: if an error is among them, the span of the first; otherwise the tokens in
+  -- order, each with its leaf's kind.
   abbrev pub outcome_of : List Item → Outcome
-  outcome_of [] = gives []
+  outcome_of [] = yields []
   outcome_of (token leaf from to slice ∷ items) =
       in_front (record { kind = kind_at kinds leaf; from = from; to = to; slice = slice } ∷ []) (outcome_of items)
   outcome_of (error leaf from to slice ∷ items) = bad from to
 
   -- The item is this token.
   abbrev pub IsToken : Item → ExprToken → Type 0
-  IsToken item t = outcome_of (item ∷ []) ≡ gives (token_value t ∷ [])
+  IsToken item t = outcome_of (item ∷ []) ≡ yields (token_value t ∷ [])
 
 -- The item is an error at this span.
 abbrev pub IsErrorAt : Item → Span → Type 0
 IsErrorAt (token leaf from to slice) span = ⊥
 IsErrorAt (error leaf from to slice) span = (from ≡ span.from) × (to ≡ span.to)
 
--- Of the items of a text from an offset on, those that the outcome needs: all of them, where no
--- error is among them, and else those up to the first error. Each is the next one after the one
--- before it.
+-- The items of a text from an offset on that the outcome needs: all of them, if no error is among
+-- them, otherwise those up to the first error. Each is the next one after its predecessor.
 pub data AreRead (rules : List Rule) (utf8 : Bool) (text : List ℕ) : ℕ → List Item → Type 0 where
   all_read : (at : ℕ) → Items rules emits utf8 text at [] → AreRead rules utf8 text at []
   token_read : (at leaf from to : ℕ) (slice : List ℕ) (next : ℕ) (items : List Item) →
@@ -96,7 +95,7 @@ pub data AreRead (rules : List Rule) (utf8 : Bool) (text : List ℕ) : ℕ → L
   error_read : (at : ℕ) (leaf : Option ℕ) (from to : ℕ) (slice : List ℕ) (next : ℕ) →
       IsNext rules emits utf8 text at (error leaf from to slice) next → AreRead rules utf8 text at (error leaf from to slice ∷ [])
 
--- The text gives this outcome, by the leaves of the enum and the names of its variants.
+-- The text has this outcome, according to the leaves of the enum and the names of its variants.
 pub record Tokenizes (text : List ℕ) (outcome : Outcome) : Type 0 where
   pub rules : List Rule
   pub utf8 : Bool
@@ -105,15 +104,14 @@ pub record Tokenizes (text : List ℕ) (outcome : Outcome) : Type 0 where
   pub read : AreRead rules utf8 text 0 items
   pub is : outcome ≡ outcome_of (kinds_of_views accepted.leaves) items
 
--- Whatever list of items the text has by the leaves of the enum, this is its outcome by the names
--- of its variants.
+-- This is the outcome of the text, for each list of items that it has under the leaves of the enum.
 abbrev pub IsOutcome : List ℕ → Outcome → Type 0
 IsOutcome text outcome =
     (rules : List Rule) (utf8 : Bool) (items : List Item) (accepted : IsAccepted SOURCE.now rules utf8) → Items rules emits utf8 text 0 items → outcome ≡ outcome_of (kinds_of_views accepted.leaves) items
 
--- The result is an outcome for which `Holds` holds, or memory ran out.
+-- The result is an outcome that satisfies `Holds`, or memory ran out.
 abbrev pub Answers : (Outcome → Type 0) → Result (Vec ExprToken Global) ExprError → Type 0
-Answers Holds (Ok tokens) = Holds (gives (map token_value tokens.items))
+Answers Holds (Ok tokens) = Holds (yields (map token_value tokens.items))
 Answers Holds (Err errors.Refused) = ⊥
 Answers Holds (Err (errors.Bad span)) = Holds (bad span.from span.to)
 Answers Holds (Err errors.Memory) = Unit {0}

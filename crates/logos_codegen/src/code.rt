@@ -1,4 +1,5 @@
-//! Code values: their names, for users. The parts of a code are what its text is printed from.
+//! Re-exports code values under one name for users. The parts of a code are the values that its
+//! generated code is printed from.
 
 pub use logos_generator::code::{
     Code, CodeLeaf, CodeParts, CodeState, Condition, Config, Fork, Header, Mark, NOWHERE,

@@ -1,5 +1,5 @@
-//! A tokenizer of expressions that stands on the library: what a front end makes of `generate` and
-//! `Lexer`, by their contracts alone.
+//! A tokenizer of expressions, built on the library: a front end that uses only the contracts of
+//! `generate` and `Lexer`. Called by the tests.
 
 ghost use Rattle.std.specs.Prelude.{◌≡◌, IfOk, IfErr, map};
 ghost use Rattle.logos_codegen.specs.Views.{item_of, kind_value, IsLanguage, kind_at, kind_given, kind_named, IsToken, IsErrorAt, Tokenizes, IsOutcome, Answers, IsRefusalOf, IsThatError};
@@ -68,10 +68,10 @@ pub struct ExprToken<'i> {
     pub slice: &'i [u8],
 }
 
-/// Why there are no tokens.
+/// The errors of the tokenizer.
 #[derive(Clone, Copy, Debug, PartialEq, Eq)]
 pub enum ExprError {
-    /// The enum of the tokenizer is refused. This never happens: a test makes the tokenizer.
+    /// The enum of the tokenizer is refused. This never happens: a test constructs the tokenizer.
     Refused,
     /// No token begins at the start of the span, and this is the first such offset.
     Bad { span: Span },
@@ -133,7 +133,7 @@ impl Language {
     ///
     /// # Errors
     ///
-    /// Returns `Memory` if memory runs out. `Refused` never comes.
+    /// Returns `Memory` if memory runs out. `Refused` is never returned.
     pub fn new(alloc: Global) -> Result<Language, ExprError>
         ensures ok { IfOk result IsLanguage }
         // It is refused only if the enum is refused, and no input is at fault.
@@ -155,11 +155,10 @@ impl Language {
     ///
     /// # Errors
     ///
-    /// Returns `Bad` with the span of the first error where no token begins: the span
-    /// reaches over the longest beginning of a token, or over one character. Returns `Memory` when
-    /// memory runs out.
+    /// Returns `Bad` with the span of the first error if no token begins at an offset: the longest
+    /// prefix of a token, or one character. Returns `Memory` if memory runs out.
     pub fn tokens<'i>(&self, alloc: Global, input: &'i str) -> Result<Vec<ExprToken<'i>>, ExprError>
-        // The items of maximal munch from the start of the text give the outcome.
+        // The items of maximal munch from the start of the text determine the outcome.
         ensures reads { Answers (Tokenizes input.now) result }
         // It is the outcome of all the items of the text, by the leaves of the enum.
         ensures all { Answers (IsOutcome input.now) result }
@@ -177,7 +176,7 @@ impl Language {
 }
 
 impl Language {
-    /// Returns the token that an item is, or the span of an error.
+    /// Returns the token for an item, or the span of an error.
     fn token_from<'i>(&self, item: Item<'i>) -> Result<ExprToken<'i>, Span>
         ensures ok { IfOk result (IsToken self.now.kinds (item_of item.entry)) }
         ensures err { IfErr result (IsErrorAt (item_of item.entry)) }
@@ -203,7 +202,7 @@ impl Language {
     }
 }
 
-/// Returns the code of what was generated.
+/// Returns the code of a generated lexer.
 fn code_in(made: Generated<'static>) -> Code<'static>
     ensures { result ≡ made.entry.code }
 {
@@ -224,7 +223,7 @@ fn kinds_of(alloc: Global, leaves: &[Leaf<'_>]) -> Result<Vec<ExprKind>, AllocEr
     Ok(kinds)
 }
 
-/// Returns the kind of the tokens of a leaf: that of its variant's name.
+/// Returns the kind of the tokens of a leaf, determined by the name of its variant.
 fn kind_given(kind: &VariantKind<'_>) -> ExprKind
     ensures { result ≡ kind_given (kind_value kind.now) }
 {

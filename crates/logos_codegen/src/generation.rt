@@ -1,10 +1,11 @@
 //! From a source text to the code of its lexer.
 
 ghost use Rattle.std.specs.Prelude.{◌≡◌, ◌<◌, ◌↔◌, ◌∷◌, ◌++◌, Bool, List, [], length, map, flat_map, option_map, IfOk, IfErr, IsErrAnd, OnOk, IsTrue, string_bytes, option_copied};
-ghost use Rattle.logos_codegen.specs.Views.{Rule, fault_of, ident_slice, callback_view, parser_view, kind_value, utf8_mode, IsGraphOf, rules_of, KeepsGiven, IsLexer, HeadHasItsType, IsHeadOf, analysis_view, too_long, Refuses, IsMemory, StandInOrder, texts_of, named_leaf, reported_as, IsGiven, KeepsEnum, error_callback, variant_at, RunsAreCut, IsAccepted, IsRefused, IsWithinSizes, IsWithinLimits, IsLimit, ReportsGraph, IsFaultless, AreGraphFaults, IsGraphMade, BeginsImplementation, IsFrontOf};
+ghost use Rattle.logos_codegen.specs.Views.{Rule, fault_of, ident_slice, callback_view, parser_view, kind_value, utf8_mode, IsGraphOf, rules_of, KeepsGiven, IsLexer, HeadHasItsType, IsHeadOf, analysis_view, too_long, Refuses, IsMemory, OccurInOrder, texts_of, named_leaf, reported_as, IsGiven, KeepsEnum, error_callback, variant_at, RunsAreCut, IsAccepted, IsRefused, IsWithinSizes, IsWithinLimits, IsLimit, ReportsGraph, IsFaultless, AreGraphFaults, IsGraphMade, BeginsImplementation, IsFrontOf};
+ghost use Rattle.logos_codegen.specs.Views.{ArePrinted, IsAroundOf, around_given, around_made, front_runs, text_runs};
 
-use crate::around::{AroundOptions, around_texts};
-use crate::reporting::report_fault;
+use crate::frame::AroundOptions;
+use crate::reports::report_fault;
 use logos_definition::parser::{ExportPath, Parser};
 use logos_generator::code::Code;
 use logos_generator::generator::{Config, Generator};
@@ -13,37 +14,38 @@ use logos_hir::leaf::LeafId;
 use logos_parser::analysis::{Analysis, analyze};
 use logos_parser::refusal::Refusal;
 use logos_pattern::leaf::{Callback, Leaf};
-use logos_text::{front_in, text_in};
+use logos_text::{Sink, front_in, text_in};
 use logos_token::error::{Errors, FaultCode, Memory};
 use logos_token::token::{Ident, Span};
 use logos_type::TypeExpr;
 use std::alloc::Global;
 use std::mem;
 
-/// The most bytes that a source may have.
+/// The maximum length of a source, in bytes.
 pub const MAX_SOURCE: usize = 16_777_216;
 
-/// What `generate` makes of a source.
+/// A source's lexer, as `generate` returns it.
 #[derive(Drop)]
 pub struct Generated<'s> {
     /// The code of the lexer.
     pub code: Code<'s>,
-    /// The graph that the code was made of, with its leaves.
+    /// The graph from which the code was made, with its leaves.
     pub graph: Graph<'s>,
     /// The name of the enum.
     pub name: Ident<'s>,
-    /// The text of `export_dir`, where the chart of the graph goes, if the source has one.
+    /// The path in `export_dir`, to which the state diagram of the graph is written, if the source
+    /// has one.
     pub export_path: Option<String>,
-    /// The options that the text depends on.
+    /// The options that determine the text.
     options: AroundOptions<'s>,
 }
 
-/// What an enum gives beside its leaves and its faults.
+/// The name, the type and the options of an enum.
 #[derive(Drop)]
 struct EnumHead<'s> {
     /// The name of the enum.
     name: Ident<'s>,
-    /// The type that the enum is: its name, and the generic arguments that follow it.
+    /// The type of the enum: its name, and the generic arguments that follow it.
     this: TypeExpr<'s>,
     /// The options, without skips and faults.
     options: Parser<'s>,
@@ -52,39 +54,64 @@ struct EnumHead<'s> {
 impl Generated<'_> {
     /// Returns the whole Rust text of the lexer: the implementation of `Logos` for the enum, as
     /// printed tokens. The texts of all bit tables, by number, and after them those of the
-    /// conditions of all forks, by states and by the fork's order, stand in it without overlap.
+    /// conditions of all forks, by states and by the fork's order, occur in it without overlap.
     ///
     /// # Errors
     ///
     /// Returns `Memory` if memory runs out.
     pub fn text(&self, alloc: Global) -> Result<String, Memory>
-        ensures stand { IfOk result (λ text.
-            StandInOrder (texts_of self.now.code) (string_bytes text)) }
+        ensures occur { IfOk result (λ text.
+            OccurInOrder (texts_of self.now.code) (string_bytes text)) }
         // It begins with the head of the implementation, by the options of the source.
         ensures begins { IfOk result (λ text. BeginsImplementation self.now (string_bytes text)) }
     {
-        let texts = around_texts(alloc, &self.options)?;
-        text_in(alloc, &self.code, texts.around(self.graph.utf8_mode()))
+        Ok(self.printed(alloc)?.text)
     }
 
-    /// Returns the beginning of the Rust text of the lexer: the implementation of `Logos` for the
-    /// enum, as printed tokens, up to the functions for matches and errors in the body of the
-    /// function that lexes. A shape of its own goes on from there.
+    /// Returns the text that `text` returns, with the pieces of the source in it.
     ///
     /// # Errors
     ///
     /// Returns `Memory` if memory runs out.
-    pub fn front(&self, alloc: Global) -> Result<String, Memory>
-        ensures { IfOk result (λ text. IsFrontOf self.now (string_bytes text)) }
+    pub fn printed(&self, alloc: Global) -> Result<Sink, Memory>
+        ensures occur { IfOk result (λ sink.
+            OccurInOrder (texts_of self.now.code) (string_bytes sink.text)) }
+        ensures begins { IfOk result (λ sink. BeginsImplementation self.now (string_bytes sink.text)) }
+        // Each piece is tokens of the source, and these are all of them.
+        ensures pieces { IfOk result (λ sink. ArePrinted (text_runs (around_made self.now) self.now.code)
+            0 sink.pieces.items (string_bytes sink.text)) }
     {
-        let texts = around_texts(alloc, &self.options)?;
-        front_in(alloc, &self.code, texts.around(self.graph.utf8_mode()))
+        text_in(
+            alloc,
+            &self.code,
+            self.options.around(self.graph.utf8_mode()),
+        )
+    }
+
+    /// Returns the beginning of the Rust text of a lexer by tables: the implementation of `Logos`
+    /// for the enum, as printed tokens, up to the functions for errors, matches and tokens in the
+    /// body of the function that lexes. The tables follow it. The pieces of the source in it are
+    /// returned with it.
+    ///
+    /// # Errors
+    ///
+    /// Returns `Memory` if memory runs out.
+    pub fn front(&self, alloc: Global) -> Result<Sink, Memory>
+        ensures front { IfOk result (λ sink. IsFrontOf self.now (string_bytes sink.text)) }
+        ensures pieces { IfOk result (λ sink. ArePrinted (front_runs (around_made self.now) self.now.code)
+            0 sink.pieces.items (string_bytes sink.text)) }
+    {
+        front_in(
+            alloc,
+            &self.code,
+            self.options.around(self.graph.utf8_mode()),
+        )
     }
 }
 
 impl<'s> Generated<'s> {
-    /// Returns the name of the variant that the matches of a leaf give, with its span in the
-    /// source. Returns `None` for a skip, and where no leaf has this number.
+    /// Returns the name of the variant for the matches of a leaf, with its span in the source.
+    /// Returns `None` for a skip, and if no leaf has this number.
     ///
     /// An item of `Lexer` names its leaf by number, so `variant` leads from an item to the enum.
     pub fn variant(&self, leaf: LeafId) -> Option<Ident<'s>>
@@ -128,8 +155,8 @@ fn report_limit(error: BuildError, item: Span, errors: &mut Errors) -> Result<()
     }
 }
 
-/// Builds the graph of the leaves, if no limit is passed. Reports its faults, or the limit in their
-/// place.
+/// Builds the graph of the leaves, unless a limit is exceeded. Reports its faults, or the limit
+/// instead.
 fn graph_of<'s>(
     leaves: Vec<Leaf<'s>>,
     utf8_mode: bool,
@@ -160,7 +187,12 @@ fn is_faultless(errors: &Errors) -> bool
     errors.list().is_empty()
 }
 
-/// Builds the graph of leaves. Fails if it has faults, or if the list has some already.
+/// Builds the graph of leaves.
+///
+/// # Errors
+///
+/// Returns `Errors` if the graph has faults or the list already has some, and `Memory` if memory
+/// runs out.
 fn faultless_graph<'s>(
     leaves: Vec<Leaf<'s>>,
     utf8_mode: bool,
@@ -182,8 +214,11 @@ fn faultless_graph<'s>(
     }
 }
 
-/// Takes an analysis apart, and builds the graph of its leaves. Fails if there are faults, or if
-/// the graph has some.
+/// Takes an analysis apart, and builds the graph of its leaves.
+///
+/// # Errors
+///
+/// Returns `Errors` if the analysis or the graph has faults, and `Memory` if memory runs out.
 fn accept_analysis<'s>(analysis: Analysis<'s>) -> Result<(Graph<'s>, EnumHead<'s>), Refusal>
     ensures ok { IfOk result (λ made. IsFaultless analysis.entry.leaves.items
         (utf8_mode (parser_view analysis.entry.parser)) analysis.entry.span
@@ -232,7 +267,7 @@ fn callback_in<'p, 's>(parser: &'p Parser<'s>) -> Option<&'p Callback<'s>>
     }
 }
 
-/// Makes the code of a graph that finds the longest matches, for the enum with this head.
+/// Makes the code of a graph for the enum with this head. The code finds the longest matches.
 fn code_of<'s>(
     alloc: Global,
     config: Config,
@@ -251,7 +286,11 @@ fn code_of<'s>(
     generator.generate(alloc)
 }
 
-/// Analyzes a source, and builds the graph of its leaves. Fails if the source has faults.
+/// Analyzes a source, and builds the graph of its leaves.
+///
+/// # Errors
+///
+/// Returns `Errors` if the source has faults, and `Memory` if memory runs out.
 fn accept<'s>(alloc: Global, src: &'s str) -> Result<(Graph<'s>, EnumHead<'s>), Refusal>
     ensures ok { IfOk result (λ read. IsGraphMade src.now (ident_slice read.1.name)
         (parser_view read.1.options) read.0) }
@@ -266,7 +305,7 @@ fn accept<'s>(alloc: Global, src: &'s str) -> Result<(Graph<'s>, EnumHead<'s>), 
     }
 }
 
-/// Returns the path of a chart.
+/// Returns the path of a state diagram.
 fn path_of(export: Option<ExportPath>) -> Option<String>
     ensures { option_map string_bytes result
         ≡ option_map (λ e. string_bytes e.path) export }
@@ -277,12 +316,14 @@ fn path_of(export: Option<ExportPath>) -> Option<String>
     }
 }
 
-/// Puts together what `generate` returns.
+/// Puts together the value that `generate` returns.
 fn put_together<'s>(code: Code<'s>, graph: Graph<'s>, head: EnumHead<'s>) -> Generated<'s>
     ensures parts { (result.code ≡ code.entry) × (result.graph ≡ graph.entry)
         × (result.name ≡ head.entry.name) }
     ensures path { option_map string_bytes result.export_path
         ≡ option_map (λ e. e.path) (parser_view head.entry.options).export_path }
+    ensures around { around_made result
+        ≡ around_given (parser_view head.entry.options) graph.entry.utf8 }
 {
     let EnumHead { name, options, .. } = head;
     let Parser {
@@ -305,16 +346,16 @@ fn put_together<'s>(code: Code<'s>, graph: Graph<'s>, head: EnumHead<'s>) -> Gen
     }
 }
 
-/// Makes the code of the lexer of a source.
+/// Generates the code of a lexer from its source.
 ///
 /// The source is an enum with the attributes `token` and `regex` on its variants and `logos` in
-/// front of it. Leaves are numbered skips first, then in the order of the source. In both shapes of
-/// `config` the code finds the same.
+/// front of it. Leaves are numbered in the order of the source, skips first. The code finds the
+/// same items in both shapes of `config`.
 ///
 /// # Errors
 ///
 /// Returns `Errors` with all faults of the source, in order, or with the one that ends its reading:
-/// those of the generic parameters, of the attributes of the enum, of parameters that hold
+/// faults of the generic parameters, of the attributes of the enum, of parameters that hold
 /// themselves, of subpatterns, of skips, of variants in source order, of leaves that can match
 /// invalid UTF-8 when inputs are UTF-8, of parameters without a type, and of the graph. Limits are
 /// among them: on the source's bytes, on the nesting of its delimiters, types and patterns, on the
@@ -328,17 +369,19 @@ pub fn generate<'s>(alloc: Global, src: &'s str, config: Config) -> Result<Gener
     // the enum's, and the path is that of `export_dir`.
     ensures given { IfOk result (λ made. IsGiven src.now config made.graph made.code
         (ident_slice made.name) (option_map string_bytes made.export_path)) }
+    // The text around the lexer is that of the options of the source.
+    ensures around { IfOk result (λ made. IsAroundOf src.now made.graph (around_made made)) }
     // The length of the source, its nesting and the size of its trees are within their limits.
     ensures within { IfOk result (λ made. IsWithinSizes src.now (rules_of made.graph.leaves)) }
-    // From each point of each input the code finds exactly what maximal munch finds there.
+    // From each point of each input the code finds exactly the result of maximal munch.
     ensures lexer { IfOk result (λ made. IsLexer
         (rules_of made.graph.leaves) made.graph.utf8 made.code) }
     // In UTF-8 mode the items of each run of the code on a text start and end between characters,
     // whatever callbacks answer.
     ensures cut { IfOk result (λ made. IsTrue made.graph.utf8 → RunsAreCut made.code) }
-    // A source that is refused has these faults.
+    // A refused source has these faults.
     ensures refused { IfErr result (Refuses (IsRefused src.now)) }
-    // A source that is longer than the limit has that one fault.
+    // A source longer than the limit has exactly that fault.
     ensures long { MAX_SOURCE < length src.now → IsErrAnd result (Refuses (λ faults.
         faults ≡ too_long src.now ∷ [])) }
     // A source without faults, within the limits, is not refused.

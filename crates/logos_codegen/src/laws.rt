@@ -2,7 +2,7 @@
 //! To use one in a proof, call its function: the call does nothing.
 
 ghost use Rattle.std.specs.Prelude.{◌≡◌, ℕ, ◌↔◌, Bool, true, List};
-ghost use Rattle.logos_codegen.specs.Words.{All, Rule, IsInput, CodeValue, IsCut, IsLexer, Item, answers_of, Runs, IsAccepted};
+ghost use Rattle.logos_codegen.specs.Imports.{All, Rule, IsInput, CodeValue, IsCut, IsLexer, Item, answers_of, Runs, IsAccepted};
 
 pub use logos_generator::laws::{
     a_text_is_an_input, an_input_has_one_list_of_items, bytes_are_an_input,
@@ -14,13 +14,13 @@ use logos_generator::machine::Action;
 pub use logos_graph::laws::{early_marks_are_found, one_is_found, one_list_of_faults};
 use logos_hir::leaf::LeafId;
 pub use logos_machine::laws::{
-    items_given_are_a_run, next_adds_its_item, parts_are_of_the_whole, runs_go_later, runs_go_over,
-    tries_agree,
+    attempts_agree, items_given_are_a_run, next_adds_its_item, parts_are_of_the_whole,
+    runs_go_later, runs_go_over,
 };
 pub use logos_relex::laws::lexed_is_run;
 pub use logos_stream::laws::{all_items_are_of_the_whole, streams_are_of_the_whole};
 
-/// A source without faults has one list of rules and one mode.
+/// A source without faults determines one list of rules and one mode.
 pub fn a_source_has_one_list_of_rules()
     ensures { (source : List ℕ) (rules others : List Rule) (utf8 other : Bool) →
         IsAccepted source rules utf8 → IsAccepted source others other → (rules ≡ others)

@@ -1,7 +1,7 @@
-//! Lexing of an input by a source.
+//! Lexing of an input with the lexer of a source. Called by users' code.
 
 ghost use Rattle.std.specs.Prelude.{◌≡◌, List, Bool, map, length, true, IfOk, IfErr, IsTrue};
-ghost use Rattle.logos_codegen.specs.Views.{All, IsUtf8, Rule, CodeValue, IsCut, IsLexer, Items, answers_of, item_of, AreInOrder, Parts, IsLeftOut, Runs, IsAccepted, IsWithinLimits, IsUnlexed, IsJust, IsNoRefusal, Memory as OutOfMemory, NotUtf8 as NoUtf8, IsThatRefusal};
+ghost use Rattle.logos_codegen.specs.Views.{All, IsUtf8, Rule, CodeValue, IsCut, IsLexer, Items, answers_of, item_of, AreInOrder, Parts, IsLeftOut, Runs, IsAccepted, IsWithinLimits, IsUnlexed, IsJust, IsNoRefusal, TakesMatches, TakesMatchesOf, Memory as OutOfMemory, NotUtf8 as NoUtf8, IsThatRefusal};
 
 use crate::generation::generate;
 use logos_generator::code::Code;
@@ -13,13 +13,12 @@ use logos_scan::items::items;
 use logos_token::error::Errors;
 use std::alloc::{AllocError, AllocFailed, Global};
 
-/// Why an input was not lexed.
+/// The reasons why an input cannot be lexed.
 #[derive(Debug, Drop)]
 pub enum LexSourceError {
     /// The source has these faults, or passes a limit.
     Refused(Errors),
-    /// The input is not UTF-8. `valid_up_to` is the length in bytes of its longest beginning that
-    /// is.
+    /// The input is not UTF-8. `valid_up_to` is the length in bytes of its longest prefix that is.
     NotUtf8 { valid_up_to: usize },
     /// Memory ran out.
     Memory,
@@ -62,14 +61,14 @@ impl From<Refusal> for LexSourceError {
     }
 }
 
-/// Returns all items of an input, in order, by the code of a lexer.
+/// Returns all items of an input, in order, found with a code.
 fn lex_input<'i, C: Fn(LeafId, &[u8]) -> Action + Drop>(
     alloc: Global,
     code: &Code,
     input: &'i [u8],
     callbacks: C,
 ) -> Result<Vec<Item<'i>>, LexSourceError>
-    requires { C.IsAlwaysCallable callbacks }
+    requires { TakesMatches C.Fn code.now callbacks }
     ensures items { IfOk result (λ items. Runs code.now (answers_of C.Fn callbacks) input.now 0
         (map item_of items.items)) }
     ensures text { IfOk result (λ items. IsTrue code.now.utf8 → IsUtf8 input.now) }
@@ -79,20 +78,20 @@ fn lex_input<'i, C: Fn(LeafId, &[u8]) -> Action + Drop>(
     Ok(items(alloc, lexer)?)
 }
 
-/// Returns the items of an input, by the leaves of a source.
+/// Returns the items of an input, found with the leaves of a source.
 ///
 /// The source is read as by `generate`. From each point of the input the longest match is taken,
-/// and of several matches of that length the one whose leaf has the highest priority. It gives a
-/// token of its leaf, or nothing if that is a `skip`. Where no leaf has a match, the item is an
-/// error, which reaches over the longest beginning that could still grow. For a match of a leaf
-/// with a callback, `callbacks` decides by the leaf and the slice; `Emit` for a `skip` means
-/// `Skip`. It is not asked about other leaves. Both shapes of `config` give the same items.
+/// and of several matches of that length the one whose leaf has the highest priority. Its item is a
+/// token of its leaf; matches of a `skip` have no item. If no leaf matches, the item is an error
+/// that spans the longest prefix that could still have become a match. For a match of a leaf with a
+/// callback, `callbacks` decides by the leaf and the slice; `Emit` for a `skip` means `Skip`. It is
+/// not called for other leaves. The items are the same in both shapes of `config`.
 ///
 /// # Errors
 ///
-/// Returns `Refused` if the source has faults, else `NotUtf8` if the source is in UTF-8 mode and
-/// the input is not UTF-8. Returns `Memory` if memory runs out. Nothing that the caller holds is
-/// changed.
+/// Returns `Refused` if the source has faults; otherwise `NotUtf8` if the source is in UTF-8 mode
+/// and the input is not UTF-8. Returns `Memory` if memory runs out. Nothing that the caller holds
+/// is changed.
 pub fn lex_source<'i, C: Fn(LeafId, &[u8]) -> Action + Drop>(
     alloc: Global,
     src: &str,
@@ -100,7 +99,8 @@ pub fn lex_source<'i, C: Fn(LeafId, &[u8]) -> Action + Drop>(
     input: &'i [u8],
     callbacks: C,
 ) -> Result<Vec<Item<'i>>, LexSourceError>
-    requires { C.IsAlwaysCallable callbacks }
+    requires { (rules : List Rule) (utf8 : Bool) → IsAccepted src.now rules utf8 →
+        TakesMatchesOf C.Fn rules callbacks }
     // The items are those of maximal munch, by the rules of a source without faults; in UTF-8 mode,
     // of UTF-8.
     ensures items { IfOk result (λ items. (rules : List Rule) × (utf8 : Bool)
@@ -108,7 +108,7 @@ pub fn lex_source<'i, C: Fn(LeafId, &[u8]) -> Action + Drop>(
         × Items rules (answers_of C.Fn callbacks) utf8 input.now 0 (map item_of items.items)) }
     ensures in_order { IfOk result (λ items.
         AreInOrder (length input.now) 0 (map item_of items.items)) }
-    // The items, together with the matches that a skip or an answer leaves out, divide the input in
+    // The items, together with the matches that a skip or an answer drops, partition the input in
     // order.
     ensures parts { (rules : List Rule) (utf8 : Bool) → IsAccepted src.now rules utf8 →
         IfOk result (λ items. Parts (IsLeftOut rules (answers_of C.Fn callbacks) input.now)

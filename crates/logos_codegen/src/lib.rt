@@ -1,16 +1,16 @@
-//! From a source to its code, and to the items of an input. Hands on the public modules of the
-//! crates below.
+//! Generates the code of a source, and lexes an input with it. Re-exports the public modules of the
+//! crates below. Called by the programs and by users' Rattle code.
 
 #![tactic(auto)]
 
-mod around;
 pub mod code;
 pub mod expr;
+mod frame;
 mod generation;
 pub mod generator;
 pub mod laws;
 mod lexing;
-mod reporting;
+mod reports;
 
 pub use generation::{Generated, generate};
 pub use lexing::{LexSourceError, lex_source};
@@ -18,11 +18,10 @@ pub use logos_generator::machine;
 pub use logos_graph::graph;
 pub use logos_parser::refusal::Refusal;
 pub use logos_parser::{item, nested, parser};
-pub use logos_parts::Parts;
 pub use logos_pattern::{leaf, pattern};
 pub use logos_relex::{Chunk, Edit, ItemAt, Lexed, RelexError};
-pub use logos_stream::{Stream, StreamItem, Streamed};
-pub use logos_strip::stripping::strip_attributes;
+pub use logos_stream::{Parts, Stream, StreamItem, Streamed};
+pub use logos_strip::stripper::strip_attributes;
 pub use logos_text::text;
 pub use logos_token::{error, token, util};
 pub use logos_type::{TypePart, TypeToken};

@@ -14,7 +14,7 @@ empty (byte ∷ rest) h = absurd (omega (arith, h))
 
 -- nothing follows the last byte of a line
 pub nothing_left : (line rest : List ℕ) (at byte : ℕ) → length line ≡ 70 → at + 1 ≡ 70 → drop at line ≡ byte ∷ rest → rest ≡ []
-nothing_left line rest at byte long place e =
+nothing_left line rest at byte long row_start e =
     let left : length (drop at line) ≡ length line - at = length-drop at line in
     let same : length (drop at line) ≡ suc (length rest) = ap length e in
-    empty rest (omega (arith, left, same, long, place))
+    empty rest (omega (arith, left, same, long, row_start))

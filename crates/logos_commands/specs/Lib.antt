@@ -1,7 +1,8 @@
-pub mod Charts
+pub mod Diagrams
 pub mod Commands
 pub mod Lines
+pub mod Refusals
 pub mod Runs
 pub mod inside
-pub mod Words
+pub mod Imports
 pub mod Views

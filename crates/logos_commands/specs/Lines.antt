@@ -11,7 +11,7 @@ use Rattle.logos_code.specs.Runs.{Runs}
 abbrev pub span_line : (from to : ℕ) → List ℕ
 span_line from to = decimal from ++ (codes ".." ++ (decimal to ++ codes "\n"))
 
--- The line of an item: what it is, the number of its leaf, and its span.
+-- The line of an item: its kind, the number of its leaf, and its span.
 abbrev pub line_of : Item → List ℕ
 line_of (token leaf from to slice) = codes "token " ++ (decimal leaf ++ (codes " " ++ span_line from to))
 line_of (error leaf from to slice) = codes "error " ++ span_line from to
@@ -20,12 +20,11 @@ line_of (error leaf from to slice) = codes "error " ++ span_line from to
 abbrev pub lines_of : List Item → List ℕ
 lines_of items = flat_map line_of items
 
--- A callback that answers `Emit` alone.
+-- A callback that only answers `Emit`.
 abbrev pub emits : Callback
 emits leaf slice answer = answer ≡ Emit
 
--- After these bytes, the lines of all items of a run of a code from a point of the input on were
--- written.
+-- After these bytes, the lines of all items of a run of a code from `from` on were written.
 pub record WritesLines (code : CodeValue) (callback : Callback) (bytes : List ℕ) (from : ℕ) (before : List ℕ) (old new : Option (List ℕ)) : Type 0 where
   pub items : List Item
   pub runs : Runs code callback bytes from items

@@ -1,5 +1,5 @@
--- What the program does, by what its files give.
-use Rattle.std.specs.Prelude.{◌≡◌, ◌∷◌, ◌++◌, [], ℕ, List, Bool, true, Option, IsTrue}
+-- The effects of the program, determined by the content of its files.
+use Rattle.std.specs.Prelude.{◌≡◌, ◌⊎◌, ◌∷◌, ◌++◌, [], ℕ, List, Bool, true, Option, IsTrue}
 use Rattle.std.specs.Str.{IsUtf8, IsValidUpTo}
 use Rattle.std.specs.Io.KnownBytes.{Appends, Keeps}
 use Rattle.logos_automaton.specs.Munch.{Rule}
@@ -17,36 +17,37 @@ use Rattle.logos_code.specs.declared.code.Config.{Config}
 use Rattle.logos_codegen.specs.Given.{IsGiven}
 use Rattle.logos_codegen.specs.Source.{IsAccepted, IsRefused}
 use Rattle.logos_host.specs.Reading.{Reads}
-use Rattle.logos_text.specs.Standing.{StandInOrder}
+use Rattle.logos_text.specs.Occurrence.{OccurInOrder}
 use Rattle.logos_text.specs.Texts.{texts_of}
-use Rattle.logos_commands.specs.declared.failure.CommandFailure.{CommandFailure}
-use Rattle.logos_commands.specs.declared.failure.CommandFailure.TheVariants.{Refused, NotUtf8, NotExported}
-use Rattle.logos_commands.specs.declared.failure.ExportRefusal.{ExportRefusal}
-use Rattle.logos_commands.specs.declared.outcome.Asked.{Asked as Part}
-use Rattle.logos_commands.specs.declared.outcome.Asked.TheVariants.{Text, Chart, Export}
-use Rattle.logos_commands.specs.Commands.{Asked, asks_text, asks_items, asks_chart, asks_export, asks_strip}
-use Rattle.logos_commands.specs.Charts.{Destination, file_at, refused, export_destination}
+use Rattle.logos_host.specs.declared.failure.Failure.{Failure}
+use Rattle.logos_host.specs.declared.failure.Failure.TheVariants.{NotUtf8}
+use Rattle.logos_commands.specs.declared.refusals.ExportRefusal.{ExportRefusal}
+use Rattle.logos_commands.specs.declared.outcome.Requested.{Requested as Part}
+use Rattle.logos_commands.specs.declared.outcome.Requested.TheVariants.{Text, Diagram, Export}
+use Rattle.logos_commands.specs.Commands.{Requested, requests_text, requests_items, requests_diagram, requests_export, requests_strip}
+use Rattle.logos_commands.specs.Diagrams.{Destination, file_at, refused, export_destination}
 use Rattle.logos_commands.specs.Lines.{emits, lines_of}
+use Rattle.logos_commands.specs.Refusals.{ShowsFaultsOf, ShowsReasonOf}
 
--- ---- What is done
+-- ---- Effects
 
--- What a command does: it prints a text, or makes a file.
+-- The effect of a command: it prints a text, or creates a file.
 pub data Effect : Type 0 where
   prints : (text : List ℕ) → Effect
   makes_file : (path text : List ℕ) → Effect
 
--- The shape of the code of which a part is made.
+-- The shape of the code from which a part is made.
 abbrev pub shape_of : Part → Config
 shape_of (Text shape) = shape
-shape_of Chart = record { use_state_machine_codegen = true }
+shape_of Diagram = record { use_state_machine_codegen = true }
 shape_of Export = record { use_state_machine_codegen = true }
 
--- What a part of a lexer is: its text, and LF; the chart of its graph; or the same chart for the
+-- A part of a lexer: its generated code, and LF; its state diagram; or its state diagram for the
 -- file that the source names. The texts of all tables of the code, and those of all its conditions,
--- stand in the text.
+-- occur in the generated code.
 abbrev pub IsPart : Part → GraphValue → CodeValue → Slice → Option (List ℕ) → Effect → Type 0
-IsPart (Text shape) graph code name export (prints shown) = (text : List ℕ) × StandInOrder (texts_of code) text × (shown ≡ text ++ 10 ∷ [])
-IsPart Chart graph code name export (prints shown) = shown ≡ mermaid_of graph.states
+IsPart (Text shape) graph code name export (prints shown) = (text : List ℕ) × OccurInOrder (texts_of code) text × (shown ≡ text ++ 10 ∷ [])
+IsPart Diagram graph code name export (prints shown) = shown ≡ mermaid_of graph.states
 IsPart Export graph code name export (makes_file path shown) = (file_at path ≡ export_destination export name.text) × (shown ≡ mermaid_of graph.states)
 IsPart part graph code name export effect = ⊥
 
@@ -62,7 +63,7 @@ pub record IsPartOf (part : Part) (source : List ℕ) (effect : Effect) : Type 0
   pub given : IsGiven source (shape_of part) graph code name export
   pub is : IsPart part graph code name export effect
 
--- The source spells an enum, and this is what is left of it, and LF.
+-- The source spells an enum, and the text is the rest of the enum after stripping, and LF.
 abbrev pub IsLeft : List ℕ → Effect → Type 0
 IsLeft source (prints shown) = (left : TokenList) × IsStripped source left × (shown ≡ printed left ++ 10 ∷ [])
 IsLeft source (makes_file path shown) = ⊥
@@ -78,9 +79,9 @@ pub record PrintsItemsOf (source input : List ℕ) (old new : Option (List ℕ))
   pub are : Items rules emits utf8 input 0 items
   pub appends : Appends old new (lines_of items)
 
--- ---- What is refused
+-- ---- Refusals
 
--- The source has no faults, and its export path, or that it has none, is refused for this reason.
+-- The source has no faults, and its export path, or its lack of one, is refused for this reason.
 pub record IsUnexported (source : List ℕ) (why : ExportRefusal) : Type 0 where
   pub config : Config
   pub graph : GraphValue
@@ -90,90 +91,90 @@ pub record IsUnexported (source : List ℕ) (why : ExportRefusal) : Type 0 where
   pub given : IsGiven source config graph code name export
   pub is : export_destination export name.text ≡ refused why
 
--- The source has no faults and is in UTF-8 mode, and the input is UTF-8 for so many bytes, and not
--- as a whole.
+-- The source has no faults and is in UTF-8 mode, and the input is not UTF-8, but its first
+-- `valid_up_to` bytes are.
 pub record IsTorn (source input : List ℕ) (valid_up_to : ℕ) : Type 0 where
   pub rules : List Rule
   pub accepted : IsAccepted source rules true
   pub no_text : ¬ IsUtf8 input
   pub valid : IsValidUpTo input valid_up_to
 
--- The code is of UTF-8 mode, and the input is UTF-8 for so many bytes, and not as a whole.
-abbrev pub IsTornBy : CodeValue → List ℕ → CommandFailure → Type 0
+-- The code is in UTF-8 mode, and the input is not UTF-8, but its first `valid_up_to` bytes are.
+abbrev pub IsTornBy : CodeValue → List ℕ → Failure → Type 0
 IsTornBy code input (NotUtf8 valid_up_to) = IsTrue code.utf8 × (¬ IsUtf8 input) × IsValidUpTo input valid_up_to
 IsTornBy code input failure = ⊥
 
 -- The source cannot be read as an enum, and this fault ends its reading.
-pub record IsUnread (source : List ℕ) (faults : List Fault) : Type 0 where
+pub record IsUnreadable (source : List ℕ) (faults : List Fault) : Type 0 where
   pub ending : Fault
   pub ends : EndsReading source ending
   pub one : faults ≡ ending ∷ []
 
--- Why a lexer is refused: the faults of its source, or, where its chart is to be exported, that
--- this has no path.
-abbrev pub RefusesLexer : List ℕ → Part → CommandFailure → Type 0
-RefusesLexer source part (Refused faults) = IsRefused source faults
-RefusesLexer source Export (NotExported why) = IsUnexported source why
-RefusesLexer source part failure = ⊥
+-- Why a lexer is refused: the faults of its source; or, if its diagram is to be exported, its lack
+-- of a valid path.
+abbrev pub RefusesLexer : List ℕ → Part → Failure → Type 0
+RefusesLexer source (Text shape) failure = ShowsFaultsOf (IsRefused source) failure
+RefusesLexer source Diagram failure = ShowsFaultsOf (IsRefused source) failure
+RefusesLexer source Export failure = ShowsFaultsOf (IsRefused source) failure ⊎ ShowsReasonOf (IsUnexported source) failure
 
--- Why the items of an input are refused: the faults of the source, or that the input is not a text.
-abbrev pub RefusesInput : List ℕ → List ℕ → CommandFailure → Type 0
-RefusesInput source input (Refused faults) = IsRefused source faults
-RefusesInput source input (NotUtf8 valid_up_to) = IsTorn source input valid_up_to
-RefusesInput source input failure = ⊥
+-- Why the items of an input are refused: the faults of the source, or that the input is not UTF-8.
+abbrev pub IsTornInput : List ℕ → List ℕ → Failure → Type 0
+IsTornInput source input (NotUtf8 valid_up_to) = IsTorn source input valid_up_to
+IsTornInput source input failure = ⊥
+
+abbrev pub RefusesInput : List ℕ → List ℕ → Failure → Type 0
+RefusesInput source input failure = ShowsFaultsOf (IsRefused source) failure ⊎ IsTornInput source input failure
 
 -- Why a source is not stripped: its one fault.
-abbrev pub RefusesStripping : List ℕ → CommandFailure → Type 0
-RefusesStripping source (Refused faults) = IsUnread source faults
-RefusesStripping source failure = ⊥
+abbrev pub RefusesStripping : List ℕ → Failure → Type 0
+RefusesStripping source failure = ShowsFaultsOf (IsUnreadable source) failure
 
--- Why the chart of a lexer is not exported, which goes there.
-abbrev pub RefusesExport : Destination → CommandFailure → Type 0
-RefusesExport destination (NotExported why) = destination ≡ refused why
-RefusesExport destination failure = ⊥
+-- Why a diagram with this destination is not exported.
+abbrev pub RefusesExport : Destination → Failure → Type 0
+RefusesExport destination failure = ShowsReasonOf (λ why. destination ≡ refused why) failure
 
--- ---- Files: `gives` holds of files, a path, all bytes that are read there, and the files after
--- that; `makes` holds of files, a path, the bytes of the file there from then on, and the files
--- after that
+-- ---- Files: `yields` holds of files, a path, the bytes that are read there, and the files after
+-- the read; `makes` holds of files, a path, the bytes that are written there, and the files after
+-- the write
 
--- What a command does to files and to standard output.
+-- The effect of a command on files and on standard output.
 abbrev pub HasEffect : {F : Type 0} → (F → List ℕ → List ℕ → F → Type 0) → Effect → F → F → Option (List ℕ) → Option (List ℕ) → Type 0
 HasEffect makes (prints text) files after old new = (after ≡ files) × Appends old new text
 HasEffect makes (makes_file path text) files after old new = makes files path text after × Keeps old new
 
-module _ {F : Type 0} (gives : F → List ℕ → List ℕ → F → Type 0) where
+module _ {F : Type 0} (yields : F → List ℕ → List ℕ → F → Type 0) where
   -- A file is read, and then an input, and all items are printed.
   abbrev pub PrintsItems : List ℕ → List ℕ → F → F → Option (List ℕ) → Option (List ℕ) → Type 0
   PrintsItems file input files after old new =
-      Reads gives files file (λ source between. Reads gives between input (λ bytes read. (after ≡ read) × PrintsItemsOf source bytes old new))
+      Reads yields files file (λ source between. Reads yields between input (λ bytes read. (after ≡ read) × PrintsItemsOf source bytes old new))
 
-  -- A file is read, and then an input, which are refused so.
-  abbrev pub RefusesItems : List ℕ → List ℕ → F → F → CommandFailure → Type 0
+  -- A file is read, and then an input, which are refused with this failure.
+  abbrev pub RefusesItems : List ℕ → List ℕ → F → F → Failure → Type 0
   RefusesItems file input files after failure =
-      Reads gives files file (λ source between. Reads gives between input (λ bytes read. (after ≡ read) × RefusesInput source bytes failure))
+      Reads yields files file (λ source between. Reads yields between input (λ bytes read. (after ≡ read) × RefusesInput source bytes failure))
 
-  -- A file is read, and of its source this holds.
+  -- A file is read, and its source satisfies `Holds`.
   abbrev pub ReadsSource : List ℕ → F → F → (List ℕ → Type 0) → Type 0
-  ReadsSource file files after Holds = Reads gives files file (λ source read. (after ≡ read) × Holds source)
+  ReadsSource file files after Holds = Reads yields files file (λ source read. (after ≡ read) × Holds source)
 
   module _ (makes : F → List ℕ → List ℕ → F → Type 0) where
-    -- A file is read, and the command has an effect that its source gives.
+    -- A file is read, and the command has an effect that its source determines.
     abbrev pub Carries : List ℕ → F → F → Option (List ℕ) → Option (List ℕ) → (List ℕ → Effect → Type 0) → Type 0
-    Carries file files after old new Gives =
-        Reads gives files file (λ source read. (effect : Effect) × Gives source effect × HasEffect makes effect read after old new)
+    Carries file files after old new Yields =
+        Reads yields files file (λ source read. (effect : Effect) × Yields source effect × HasEffect makes effect read after old new)
 
-    -- What is asked for is done.
-    abbrev pub IsDone : Asked → F → F → Option (List ℕ) → Option (List ℕ) → Type 0
-    IsDone (asks_text file shape) files after old new = Carries file files after old new (IsPartOf (Text shape))
-    IsDone (asks_items file input shape) files after old new = PrintsItems file input files after old new
-    IsDone (asks_chart file) files after old new = Carries file files after old new (IsPartOf Chart)
-    IsDone (asks_export file) files after old new = Carries file files after old new (IsPartOf Export)
-    IsDone (asks_strip file) files after old new = Carries file files after old new IsLeft
+    -- The request is fulfilled.
+    abbrev pub IsDone : Requested → F → F → Option (List ℕ) → Option (List ℕ) → Type 0
+    IsDone (requests_text file shape) files after old new = Carries file files after old new (IsPartOf (Text shape))
+    IsDone (requests_items file input shape) files after old new = PrintsItems file input files after old new
+    IsDone (requests_diagram file) files after old new = Carries file files after old new (IsPartOf Diagram)
+    IsDone (requests_export file) files after old new = Carries file files after old new (IsPartOf Export)
+    IsDone (requests_strip file) files after old new = Carries file files after old new IsLeft
 
-  -- What is asked for cannot be had: the files give what is refused so, and stay as they are.
-  abbrev pub IsDenied : Asked → F → F → CommandFailure → Type 0
-  IsDenied (asks_text file shape) files after failure = ReadsSource file files after (λ source. RefusesLexer source (Text shape) failure)
-  IsDenied (asks_items file input shape) files after failure = RefusesItems file input files after failure
-  IsDenied (asks_chart file) files after failure = ReadsSource file files after (λ source. RefusesLexer source Chart failure)
-  IsDenied (asks_export file) files after failure = ReadsSource file files after (λ source. RefusesLexer source Export failure)
-  IsDenied (asks_strip file) files after failure = ReadsSource file files after (λ source. RefusesStripping source failure)
+  -- The request is refused: the content of the files is invalid, and the files stay unchanged.
+  abbrev pub IsDenied : Requested → F → F → Failure → Type 0
+  IsDenied (requests_text file shape) files after failure = ReadsSource file files after (λ source. RefusesLexer source (Text shape) failure)
+  IsDenied (requests_items file input shape) files after failure = RefusesItems file input files after failure
+  IsDenied (requests_diagram file) files after failure = ReadsSource file files after (λ source. RefusesLexer source Diagram failure)
+  IsDenied (requests_export file) files after failure = ReadsSource file files after (λ source. RefusesLexer source Export failure)
+  IsDenied (requests_strip file) files after failure = ReadsSource file files after (λ source. RefusesStripping source failure)

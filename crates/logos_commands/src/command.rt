@@ -1,78 +1,79 @@
-//! Commands, read from the words of the command line.
+//! The commands of `logos`, read from its arguments. Called by `program`.
 
 ghost use Rattle.std.specs.Prelude.{◌≡◌, bytes_eq, map, option_map, string_bytes};
-ghost use Rattle.logos_commands.specs.Commands.{asked, chart_in, command_asked, export_in, items_in, shape_in, shape_named, strip_in, text_in};
+ghost use Rattle.logos_commands.specs.Commands.{requested, diagram_in, command_requested, export_in, items_in, shape_in, strip_in, text_in};
 
-use crate::lexing::LexRequest;
+use crate::item_lines::LexRequest;
 use logos_codegen::generator::Config;
+use logos_options::OptionName;
 
 /// A command with its files.
 #[derive(Clone, Copy)]
 pub(super) enum Command<'w> {
-    /// `gen`: print the Rust text of the lexer whose enum is in the file.
+    /// `gen`: print the generated code for the enum in the file.
     Text { file: &'w str, config: Config },
-    /// `lex`: print the items that the lexer whose enum is in the file finds in the input.
+    /// `lex`: print the items of the input, found with the lexer of the enum in the file.
     Items(LexRequest<'w>),
-    /// `mermaid`: print the chart of the graph of that lexer.
-    Chart { file: &'w str },
-    /// `export`: write the same chart to the file that the source names.
+    /// `mermaid`: print the state diagram of that lexer.
+    Diagram { file: &'w str },
+    /// `export`: write that diagram to the file that the source names.
     Export { file: &'w str },
     /// `strip`: print the enum in the file without the attributes of the derive macro.
     Strip { file: &'w str },
 }
 
-/// Returns the command that the words are, or `None`.
-pub(super) fn command_of(words: &[String]) -> Option<Command<'_>>
-    ensures { option_map command_asked result ≡ asked (map string_bytes words.now) }
+/// Returns the command for the arguments, or `None` if they are invalid.
+pub(super) fn command_of(arguments: &[String]) -> Option<Command<'_>>
+    ensures { option_map command_requested result ≡ requested (map string_bytes arguments.now) }
 {
-    let [name, words @ ..] = words else {
+    let [name, arguments @ ..] = arguments else {
         return None;
     };
     if is_word(name, "gen") {
-        return text_of(words);
+        return text_of(arguments);
     }
     if is_word(name, "lex") {
-        return items_of(words);
+        return items_of(arguments);
     }
     if is_word(name, "mermaid") {
-        return chart_of(words);
+        return diagram_of(arguments);
     }
     if is_word(name, "export") {
-        return export_of(words);
+        return export_of(arguments);
     }
     if is_word(name, "strip") {
-        return strip_of(words);
+        return strip_of(arguments);
     }
     None
 }
 
-/// Returns whether the word is this text.
+/// Returns whether an argument is this text.
 fn is_word(word: &String, text: &str) -> bool
     ensures { result ≡ bytes_eq (string_bytes word.now) text.now }
 {
     word.as_str() == text
 }
 
-/// Returns the command `gen` with these words after its name.
-fn text_of(words: &[String]) -> Option<Command<'_>>
-    ensures { option_map command_asked result ≡ text_in (map string_bytes words.now) }
+/// Returns the command `gen` with the arguments after its name.
+fn text_of(arguments: &[String]) -> Option<Command<'_>>
+    ensures { option_map command_requested result ≡ text_in (map string_bytes arguments.now) }
 {
-    let [file, words @ ..] = words else {
+    let [file, arguments @ ..] = arguments else {
         return None;
     };
-    let config = shape_of(words)?;
+    let config = shape_of(arguments)?;
     let file = file.as_str();
     Some(Command::Text { file, config })
 }
 
-/// Returns the command `lex` with these words after its name.
-fn items_of(words: &[String]) -> Option<Command<'_>>
-    ensures { option_map command_asked result ≡ items_in (map string_bytes words.now) }
+/// Returns the command `lex` with the arguments after its name.
+fn items_of(arguments: &[String]) -> Option<Command<'_>>
+    ensures { option_map command_requested result ≡ items_in (map string_bytes arguments.now) }
 {
-    let [file, input, words @ ..] = words else {
+    let [file, input, arguments @ ..] = arguments else {
         return None;
     };
-    let config = shape_of(words)?;
+    let config = shape_of(arguments)?;
     Some(Command::Items(LexRequest {
         source: file.as_str(),
         input: input.as_str(),
@@ -80,23 +81,23 @@ fn items_of(words: &[String]) -> Option<Command<'_>>
     }))
 }
 
-/// Returns the command `mermaid` with these words after its name.
-fn chart_of(words: &[String]) -> Option<Command<'_>>
-    ensures { option_map command_asked result ≡ chart_in (map string_bytes words.now) }
+/// Returns the command `mermaid` with the arguments after its name.
+fn diagram_of(arguments: &[String]) -> Option<Command<'_>>
+    ensures { option_map command_requested result ≡ diagram_in (map string_bytes arguments.now) }
 {
-    match words {
-        [file] => Some(Command::Chart {
+    match arguments {
+        [file] => Some(Command::Diagram {
             file: file.as_str(),
         }),
         _ => None,
     }
 }
 
-/// Returns the command `export` with these words after its name.
-fn export_of(words: &[String]) -> Option<Command<'_>>
-    ensures { option_map command_asked result ≡ export_in (map string_bytes words.now) }
+/// Returns the command `export` with the arguments after its name.
+fn export_of(arguments: &[String]) -> Option<Command<'_>>
+    ensures { option_map command_requested result ≡ export_in (map string_bytes arguments.now) }
 {
-    match words {
+    match arguments {
         [file] => Some(Command::Export {
             file: file.as_str(),
         }),
@@ -104,11 +105,11 @@ fn export_of(words: &[String]) -> Option<Command<'_>>
     }
 }
 
-/// Returns the command `strip` with these words after its name.
-fn strip_of(words: &[String]) -> Option<Command<'_>>
-    ensures { option_map command_asked result ≡ strip_in (map string_bytes words.now) }
+/// Returns the command `strip` with the arguments after its name.
+fn strip_of(arguments: &[String]) -> Option<Command<'_>>
+    ensures { option_map command_requested result ≡ strip_in (map string_bytes arguments.now) }
 {
-    match words {
+    match arguments {
         [file] => Some(Command::Strip {
             file: file.as_str(),
         }),
@@ -116,33 +117,18 @@ fn strip_of(words: &[String]) -> Option<Command<'_>>
     }
 }
 
-/// Returns the shape that the last words of a command ask for. Without such words it is one loop
-/// with a state.
-fn shape_of(words: &[String]) -> Option<Config>
-    ensures { result ≡ shape_in (map string_bytes words.now) }
+/// Returns the code shape that the last arguments of a command select. The default is one loop with
+/// a state.
+fn shape_of(arguments: &[String]) -> Option<Config>
+    ensures { result ≡ shape_in (map string_bytes arguments.now) }
 {
-    match words {
+    match arguments {
         [] => Some(Config {
             use_state_machine_codegen: true,
         }),
-        [option, shape] if is_word(option, "--shape") => shape_by_name(shape),
+        [option, shape] if is_word(option, OptionName::Shape.word()) => {
+            Config::by_name(shape.as_str())
+        }
         _ => None,
     }
-}
-
-/// Returns the shape of this name.
-fn shape_by_name(name: &String) -> Option<Config>
-    ensures { result ≡ shape_named (string_bytes name.now) }
-{
-    if is_word(name, "state_machine") {
-        return Some(Config {
-            use_state_machine_codegen: true,
-        });
-    }
-    if is_word(name, "tailcall") {
-        return Some(Config {
-            use_state_machine_codegen: false,
-        });
-    }
-    None
 }

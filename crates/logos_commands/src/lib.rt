@@ -1,15 +1,15 @@
-//! The commands of the program, on any files and any writers.
+//! The commands of the program `logos`, generic over files and writers. Called by `logos_program`
+//! and the tests.
 
 #![tactic(auto)]
 
-mod chart_path;
 mod command;
-mod failure;
-mod lexing;
+mod diagram_path;
+mod item_lines;
 mod lines;
 mod outcome;
-mod reading;
-mod running;
+mod program;
+mod refusals;
 
 pub use logos_host::{FileError, Files, Reason};
-pub use running::{refuse_words, run};
+pub use program::{run, run_with};

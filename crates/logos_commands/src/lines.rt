@@ -1,17 +1,17 @@
-//! The lines of items.
+//! The lines of items. Used by `item_lines`.
 
 ghost use Rattle.std.specs.Prelude.{◌≡◌, ◌+◌, ◌≤◌, ◌++◌, length, drop};
-ghost use Rattle.logos_commands.specs.Words.{item_of, line_of, span_line};
+ghost use Rattle.logos_commands.specs.Imports.{item_of, line_of, span_line};
 
 use itoa::write_digits;
 use logos_codegen::machine::Item;
 use logos_codegen::token::Span;
 
-/// The length in bytes of the longest line: a word, three numbers of 20 digits, and what stands
-/// between them.
+/// The length in bytes of the longest line: a keyword, three numbers of 20 digits, and the
+/// separators between them.
 pub(super) const LONGEST: usize = 70;
 
-/// Writes the line of an item at the end of the array, and returns where it begins.
+/// Writes the line of an item at the end of the array, and returns the index at which it begins.
 #[inline(always)]
 pub(super) fn write_line(line: &mut [u8; LONGEST], item: Item<'_>) -> usize
     ensures { drop result line.new ≡ line_of (item_of item.entry) }
@@ -30,10 +30,10 @@ pub(super) fn write_line(line: &mut [u8; LONGEST], item: Item<'_>) -> usize
     }
 }
 
-/// Writes a span and a line end at the end of the array, and returns where they begin.
+/// Writes a span and a line end at the end of the array, and returns the index at which they begin.
 #[inline(always)]
 fn write_span(line: &mut [u8; LONGEST], span: Span) -> usize
-    ensures place { (27 ≤ result) × (result ≤ LONGEST) }
+    ensures row_start { (27 ≤ result) × (result ≤ LONGEST) }
     ensures text { drop result line.new ≡ span_line span.from span.to }
 {
     let at = write_before(line, LONGEST, b"\n");
@@ -42,12 +42,11 @@ fn write_span(line: &mut [u8; LONGEST], span: Span) -> usize
     write_digits(span.from as u64, line, at)
 }
 
-/// Writes a text in front of what stands in the line from an index on, and returns where the text
-/// begins.
+/// Writes a text before index `end` of the line, and returns the index at which the text begins.
 #[inline(always)]
 fn write_before(line: &mut [u8; LONGEST], end: usize, text: &[u8]) -> usize
     requires { (length text.now ≤ end) × (end ≤ LONGEST) }
-    ensures place { result + length text.now ≡ end }
+    ensures row_start { result + length text.now ≡ end }
     ensures text { drop result line.new ≡ text.now ++ drop end line.old }
 {
     let at = end - text.len();

@@ -1,16 +1,15 @@
-//! The outcomes of commands, each made as a whole before any of it is written.
+//! The outcomes of commands. Each is complete before any of it is written. Used by `program`.
 
 ghost use Rattle.std.specs.Prelude.{◌≡◌, ◌≢◌, ◌++◌, ◌∷◌, [], IfErr, IfOk, option_map, string_bytes};
-ghost use Rattle.logos_commands.specs.Views.{ident_slice, mermaid_of, StandInOrder, texts_of, export_destination, file_at, EndsWithLine, FailsAt, effect_of, status_of, IsLeft, IsPart, IsPartOf, ReadsSource, prints, shape_of, RefusesExport, RefusesLexer, RefusesStripping};
+ghost use Rattle.logos_commands.specs.Views.{ident_slice, mermaid_of, OccurInOrder, texts_of, export_destination, file_at, EndsWithLine, FailsAt, IsNoMisuse, effect_of, status_of, IsLeft, IsPart, IsPartOf, ReadsSource, prints, shape_of, RefusesExport, RefusesLexer, RefusesStripping};
 
-use crate::chart_path::chart_path;
-use crate::failure::{CommandFailure, ExportRefusal};
-use crate::reading::read_text;
+use crate::diagram_path::diagram_path;
+use crate::refusals::{ExportRefusal, refused_export, refused_source};
 use logos_codegen::generator::Config;
 use logos_codegen::graph::{Graph, State};
 use logos_codegen::token::print;
 use logos_codegen::{Generated, generate, strip_attributes};
-use logos_host::Files;
+use logos_host::{Failure, Files, read_text};
 use std::alloc::Global;
 
 /// The outcome of a command.
@@ -18,22 +17,22 @@ use std::alloc::Global;
 pub(super) enum CommandOutcome {
     /// A text for standard output.
     Text(String),
-    /// A chart, and the path of the file that it is written to.
-    Chart { path: String, text: String },
+    /// A state diagram, and the path of the file to which it is written.
+    Diagram { path: String, text: String },
 }
 
-/// What a command makes of a lexer.
+/// The part of a lexer that a command requests.
 #[derive(Clone, Copy)]
-pub(super) enum Asked {
-    /// Its Rust text, in this shape.
+pub(super) enum Requested {
+    /// Its generated code, in this shape.
     Text(Config),
-    /// The chart of its graph.
-    Chart,
-    /// The same chart, for the file that its source names.
+    /// Its state diagram.
+    Diagram,
+    /// Its state diagram, for the file that its source names.
     Export,
 }
 
-/// The shape of the codes that charts are made with. A chart is the same in both shapes.
+/// The code shape for diagrams. A diagram does not depend on the shape.
 const ANY_SHAPE: Config = Config {
     use_state_machine_codegen: true,
 };
@@ -42,41 +41,43 @@ const ANY_SHAPE: Config = Config {
 pub(super) fn of_file<'w, F: Files>(
     alloc: Global,
     file: &'w str,
-    asked: Asked,
+    requested: Requested,
     files: &mut F,
-) -> Result<CommandOutcome, CommandFailure<'w>>
-    ensures done { IfOk result (λ outcome. ReadsSource F.read_gives file.now files.old files.new
-        (λ source. IsPartOf asked source (effect_of outcome))) }
+) -> Result<CommandOutcome, Failure<'w>>
+    ensures done { IfOk result (λ outcome. ReadsSource F.read_yields file.now files.old files.new
+        (λ source. IsPartOf requested source (effect_of outcome))) }
     ensures denied { IfErr result (λ failure. status_of failure ≡ 1 →
-        ReadsSource F.read_gives file.now files.old files.new
-        (λ source. RefusesLexer source asked failure)) }
+        ReadsSource F.read_yields file.now files.old files.new
+        (λ source. RefusesLexer source requested failure)) }
+    ensures known { IfErr result IsNoMisuse }
 {
     let source = read_text(file, files)?;
-    of_source(alloc, source.as_str(), asked)
+    of_source(alloc, source.as_str(), requested)
 }
 
 /// Makes the outcome of a command on a source.
 fn of_source(
     alloc: Global,
     source: &str,
-    asked: Asked,
-) -> Result<CommandOutcome, CommandFailure<'static>>
-    ensures done { IfOk result (λ outcome. IsPartOf asked source.now (effect_of outcome)) }
+    requested: Requested,
+) -> Result<CommandOutcome, Failure<'static>>
+    ensures done { IfOk result (λ outcome. IsPartOf requested source.now (effect_of outcome)) }
     ensures denied { IfErr result (λ failure. status_of failure ≡ 1 →
-        RefusesLexer source.now asked failure) }
+        RefusesLexer source.now requested failure) }
+    ensures known { IfErr result IsNoMisuse }
 {
-    match generate(alloc, source, shape_of(asked)) {
-        Ok(made) => of_lexer(alloc, &made, asked),
-        Err(refusal) => Err(CommandFailure::from(refusal)),
+    match generate(alloc, source, shape_of(requested)) {
+        Ok(made) => of_lexer(alloc, &made, requested),
+        Err(refusal) => Err(refused_source(refusal)),
     }
 }
 
 /// Returns the shape of the code that a command needs.
-fn shape_of(asked: Asked) -> Config
-    ensures { result ≡ shape_of asked }
+fn shape_of(requested: Requested) -> Config
+    ensures { result ≡ shape_of requested }
 {
-    match asked {
-        Asked::Text(config) => config,
+    match requested {
+        Requested::Text(config) => config,
         _ => ANY_SHAPE,
     }
 }
@@ -85,45 +86,48 @@ fn shape_of(asked: Asked) -> Config
 fn of_lexer(
     alloc: Global,
     made: &Generated<'_>,
-    asked: Asked,
-) -> Result<CommandOutcome, CommandFailure<'static>>
-    ensures part { IfOk result (λ outcome. IsPart asked made.now.graph made.now.code
+    requested: Requested,
+) -> Result<CommandOutcome, Failure<'static>>
+    ensures part { IfOk result (λ outcome. IsPart requested made.now.graph made.now.code
         (ident_slice made.now.name) (option_map string_bytes made.now.export_path)
         (effect_of outcome)) }
-    ensures plain { asked ≢ Asked.Export → IfErr result (λ failure. status_of failure ≡ 3) }
+    ensures plain { requested ≢ Requested.Export → IfErr result (λ failure. status_of failure ≡ 3) }
     ensures export { IfErr result (λ failure. status_of failure ≡ 1 → RefusesExport
         (export_destination (option_map string_bytes made.now.export_path) made.now.name.text.now)
         failure) }
+    ensures known { IfErr result IsNoMisuse }
 {
-    match asked {
-        Asked::Text(_) => Ok(CommandOutcome::Text(text_of_lexer(alloc, made)?)),
-        Asked::Chart => Ok(CommandOutcome::Text(tested_chart(alloc, &made.graph)?)),
-        Asked::Export => export_of_lexer(alloc, made),
+    match requested {
+        Requested::Text(_) => Ok(CommandOutcome::Text(text_of_lexer(alloc, made)?)),
+        Requested::Diagram => Ok(CommandOutcome::Text(tested_diagram(alloc, &made.graph)?)),
+        Requested::Export => export_of_lexer(alloc, made),
     }
 }
 
-/// Returns the Rust text of a lexer, and LF.
-fn text_of_lexer(alloc: Global, made: &Generated<'_>) -> Result<String, CommandFailure<'static>>
-    ensures text { IfOk result (λ text. EndsWithLine (StandInOrder (texts_of made.now.code))
+/// Returns the generated code of a lexer, and LF.
+fn text_of_lexer(alloc: Global, made: &Generated<'_>) -> Result<String, Failure<'static>>
+    ensures text { IfOk result (λ text. EndsWithLine (OccurInOrder (texts_of made.now.code))
         (string_bytes text)) }
     ensures failed { IfErr result (λ failure. status_of failure ≡ 3) }
+    ensures known { IfErr result IsNoMisuse }
 {
     let mut text = made.text(alloc)?;
     text.push('\n')?;
     Ok(text)
 }
 
-/// Makes the enum in a file without the attributes of the derive macro, and LF.
+/// Returns the enum in a file without the attributes of the derive macro, and LF.
 pub(super) fn stripped<'w, F: Files>(
     alloc: Global,
     file: &'w str,
     files: &mut F,
-) -> Result<CommandOutcome, CommandFailure<'w>>
-    ensures done { IfOk result (λ outcome. ReadsSource F.read_gives file.now files.old files.new
+) -> Result<CommandOutcome, Failure<'w>>
+    ensures done { IfOk result (λ outcome. ReadsSource F.read_yields file.now files.old files.new
         (λ source. IsLeft source (effect_of outcome))) }
     ensures denied { IfErr result (λ failure. status_of failure ≡ 1 →
-        ReadsSource F.read_gives file.now files.old files.new
+        ReadsSource F.read_yields file.now files.old files.new
         (λ source. RefusesStripping source failure)) }
+    ensures known { IfErr result IsNoMisuse }
 {
     let source = read_text(file, files)?;
     match stripped_source(alloc, source.as_str()) {
@@ -133,59 +137,66 @@ pub(super) fn stripped<'w, F: Files>(
 }
 
 /// Returns the enum of a source without the attributes of the derive macro, and LF.
-fn stripped_source(alloc: Global, source: &str) -> Result<String, CommandFailure<'static>>
+fn stripped_source(alloc: Global, source: &str) -> Result<String, Failure<'static>>
     ensures done { IfOk result (λ text. IsLeft source.now (prints (string_bytes text))) }
     ensures denied { IfErr result (λ failure. status_of failure ≡ 1 →
         RefusesStripping source.now failure) }
+    ensures known { IfErr result IsNoMisuse }
 {
-    let left = strip_attributes(alloc, source)?;
+    let left = match strip_attributes(alloc, source) {
+        Ok(left) => left,
+        Err(refusal) => return Err(refused_source(refusal)),
+    };
     let mut text = print(alloc, left.run())?;
     text.push('\n')?;
     Ok(text)
 }
 
-/// Makes the chart of the graph of a lexer, for the file that its source names.
-fn export_of_lexer(
-    alloc: Global,
-    made: &Generated<'_>,
-) -> Result<CommandOutcome, CommandFailure<'static>>
-    ensures chart { IfOk result (λ outcome. IsPart Asked.Export made.now.graph made.now.code
+/// Makes the state diagram of a lexer, for the file that its source names.
+fn export_of_lexer(alloc: Global, made: &Generated<'_>) -> Result<CommandOutcome, Failure<'static>>
+    ensures diagram { IfOk result (λ outcome. IsPart Requested.Export made.now.graph made.now.code
         (ident_slice made.now.name) (option_map string_bytes made.now.export_path)
         (effect_of outcome)) }
     ensures denied { IfErr result (λ failure. status_of failure ≡ 1 → RefusesExport
         (export_destination (option_map string_bytes made.now.export_path) made.now.name.text.now)
         failure) }
+    ensures known { IfErr result IsNoMisuse }
 {
-    let path = path_of_chart(alloc, made)?;
-    let text = tested_chart(alloc, &made.graph)?;
-    Ok(CommandOutcome::Chart { path, text })
+    let path = match path_of_diagram(alloc, made) {
+        Ok(path) => path,
+        Err(failure) => return Err(failure),
+    };
+    let text = tested_diagram(alloc, &made.graph)?;
+    Ok(CommandOutcome::Diagram { path, text })
 }
 
-/// Returns the path of the file that a source names for its chart.
-fn path_of_chart(alloc: Global, made: &Generated<'_>) -> Result<String, CommandFailure<'static>>
-    ensures file { IfOk result (λ chart. file_at (string_bytes chart) ≡ export_destination
+/// Returns the path of the file that a source names for its diagram.
+fn path_of_diagram(alloc: Global, made: &Generated<'_>) -> Result<String, Failure<'static>>
+    ensures file { IfOk result (λ diagram. file_at (string_bytes diagram) ≡ export_destination
         (option_map string_bytes made.now.export_path) made.now.name.text.now) }
     ensures failure { IfErr result (FailsAt (export_destination
         (option_map string_bytes made.now.export_path) made.now.name.text.now)) }
+    ensures known { IfErr result IsNoMisuse }
 {
     match &made.export_path {
-        Some(path) => chart_path(alloc, path.as_str(), made.name.text),
-        None => Err(CommandFailure::NotExported(ExportRefusal::NoPath)),
+        Some(path) => diagram_path(alloc, path.as_str(), made.name.text),
+        None => Err(refused_export(alloc, ExportRefusal::NoPath)),
     }
 }
 
-/// Returns the chart of a graph, after testing that each state differs from the next.
-fn tested_chart(alloc: Global, graph: &Graph<'_>) -> Result<String, CommandFailure<'static>>
-    ensures chart { IfOk result (λ text. string_bytes text ≡ mermaid_of graph.now.states) }
+/// Returns the state diagram of a graph, after testing that each state differs from the next.
+fn tested_diagram(alloc: Global, graph: &Graph<'_>) -> Result<String, Failure<'static>>
+    ensures diagram { IfOk result (λ text. string_bytes text ≡ mermaid_of graph.now.states) }
     ensures failed { IfErr result (λ failure. status_of failure ≡ 3) }
+    ensures known { IfErr result IsNoMisuse }
 {
     test_neighbours(alloc, graph)?;
     Ok(graph.get_mermaid(alloc)?)
 }
 
-/// Refuses a graph in which a state is like the next.
-fn test_neighbours(alloc: Global, graph: &Graph<'_>) -> Result<(), CommandFailure<'static>>
-    ensures { IfErr result (λ failure. status_of failure ≡ 3) }
+/// Refuses a graph in which two consecutive states are equivalent.
+fn test_neighbours(alloc: Global, graph: &Graph<'_>) -> Result<(), Failure<'static>>
+    ensures failed { IfErr result (λ failure. status_of failure ≡ 3) }
 {
     let mut before: Option<State> = None;
     for state in graph.iter_states() {
@@ -197,13 +208,8 @@ fn test_neighbours(alloc: Global, graph: &Graph<'_>) -> Result<(), CommandFailur
     Ok(())
 }
 
-/// Refuses two different states if no text shows a difference between them.
-fn test_pair(
-    alloc: Global,
-    graph: &Graph<'_>,
-    s: State,
-    t: State,
-) -> Result<(), CommandFailure<'static>>
+/// Refuses two different states if no text distinguishes them.
+fn test_pair(alloc: Global, graph: &Graph<'_>, s: State, t: State) -> Result<(), Failure<'static>>
     ensures { IfErr result (λ failure. status_of failure ≡ 3) }
 {
     let is_pair = graph.contains(s) & graph.contains(t);
@@ -214,9 +220,15 @@ fn test_pair(
     if graph.checks(s, t, difference.bytes.as_slice(), difference.at_end) {
         Ok(())
     } else {
-        Err(CommandFailure::Alike {
-            s: s.index(),
-            t: t.index(),
-        })
+        Err(alike(alloc, s.index(), t.index()))
+    }
+}
+
+/// Returns the refusal of a graph in which two states find the same matches. Graphs never have such
+/// states.
+fn alike(alloc: Global, s: usize, t: usize) -> Failure<'static> {
+    match format!(in alloc; "states {s} and {t} are alike\n") {
+        Ok(text) => Failure::Refused(text),
+        Err(_) => Failure::Memory,
     }
 }

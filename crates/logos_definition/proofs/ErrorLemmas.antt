@@ -1,4 +1,4 @@
--- What `error(..)` gives, by what is read in it.
+-- The result of `error(..)`, by the result of reading its type.
 use Rattle.std.proofs.Common.{◌≡◌, ◌≢◌, List, true, Option, Some, None}
 use Rattle.std.specs.Prelude.{option_map}
 use Rattle.logos_lexeme.specs.declared.lexeme.Span.{Span}
@@ -17,7 +17,7 @@ module _ {X : Type 0} (f : X → Tree) (group run : TokenList) (at : Span) (old 
   group_without_type None e r = no_type some (rw (front, whole) at r)
   group_without_type (Some x) e r = absurd (let k : Some x ≡ None = e in cc)
 
-  -- a type was read, and the arguments behind it
+  -- a type was read, and the arguments after it
   pub group_with_type : (new : List Fault) (error : ErrorView) (read : Option X) (type : X) → read ≡ Some type → ReadsValue run at old mid (option_map f read) →
       IsReport (error_arguments_report true (pieces (after_comma group)) (error_read run (f type))) error mid new → ErrorGroup group old new (Some error)
   group_with_type new error read type e r t = a_type some (rw (front, whole) at (rw e at r)) (rw front at t)

@@ -1,4 +1,4 @@
--- The arguments of a `logos` attribute, one after another. A type in them is read by the grammar of
+-- The arguments of a `logos` attribute, one after another. Types in them are read by the grammar of
 -- types.
 use Rattle.std.specs.Prelude.{◌≡◌, ◌≢◌, Bool, true, false, List, [], ◌∷◌, ◌++◌, codes, Option, Some, None}
 use Rattle.std.specs.Str.{bytes_eq}
@@ -14,7 +14,7 @@ use Rattle.logos_definition.specs.Options.{OptionsView, error_set, error_report,
 use Rattle.logos_definition.specs.OptionFaults.{error_empty, type_form, invalid_nested}
 
 -- The result of `error(..)`: its type is read from the tokens up to the first comma, and the other
--- arguments follow. Without a type there is none, which is reported.
+-- arguments follow. If there is no type, the group is reported and there is no result.
 pub data ErrorGroup (group : TokenList) (old new : List Fault) : Option ErrorView → Type 0 where
   nothing : up_to_comma group ≡ none → new ≡ old ++ only (error_empty group) → ErrorGroup group old new None
   no_type : up_to_comma group ≢ none → ReadsValue (up_to_comma group) (run_span group) old new None → ErrorGroup group old new None
@@ -26,20 +26,20 @@ abbrev pub is_grouped : PieceValue → Bool
 is_grouped (grouped run) = true
 is_grouped value = false
 
--- The value is that of a second name.
+-- The value follows a second name.
 abbrev pub is_keyed : PieceValue → Bool
 is_keyed (keyed name run) = true
 is_keyed value = false
 
--- The result of `error`, and whether the arguments after it are read: they are not if it has no
--- type.
+-- The result of `error`, and whether the arguments after it are read: they are not read if
+-- `error(..)` has no type.
 pub data ReadsError (name : Slice) (o : OptionsView) (o' : OptionsView) (old new : List Fault) : PieceValue → Bool → Type 0 where
   alone : {value : PieceValue} → is_grouped value ≡ false → IsReport (error_report name value o) o' old new → ReadsError name o o' old new value true
   with_arguments : {group : TokenList} {mid : List Fault} {error : ErrorView} → ErrorGroup group old mid (Some error) → IsReport (error_set group error o) o' mid new →
       ReadsError name o o' old new (grouped group) true
   without_type : {group : TokenList} → ErrorGroup group old new None → o' ≡ o → ReadsError name o o' old new (grouped group) false
 
--- The options with other type parameters.
+-- The options with these type parameters.
 abbrev pub with_types : OptionsView → Value → OptionsView
 with_types o types = record o { types = types }
 
@@ -60,7 +60,7 @@ pub data ReadsPiece (o : OptionsView) (o' : OptionsView) (old new : List Fault) 
   without_name : {run : TokenList} → IsReport (with_faults o (only (invalid_nested run))) o' old new → ReadsPiece o o' old new (unnamed run) true
   no_argument : {run : TokenList} → IsReport (with_faults o (only (invalid_nested run))) o' old new → ReadsPiece o o' old new (unexpected run) true
 
--- The result of all arguments, up to one after which no more are read.
+-- The result of all arguments, up to one after which no more arguments are read.
 pub data ReadsPieces : (o : OptionsView) (o' : OptionsView) (old new : List Fault) → List Piece → Type 0 where
   no_piece : {o : OptionsView} {faults : List Fault} → ReadsPieces o o faults faults []
   one_more : {o : OptionsView} {o' : OptionsView} {o'' : OptionsView} {old mid new : List Fault} {piece : Piece} {rest : List Piece} →

@@ -50,7 +50,7 @@ pub data ReadsMeta (o : OptionsView) (o' : OptionsView) (old new : List Fault) (
   no_arguments : meta.arguments ≡ None → o' ≡ o → AddsFault (logos_form span) old new → ReadsMeta o o' old new meta span
   with_arguments : {run : TokenList} → meta.arguments ≡ Some run → ReadsPieces o o' old new (pieces run) → ReadsMeta o o' old new meta span
 
--- The result of an attribute of an enum: nothing changes, unless its name is `logos`.
+-- The result of an attribute of an enum: it changes nothing unless its name is `logos`.
 pub data ReadsAttribute (o : OptionsView) (o' : OptionsView) (old new : List Fault) (attribute : AttributeValue) : Type 0 where
   other_name : is_logos (meta_of attribute) ≡ false → o' ≡ o → new ≡ old → ReadsAttribute o o' old new attribute
   a_logos : {meta : Meta} → meta_of attribute ≡ Some meta → bytes_eq meta.name.text (codes "logos") ≡ true → ReadsMeta o o' old new meta attribute.span →

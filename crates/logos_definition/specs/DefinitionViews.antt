@@ -1,4 +1,4 @@
--- The definitions that values of type `Definition` stand for.
+-- The definitions that values of type `Definition` represent.
 use Rattle.std.specs.Prelude.{option_map}
 use Rattle.logos_attribute.specs.CallbackViews.{callback_view}
 use Rattle.logos_attribute.specs.LiteralViews.{literal_view}

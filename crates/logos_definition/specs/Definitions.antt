@@ -62,14 +62,14 @@ named_expected run = fault NamedExpected (codes "Expected a named argument at th
 abbrev pub unexpected_token : TokenList → Fault
 unexpected_token run = fault UnexpectedToken (codes "Unexpected token in attribute") (run_span run)
 
--- The report of `priority = run` after former arguments: the new priority replaces the former one.
+-- The report of `priority = run` after a former priority, which it replaces.
 abbrev pub priority_set : TokenList → Option ℕ → Report (Option ℕ)
 priority_set run former = elim (number_in run) [
   | Some priority ↦ with_faults (Some priority) (again former (priority_twice run))
   | None ↦ with_faults former (only (priority_value run))
 ]
 
--- The report of `allow_greedy = run` after former arguments: the new value replaces the former one.
+-- The report of `allow_greedy = run` after a former value, which it replaces.
 abbrev pub greedy_set : TokenList → Option Bool → Report (Option Bool)
 greedy_set run former = elim (boolean_in run) [
   | Some allow ↦ with_faults (Some allow) (again former (greedy_twice run))
@@ -80,12 +80,12 @@ abbrev pub priority_report : Slice → PieceValue → DefinitionView → Report 
 priority_report name (assigned run) d = map_report (λ priority. record d { priority = priority }) (priority_set run d.priority)
 priority_report name value d = with_faults d (only (priority_form name))
 
--- The report of the argument `callback`, in place of a former callback.
+-- The report of the argument `callback`, which replaces a former callback.
 abbrev pub named_callback : Slice → PieceValue → Option CallbackView → Report (Option CallbackView)
 named_callback name (assigned run) former = callback_set name run former
 named_callback name value former = with_faults former (only (callback_form name))
 
--- The report of an argument without a name: only the first one can be a callback.
+-- The report of an argument without a name. Only the first argument can be a callback.
 abbrev pub unnamed_callback : Bool → TokenList → Option CallbackView → Report (Option CallbackView)
 unnamed_callback true run former = callback_report run
 unnamed_callback false run former = with_faults former (only (named_expected run))
@@ -110,7 +110,7 @@ named_report name value d =
     else (if bytes_eq name.text (codes "allow_greedy") then greedy_report name value d
     else with_faults d (only (unknown_nested name)))))
 
--- The report of an argument after the literal; only the first one can be a callback without a name.
+-- The report of an argument after the literal. Only the first one can be a callback without a name.
 abbrev pub argument_report : Bool → Piece → DefinitionView → Report DefinitionView
 argument_report first (unexpected run) d = with_faults d (only (unexpected_token run))
 argument_report first (unnamed run) d = map_report (with_callback d) (unnamed_callback first run d.callback)

@@ -1,4 +1,4 @@
--- The error types that values of type `ErrorType` stand for.
+-- The error types that values of type `ErrorType` represent.
 use Rattle.std.specs.Prelude.{Option, Some, None, option_map}
 use Rattle.logos_token.specs.Tokens.{TokenList}
 use Rattle.logos_token.specs.Views.{stream_tokens}

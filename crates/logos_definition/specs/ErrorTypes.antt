@@ -1,21 +1,22 @@
 -- Error types and their callbacks.
-use Rattle.std.specs.Prelude.{ℕ, Bool, false, List, [], ◌∷◌, codes, Option, Some, None, if◌then◌else◌}
+use Rattle.std.specs.Prelude.{ℕ, Bool, false, List, [], ◌∷◌, ◌++◌, codes, Option, Some, None, if◌then◌else◌}
 use Rattle.std.specs.Str.{bytes_eq}
 use Rattle.logos_lexeme.specs.declared.lexeme.Span.{Span}
 use Rattle.logos_token.specs.Faults.{Fault}
 use Rattle.logos_token.specs.declared.error.fault_code.FaultCode.TheVariants.{UnknownNested}
+use Rattle.logos_token.specs.declared.error.detail.Detail.TheVariants.{ErrorArgument}
 use Rattle.logos_token.specs.Tokens.{TokenList, none, run_span}
 use Rattle.logos_token.specs.Printing.{printed}
 use Rattle.logos_type.specs.Parts.{Tree}
 use Rattle.logos_type.specs.Printed.{printed_type}
 use Rattle.logos_attribute.specs.Slices.{Slice}
 use Rattle.logos_attribute.specs.Pieces.{PieceValue, Piece, unnamed, named, unexpected}
-use Rattle.logos_attribute.specs.Reports.{Report, with_faults, without_faults, and_then, map_report, fault_about, only}
+use Rattle.logos_attribute.specs.Reports.{Report, with_faults, without_faults, and_then, map_report, fault_with, only}
 use Rattle.logos_attribute.specs.Callbacks.{CallbackView}
 use Rattle.logos_definition.specs.Definitions.{named_callback, unnamed_callback, unexpected_token}
 
--- The tokens of an error type, which is `()` without tokens; the type as it was read from them, if
--- it was; and the callback that makes an error, if there is one.
+-- The tokens of an error type, which is `()` without tokens; the type that was read from them, if
+-- one was; and the callback that creates an error, if there is one.
 pub record ErrorView : Type 0 where
   pub type_run : Option TokenList
   pub type : Option Tree
@@ -25,7 +26,7 @@ pub record ErrorView : Type 0 where
 abbrev pub error_alone : TokenList → ErrorView
 error_alone run = record { type_run = Some run; type = None; callback = None }
 
--- A type as it was read from its tokens, without a callback.
+-- A type that was read from its tokens, without a callback.
 abbrev pub error_read : TokenList → Tree → ErrorView
 error_read run tree = record { type_run = Some run; type = Some tree; callback = None }
 
@@ -38,7 +39,7 @@ abbrev pub run_text : Option TokenList → List ℕ
 run_text (Some run) = printed run
 run_text None = codes "( )"
 
--- The printed text of the type that was read if it was, or else of the tokens.
+-- The printed text of the type that was read, if one was, and otherwise of the tokens.
 abbrev pub type_or_run : Option Tree → Option TokenList → List ℕ
 type_or_run (Some tree) run = printed_type tree
 type_or_run None run = run_text run
@@ -48,16 +49,16 @@ abbrev pub error_text : ErrorView → List ℕ
 error_text e = type_or_run e.type e.type_run
 
 -- The span of the type.
-abbrev pub run_place : Option TokenList → Span
-run_place (Some run) = run_span run
-run_place None = run_span none
+abbrev pub run_slot : Option TokenList → Span
+run_slot (Some run) = run_span run
+run_slot None = run_span none
 
 -- The span of an error type.
 abbrev pub error_span : ErrorView → Span
-error_span e = run_place e.type_run
+error_span e = run_slot e.type_run
 
 abbrev pub unknown_error_argument : Slice → Fault
-unknown_error_argument name = fault_about UnknownNested (codes "Unknown nested attribute: ") name (codes "\n\nExpected one of: callback")
+unknown_error_argument name = fault_with UnknownNested ((codes "Unknown nested attribute: " ++ name.text) ++ codes "\n\nExpected one of: callback") name.span ErrorArgument
 
 abbrev pub error_with : ErrorView → Option CallbackView → ErrorView
 error_with e callback = record e { callback = callback }
@@ -68,7 +69,7 @@ error_named_report name value e =
     if bytes_eq name.text (codes "callback") then map_report (error_with e) (named_callback name value e.callback)
     else with_faults e (only (unknown_error_argument name))
 
--- The report of an argument after the type of `error(..)`; only the first one can be a callback
+-- The report of an argument after the type of `error(..)`. Only the first one can be a callback
 -- without a name.
 abbrev pub error_argument_report : Bool → Piece → ErrorView → Report ErrorView
 error_argument_report first (unexpected run) e = with_faults e (only (unexpected_token run))

@@ -9,5 +9,5 @@ pub mod OptionFaults
 pub mod Options
 pub mod ParserTypes
 pub mod ParserViews
-pub mod Words
+pub mod Imports
 pub mod Views

@@ -17,7 +17,8 @@ pub record Meta : Type 0 where
   pub name : Slice
   pub arguments : Option TokenList
 
--- After the name: nothing, a group, or `=` and a value; if the path goes on, it has no name.
+-- The tokens after the name: nothing, a group, or `=` and a value. If the path continues, the
+-- attribute has no name.
 abbrev pub after_name : Slice → TokenList → Option Meta
 after_name name (also (group delimiter span inside) rest) = Some (record { name = name; arguments = Some inside })
 after_name name (also (punctuation character spacing span) rest) = if character == colon then None else Some (record { name = name; arguments = None })
@@ -28,7 +29,7 @@ abbrev pub meta_inside : TokenList → Option Meta
 meta_inside (also (identifier text span) rest) = after_name (record { text = text; span = span }) rest
 meta_inside run = None
 
--- The name and the arguments of an attribute; a documentation comment has no name.
+-- The name and the arguments of an attribute. A documentation comment has none.
 abbrev pub inside_meta : Option TokenList → Option Meta
 inside_meta None = None
 inside_meta (Some run) = meta_inside run
@@ -41,6 +42,6 @@ abbrev pub arguments_view : Option Tokens → Option TokenList
 arguments_view None = None
 arguments_view (Some tokens) = Some (tokens_of tokens)
 
--- These as a value.
+-- The name and the arguments of an attribute as a value.
 abbrev pub meta_view : MetaView → Meta
 meta_view meta = record { name = ident_slice meta.name; arguments = arguments_view meta.arguments }

@@ -8,7 +8,7 @@ use Rattle.logos_token.specs.Tokens.{TokenList, run_span}
 use Rattle.logos_attribute.specs.Slices.{Slice}
 use Rattle.logos_attribute.specs.Reports.{fault, fault_about}
 
--- The faults of a second value here, with the former one there.
+-- The faults of a second value at `here`, where the former one is at `there`.
 abbrev pub once_only : FaultCode → List ℕ → (here there : Span) → List Fault
 once_only code message here there = fault code message here ∷ fault Previous (codes "Previous definition here") there ∷ []
 

@@ -14,17 +14,17 @@ use Rattle.logos_definition.specs.Definitions.{DefinitionView, plain, definition
 use Rattle.logos_definition.specs.ErrorTypes.{ErrorView, error_span, error_alone}
 use Rattle.logos_definition.specs.OptionFaults.{utf8_twice, extras_twice, error_twice, export_twice, skip_form, skip_group, utf8_value, utf8_form, extras_form, crate_form, export_bytes, export_form, subpattern_form, error_form, source_old, unknown_logos}
 
--- Whether inputs are UTF-8, and where the source gives that.
+-- Whether inputs are UTF-8, and the span of that value in the source.
 pub record ModeView : Type 0 where
   pub value : Bool
   pub span : Span
 
--- The path of the exported chart, and where the source gives it.
+-- The path of the exported state diagram, and its span in the source.
 pub record ExportView : Type 0 where
   pub path : List ℕ
   pub span : Span
 
--- The options given so far.
+-- The options that have been read.
 pub record OptionsView : Type 0 where
   pub utf8 : Option ModeView
   pub skips : List DefinitionView
@@ -39,7 +39,7 @@ pub record OptionsView : Type 0 where
 abbrev pub utf8_mode : OptionsView → Bool
 utf8_mode o = unwrap_or (option_map (λ m. m.value) o.utf8) true
 
--- No options are given.
+-- No options.
 abbrev pub no_options : OptionsView
 no_options = record { utf8 = None; skips = []; extras = None; subpatterns = []; error_type = None; logos_path = None; export_path = None; types = record { names = []; types = []; lifetime = false } }
 
@@ -78,7 +78,7 @@ abbrev pub extras_report : Slice → PieceValue → OptionsView → Report Optio
 extras_report name (assigned run) o = extras_set run o
 extras_report name value o = with_faults o (only (extras_form name))
 
--- The last path replaces the former ones, without a fault.
+-- The report of `crate`. The last path replaces the former ones, without a fault.
 abbrev pub crate_report : Slice → PieceValue → OptionsView → Report OptionsView
 crate_report name (assigned run) o = without_faults (record o { logos_path = Some run })
 crate_report name value o = with_faults o (only (crate_form name))
@@ -86,7 +86,7 @@ crate_report name value o = with_faults o (only (crate_form name))
 abbrev pub path_set : TokenList → List ℕ → OptionsView → Report OptionsView
 path_set run path o = with_faults (record o { export_path = Some (record { path = path; span = run_span run }) }) (export_twice (run_span run) (option_map (λ e. e.span) o.export_path))
 
--- The path that a literal holds.
+-- The report of a path that is the value of a literal.
 abbrev pub held_path : TokenList → OptionsView → Held → Report OptionsView
 held_path run o (of_text path) = path_set run path o
 held_path run o (of_bytes bytes) = with_faults o (only (export_bytes run))

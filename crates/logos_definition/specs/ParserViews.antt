@@ -1,4 +1,4 @@
--- The options that a value of type `Parser` stands for.
+-- The options that a value of type `Parser` represents.
 use Rattle.std.specs.Prelude.{◌≡◌, false, map, option_map, string_bytes}
 use Rattle.logos_token.specs.Views.{stream_tokens}
 use Rattle.logos_attribute.specs.LiteralViews.{named_literal_view}
@@ -29,6 +29,6 @@ parser_view p = record {
   types = value_of p.types;
 }
 
--- A call found a parser that had not failed, and left it so.
+-- The parser had not failed before the call, and has not failed after it.
 abbrev pub HasNotFailed : Parser → Parser → Type 0
 HasNotFailed before after = (before.failed ≡ false) × (after.failed ≡ false)

@@ -1,7 +1,8 @@
-//! Reads the callbacks among the arguments of definitions and of error types.
+//! Reads the callbacks among the arguments of definitions and of error types. `definition` and
+//! `error_type` call it.
 
 ghost use Rattle.std.specs.Prelude.{◌≡◌, OnOk, OnErr, option_map};
-ghost use Rattle.logos_definition.specs.Words.{tokens_of, callback_view, value_of, IsReport, ident_slice, named_callback, unnamed_callback};
+ghost use Rattle.logos_definition.specs.Imports.{tokens_of, callback_view, value_of, IsReport, ident_slice, named_callback, unnamed_callback};
 
 use crate::definition::faults::{report_callback_form, report_named_expected};
 use logos_attribute::callback::{read_callback, set_callback};
@@ -10,7 +11,7 @@ use logos_pattern::leaf::Callback;
 use logos_token::error::{Errors, Memory};
 use logos_token::token::{Ident, Tokens};
 
-/// Adds the argument `callback`. After an error the callback is unchanged.
+/// Sets the callback from the argument `callback`. After an error the callback is unchanged.
 pub(crate) fn add_callback<'s>(
     callback: &mut Option<Callback<'s>>,
     name: Ident<'s>,

@@ -28,13 +28,13 @@ pub struct Definition<'s> {
     pub literal: Literal<'s>,
     pub priority: Option<usize>,
     pub callback: Option<Callback<'s>>,
-    /// The value of `allow_greedy`, if it is given: whether a greedy repetition of a dot is
+    /// The value of `allow_greedy`, if the argument occurs: whether a greedy repetition of a dot is
     /// allowed.
     pub allow_greedy: Option<bool>,
     pub ignore_flags: IgnoreFlags,
 }
 
-/// Sets the priority, in place of a former one, which is reported. After an error it is unchanged.
+/// Sets the priority. Reports and replaces a former one. After an error the priority is unchanged.
 fn set_priority(
     priority: &mut Option<usize>,
     tokens: Tokens<'_, '_>,
@@ -56,8 +56,8 @@ fn set_priority(
     Ok(())
 }
 
-/// Sets the value of `allow_greedy`, in place of a former one, which is reported. After an error it
-/// is unchanged.
+/// Sets the value of `allow_greedy`. Reports and replaces a former one. After an error the value is
+/// unchanged.
 fn set_greedy(
     allow: &mut Option<bool>,
     tokens: Tokens<'_, '_>,
@@ -219,9 +219,9 @@ impl<'s> Definition<'s> {
     }
 }
 
-/// Reads the definition in the parentheses of `token`, `regex` or `skip`. `None` if these do not
-/// begin with a literal; tokens in place of the literal are reported. After `Memory` some of the
-/// faults can have been added.
+/// Reads the definition in the parentheses of `token`, `regex` or `skip`. Returns `None` if they do
+/// not begin with a literal, and reports tokens in place of the literal. After `Memory` some of the
+/// faults may have been added.
 pub(crate) fn read_definition<'s>(
     tokens: Tokens<'_, 's>,
     errors: &mut Errors,

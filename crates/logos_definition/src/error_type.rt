@@ -1,4 +1,4 @@
-//! Reads error types and their callbacks. The parser reads it at `error` in `logos(..)`.
+//! Reads error types and their callbacks. The parser calls it at `error` in `logos(..)`.
 
 ghost use Rattle.std.specs.Prelude.{OnOk, IfOk, option_map, true, ◌≡◌, OnErr, string_bytes};
 ghost use Rattle.logos_definition.specs.Views.{type_tree, tokens_of, ident_slice, pieces_left, AddsFault, IsReport, unknown_error_argument, error_read, error_arguments_report, error_empty, ErrorGroup, stream_tokens, value_of, piece_of, error_alone, no_error, error_span, error_text, error_named_report, error_argument_report, error_view};
@@ -6,23 +6,24 @@ ghost use Rattle.logos_definition.specs.Views.{type_tree, tokens_of, ident_slice
 use crate::arguments::{add_callback, add_unnamed};
 use crate::definition::faults::report_unexpected;
 use logos_attribute::nested::{AttributeParser, Nested, NestedValue};
-use logos_attribute::reporting::{report_named, report_run};
+use logos_attribute::reports::report_run;
 use logos_pattern::leaf::Callback;
-use logos_token::error::{Errors, FaultCode, Memory};
+use logos_token::error::{Detail, Errors, FaultCode, Memory};
 use logos_token::token::{Ident, Span, TokenStream, Tokens};
 use logos_token::util::MaybeVoid;
 use logos_type::{TypeExpr, print_type};
 use logos_type_params::read_value;
+use logos_type_params::reports::report_about_with;
 use std::alloc::Global;
 
-/// The error type of a lexer, and the callback that makes an error.
+/// The error type of a lexer, and the callback that creates an error.
 #[derive(Drop)]
 pub struct ErrorType<'s> {
     /// The tokens of the type. Without tokens the type is `()`.
     pub ty: MaybeVoid<'s>,
-    /// The type as it was read from these tokens: in `error(..)`, but not after `error =`.
+    /// The type that was read from these tokens: set for `error(..)`, but not for `error = ..`.
     pub type_expr: Option<TypeExpr<'s>>,
-    /// The callback that makes an error, if there is one.
+    /// The callback that creates an error, if there is one.
     pub callback: Option<Callback<'s>>,
 }
 
@@ -31,12 +32,13 @@ fn report_unknown(name: Ident<'_>, errors: &mut Errors) -> Result<(), Memory>
     ensures { OnOk result
         (AddsFault (unknown_error_argument (ident_slice name.entry)) errors.old errors.new) }
 {
-    report_named(
+    report_about_with(
         errors,
         FaultCode::UnknownNested,
         "Unknown nested attribute: ",
         name,
         "\n\nExpected one of: callback",
+        Detail::ErrorArgument,
     )
 }
 
@@ -63,8 +65,9 @@ impl<'s> ErrorType<'s> {
         }
     }
 
-    /// Returns the text of the type: of the type that was read if it was, or else of its tokens, or
-    /// `()` if there are none. Its lifetimes and parameters are those of the source.
+    /// Returns the text of the type: the text of the type that was read, if one was, and otherwise
+    /// the text of the tokens, or `()` if there are none. Its lifetimes and parameters are those in
+    /// the source.
     ///
     /// # Errors
     ///
@@ -158,8 +161,8 @@ fn report_empty(group: Tokens<'_, '_>, errors: &mut Errors) -> Result<(), Memory
     )
 }
 
-/// Returns the error type that was read from the run, with the arguments after it. The first of
-/// them can be a callback without a name.
+/// Returns the error type that was read from the run, with the arguments after it. The first
+/// argument can be a callback without a name.
 fn with_arguments<'s>(
     run: Tokens<'_, 's>,
     type_expr: TypeExpr<'s>,
@@ -180,8 +183,8 @@ fn with_arguments<'s>(
     Ok(error)
 }
 
-/// Reads the error type in `error(..)`. Reports a group without a type, at the whole group, and
-/// returns `None` for it.
+/// Reads the error type in `error(..)`. Reports a group without a type, at the span of the whole
+/// group, and returns `None` for it.
 pub(crate) fn error_in<'s>(
     group: Tokens<'_, 's>,
     errors: &mut Errors,

@@ -1,6 +1,6 @@
-//! The flags of `ignore(..)`.
+//! The flags of `ignore(..)`. Users of the library read them.
 
-/// How the pattern of a definition is matched.
+/// The flags that determine how the pattern of a definition is matched.
 #[derive(Clone, Copy, PartialEq, Eq)]
 pub struct IgnoreFlags {
     /// Letters match in either case.

@@ -1,9 +1,10 @@
-//! Reads the attributes of an enum. `logos_leaf` fills one for each enum.
+//! Reads the attributes of an enum. `logos_leaf` uses one `Parser` for each enum.
 
 ghost use Rattle.std.specs.Prelude.{◌≡◌, IfOk, OnOk, OnErr, option_map, true, false, []};
 ghost use Rattle.logos_definition.specs.Views.{tokens_of, literal_slice, IsReport, AddsFault, fault, pieces, text_report, literal_view, definition_report, no_options, utf8_mode, ReadsPieces, ident_slice, value_of, named_report, error_named_report, flags_report, definition_view, parser_view, HasNotFailed, error_view};
 
-/// Makes a call that changes a parser, unless the parser has failed. It has failed after an error.
+/// Runs a call that changes a parser, unless the parser has failed. A parser has failed after an
+/// error.
 macro_rules! unless_failed {
     ($parser:expr, $call:expr) => {{
         if $parser.failed {
@@ -34,7 +35,7 @@ use logos_token::util::MaybeVoid;
 use logos_type_params::TypeParams;
 use std::alloc::Global;
 
-/// Whether inputs are UTF-8, and where the source gives that.
+/// Whether inputs are UTF-8, and the span of that value in the source.
 #[derive(Clone, Copy)]
 pub struct Utf8Mode {
     pub value: bool,
@@ -42,7 +43,7 @@ pub struct Utf8Mode {
     pub span: Span,
 }
 
-/// The path of the exported chart, and where the source gives it.
+/// The path of the exported state diagram, and its span in the source.
 #[derive(Drop)]
 pub struct ExportPath {
     pub path: String,
@@ -50,21 +51,21 @@ pub struct ExportPath {
     pub span: Span,
 }
 
-/// Collects the options that the attributes of an enum give, and the faults found in them. If
-/// memory runs out in a call that changes it, the parser has failed, and each later call answers
+/// Collects the options in the attributes of an enum, and the faults found in them. If memory runs
+/// out in a call that changes the parser, the parser has failed, and each later call returns
 /// `Memory`.
 #[derive(Drop)]
 pub struct Parser<'s> {
     pub errors: Errors,
     pub utf8_mode: Option<Utf8Mode>,
     /// The definitions of `skip` that are not leaves yet, in source order. Once the leaves of the
-    /// enum are read there is none.
+    /// enum are read there are none.
     pub skips: Vec<Definition<'s>>,
     pub extras: MaybeVoid<'s>,
     /// The subpatterns with their names, in source order.
     pub subpatterns: Vec<(Ident<'s>, Literal<'s>)>,
     pub error_type: Option<ErrorType<'s>>,
-    /// The path of the crate that the printed text uses.
+    /// The path of the crate in the generated code.
     pub logos_path: Option<TokenStream<'s>>,
     pub export_path: Option<ExportPath>,
     /// The declared type parameters, and the types given to them.
@@ -95,7 +96,7 @@ impl<'s> Parser<'s> {
         }
     }
 
-    /// Returns whether inputs are UTF-8, which they are unless the option `utf8` is `false`.
+    /// Returns whether inputs are UTF-8: `true` unless the option `utf8` is `false`.
     pub fn is_utf8(&self) -> bool
         ensures { result ≡ utf8_mode (parser_view self.now) }
     {
@@ -155,8 +156,8 @@ impl<'s> Parser<'s> {
         unless_failed!(self, read_text(self.alloc, literal, &mut self.errors))
     }
 
-    /// Reads the definition in the parentheses of a `token` or `regex`. `None` if these do not
-    /// begin with a literal; tokens in place of the literal are reported.
+    /// Reads the definition in the parentheses of a `token` or `regex`. Returns `None` if they do
+    /// not begin with a literal, and reports tokens in place of the literal.
     ///
     /// # Errors
     ///
@@ -177,8 +178,8 @@ impl<'s> Parser<'s> {
 }
 
 impl<'s> Definition<'s> {
-    /// Adds a named argument, and reports its faults in `parser`, of which nothing else changes.
-    /// Memory is taken from the allocator of `parser`.
+    /// Adds a named argument, and adds its faults to `parser`, which is otherwise unchanged. Memory
+    /// is taken from the allocator of `parser`.
     ///
     /// # Errors
     ///
@@ -205,8 +206,8 @@ impl<'s> Definition<'s> {
 }
 
 impl<'s> ErrorType<'s> {
-    /// Adds a named argument, and reports its faults in `parser`, of which nothing else changes.
-    /// Memory is taken from the allocator of `parser`.
+    /// Adds a named argument, and adds its faults to `parser`, which is otherwise unchanged. Memory
+    /// is taken from the allocator of `parser`.
     ///
     /// # Errors
     ///
@@ -232,9 +233,9 @@ impl<'s> ErrorType<'s> {
 }
 
 impl IgnoreFlags {
-    /// Sets the flags in the group after `ignore`, and reports the first fault among them in
-    /// `parser`, of which nothing else changes. `name` is the word `ignore`. Memory is taken from
-    /// the allocator of `parser`.
+    /// Sets the flags in the group after `ignore`, and adds the first fault among them to `parser`,
+    /// which is otherwise unchanged. `name` is the identifier `ignore`. Memory is taken from the
+    /// allocator of `parser`.
     ///
     /// # Errors
     ///

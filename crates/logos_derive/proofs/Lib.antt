@@ -1,3 +1,2 @@
 pub mod DerivationLemmas
 pub mod ErrorLemmas
-pub mod PieceLemmas

@@ -1,17 +1,17 @@
--- What the derive macro needs to know of an enum.
+-- The derivation of an enum.
 use Rattle.std.specs.Prelude.{◌≡◌, ◌≢◌, ℕ, List, [], All, Some, None}
 use Rattle.logos_causes.specs.Sets.{HasSets}
 use Rattle.logos_codegen.specs.Source.{IsRefused}
 use Rattle.logos_derive.specs.Diagnostics.{HasErrors, IsWarning, error_summaries}
 use Rattle.logos_derive.specs.Implementations.{IsImplementation}
 use Rattle.logos_derive.specs.declared.derivation.Derivation.{Derivation}
-use Rattle.logos_derive.specs.declared.implementation.Implementation.{Implementation}
 use Rattle.logos_tables.specs.declared.shape.Shape.{Shape}
+use Rattle.logos_text.specs.declared.sink.Sink.{Sink}
 use Rattle.logos_token.specs.Faults.{Fault}
 
 -- A source is accepted, and this is its implementation in a shape. All diagnostics are warnings.
 pub record IsAccepted (shape : Shape) (source : List ℕ) (derivation : Derivation) : Type 0 where
-  pub made : Implementation
+  pub made : Sink
   pub is : derivation.implementation ≡ Some made
   pub implements : IsImplementation shape source made
   pub warns : All IsWarning derivation.diagnostics.items

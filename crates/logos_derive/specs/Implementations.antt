@@ -1,25 +1,21 @@
--- The implementation of an enum, with the pieces of its source.
-use Rattle.std.specs.Prelude.{ℕ, ◌≤◌, List, [], ◌∷◌, string_bytes}
-use Rattle.logos_derive.specs.Parts.{IsPartOf, StandsAt}
-use Rattle.logos_derive.specs.declared.implementation.Implementation.{Implementation}
-use Rattle.logos_derive.specs.declared.implementation.Piece.{Piece}
-use Rattle.logos_tables.specs.Shapes.{IsLexerText}
+-- The implementation of an enum, with the tokens of its source in it.
+use Rattle.std.specs.Prelude.{ℕ, List, string_bytes}
+use Rattle.logos_code.specs.Code.{CodeValue}
+use Rattle.logos_tables.specs.Shapes.{IsLexerOf, IsShown, shape_runs}
 use Rattle.logos_tables.specs.declared.shape.Shape.{Shape}
+use Rattle.logos_text.specs.Fronts.{AroundValue}
+use Rattle.logos_text.specs.Pieces.{ArePrinted}
+use Rattle.logos_text.specs.declared.sink.Sink.{Sink}
 
--- A piece of a source stands in a text: the bytes of the text between its ends are the printed
--- tokens at its span of the source.
-pub record IsPieceOf (source text : List ℕ) (piece : Piece) : Type 0 where
-  pub part : List ℕ
-  pub is_part : IsPartOf source piece.span part
-  pub stands : StandsAt text piece.from part piece.to
+-- This is the text of a code in a shape, with this around its function. Its pieces are the tokens
+-- of the source that it repeats: each run once, at its offset, in order and without overlap.
+pub record IsMadeOf (shape : Shape) (around : AroundValue) (code : CodeValue) (made : Sink) : Type 0 where
+  pub shown : IsShown shape around code (string_bytes made.text)
+  pub pieces : ArePrinted (shape_runs shape around code) 0 made.pieces.items (string_bytes made.text)
 
--- These are pieces of a source in a text from an offset on, in order, and no two overlap.
-abbrev pub ArePieces : List ℕ → List ℕ → ℕ → List Piece → Type 0
-ArePieces source text offset [] = Unit {0}
-ArePieces source text offset (piece ∷ rest) = (offset ≤ piece.from) × IsPieceOf source text piece × ArePieces source text piece.to rest
-
--- This is the implementation of a source without faults, in this shape: the text of its lexer, with
--- pieces of the source.
-pub record IsImplementation (shape : Shape) (source : List ℕ) (made : Implementation) : Type 0 where
-  pub lexer : IsLexerText shape source (string_bytes made.text)
-  pub pieces : ArePieces source (string_bytes made.text) 0 made.pieces.items
+-- This is the implementation of a source without faults, in this shape.
+pub record IsImplementation (shape : Shape) (source : List ℕ) (made : Sink) : Type 0 where
+  pub around : AroundValue
+  pub code : CodeValue
+  pub lexer : IsLexerOf shape source around code
+  pub made_of : IsMadeOf shape around code made

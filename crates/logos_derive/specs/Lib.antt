@@ -1,7 +1,6 @@
-pub mod Parts
 pub mod Implementations
 pub mod Diagnostics
 pub mod Derivations
 pub mod inside
-pub mod Words
+pub mod Imports
 pub mod Views

@@ -1,44 +1,50 @@
-//! Derives an enum: its implementation, or why it is refused. The derive macro calls it.
+//! Derives an enum: its implementation, or its errors. Called by the derive macro.
 
 ghost use Rattle.std.specs.Prelude.{IfOk};
-ghost use Rattle.logos_derive.specs.Views.{All, HasErrors, IsAcceptedBy, IsDerivation, IsRefusedFor, IsWarning, sizes_of};
+ghost use Rattle.logos_derive.specs.Views.{All, HasErrors, IsAcceptedBy, IsDerivation, IsRefusedFor, IsWarning, around_made, sizes_of};
 
 use crate::diagnostic::Diagnostic;
 use crate::errors::errors_of;
-use crate::implementation::{Implementation, implementation_of};
 use crate::warnings::warnings_of;
-use logos_causes::{Explained, explain_enum, lexer_warnings};
+use logos_causes::{Explained, Lexer, accepted_warnings, explain_enum};
 use logos_codegen::{Generated, Refusal, generate};
-use logos_report::{Part, Source};
-use logos_tables::{Shape, config_of};
+use logos_report::{Helps, Part, Source};
+use logos_tables::{Shape, config_of, lexer_text};
+use logos_text::Sink;
 use logos_token::error::{Errors, Memory};
-use logos_warnings::{Origin, enum_warnings};
+use logos_token::token::{Tokens, tokenize};
+use logos_warnings::Origin;
 use std::alloc::Global;
 
-/// What the derive macro needs to know of one enum.
+/// The result of deriving an enum.
 #[derive(Debug, Drop)]
 pub struct Derivation {
     /// The implementation, if the enum is accepted.
-    pub implementation: Option<Implementation>,
+    pub implementation: Option<Sink>,
     /// The errors, in the order of the faults, and then the warnings.
     pub diagnostics: Vec<Diagnostic>,
 }
 
-/// Returns what the derive macro needs to know of the enum that a source spells. An enum without
-/// faults is accepted: it has an implementation in this shape, and no error. One with faults is
-/// refused, with at least one error. Both may have warnings.
+/// Returns the derivation of the enum that a source spells. An enum without faults is accepted: it
+/// has an implementation in this shape, and no errors. One with faults is refused, with at least
+/// one error, and the helps for it. Both may have warnings.
 ///
 /// # Errors
 ///
 /// Returns `Memory` if memory runs out.
-pub fn derive(alloc: Global, source: &str, shape: Shape) -> Result<Derivation, Memory>
+pub fn derive<H: Helps>(
+    alloc: Global,
+    source: &str,
+    shape: Shape,
+    helps: &H,
+) -> Result<Derivation, Memory>
     // The text is that of the lexer of the source, with the pieces in it, or the errors are those
-    // of the faults of the source.
+    // for the faults of the source.
     ensures { IfOk result (IsDerivation shape source.now) }
 {
     match generate(alloc, source, config_of(shape)) {
         Ok(made) => accepted(alloc, source, shape, &made),
-        Err(Refusal::Errors(errors)) => refused(alloc, source, &errors),
+        Err(Refusal::Errors(errors)) => refused(alloc, source, &errors, helps),
         Err(Refusal::Memory) => Err(Memory),
     }
 }
@@ -50,9 +56,9 @@ fn accepted(
     shape: Shape,
     made: &Generated<'_>,
 ) -> Result<Derivation, Memory>
-    ensures { IfOk result (IsAcceptedBy shape made.now.code source.now) }
+    ensures { IfOk result (IsAcceptedBy shape (around_made made.now) made.now.code) }
 {
-    let implementation = implementation_of(alloc, source, shape, made)?;
+    let implementation = lexer_text(alloc, shape, made)?;
     let diagnostics = warnings_by(alloc, source, made)?;
     Ok(Derivation {
         implementation: Some(implementation),
@@ -60,37 +66,59 @@ fn accepted(
     })
 }
 
-/// Returns the warnings of an accepted source.
+/// Returns the warnings for an accepted source.
 fn warnings_by(alloc: Global, source: &str, made: &Generated<'_>) -> Result<Vec<Diagnostic>, Memory>
     ensures { IfOk result (λ diagnostics. All IsWarning diagnostics.items) }
 {
-    let mut warned = enum_warnings(alloc, source, true, Origin::Macro)?;
-    let error = made.code.error_callback();
-    let mut more = lexer_warnings(alloc, source, &made.graph, error)?;
-    warned.append(&mut more)?;
+    match tokenize(alloc, source) {
+        Ok(stream) => warnings_with(alloc, stream.run(), made),
+        // The source has tokens, within the limits.
+        Err(_) => Err(Memory),
+    }
+}
+
+/// Returns the warnings of an accepted source with these tokens.
+fn warnings_with(
+    alloc: Global,
+    tokens: Tokens<'_, '_>,
+    made: &Generated<'_>,
+) -> Result<Vec<Diagnostic>, Memory>
+    ensures { IfOk result (λ diagnostics. All IsWarning diagnostics.items) }
+{
+    let lexer = Lexer {
+        graph: &made.graph,
+        error: made.code.error_callback(),
+    };
+    let warned = accepted_warnings(alloc, tokens, lexer, Origin::Macro)?;
     warnings_of(alloc, &warned)
 }
 
 /// Returns the derivation of a refused source, which has these faults.
-fn refused(alloc: Global, source: &str, errors: &Errors) -> Result<Derivation, Memory>
+fn refused<H: Helps>(
+    alloc: Global,
+    source: &str,
+    errors: &Errors,
+    helps: &H,
+) -> Result<Derivation, Memory>
     ensures { IfOk result (IsRefusedFor source.now errors.now) }
 {
-    let known = explain_enum(alloc, source, Origin::Macro)?;
-    let diagnostics = diagnostics_of(alloc, source, errors, &known)?;
+    let mut known = explain_enum(alloc, source, Origin::Macro)?;
+    let diagnostics = diagnostics_of(alloc, source, errors, helps, &mut known)?;
     Ok(Derivation {
         implementation: None,
         diagnostics,
     })
 }
 
-/// Returns the errors and then the warnings of a refused source, of which this is known.
-fn diagnostics_of(
+/// Returns the errors and then the warnings for a refused source, given its explanation.
+fn diagnostics_of<H: Helps>(
     alloc: Global,
     source: &str,
     errors: &Errors,
-    known: &Explained,
+    helps: &H,
+    known: &mut Explained,
 ) -> Result<Vec<Diagnostic>, Memory>
-    ensures { IfOk result (λ diagnostics. HasErrors (sizes_of known.now.clues) errors.now
+    ensures { IfOk result (λ diagnostics. HasErrors (sizes_of known.old.clues) errors.now
         diagnostics.items) }
 {
     let text = Source::new(alloc, "", source)?;
@@ -98,6 +126,7 @@ fn diagnostics_of(
         source: &text,
         offset: 0,
     };
+    helps.add(part, errors, &mut known.clues)?;
     let mut diagnostics = errors_of(alloc, part, errors.list(), &known.clues)?;
     let mut warnings = warnings_of(alloc, &known.warnings)?;
     diagnostics.append(&mut warnings)?;

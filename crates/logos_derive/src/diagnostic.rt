@@ -1,10 +1,10 @@
-//! Errors and warnings as the derive macro shows them.
+//! Errors and warnings in the form in which the derive macro shows them.
 
 use logos_token::error::{FaultCode, Memory};
 use logos_token::token::Span;
 use std::alloc::Global;
 
-/// Whether an enum is refused for what a diagnostic says.
+/// The level of a diagnostic: whether it refuses its enum.
 #[derive(Clone, Copy, Debug, PartialEq, Eq)]
 pub enum Level {
     Error,
@@ -19,29 +19,29 @@ pub struct Diagnostic {
     pub code: Option<FaultCode>,
     /// The first line of the message.
     pub message: String,
-    /// What it is about.
+    /// The primary span.
     pub span: Span,
     /// The part of a literal that is wrong, if it is not all of `span`.
     pub carets: Option<Span>,
-    /// Further spans, each with what it is.
+    /// Further spans, each with a label.
     pub labels: Vec<Label>,
-    /// The rest of the message, and what to do.
+    /// The rest of the message, and the help.
     pub notes: Vec<Note>,
 }
 
 /// A further span of a diagnostic.
 #[derive(Debug, Drop)]
 pub struct Label {
-    /// In bytes of the source.
+    /// The span, in bytes of the source.
     pub span: Span,
-    /// What the span is, as one line.
+    /// The label of the span, on one line.
     pub text: String,
 }
 
 /// A line under a diagnostic.
 #[derive(Debug, Drop)]
 pub struct Note {
-    /// Whether the line says what to do.
+    /// Whether the line is a help.
     pub is_help: bool,
     pub text: String,
 }
@@ -61,12 +61,12 @@ pub(crate) fn add_other(also: Option<Span>, labels: &mut Vec<Label>) -> Result<(
     }
 }
 
-/// Adds a line that says more.
+/// Adds a note.
 pub(crate) fn add_note(text: &str, notes: &mut Vec<Note>) -> Result<(), Memory> {
     add_line(false, text, notes)
 }
 
-/// Adds a line that says what to do.
+/// Adds a help.
 pub(crate) fn add_help(text: &str, notes: &mut Vec<Note>) -> Result<(), Memory> {
     add_line(true, text, notes)
 }

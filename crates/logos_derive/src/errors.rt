@@ -1,5 +1,5 @@
-//! The faults of an enum as errors: one for each fault that is not part of an earlier error, but no
-//! more than 50 with one code. `derivation` calls it.
+//! The faults of an enum as errors: one for each fault that is not part of an earlier error, but at
+//! most 50 with one code. Called by `derivation`.
 
 ghost use Rattle.std.specs.Prelude.{◌≡◌, ◌≤◌, ◌++◌, IfOk, OnOk, length, map, take};
 ghost use Rattle.logos_derive.specs.Views.{errors_at, error_summaries, fault_of, faults_of, has_error, next_value, summary_of, error_summary, sizes_of};
@@ -15,7 +15,7 @@ use logos_token::error::{FaultCode, Memory, SpannedError};
 use logos_token::token::Span;
 use std::alloc::Global;
 
-/// Returns the errors of these faults, in order.
+/// Returns the errors for these faults, in order.
 pub(crate) fn errors_of(
     alloc: Global,
     part: Part<'_, '_>,
@@ -35,7 +35,7 @@ pub(crate) fn errors_of(
     Ok(errors)
 }
 
-/// Adds the error of a fault, which has this number, if it has one of its own.
+/// Adds the error for the fault with this number, if it has its own.
 fn add_fault(
     part: Part<'_, '_>,
     faults: &[SpannedError],
@@ -57,8 +57,8 @@ fn add_fault(
     Ok(())
 }
 
-/// Returns whether a fault that comes next has an error of its own, by the faults in front of it.
-/// The first fault has one, so that no source is refused without an error.
+/// Returns whether the next fault has its own error, given the faults before it. The first fault
+/// has one, so that no source is refused without an error.
 fn has_error(front: &[SpannedError], next: NextFaults<'_>, fault: &SpannedError) -> bool
     ensures { result ≡ has_error (faults_of front.now) (next_value next.entry)
         (fault_of fault.now) }
@@ -69,7 +69,7 @@ fn has_error(front: &[SpannedError], next: NextFaults<'_>, fault: &SpannedError)
     begins_error(next, fault) & (seen_in(&[], front, fault.code) < MOST)
 }
 
-/// Returns the error of a fault, which has this number.
+/// Returns the error for the fault with this number.
 fn error_of(
     alloc: Global,
     part: Part<'_, '_>,
@@ -87,6 +87,7 @@ fn error_of(
         fault,
         member: next.member(fault),
         starts: next.starts(fault.code),
+        help: next.help(),
         left_out: left_out(faults, start.saturating_add(joined.len()), fault.code),
     };
     let message = String::from_str(alloc, first_line(fault.message.as_str()))?;
@@ -103,7 +104,7 @@ fn error_of(
     })
 }
 
-/// Returns these faults from one with a number on.
+/// Returns these faults from the one with this number on.
 fn rest_from(faults: &[SpannedError], number: usize) -> &[SpannedError] {
     match faults.get(number..) {
         Some(rest) => rest,
@@ -111,8 +112,8 @@ fn rest_from(faults: &[SpannedError], number: usize) -> &[SpannedError] {
     }
 }
 
-/// Returns how many of these faults from one with a number on have a code, if those in front of it
-/// have as many as are shown.
+/// Returns how many of these faults from a number on have this code, if the faults before it
+/// include as many as are shown.
 fn left_out(faults: &[SpannedError], number: usize, code: FaultCode) -> usize {
     let Some(front) = faults.get(..number) else {
         return 0;
@@ -128,7 +129,7 @@ fn left_out(faults: &[SpannedError], number: usize, code: FaultCode) -> usize {
     count_in(listing, code)
 }
 
-/// Returns where the carets of a fault stand, if that is not all of its span.
+/// Returns the span of the carets of a fault, if that is not its whole span.
 fn carets_of(part: Part<'_, '_>, fault: &SpannedError) -> Option<Span> {
     let carets = caret_span(part, fault);
     if (carets.from == fault.span.from) & (carets.to == fault.span.to) {

@@ -1,12 +1,12 @@
-//! The faults that belong to an error in front of them: its notes, and the other members of a set
-//! of ambiguous leaves. `errors` calls it.
+//! The faults that belong to an earlier error: its notes, and the other members of a set of
+//! ambiguous leaves. Called by `errors`.
 
 use crate::diagnostic::{Label, add_label, add_other};
 use logos_report::{MOST, Member, NextFaults, begins_error, first_line};
 use logos_token::error::{Memory, SpannedError};
 use std::alloc::Global;
 
-/// Returns those at the front of these faults that belong to the error in front of them.
+/// Returns the leading faults that belong to the error before them.
 pub(crate) fn joined_to<'f>(
     faults: &'f [SpannedError],
     first: NextFaults<'_>,
@@ -22,8 +22,8 @@ pub(crate) fn joined_to<'f>(
     faults
 }
 
-/// Returns the further spans of an error: its second one, and those of the faults that belong to
-/// it, of which these come first. There are no more than 50 of these.
+/// Returns the further spans of an error: its second one, and those of the leading faults, which
+/// belong to it. There are at most 50 of these.
 pub(crate) fn labels_of(
     alloc: Global,
     fault: &SpannedError,
@@ -40,8 +40,8 @@ pub(crate) fn labels_of(
     Ok(labels)
 }
 
-/// Adds the span of a fault that belongs to an error, with the name of its leaf if it is a member
-/// of a set, and else with its message.
+/// Adds the span of a fault that belongs to an error. Its label is the name of its leaf if it is a
+/// member of a set, otherwise its message.
 fn add_joined(
     fault: &SpannedError,
     member: Option<Member<'_>>,

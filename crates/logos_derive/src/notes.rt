@@ -1,26 +1,28 @@
-//! The lines under an error. `errors` calls it.
+//! The lines under an error. Called by `errors`.
 
 use crate::diagnostic::{Note, add_help, add_note};
-use logos_report::{MOST, Member, Part, Start, help_of, put_in};
+use logos_report::{MOST, Member, Part, Start, put_in};
 use logos_token::error::{Memory, SpannedError};
 use std::alloc::Global;
 
-/// An error, with what is known of it.
+/// An error, with the clues about it.
 #[derive(Clone, Copy)]
 pub(crate) struct KnownError<'f, 'p, 't> {
     pub(crate) part: Part<'p, 't>,
     /// The fault with which it begins.
     pub(crate) fault: &'f SpannedError,
-    /// What the fault is in a set of ambiguous leaves.
+    /// The position of the fault in a set of ambiguous leaves.
     pub(crate) member: Option<Member<'f>>,
     /// The patterns that explain it.
     pub(crate) starts: &'f [Start],
+    /// The help for it, if there is one.
+    pub(crate) help: Option<&'static str>,
     /// How many faults with its code have no error, if it is the last error with this code.
     pub(crate) left_out: usize,
 }
 
-/// Returns the lines under an error: the rest of its message, what is known of it, what to do, and
-/// how many faults with its code are left out.
+/// Returns the lines under an error: the rest of its message, the clues about it, the help, and the
+/// number of faults with its code that are left out.
 pub(crate) fn notes_of(alloc: Global, error: KnownError<'_, '_, '_>) -> Result<Vec<Note>, Memory> {
     let mut notes = Vec::new(alloc);
     add_put_in(alloc, error, &mut notes)?;
@@ -31,8 +33,7 @@ pub(crate) fn notes_of(alloc: Global, error: KnownError<'_, '_, '_>) -> Result<V
     Ok(notes)
 }
 
-/// Adds which subpattern is put into a pattern in front of the byte at which it is wrong, if that
-/// is why no part of the literal is known to be wrong.
+/// Adds the substituted subpattern after which the byte of a fault is counted, if there is one.
 fn add_put_in(
     alloc: Global,
     error: KnownError<'_, '_, '_>,
@@ -63,18 +64,15 @@ fn add_other_lines(message: &str, notes: &mut Vec<Note>) -> Result<(), Memory> {
     Ok(())
 }
 
-/// Adds a line of a message, without the blanks in front of it, unless it is empty.
+/// Adds a line of a message, without its leading blanks, unless it is empty.
 fn add_other_line(line: &str, notes: &mut Vec<Note>) -> Result<(), Memory> {
     if line.is_empty() {
         return Ok(());
     }
-    match line.strip_prefix("  ") {
-        Some(text) => add_note(text, notes),
-        None => add_note(line, notes),
-    }
+    add_note(line.trim_start(), notes)
 }
 
-/// Adds the patterns that can look at what stands before their first byte, but no more than 50.
+/// Adds the patterns that can examine the bytes before their start, but at most 50.
 fn add_starts(starts: &[Start], notes: &mut Vec<Note>) -> Result<(), Memory> {
     for start in starts.iter().take(MOST) {
         add_note(start.name.as_str(), notes)?;
@@ -82,15 +80,15 @@ fn add_starts(starts: &[Start], notes: &mut Vec<Note>) -> Result<(), Memory> {
     Ok(())
 }
 
-/// Adds what to do about an error, if that is known.
+/// Adds the help for an error, if there is one.
 fn add_advice(error: KnownError<'_, '_, '_>, notes: &mut Vec<Note>) -> Result<(), Memory> {
-    match help_of(error.part, error.fault) {
+    match error.help {
         Some(help) => add_help(help, notes),
         None => Ok(()),
     }
 }
 
-/// Adds how many faults with the code of an error are left out, if there are any.
+/// Adds the number of faults with the code of an error that are left out, if there are any.
 fn add_left_out(alloc: Global, count: usize, notes: &mut Vec<Note>) -> Result<(), Memory> {
     if count == 0 {
         return Ok(());

@@ -1,4 +1,4 @@
-//! Warnings as diagnostics. `derivation` calls it.
+//! Warnings as diagnostics. Called by `derivation`.
 
 ghost use Rattle.std.specs.Prelude.{IfOk};
 ghost use Rattle.logos_derive.specs.Views.{All, IsWarning};
@@ -8,7 +8,7 @@ use logos_report::{Warning, first_of};
 use logos_token::error::Memory;
 use std::alloc::Global;
 
-/// Returns these warnings as diagnostics, in order, but no more than 50.
+/// Returns these warnings as diagnostics, in order, but at most 50.
 pub(crate) fn warnings_of(alloc: Global, warned: &[Warning]) -> Result<Vec<Diagnostic>, Memory>
     ensures { IfOk result (λ diagnostics. All IsWarning diagnostics.items) }
 {

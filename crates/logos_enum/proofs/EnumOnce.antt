@@ -12,11 +12,11 @@ use Rattle.logos_enum.specs.Attributes.{announced_in, IsFront}
 use Rattle.logos_enum.specs.Extents.{after_extent}
 use Rattle.logos_enum.specs.Marks.{is_none, begins_with, greater}
 use Rattle.logos_enum.specs.Groups.{Opened}
-use Rattle.logos_enum.specs.Rules.{Outcome, Stands}
+use Rattle.logos_enum.specs.Rules.{Outcome, Occurs}
 use Rattle.logos_enum.specs.Values.{Head, ParameterValue}
 use Rattle.logos_enum.specs.EnumValues.{Typed, FieldValue, in_parenthesis, in_braces, VariantValue, EnumValue}
 use Rattle.logos_enum.specs.Generics.{tail, shape, parameter_of, OneParameter, parameters, Generics}
-use Rattle.logos_enum.specs.Generics.OneParameter.{stands, broken}
+use Rattle.logos_enum.specs.Generics.OneParameter.{occurs, broken}
 use Rattle.logos_enum.specs.Generics.Generics.{listed, absent}
 use Rattle.logos_enum.specs.Enum.{type_error, FieldType, label, field, fields, within, Holding, variant, variants, Body, item, Reads}
 use Rattle.logos_enum.specs.Enum.FieldType.{fits, fails}
@@ -26,7 +26,7 @@ use Rattle.logos_enum.specs.Enum.Reads.{reads, refuses, unannounced}
 use Rattle.logos_enum.proofs.TypeLaws.{one_type, no_type, one_type_fault}
 use Rattle.logos_enum.proofs.Once.{Once, once-by, once-given, once-then, once-listed, once-attributes, one-front, reading, failing, succeeding, same-value, same-rest, same-error, read-or-fail, no-front}
 
--- the same front of a run, before the same rest
+-- equal fronts of a run, before equal rests
 front-of : (run front other rest : TokenList) → run ≡ append front rest → run ≡ append other rest → front ≡ other
 front-of run front other rest e f = one-front front other rest (sym e ∙ f)
 
@@ -101,13 +101,13 @@ once-shape : Once shape
 once-shape = once-then _ _ once-attributes (λ _. once-then _ _ (once-by _) (λ head. once-then _ _ (once-tail head.kind) (λ _. once-given _)))
 
 once-parameter : Once OneParameter
-once-parameter run one other (stands {head} {front} {rest} h e) (stands {head = head'} {front = front'} {rest = rest'} k f) =
+once-parameter run one other (occurs {head} {front} {rest} h e) (occurs {head = head'} {front = front'} {rest = rest'} k f) =
     let s = once-shape run _ _ h k in
     let p = front-of run front front' (after_extent OfDefault run) e f in
     ap (λ (x : Head). reading (parameter_of x front) rest) (same-value head head' rest rest' s)
     ∙ (ap (λ (x : TokenList). reading (parameter_of head' x) rest) p ∙ ap (λ (x : TokenList). reading (parameter_of head' front') x) (same-rest head head' rest rest' s))
-once-parameter run one other (stands h e) (broken k) = let s = once-shape run _ _ h k in cc
-once-parameter run one other (broken k) (stands h e) = let s = once-shape run _ _ k h in cc
+once-parameter run one other (occurs h e) (broken k) = let s = once-shape run _ _ h k in cc
+once-parameter run one other (broken k) (occurs h e) = let s = once-shape run _ _ k h in cc
 once-parameter run one other (broken {error} h) (broken {error = error'} k) = same-error (Head × TokenList) (ParameterValue × TokenList) error error' (once-shape run _ _ h k)
 
 once-parameters : Once parameters
@@ -125,7 +125,7 @@ once-item attributes =
 
 module _ (run one other rest after : TokenList) (front : IsFront run one rest) (second : IsFront run other after) where
   middles : reading one front.middle ≡ reading other second.middle
-  middles = once-attributes run _ _ front.stand second.stand
+  middles = once-attributes run _ _ front.occur second.occur
 
   front-attributes : one ≡ other
   front-attributes = same-value one other front.middle second.middle middles
@@ -136,7 +136,7 @@ module _ (run one other rest after : TokenList) (front : IsFront run one rest) (
       let e : ◌≡◌ {A = Option TokenList} (Some rest) (Some after) = sym front.announced ∙ (ap announced_in m ∙ second.announced) in
       cc
 
-  -- what is read behind the one front is read behind the other
+  -- tokens that are read after the one front are read after the other
   front-item : (outcome : Outcome EnumValue) → item other after outcome → item one rest outcome
   front-item outcome h =
       let k : item one after outcome = subst (λ (x : TokenList). item x after outcome) (sym front-attributes) h in
@@ -159,13 +159,13 @@ once-reads run one other (unannounced n) (reads f h) = absurd (no-front run n _ 
 once-reads run one other (unannounced n) (refuses f h) = absurd (no-front run n _ _ f)
 once-reads run one other (unannounced n) (unannounced m) = refl
 
--- what stands of the enum behind a front stands of the whole
-pub item-stands : (run attributes rest : TokenList) (error : ReadError) → IsFront run attributes rest →
-    Stands (λ e. item attributes rest (Err e)) error → Stands (λ e. Reads run (Err e)) error
-item-stands run attributes rest error f (inl m) = inl m
-item-stands run attributes rest error f (inr h) = inr (refuses f h)
+-- facts about the enum after a front are facts about the whole
+pub item-occurs : (run attributes rest : TokenList) (error : ReadError) → IsFront run attributes rest →
+    Occurs (λ e. item attributes rest (Err e)) error → Occurs (λ e. Reads run (Err e)) error
+item-occurs run attributes rest error f (inl m) = inl m
+item-occurs run attributes rest error f (inr h) = inr (refuses f h)
 
 -- an enum is refused for want of memory alone
-pub complete : (run : TokenList) (error : ReadError) → Stands (λ e. Reads run (Err e)) error → (value : EnumValue) → Reads run (Ok value) → error ≡ Memory
+pub complete : (run : TokenList) (error : ReadError) → Occurs (λ e. Reads run (Err e)) error → (value : EnumValue) → Reads run (Ok value) → error ≡ Memory
 complete run error (inl m) value h = m
 complete run error (inr k) value h = absurd (read-or-fail EnumValue value error (once-reads run (Ok value) (Err error) h k))

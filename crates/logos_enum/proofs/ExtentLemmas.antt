@@ -1,4 +1,4 @@
--- What is left after an extent.
+-- The tokens after an extent.
 use Rattle.std.proofs.Common.{◌≡◌, ℕ, Bool, true, false, refl, ap}
 use Rattle.logos_lexeme.specs.declared.lexeme.Span.{Span}
 use Rattle.logos_lexeme.specs.declared.lexeme.Spacing.{Spacing}
@@ -10,7 +10,7 @@ use Rattle.logos_enum.specs.Extents.{begins_arrow, depth_after, is_end, after_fr
 use Rattle.logos_enum.specs.Marks.{less, begins_with}
 use Rattle.logos_enum.proofs.RuleLemmas.{IsRestOf-join}
 
--- what is left after one token, and after more
+-- the rest after one token, and after more
 pub past : (token : Token) (run rest : TokenList) → IsRestOf run rest → IsRestOf (also token run) rest
 past token run rest r = record { front = also token r.front; is = ap (also token) r.is }
 

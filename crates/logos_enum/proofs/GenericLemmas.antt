@@ -3,12 +3,12 @@ use Rattle.std.proofs.Common.{◌≡◌, inl, inr, true, Err}
 use Rattle.logos_token.specs.Tokens.{TokenList, rest_of}
 use Rattle.logos_enum.specs.declared.error.ReadError.{ReadError}
 use Rattle.logos_enum.specs.Marks.{begins_with, less}
-use Rattle.logos_enum.specs.Rules.{Stands}
+use Rattle.logos_enum.specs.Rules.{Occurs}
 use Rattle.logos_enum.specs.Generics.{parameters, Generics}
 use Rattle.logos_enum.specs.Generics.Generics.{listed}
 
--- what stands behind `<` stands of the whole
-pub generics-stand : (run inside : TokenList) (error : ReadError) → begins_with less run ≡ true → inside ≡ rest_of run →
-    Stands (λ e. parameters inside (Err e)) error → Stands (λ e. Generics run (Err e)) error
-generics-stand run inside error b e (inl m) = inl m
-generics-stand run inside error b e (inr h) = inr (listed b (rw e at h))
+-- the tokens after `<`, as tokens of the whole
+pub generics-occur : (run inside : TokenList) (error : ReadError) → begins_with less run ≡ true → inside ≡ rest_of run →
+    Occurs (λ e. parameters inside (Err e)) error → Occurs (λ e. Generics run (Err e)) error
+generics-occur run inside error b e (inl m) = inl m
+generics-occur run inside error b e (inr h) = inr (listed b (rw e at h))

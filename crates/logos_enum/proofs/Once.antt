@@ -7,7 +7,7 @@ use Rattle.logos_enum.specs.Rules.{Outcome, Rule, by, given, Then, Listed, prece
 use Rattle.logos_enum.specs.Rules.Then.{goes, stops}
 use Rattle.logos_enum.specs.Rules.Listed.{ended, further, unparted, stopped}
 use Rattle.logos_enum.specs.Attributes.{Attributes, announced_in, IsFront}
-use Rattle.logos_enum.specs.Attributes.Attributes.{stand, broken}
+use Rattle.logos_enum.specs.Attributes.Attributes.{occur, broken}
 use Rattle.logos_enum.specs.Enum.{NoFront}
 use Rattle.logos_enum.specs.Enum.NoFront.{malformed, without}
 use Rattle.logos_token.specs.declared.token.views.Tokens.{Tokens}
@@ -35,7 +35,7 @@ succeeding A value = Ok value
 abbrev pub leaving : TokenList → Result TokenList ReadError
 leaving rest = Ok rest
 
--- what is read, and where it is read to, by one outcome
+-- the value that is read, and the end of its tokens, by one outcome
 same-read : {A : Type 0} (one other : A × TokenList) → ◌≡◌ {A = Outcome A} (Ok one) (Ok other) → one ≡ other
 same-read one other e = cc
 
@@ -100,7 +100,7 @@ count-append : (front back : TokenList) → count_of (append front back) ≡ cou
 count-append none back = omega arith
 count-append (also token front) back = let h = count-append front back in omega arith
 
--- what stands in front of the same rest is the same
+-- runs before equal rests are equal
 pub one-front : (front other rest : TokenList) → append front rest ≡ append other rest → front ≡ other
 one-front none none rest e = refl
 one-front none (also token other) rest e =
@@ -116,28 +116,28 @@ one-front (also token front) (also first other) rest e =
     cc
 
 pub once-attributes : Once Attributes
-once-attributes run one other (stand {attributes} {rest} e f) (stand {attributes = attributes'} {rest = rest'} g h) =
+once-attributes run one other (occur {attributes} {rest} e f) (occur {attributes = attributes'} {rest = rest'} g h) =
     let s : leaving rest ≡ leaving rest' = sym e ∙ g in
     let r : rest ≡ rest' = cc in
     let k : append attributes rest ≡ append attributes' rest = sym f ∙ (h ∙ ap (append attributes') (sym r)) in
     let a = one-front attributes attributes' rest k in
     ap (λ (front : TokenList). reading front rest) a ∙ ap (λ (back : TokenList). reading attributes' back) r
-once-attributes run one other (stand e f) (broken g) = let s = sym e ∙ g in cc
-once-attributes run one other (broken e) (stand g h) = let s = sym e ∙ g in cc
+once-attributes run one other (occur e f) (broken g) = let s = sym e ∙ g in cc
+once-attributes run one other (broken e) (occur g h) = let s = sym e ∙ g in cc
 once-attributes run one other (broken {error} e) (broken {error = error'} g) = same-error TokenList (TokenList × TokenList) error error' (sym e ∙ g)
 
 -- no front where there is one
 pub no-front : (run : TokenList) → NoFront run → (attributes rest : TokenList) → IsFront run attributes rest → ⊥
-no-front run (malformed error h) attributes rest f = let s = once-attributes run _ _ h f.stand in cc
+no-front run (malformed error h) attributes rest f = let s = once-attributes run _ _ h f.occur in cc
 no-front run (without front middle h e) attributes rest f =
-    let s = once-attributes run _ _ h f.stand in
+    let s = once-attributes run _ _ h f.occur in
     let m = same-rest front attributes middle f.middle s in
     let k : ◌≡◌ {A = Option TokenList} None (Some rest) = sym e ∙ (ap announced_in m ∙ f.announced) in
     cc
 
--- a front is found where `enum` stands behind the attributes
+-- a front is found if `enum` comes after the attributes
 pub front-match : (run attributes middle : TokenList) (result : Option (Tokens × Tokens)) → Attributes run (Ok (attributes, middle)) →
     MatchOption result (announced_in middle ≡ None) (λ read. (tokens_of read.0 ≡ attributes) × (announced_in middle ≡ Some (tokens_of read.1))) →
     MatchOption result (NoFront run) (λ read. IsFront run (tokens_of read.0) (tokens_of read.1))
 front-match run attributes middle None h e = without attributes middle h e
-front-match run attributes middle (Some read) h e = record { middle = middle; stand = rw e.0 h; announced = e.1 }
+front-match run attributes middle (Some read) h e = record { middle = middle; occur = rw e.0 h; announced = e.1 }

@@ -17,7 +17,7 @@ pub record SplitAttribute : Type 0 where
   pub attribute : AttributeValue
   pub rest : TokenList
 
--- `#` at this span, and these brackets after it.
+-- The attribute with `#` at this span and these brackets after it.
 abbrev pub bracketed : Span → Option Opened → Option SplitAttribute
 bracketed mark None = None
 bracketed mark (Some opened) =
@@ -33,10 +33,10 @@ abbrev pub inside_value : Option Tokens → Option TokenList
 inside_value None = None
 inside_value (Some tokens) = Some (tokens_of tokens)
 
--- The attribute that a value stands for.
+-- The attribute that a value represents.
 abbrev pub attribute_value : Attribute → AttributeValue
 attribute_value attribute = record { span = attribute.span; inside = inside_value attribute.inside }
 
--- The same with the run that is left.
+-- The attribute that a value represents, with the tokens after it.
 abbrev pub split_value : Attribute × Tokens → SplitAttribute
 split_value read = record { attribute = attribute_value read.0; rest = tokens_of read.1 }

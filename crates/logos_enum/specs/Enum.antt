@@ -6,8 +6,8 @@ use Rattle.logos_lexeme.specs.declared.lexeme.Delimiter.TheVariants.{Brace}
 use Rattle.logos_token.specs.Tokens.{TokenList, identifier, punctuation, group, none, also, append, run_span}
 use Rattle.logos_type.specs.Parts.{Tree}
 use Rattle.logos_type_reader.specs.Table.{Fault, unsupported, mismatch as type_mismatch, too_deep}
-use Rattle.logos_type_reader.specs.declared.reading.TypeFault.{TypeFault}
-use Rattle.logos_type_reader.specs.declared.reading.TypeFault.TheVariants as faults
+use Rattle.logos_type_reader.specs.declared.reader.TypeFault.{TypeFault}
+use Rattle.logos_type_reader.specs.declared.reader.TypeFault.TheVariants as faults
 use Rattle.logos_type_reader.specs.TypeExprs.{IsTypeExpr, NoTypeExpr}
 use Rattle.logos_enum.specs.declared.error.ReadError.{ReadError}
 use Rattle.logos_enum.specs.declared.error.ReadError.TheVariants.{NotAnEnum, Grammar, TypeUnsupported, LimitTypeNesting, Memory}
@@ -27,15 +27,14 @@ type_error run (unsupported span) = TypeUnsupported span
 type_error run (type_mismatch span) = Grammar span
 type_error run too_deep = LimitTypeNesting (run_span run)
 
--- The error is that of the fault, or there was not enough memory for both.
+-- The error is the error of the fault, or memory ran out for both.
 abbrev pub error_is : TokenList → TypeFault → ReadError → Type 0
 error_is run (faults.Unsupported span) error = error ≡ TypeUnsupported span
 error_is run (faults.Mismatch span) error = error ≡ Grammar span
 error_is run faults.LimitNesting error = error ≡ LimitTypeNesting (run_span run)
 error_is run faults.Memory error = error ≡ Memory
 
--- The type of a field. Its tokens are all up to the comma that stands outside angle brackets, or to
--- the end.
+-- The type of a field. Its tokens reach to the first comma outside angle brackets, or to the end.
 pub data FieldType (run : TokenList) : Outcome Typed → Type 0 where
   fits : {type : Tree} {front rest : TokenList} →
       IsTypeExpr run type rest → run ≡ append front (after_extent OfField run) → FieldType run (Ok (record { type = type; run = front }, rest))
@@ -63,11 +62,11 @@ field_of attributes typed = record { attributes = attributes; type = typed.type;
 abbrev pub field : Bool → Rule FieldValue
 field named = Attributes >>= λ attributes. by visibility_in >>= λ _. label named >>= λ _. FieldType >>= λ typed. given (field_of attributes typed)
 
--- Fields between commas, to the end of a group.
+-- Fields, separated by commas, up to the end of a group.
 abbrev pub fields : Bool → Rule (List FieldValue)
 fields named = Listed is_none (field named)
 
--- What was read inside a group, with the tokens after the group.
+-- The result of reading the inside of a group, with the tokens after the group.
 abbrev pub within : {A B : Type 0} → (A → B) → TokenList → Outcome A → Outcome B
 within make rest (Ok read) = Ok (make read.0, rest)
 within make rest (Err error) = Err error
@@ -105,7 +104,7 @@ abbrev pub variant : Rule VariantValue
 variant =
     Attributes >>= λ attributes. by name_in >>= λ name. Holding >>= λ held. by discriminant_in >>= λ _. given (variant_of attributes name held)
 
--- Variants between commas, to the end of the braces.
+-- Variants, separated by commas, up to the end of the braces.
 abbrev pub variants : Rule (List VariantValue)
 variants = Listed is_none variant
 
@@ -126,7 +125,7 @@ pub data Body (run : TokenList) : Outcome (List VariantValue) → Type 0 where
       brace_in run ≡ Some opened → variants opened.inside inner → Body run (within (λ (list : List VariantValue). list) opened.rest inner)
   lacking : brace_in run ≡ None → Body run (mismatch run)
 
--- No token may be left.
+-- No token is left.
 abbrev pub end_in : TokenList → Outcome (Unit {0})
 end_in none = Ok (tt, none)
 end_in run = mismatch run
@@ -135,7 +134,7 @@ abbrev pub enum_of : TokenList → Slice → List ParameterValue → List Varian
 enum_of attributes name parameters list = record { attributes = attributes; name = name; parameters = parameters; variants = list }
 
 -- The tokens after `enum`: a name, generic parameters, a where clause and braces, and nothing after
--- these.
+-- the braces.
 abbrev pub item : TokenList → Rule EnumValue
 item attributes =
     by name_in >>= λ name. Generics >>= λ parameters. by where_in >>= λ _. Body >>= λ list. by end_in >>= λ _. given (enum_of attributes name parameters list)

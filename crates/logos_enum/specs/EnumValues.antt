@@ -1,4 +1,4 @@
--- An enum as a value: names, kinds, types, and the runs of tokens that are handed out.
+-- An enum as a value: names, kinds, types, and the runs of tokens that are returned.
 use Rattle.std.specs.Prelude.{List, map}
 use Rattle.logos_lexeme.specs.declared.lexeme.Span.{Span}
 use Rattle.logos_token.specs.Tokens.{TokenList}
@@ -24,7 +24,7 @@ pub record FieldValue : Type 0 where
   pub type : Tree
   pub run : TokenList
 
--- The fields of a variant: none, or some in parentheses or braces with this span.
+-- The fields of a variant: none, or fields in parentheses or braces with this span.
 pub data FieldsValue : Type 0 where
   no_fields : FieldsValue
   in_parenthesis : (span : Span) (fields : List FieldValue) → FieldsValue
@@ -35,7 +35,7 @@ pub record VariantValue : Type 0 where
   pub name : Slice
   pub fields : FieldsValue
 
--- An enum by its names, its types and the runs of tokens that are handed out.
+-- An enum as its names, its types and the runs of tokens that are returned.
 pub record EnumValue : Type 0 where
   pub attributes : TokenList
   pub name : Slice
@@ -56,7 +56,7 @@ fields_value (Named span list) = in_braces span (map field_value list.items)
 abbrev pub variant_value : Variant → VariantValue
 variant_value variant = record { attributes = tokens_of variant.attributes; name = ident_slice variant.name; fields = fields_value variant.fields }
 
--- The enum that a value stands for.
+-- The enum that a value represents.
 abbrev pub enum_value : ItemEnum → EnumValue
 enum_value item =
     record {

@@ -1,5 +1,5 @@
--- How far bounds, defaults and types reach: up to a character that ends them outside angle
--- brackets.
+-- The extents of bounds, defaults and types. An extent reaches to a character that ends it outside
+-- angle brackets.
 use Rattle.std.specs.Prelude.{◌≡◌, ◌≤◌, ◌==◌, ◌&&◌, ◌||◌, not, if◌then◌else◌, ℕ, ◌+◌, ◌-◌, Bool, false}
 use Rattle.logos_lexeme.specs.declared.lexeme.Spacing.{Spacing}
 use Rattle.logos_lexeme.specs.declared.lexeme.Spacing.TheVariants.{Alone, Joint}
@@ -25,7 +25,7 @@ begins_arrow character Alone = false
 abbrev pub ends_arrow : Bool → ℕ → Bool
 ends_arrow arrow character = arrow && (character == greater)
 
--- How many angle brackets are open after a character; the `>` of `->` closes none.
+-- The number of open angle brackets after a character. The `>` of `->` closes none.
 abbrev pub depth_after : Bool → ℕ → ℕ → ℕ
 depth_after arrow depth character =
     if character == less then depth + 1
@@ -36,7 +36,7 @@ depth_after arrow depth character =
 abbrev pub is_end : End → Bool → ℕ → ℕ → Bool
 is_end end arrow depth character = (depth == 0) && (ends end character && not (ends_arrow arrow character))
 
--- The tokens after the extent, with `depth` angle brackets open. `arrow` says whether the next
+-- The tokens after the extent, with `depth` angle brackets open. `arrow` is whether the next
 -- character can be the second one of `->`.
 abbrev pub after_from : End → Bool → ℕ → TokenList → TokenList
 after_from end arrow depth none = none
@@ -49,8 +49,8 @@ after_from end arrow depth (also token rest) = after_from end false depth rest
 abbrev pub after_extent : End → TokenList → TokenList
 after_extent end run = after_from end false 0 run
 
--- The tokens from the `>` on that closes the generic parameters, if `<` comes first, or else all
--- tokens.
+-- The tokens from the `>` on that closes the generic parameters, if `<` comes first, and all tokens
+-- otherwise.
 abbrev pub after_generics : TokenList → TokenList
 after_generics run = if begins_with less run then after_extent OfParameters (rest_of run) else run
 

@@ -18,7 +18,7 @@ abbrev pub name_in : TokenList → Outcome Slice
 name_in (also (identifier text span) rest) = Ok (record { text = text; span = span }, rest)
 name_in run = mismatch run
 
--- A name, as that of a parameter of this kind.
+-- A name as the name of a parameter of this kind.
 abbrev pub head_of : ParameterKind → TokenList → Outcome Head
 head_of kind (also (identifier text span) rest) = Ok (record { kind = kind; name = record { text = text; span = span } }, rest)
 head_of kind run = mismatch run
@@ -63,7 +63,7 @@ tail Lifetime = by bounds_in
 tail «Type» = by bounds_in >>= λ _. by default_in
 tail Const = by constant_in >>= λ _. by default_in
 
--- A parameter: attributes, a kind with a name, and what follows that.
+-- A parameter: attributes, a kind with a name, and the tokens that follow the name.
 abbrev pub shape : Rule Head
 shape = Attributes >>= λ _. by head_in >>= λ head. tail head.kind >>= λ _. given head
 
@@ -72,7 +72,7 @@ parameter_of head run = record { kind = head.kind; name = head.name; run = run }
 
 -- A parameter with all its tokens, up to the comma or the `>` after it.
 pub data OneParameter (run : TokenList) : Outcome ParameterValue → Type 0 where
-  stands : {head : Head} {front rest : TokenList} →
+  occurs : {head : Head} {front rest : TokenList} →
       shape run (Ok (head, rest)) → run ≡ append front (after_extent OfDefault run) → OneParameter run (Ok (parameter_of head front, rest))
   broken : {error : ReadError} → shape run (Err error) → OneParameter run (Err error)
 
@@ -81,11 +81,11 @@ abbrev pub closing_in : TokenList → Outcome (Unit {0})
 closing_in (also (punctuation character spacing span) rest) = if character == greater then Ok (tt, rest) else mismatch (also (punctuation character spacing span) rest)
 closing_in run = mismatch run
 
--- Parameters between commas, up to `>`.
+-- Parameters, separated by commas, up to `>`.
 abbrev pub parameters : Rule (List ParameterValue)
 parameters = Listed (begins_with greater) OneParameter >>= λ list. by closing_in >>= λ _. given list
 
--- Parameters in angle brackets, if `<` stands here.
+-- Parameters in angle brackets, if `<` comes first.
 pub data Generics (run : TokenList) : Outcome (List ParameterValue) → Type 0 where
   listed : {outcome : Outcome (List ParameterValue)} → begins_with less run ≡ true → parameters (rest_of run) outcome → Generics run outcome
   absent : begins_with less run ≡ false → Generics run (Ok ([], run))

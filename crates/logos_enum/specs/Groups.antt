@@ -1,4 +1,4 @@
--- The group that comes first.
+-- The group at the front of a run.
 use Rattle.std.specs.Prelude.{Option, Some, None}
 use Rattle.logos_lexeme.specs.declared.lexeme.Span.{Span}
 use Rattle.logos_lexeme.specs.declared.lexeme.Delimiter.TheVariants.{Parenthesis, Bracket, Brace}
@@ -12,17 +12,17 @@ pub record Opened : Type 0 where
   pub inside : TokenList
   pub rest : TokenList
 
--- The group in parentheses that comes first, if one does.
+-- The group in parentheses at the front, if there is one.
 abbrev pub parenthesis_in : TokenList → Option Opened
 parenthesis_in (also (group Parenthesis span inside) rest) = Some (record { span = span; inside = inside; rest = rest })
 parenthesis_in run = None
 
--- The group in brackets that comes first, if one does.
+-- The group in brackets at the front, if there is one.
 abbrev pub bracket_in : TokenList → Option Opened
 bracket_in (also (group Bracket span inside) rest) = Some (record { span = span; inside = inside; rest = rest })
 bracket_in run = None
 
--- The group in braces that comes first, if one does.
+-- The group in braces at the front, if there is one.
 abbrev pub brace_in : TokenList → Option Opened
 brace_in (also (group Brace span inside) rest) = Some (record { span = span; inside = inside; rest = rest })
 brace_in run = None

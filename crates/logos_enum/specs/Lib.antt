@@ -8,5 +8,5 @@ pub mod Groups
 pub mod Marks
 pub mod Rules
 pub mod Values
-pub mod Words
+pub mod Imports
 pub mod Views

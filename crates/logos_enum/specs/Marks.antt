@@ -42,7 +42,7 @@ abbrev pub is_none : TokenList → Bool
 is_none none = true
 is_none (also token rest) = false
 
--- Whether a documentation comment documents what follows it: its third byte is not `!`.
+-- Whether a documentation comment is an outer one: its third byte is not `!`.
 abbrev pub is_outer : List ℕ → Bool
 is_outer (first ∷ second ∷ third ∷ rest) = not (third == 33)
 is_outer text = false

@@ -1,12 +1,12 @@
--- Rules of a grammar. A rule says what stands at the beginning of a run and which tokens follow it,
--- or why nothing fits.
+-- Rules of a grammar. A rule yields the value at the front of a run and the tokens after it, or the
+-- error if nothing fits.
 use Rattle.std.specs.Prelude.{◌≡◌, ◌==◌, List, [], ◌∷◌, Bool, true, false, if◌then◌else◌, Result, Ok, Err, ◌⊎◌}
 use Rattle.logos_token.specs.Tokens.{TokenList, punctuation, also}
 use Rattle.logos_enum.specs.declared.error.ReadError.{ReadError}
 use Rattle.logos_enum.specs.declared.error.ReadError.TheVariants.{Grammar, Memory}
 use Rattle.logos_enum.specs.Marks.{comma, first_span}
 
--- The value that is read and the tokens after it; or the error.
+-- The value that is read and the tokens after it, or the error.
 abbrev pub Outcome : Type 0 → Type 0
 Outcome A = Result (A × TokenList) ReadError
 
@@ -17,15 +17,15 @@ Rule A = TokenList → Outcome A → Type 0
 abbrev pub mismatch : {A : Type 0} → TokenList → Outcome A
 mismatch run = Err (Grammar (first_span run))
 
--- The rule that a function gives.
+-- The rule that a function defines.
 abbrev pub by : {A : Type 0} → (TokenList → Outcome A) → Rule A
 by f run outcome = f run ≡ outcome
 
--- The rule that gives this value and takes no token.
+-- The rule that yields this value and takes no token.
 abbrev pub given : {A : Type 0} → A → Rule A
 given value run outcome = Ok (value, run) ≡ outcome
 
--- One rule after another; the second one can depend on the value of the first.
+-- One rule after another. The second one can depend on the value of the first.
 pub data Then {A B : Type 0} (First : Rule A) (Next : A → Rule B) (run : TokenList) : Outcome B → Type 0 where
   goes : {value : A} {rest : TokenList} {outcome : Outcome B} → First run (Ok (value, rest)) → Next value rest outcome → Then First Next run outcome
   stops : {error : ReadError} → First run (Err error) → Then First Next run (Err error)
@@ -34,8 +34,8 @@ infixl 10 ◌>>=◌
 abbrev pub ◌>>=◌ : {A B : Type 0} → Rule A → (A → Rule B) → Rule B
 first >>= next = Then first next
 
--- The tokens after an element of a list: none are taken where the list ends, and else a comma of
--- either spacing.
+-- The tokens after an element of a list. No token is taken at the end of the list, and otherwise a
+-- comma of either spacing is taken.
 abbrev pub after_item : (TokenList → Bool) → TokenList → Outcome (Unit {0})
 after_item ends (also (punctuation character spacing span) rest) =
     if ends (also (punctuation character spacing span) rest) then Ok (tt, also (punctuation character spacing span) rest)
@@ -48,7 +48,7 @@ abbrev pub preceded_by : {A : Type 0} → A → Outcome (List A) → Outcome (Li
 preceded_by value (Ok read) = Ok (value ∷ read.0, read.1)
 preceded_by value (Err error) = Err error
 
--- Items with commas between them, and an optional comma after the last, up to where the list ends.
+-- Elements, separated by commas, with an optional comma after the last, up to the end of the list.
 pub data Listed {A : Type 0} (ends : TokenList → Bool) (Item : Rule A) : TokenList → Outcome (List A) → Type 0 where
   ended : {run : TokenList} → ends run ≡ true → Listed ends Item run (Ok ([], run))
   further : {run rest next : TokenList} {value : A} {outcome : Outcome (List A)} →
@@ -57,6 +57,6 @@ pub data Listed {A : Type 0} (ends : TokenList → Bool) (Item : Rule A) : Token
       ends run ≡ false → Item run (Ok (value, rest)) → after_item ends rest ≡ Err error → Listed ends Item run (Err error)
   stopped : {run : TokenList} {error : ReadError} → ends run ≡ false → Item run (Err error) → Listed ends Item run (Err error)
 
--- There was not enough memory, or this holds of the error.
-abbrev pub Stands : (ReadError → Type 0) → ReadError → Type 0
-Stands Holds error = (error ≡ Memory) ⊎ Holds error
+-- Memory ran out, or this holds of the error.
+abbrev pub Occurs : (ReadError → Type 0) → ReadError → Type 0
+Occurs Holds error = (error ≡ Memory) ⊎ Holds error

@@ -1,5 +1,5 @@
-//! Takes the attributes of a run one by one. Whoever reads the attributes of an enum or a variant
-//! calls it, here and in the crates above.
+//! Splits the attributes of a run one by one. The readers of the attributes of enums and variants
+//! call it, here and in the crates above.
 
 ghost use Rattle.std.specs.Prelude.{◌≡◌, ◌<◌, Some, None, MatchOption};
 ghost use Rattle.logos_enum.specs.Views.{count_of, tokens_of, attribute_in, split_value};
@@ -11,14 +11,14 @@ use logos_token::token::{Span, TokenTree, Tokens};
 /// An attribute of an enum, a variant or a field.
 #[derive(Clone, Copy)]
 pub struct Attribute<'t, 's> {
-    /// The span from `#` to the end of the brackets, or that of the documentation comment.
+    /// The span from `#` to the end of the brackets, or the span of the documentation comment.
     pub span: Span,
     /// The tokens inside the brackets. `None` for a documentation comment.
     pub inside: Option<Tokens<'t, 's>>,
 }
 
-/// Returns the first attribute of a run of attributes, and the tokens after it. `None` if the run
-/// is empty.
+/// Returns the first attribute of a run of attributes, and the tokens after it. Returns `None` if
+/// the run is empty.
 pub fn split_attribute<'t, 's>(
     tokens: Tokens<'t, 's>,
 ) -> Option<(Attribute<'t, 's>, Tokens<'t, 's>)>

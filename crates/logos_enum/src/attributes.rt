@@ -1,4 +1,5 @@
-//! Reads attributes and visibilities.
+//! Reads attributes and visibilities. The readers of enums, variants, fields and parameters call
+//! it.
 
 ghost use Rattle.std.specs.Prelude.{◌≡◌, ◌<◌, ◌≤◌, List, Ok, Err, Some, None, MatchOption, MatchResult, IfSome, IfOk, IfErr};
 ghost use Rattle.logos_enum.specs.Views.{none, also, punctuation, count_of, IsRestOf, tokens_of, tree_of, Grammar, end_mismatch, value_mismatch, path_mismatch, colon_mismatch, segment_mismatch, attribute_mismatch, IsPathStep, after_attributes, after_hash, Attributes, after_parenthesis, after_visibility, after_keyword};
@@ -58,8 +59,8 @@ fn read_colon<'t, 's>(first: Punct, tokens: Tokens<'t, 's>) -> Result<Tokens<'t,
     }
 }
 
-/// Takes one step along what follows a path, whose next token is `punct`: returns the tokens after
-/// `::` and an identifier, or `None` if the path ends and all is well formed.
+/// Takes one step along the tokens after a path, the next of which is `punct`. Returns the tokens
+/// after `::` and an identifier, or `None` if the path ends and the attribute is well-formed.
 fn path_step_at<'t, 's>(
     punct: Punct,
     tokens: Tokens<'t, 's>,
@@ -77,8 +78,8 @@ fn path_step_at<'t, 's>(
     Err(Mismatch { span: punct.span })
 }
 
-/// Takes one step along what follows a path: returns the tokens after `::` and an identifier, or
-/// `None` if the path ends and all is well formed.
+/// Takes one step along the tokens after a path. Returns the tokens after `::` and an identifier,
+/// or `None` if the path ends and the attribute is well-formed.
 fn path_step<'t, 's>(tokens: Tokens<'t, 's>) -> Result<Option<Tokens<'t, 's>>, Mismatch>
     ensures { IsPathStep (tokens_of tokens.entry) result }
 {
@@ -93,7 +94,7 @@ fn path_step<'t, 's>(tokens: Tokens<'t, 's>) -> Result<Option<Tokens<'t, 's>>, M
     }
 }
 
-/// Checks what follows the first identifier of an attribute's path.
+/// Checks the tokens after the first identifier of an attribute's path.
 fn read_path(tokens: Tokens<'_, '_>) -> Result<(), Mismatch>
     ensures { MatchResult result (λ _. path_mismatch (tokens_of tokens.entry) ≡ None)
         (λ mismatch. path_mismatch (tokens_of tokens.entry) ≡ Some mismatch.span) }
@@ -120,7 +121,7 @@ fn check_attribute(tokens: Tokens<'_, '_>) -> Result<(), Mismatch>
     }
 }
 
-/// Returns the tokens after the brackets of an attribute. The tokens given are those after its `#`.
+/// Returns the tokens after the brackets of an attribute. `tokens` are the tokens after its `#`.
 fn skip_brackets<'t, 's>(tokens: Tokens<'t, 's>) -> Result<Tokens<'t, 's>, ReadError>
     ensures value { MatchResult result
         (λ rest. (after_hash (tokens_of tokens.entry) ≡ after_attributes (tokens_of rest))
@@ -139,7 +140,8 @@ fn skip_brackets<'t, 's>(tokens: Tokens<'t, 's>) -> Result<Tokens<'t, 's>, ReadE
     }
 }
 
-/// Returns the tokens after the attribute that comes first. `None` if no attribute comes first.
+/// Returns the tokens after the attribute that comes first. Returns `None` if no attribute comes
+/// first.
 fn skip_attribute<'t, 's>(tokens: Tokens<'t, 's>) -> Result<Option<Tokens<'t, 's>>, ReadError>
     ensures value { MatchResult result
         (λ found. MatchOption found
@@ -159,7 +161,7 @@ fn skip_attribute<'t, 's>(tokens: Tokens<'t, 's>) -> Result<Option<Tokens<'t, 's
     }
 }
 
-/// Returns the attributes that come first, and the tokens after them.
+/// Returns the attributes at the front, and the tokens after them.
 pub(crate) fn read_attributes<'t, 's>(
     tokens: Tokens<'t, 's>,
 ) -> Result<(Tokens<'t, 's>, Tokens<'t, 's>), ReadError>
@@ -176,7 +178,7 @@ pub(crate) fn read_attributes<'t, 's>(
     Ok((tokens.before(rest), rest))
 }
 
-/// Returns the tokens after the parentheses if they come first, or else all tokens.
+/// Returns the tokens after the parentheses if they come first, and all tokens otherwise.
 fn skip_parenthesis<'t, 's>(tokens: Tokens<'t, 's>) -> Tokens<'t, 's>
     ensures value { tokens_of result ≡ after_parenthesis (tokens_of tokens.entry) }
     ensures shorter { count_of (tokens_of result) ≤ count_of (tokens_of tokens.entry) }
@@ -187,7 +189,7 @@ fn skip_parenthesis<'t, 's>(tokens: Tokens<'t, 's>) -> Tokens<'t, 's>
     }
 }
 
-/// Returns the tokens after a visibility if one comes first, or else all tokens.
+/// Returns the tokens after a visibility if one comes first, and all tokens otherwise.
 pub fn skip_visibility<'t, 's>(tokens: Tokens<'t, 's>) -> Tokens<'t, 's>
     ensures value { tokens_of result ≡ after_visibility (tokens_of tokens.entry) }
     ensures shorter { count_of (tokens_of result) ≤ count_of (tokens_of tokens.entry) }

@@ -1,4 +1,4 @@
-//! The reasons why a run of tokens is not an enum.
+//! The reasons why a run of tokens is not an enum. All readers of this crate return them.
 
 ghost use Rattle.std.specs.Prelude.{◌≡◌};
 ghost use Rattle.logos_enum.specs.Views.{Memory};
@@ -9,19 +9,19 @@ use std::alloc::{AllocError, AllocFailed};
 /// The reason why a run of tokens is not an enum: its first fault from the left.
 #[derive(Clone, Copy, Debug, PartialEq, Eq)]
 pub enum ReadError {
-    /// The run does not begin with well-formed attributes, an optional visibility, and `enum`. The
-    /// span is that of the whole run.
+    /// The run does not begin with well-formed attributes, an optional visibility, and `enum`.
+    /// `span` is the span of the whole run.
     NotAnEnum { span: Span },
-    /// The run begins so, but a token after `enum` does not fit. The span is that of the first such
-    /// token, or of the whole group if it is a group. It is `0..0` at the end of the tokens, also
-    /// inside a group.
+    /// The run begins with these, but a token after `enum` does not fit. `span` is the span of the
+    /// first such token, or of the whole group if it is a group. It is `0..0` at the end of the
+    /// tokens, also inside a group.
     Grammar { span: Span },
-    /// The type of a field is not supported. The span is that of the innermost type that is not.
+    /// The type of a field is not supported. `span` is the span of the innermost unsupported type.
     TypeUnsupported { span: Span },
-    /// In the type of a field more types stand inside one another than are allowed. The span is
-    /// that of the whole type.
+    /// More types are nested in the type of a field than the limit allows. `span` is the span of
+    /// the whole type.
     LimitTypeNesting { span: Span },
-    /// There is not enough memory.
+    /// Memory ran out.
     Memory,
 }
 
@@ -41,7 +41,7 @@ impl<T: Drop> From<AllocFailed<T>> for ReadError {
     }
 }
 
-/// The first token that does not fit stands at this span.
+/// The first token that does not fit is at this span.
 #[derive(Clone, Copy)]
 pub(crate) struct Mismatch {
     pub span: Span,

@@ -1,4 +1,4 @@
-//! Finds how far bounds, defaults and types reach. Parameters and fields are cut with it before
+//! Finds the extents of bounds, defaults and types. Parameters and fields are split with it before
 //! their types are read.
 
 ghost use Rattle.std.specs.Prelude.{◌≡◌, ◌+◌, ◌<◌, ◌≤◌, MatchOption};
@@ -7,10 +7,10 @@ ghost use Rattle.logos_enum.specs.Views.{TokenList, also, punctuation, count_of,
 use crate::tokens::{after_mark, split};
 use logos_token::token::{Punct, Spacing, TokenTree, Tokens};
 
-/// The most angle brackets that can be open.
+/// The greatest number of angle brackets that can be open.
 const MOST: usize = usize::MAX;
 
-/// The things that have an extent.
+/// The constructs that have an extent.
 #[derive(Clone, Copy)]
 pub(crate) enum End {
     /// Bounds, or the type of a constant. They reach up to a comma, `=` or `>`.
@@ -23,14 +23,14 @@ pub(crate) enum End {
     OfParameters,
 }
 
-/// How many angle brackets are open, and whether a `-` comes before that can begin `->`.
+/// The number of open angle brackets, and whether the preceding token is a `-` that can begin `->`.
 #[derive(Clone, Copy)]
 struct Angles {
     depth: usize,
     arrow: bool,
 }
 
-/// Returns whether a character ends an extent where no angle bracket is open.
+/// Returns whether a character ends an extent outside angle brackets.
 pub(crate) fn ends(end: End, character: char) -> bool
     ensures { result ≡ ends end character }
 {
@@ -59,7 +59,7 @@ fn is_end(end: End, angles: Angles, character: char) -> bool
     (angles.depth == 0) & (ends(end, character) & !(angles.arrow & (character == '>')))
 }
 
-/// Returns how many angle brackets are open after a character.
+/// Returns the number of open angle brackets after a character.
 fn depth_after(angles: Angles, character: char) -> usize
     requires { angles.depth < MOST }
     ensures value { result ≡ depth_after angles.arrow angles.depth character }
@@ -74,8 +74,8 @@ fn depth_after(angles: Angles, character: char) -> usize
     angles.depth
 }
 
-/// Returns the tokens after one token of an extent, with the angle brackets that are open there.
-/// `None` where the extent ends.
+/// Returns the tokens after one token of an extent, with the number of angle brackets that are open
+/// there. Returns `None` if the extent ends.
 fn skip_token<'t, 's>(
     end: End,
     angles: Angles,
@@ -112,7 +112,7 @@ pub(crate) fn skip_extent<'t, 's>(end: End, tokens: Tokens<'t, 's>) -> Tokens<'t
     ensures shorter { count_of (tokens_of result) ≤ count_of (tokens_of tokens.entry) }
     ensures front { IsRestOf (tokens_of tokens.entry) (tokens_of result) }
 {
-    // At most this many angle brackets can be open, so a `usize` counts them.
+    // At most this many angle brackets can be open, so that a `usize` can count them.
     if tokens.count() == 0 {
         return tokens;
     }
@@ -128,8 +128,8 @@ pub(crate) fn skip_extent<'t, 's>(end: End, tokens: Tokens<'t, 's>) -> Tokens<'t
     rest
 }
 
-/// Returns the tokens from the `>` on that closes the generic parameters, if `<` comes first, or
-/// else all tokens.
+/// Returns the tokens from the `>` on that closes the generic parameters, if `<` comes first, and
+/// all tokens otherwise.
 pub fn skip_generics<'t, 's>(tokens: Tokens<'t, 's>) -> Tokens<'t, 's>
     ensures { tokens_of result ≡ after_generics (tokens_of tokens.entry) }
 {

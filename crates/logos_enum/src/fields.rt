@@ -1,7 +1,7 @@
-//! Reads the fields of variants.
+//! Reads the fields of variants. The reader of variants calls it.
 
 ghost use Rattle.std.specs.Prelude.{◌≡◌, ◌<◌, ◌≤◌, List, map, Ok, Err, None, MatchOption, IfSome, MatchResult, IfOk, IfErr};
-ghost use Rattle.logos_enum.specs.Views.{none, count_of, tokens_of, error_is, FieldType, colon_in, label, field, fields, Holding, typed_value, field_value, fields_value, parenthesis_in, Stands};
+ghost use Rattle.logos_enum.specs.Views.{none, count_of, tokens_of, error_is, FieldType, colon_in, label, field, fields, Holding, typed_value, field_value, fields_value, parenthesis_in, Occurs};
 
 use crate::attributes::{read_attributes, skip_visibility};
 use crate::error::ReadError;
@@ -23,7 +23,7 @@ pub struct Field<'t, 's> {
     pub run: Tokens<'t, 's>,
 }
 
-/// The fields of a variant. The span is that of the parentheses or of the braces.
+/// The fields of a variant. The span is the span of the parentheses or of the braces.
 #[derive(Drop)]
 pub enum Fields<'t, 's> {
     /// No fields.
@@ -62,7 +62,7 @@ fn read_typed<'t, 's>(
         (λ read. FieldType (tokens_of tokens.entry) (Ok (typed_value read.0, tokens_of read.1))) }
     ensures shorter { IfOk result
         (λ read. count_of (tokens_of read.1) < count_of (tokens_of tokens.entry)) }
-    ensures err { IfErr result (Stands (λ error. FieldType (tokens_of tokens.entry) (Err error))) }
+    ensures err { IfErr result (Occurs (λ error. FieldType (tokens_of tokens.entry) (Err error))) }
 {
     let run = extent(End::OfField, tokens);
     match read_type(alloc, tokens) {
@@ -84,7 +84,8 @@ fn skip_colon<'t, 's>(tokens: Tokens<'t, 's>) -> Result<Tokens<'t, 's>, ReadErro
     }
 }
 
-/// Returns the tokens after the name of a field and `:` if fields have names, or else all tokens.
+/// Returns the tokens after the name of a field and `:` if fields have names, and all tokens
+/// otherwise.
 fn skip_label<'t, 's>(named: bool, tokens: Tokens<'t, 's>) -> Result<Tokens<'t, 's>, ReadError>
     ensures ok { IfOk result
         (λ rest. label named (tokens_of tokens.entry) (Ok (tt, tokens_of rest))) }
@@ -110,7 +111,7 @@ fn read_field<'t, 's>(
         (λ read. field named (tokens_of tokens.entry) (Ok (field_value read.0, tokens_of read.1))) }
     ensures shorter { IfOk result
         (λ read. count_of (tokens_of read.1) < count_of (tokens_of tokens.entry)) }
-    ensures err { IfErr result (Stands
+    ensures err { IfErr result (Occurs
         (λ error. field named (tokens_of tokens.entry) (Err error))) }
 {
     let (attributes, visible) = read_attributes(tokens)?;
@@ -124,7 +125,7 @@ fn read_field<'t, 's>(
     Ok((field, rest))
 }
 
-/// Returns the fields in a group. All its tokens must belong to them.
+/// Returns the fields in a group. All tokens of the group must belong to them.
 fn read_fields<'t, 's>(
     alloc: Global,
     named: bool,
@@ -132,7 +133,7 @@ fn read_fields<'t, 's>(
 ) -> Result<Vec<Field<'t, 's>>, ReadError>
     ensures ok { IfOk result
         (λ list. fields named (tokens_of tokens.entry) (Ok (map field_value list.items, none))) }
-    ensures err { IfErr result (Stands
+    ensures err { IfErr result (Occurs
         (λ error. fields named (tokens_of tokens.entry) (Err error))) }
 {
     let mut list = Vec::new(alloc);
@@ -146,8 +147,8 @@ fn read_fields<'t, 's>(
     Ok(list)
 }
 
-/// Returns the fields in parentheses and the tokens after these. `None` if no parenthesis comes
-/// first.
+/// Returns the fields in parentheses, and the tokens after the parentheses. Returns `None` if no
+/// parenthesis comes first.
 fn read_tuple<'t, 's>(
     alloc: Global,
     tokens: Tokens<'t, 's>,
@@ -157,7 +158,7 @@ fn read_tuple<'t, 's>(
         (λ read. Holding (tokens_of tokens.entry) (Ok (fields_value read.0, tokens_of read.1)))) }
     ensures shorter { IfOk result (λ found. IfSome found
         (λ read. count_of (tokens_of read.1) ≤ count_of (tokens_of tokens.entry))) }
-    ensures err { IfErr result (Stands (λ error. Holding (tokens_of tokens.entry) (Err error))) }
+    ensures err { IfErr result (Occurs (λ error. Holding (tokens_of tokens.entry) (Err error))) }
 {
     let Some(opened) = open_parenthesis(tokens) else {
         return Ok(None);
@@ -176,7 +177,7 @@ fn read_named<'t, 's>(
         (λ read. Holding (tokens_of tokens.entry) (Ok (fields_value read.0, tokens_of read.1))) }
     ensures shorter { IfOk result
         (λ read. count_of (tokens_of read.1) ≤ count_of (tokens_of tokens.entry)) }
-    ensures err { IfErr result (Stands (λ error. Holding (tokens_of tokens.entry) (Err error))) }
+    ensures err { IfErr result (Occurs (λ error. Holding (tokens_of tokens.entry) (Err error))) }
 {
     let Some(opened) = open_brace(tokens) else {
         return Ok((Fields::Unit, tokens));
@@ -194,7 +195,7 @@ pub(crate) fn read_holding<'t, 's>(
         (λ read. Holding (tokens_of tokens.entry) (Ok (fields_value read.0, tokens_of read.1))) }
     ensures shorter { IfOk result
         (λ read. count_of (tokens_of read.1) ≤ count_of (tokens_of tokens.entry)) }
-    ensures err { IfErr result (Stands (λ error. Holding (tokens_of tokens.entry) (Err error))) }
+    ensures err { IfErr result (Occurs (λ error. Holding (tokens_of tokens.entry) (Err error))) }
 {
     let found = read_tuple(alloc, tokens)?;
     match found {

@@ -1,7 +1,7 @@
-//! Reads generic parameters.
+//! Reads generic parameters. The reader of enums calls it.
 
 ghost use Rattle.std.specs.Prelude.{◌≡◌, ◌<◌, ◌≤◌, List, map, Ok, Err, MatchResult, IfOk, IfErr};
-ghost use Rattle.logos_enum.specs.Views.{also, identifier, count_of, tokens_of, begins_with, greater, head_of, head_in, some_in, bounds_in, constant_in, default_in, tail, shape, OneParameter, closing_in, parameters, Generics, Listed, Stands, ident_slice, head_value, parameter_value};
+ghost use Rattle.logos_enum.specs.Views.{also, identifier, count_of, tokens_of, begins_with, greater, head_of, head_in, some_in, bounds_in, constant_in, default_in, tail, shape, OneParameter, closing_in, parameters, Generics, Listed, Occurs, ident_slice, head_value, parameter_value};
 
 use crate::attributes::read_attributes;
 use crate::error::ReadError;
@@ -23,9 +23,9 @@ pub enum ParameterKind {
 #[derive(Clone, Copy)]
 pub struct Parameter<'t, 's> {
     pub kind: ParameterKind,
-    /// The name. That of a lifetime does not include its `'`.
+    /// The name, without the `'` of a lifetime.
     pub name: Ident<'s>,
-    /// All its tokens: attributes, the name, and the bounds, type or default after it.
+    /// All tokens of the parameter: attributes, the name, and the bounds, type or default after it.
     pub run: Tokens<'t, 's>,
 }
 
@@ -36,7 +36,7 @@ pub(crate) struct Head<'s> {
     name: Ident<'s>,
 }
 
-/// Returns the name that comes first as that of a parameter of this kind, and the tokens after it.
+/// Returns the name at the front as the name of a parameter of this kind, and the tokens after it.
 fn read_head_of<'t, 's>(
     kind: ParameterKind,
     tokens: Tokens<'t, 's>,
@@ -52,7 +52,7 @@ fn read_head_of<'t, 's>(
     }
 }
 
-/// Returns the kind and the name of the parameter that comes first, and the tokens after the name.
+/// Returns the kind and the name of the parameter at the front, and the tokens after the name.
 fn read_head<'t, 's>(tokens: Tokens<'t, 's>) -> Result<(Head<'s>, Tokens<'t, 's>), ReadError>
     ensures { MatchResult result
         (λ read. (head_in (tokens_of tokens.entry) ≡ Ok (head_value read.0, tokens_of read.1))
@@ -71,7 +71,7 @@ fn read_head<'t, 's>(tokens: Tokens<'t, 's>) -> Result<(Head<'s>, Tokens<'t, 's>
     }
 }
 
-/// Returns the tokens after an extent. It must have at least one token.
+/// Returns the tokens after an extent, which must have at least one token.
 fn skip_some<'t, 's>(end: End, tokens: Tokens<'t, 's>) -> Result<Tokens<'t, 's>, ReadError>
     ensures { MatchResult result
         (λ rest. (some_in end (tokens_of tokens.entry) ≡ Ok (tt, tokens_of rest))
@@ -85,7 +85,7 @@ fn skip_some<'t, 's>(end: End, tokens: Tokens<'t, 's>) -> Result<Tokens<'t, 's>,
     }
 }
 
-/// Returns the tokens after `:` and bounds if `:` comes first, or else all tokens.
+/// Returns the tokens after `:` and bounds if `:` comes first, and all tokens otherwise.
 fn skip_bounds<'t, 's>(tokens: Tokens<'t, 's>) -> Tokens<'t, 's>
     ensures value { bounds_in (tokens_of tokens.entry) ≡ Ok (tt, tokens_of result) }
     ensures shorter { count_of (tokens_of result) ≤ count_of (tokens_of tokens.entry) }
@@ -113,7 +113,7 @@ fn skip_constant<'t, 's>(tokens: Tokens<'t, 's>) -> Result<Tokens<'t, 's>, ReadE
     }
 }
 
-/// Returns the tokens after `=` and a default if `=` comes first, or else all tokens.
+/// Returns the tokens after `=` and a default if `=` comes first, and all tokens otherwise.
 fn skip_default<'t, 's>(tokens: Tokens<'t, 's>) -> Result<Tokens<'t, 's>, ReadError>
     ensures { MatchResult result
         (λ rest. (default_in (tokens_of tokens.entry) ≡ Ok (tt, tokens_of rest))
@@ -128,7 +128,7 @@ fn skip_default<'t, 's>(tokens: Tokens<'t, 's>) -> Result<Tokens<'t, 's>, ReadEr
     }
 }
 
-/// Returns the tokens after everything that can follow the name of a parameter.
+/// Returns the tokens after the bounds, type and default that can follow the name of a parameter.
 fn skip_tail<'t, 's>(
     kind: ParameterKind,
     tokens: Tokens<'t, 's>,
@@ -166,7 +166,7 @@ fn read_shape<'t, 's>(tokens: Tokens<'t, 's>) -> Result<(Head<'s>, Tokens<'t, 's
     Ok((head, rest))
 }
 
-/// Returns the parameter that comes first, and the tokens after it.
+/// Returns the parameter at the front, and the tokens after it.
 fn read_parameter<'t, 's>(
     tokens: Tokens<'t, 's>,
 ) -> Result<(Parameter<'t, 's>, Tokens<'t, 's>), ReadError>
@@ -195,7 +195,7 @@ fn read_parameters<'t, 's>(
     ensures ok { IfOk result
         (λ read. Listed (begins_with greater) OneParameter (tokens_of tokens.entry)
         (Ok (map parameter_value read.0.items, tokens_of read.1))) }
-    ensures err { IfErr result (Stands
+    ensures err { IfErr result (Occurs
         (λ error. Listed (begins_with greater) OneParameter (tokens_of tokens.entry) (Err error))) }
 {
     let mut list = Vec::new(alloc);
@@ -221,8 +221,8 @@ fn skip_closing<'t, 's>(tokens: Tokens<'t, 's>) -> Result<Tokens<'t, 's>, ReadEr
     }
 }
 
-/// Returns the generic parameters and the tokens after them. There are none if `<` does not come
-/// first.
+/// Returns the generic parameters and the tokens after them. There are no parameters if `<` does
+/// not come first.
 pub(crate) fn read_generics<'t, 's>(
     alloc: Global,
     tokens: Tokens<'t, 's>,
@@ -230,7 +230,7 @@ pub(crate) fn read_generics<'t, 's>(
     ensures ok { IfOk result
         (λ read. Generics (tokens_of tokens.entry)
         (Ok (map parameter_value read.0.items, tokens_of read.1))) }
-    ensures err { IfErr result (Stands (λ error. Generics (tokens_of tokens.entry) (Err error))) }
+    ensures err { IfErr result (Occurs (λ error. Generics (tokens_of tokens.entry) (Err error))) }
 {
     let Some(inside) = after_mark('<', tokens) else {
         return Ok((Vec::new(alloc), tokens));

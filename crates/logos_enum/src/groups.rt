@@ -1,4 +1,4 @@
-//! Opens the group that comes first.
+//! Opens the group at the front of a run. The readers of attributes, fields and bodies call it.
 
 ghost use Rattle.std.specs.Prelude.{◌≡◌, ◌<◌, Some, None, MatchOption};
 ghost use Rattle.logos_enum.specs.Views.{count_of, tokens_of, parenthesis_in, bracket_in, brace_in, opened_value};
@@ -14,7 +14,7 @@ pub(crate) struct Opened<'t, 's> {
     pub rest: Tokens<'t, 's>,
 }
 
-/// Returns the group in parentheses that comes first, or `None`.
+/// Returns the group in parentheses at the front, or `None` if there is none.
 pub(crate) fn open_parenthesis<'t, 's>(tokens: Tokens<'t, 's>) -> Option<Opened<'t, 's>>
     ensures { MatchOption result (parenthesis_in (tokens_of tokens.entry) ≡ None)
         (λ opened. (parenthesis_in (tokens_of tokens.entry) ≡ Some (opened_value opened))
@@ -32,7 +32,7 @@ pub(crate) fn open_parenthesis<'t, 's>(tokens: Tokens<'t, 's>) -> Option<Opened<
     }
 }
 
-/// Returns the group in brackets that comes first, or `None`.
+/// Returns the group in brackets at the front, or `None` if there is none.
 pub(crate) fn open_bracket<'t, 's>(tokens: Tokens<'t, 's>) -> Option<Opened<'t, 's>>
     ensures { MatchOption result (bracket_in (tokens_of tokens.entry) ≡ None)
         (λ opened. (bracket_in (tokens_of tokens.entry) ≡ Some (opened_value opened))
@@ -50,7 +50,7 @@ pub(crate) fn open_bracket<'t, 's>(tokens: Tokens<'t, 's>) -> Option<Opened<'t, 
     }
 }
 
-/// Returns the group in braces that comes first, or `None`.
+/// Returns the group in braces at the front, or `None` if there is none.
 pub(crate) fn open_brace<'t, 's>(tokens: Tokens<'t, 's>) -> Option<Opened<'t, 's>>
     ensures { MatchOption result (brace_in (tokens_of tokens.entry) ≡ None)
         (λ opened. (brace_in (tokens_of tokens.entry) ≡ Some (opened_value opened))

@@ -1,7 +1,7 @@
 //! Reads a whole enum. `logos_parser`, `logos_strip` and the finder of enums in files call it.
 
 ghost use Rattle.std.specs.Prelude.{◌≡◌, ◌<◌, ◌≤◌, List, map, Ok, Err, Result, Some, None, MatchOption, MatchResult, IfOk, IfErr};
-ghost use Rattle.logos_enum.specs.Views.{TokenList, none, count_of, tokens_of, ReadError as ReadErrorValue, Memory, announced_in, IsFront, from_brace, where_in, Body, end_in, NoFront, item, Reads, EnumValue, variant_value, enum_value, Stands};
+ghost use Rattle.logos_enum.specs.Views.{TokenList, none, count_of, tokens_of, ReadError as ReadErrorValue, Memory, announced_in, IsFront, from_brace, where_in, Body, end_in, NoFront, item, Reads, EnumValue, variant_value, enum_value, Occurs};
 
 use crate::attributes::{read_attributes, skip_keyword, skip_visibility};
 use crate::error::ReadError;
@@ -12,10 +12,10 @@ use crate::variants::{Variant, read_variants};
 use logos_token::token::{Delimiter, Ident, TokenTree, Tokens};
 use std::alloc::Global;
 
-/// An enum. The runs are views of the tokens that it was read from.
+/// An enum. The runs are views of the tokens from which it was read.
 #[derive(Drop)]
 pub struct ItemEnum<'t, 's> {
-    /// The attributes of the enum: each is `#` and brackets, or a documentation comment.
+    /// The attributes of the enum. Each is `#` and brackets, or a documentation comment.
     pub attributes: Tokens<'t, 's>,
     pub name: Ident<'s>,
     /// The generic parameters, in source order.
@@ -47,7 +47,7 @@ fn skip_to_brace<'t, 's>(tokens: Tokens<'t, 's>) -> Tokens<'t, 's>
     rest
 }
 
-/// Returns the tokens after a where clause if one comes first, or else all tokens.
+/// Returns the tokens after a where clause if one comes first, and all tokens otherwise.
 fn skip_where<'t, 's>(tokens: Tokens<'t, 's>) -> Tokens<'t, 's>
     ensures { where_in (tokens_of tokens.entry) ≡ Ok (tt, tokens_of result) }
 {
@@ -65,7 +65,7 @@ fn read_body<'t, 's>(
     ensures ok { IfOk result
         (λ read. Body (tokens_of tokens.entry)
         (Ok (map variant_value read.0.items, tokens_of read.1))) }
-    ensures err { IfErr result (Stands (λ error. Body (tokens_of tokens.entry) (Err error))) }
+    ensures err { IfErr result (Occurs (λ error. Body (tokens_of tokens.entry) (Err error))) }
 {
     let Some(braced) = open_brace(tokens) else {
         return Err(grammar_at(tokens));
@@ -99,8 +99,8 @@ fn announced<'t, 's>(
     Some((attributes, rest))
 }
 
-/// Returns the attributes before `enum` and the tokens after it. `None` if well-formed attributes,
-/// an optional visibility and `enum` do not come first.
+/// Returns the attributes before `enum` and the tokens after it. Returns `None` if the run does not
+/// begin with well-formed attributes, an optional visibility and `enum`.
 fn read_front<'t, 's>(tokens: Tokens<'t, 's>) -> Option<(Tokens<'t, 's>, Tokens<'t, 's>)>
     ensures { MatchOption result (NoFront (tokens_of tokens.entry))
         (λ read. IsFront (tokens_of tokens.entry) (tokens_of read.0) (tokens_of read.1)) }
@@ -111,7 +111,7 @@ fn read_front<'t, 's>(tokens: Tokens<'t, 's>) -> Option<(Tokens<'t, 's>, Tokens<
     }
 }
 
-/// Returns the enum with these attributes. The tokens are those after its `enum`.
+/// Returns the enum with these attributes. `tokens` are the tokens after `enum`.
 fn read_item<'t, 's>(
     alloc: Global,
     attributes: Tokens<'t, 's>,
@@ -120,7 +120,7 @@ fn read_item<'t, 's>(
     ensures ok { IfOk result
         (λ read. item (tokens_of attributes.entry) (tokens_of tokens.entry)
         (Ok (enum_value read, none))) }
-    ensures err { IfErr result (Stands
+    ensures err { IfErr result (Occurs
         (λ error. item (tokens_of attributes.entry) (tokens_of tokens.entry) (Err error))) }
 {
     let (name, after_name) = read_name(tokens)?;
@@ -136,31 +136,30 @@ fn read_item<'t, 's>(
 }
 
 /// Reads an enum: attributes, an optional visibility, `enum`, a name, optional generic parameters
-/// and an optional where clause, and braces with variants between commas, the last of which can
-/// have a comma too. Nothing can follow the braces. Only the shape of the enum and the runs of
+/// and an optional where clause, and variants in braces, separated by commas with an optional comma
+/// after the last. No token can follow the braces. Only the structure of the enum and the runs of
 /// tokens are returned; attributes are not interpreted.
 ///
 /// An attribute is `#` and brackets with a path, which can be followed by a group or by `=` and
-/// tokens; or it is a documentation comment of what follows it. A visibility is `pub` with at most
-/// one group in parentheses. Any identifier can be a name. A generic parameter is a lifetime, a
-/// type, or `const` and a name; attributes can come before it, and its bounds and default stay
-/// tokens. A where clause is everything up to the first brace that is not inside another group. A
-/// variant is attributes, a name, then nothing, fields in parentheses, or fields with names in
-/// braces, and optionally `=` and tokens. At most 128 types can stand inside one another in the
-/// type of a field.
+/// tokens; or it is an outer documentation comment. A visibility is `pub` with at most one group in
+/// parentheses. Any identifier can be a name. A generic parameter is a lifetime, a type, or `const`
+/// and a name. Attributes can come before it, and its bounds and default are returned as tokens. A
+/// where clause reaches up to the first brace that is not inside another group. A variant is
+/// attributes, a name, then nothing, fields in parentheses, or fields with names in braces, and
+/// optionally `=` and tokens. At most 128 types can be nested in the type of a field.
 ///
 /// # Errors
 ///
-/// Returns `NotAnEnum` if well-formed attributes, an optional visibility and `enum` do not come
-/// first. If they do, the first fault from the left: `Grammar` at a token that does not fit,
-/// `TypeUnsupported` at a type that is not supported, or `LimitTypeNesting` at a type that passes
-/// the limit. `Memory` if memory runs out.
+/// Returns `NotAnEnum` if the run does not begin with well-formed attributes, an optional
+/// visibility and `enum`. Otherwise returns the first fault from the left: `Grammar` at a token
+/// that does not fit, `TypeUnsupported` at an unsupported type, or `LimitTypeNesting` at a type
+/// that exceeds the limit. Returns `Memory` if memory runs out.
 pub fn read_enum<'t, 's>(
     alloc: Global,
     tokens: Tokens<'t, 's>,
 ) -> Result<ItemEnum<'t, 's>, ReadError>
     ensures ok { IfOk result (λ read. Reads (tokens_of tokens.entry) (Ok (enum_value read))) }
-    ensures err { IfErr result (Stands (λ error. Reads (tokens_of tokens.entry) (Err error))) }
+    ensures err { IfErr result (Occurs (λ error. Reads (tokens_of tokens.entry) (Err error))) }
     ensures complete { (value : EnumValue) → Reads (tokens_of tokens.entry) (Ok value) →
         IfErr result (λ error. error ≡ Memory) }
 {
@@ -173,7 +172,7 @@ pub fn read_enum<'t, 's>(
     Ok(item)
 }
 
-/// A run of tokens is at most one enum and has at most one fault, and never both.
+/// A run of tokens is at most one enum and has at most one fault, but never both.
 pub fn reads_once()
     ensures { (run : TokenList) (one other : Result EnumValue ReadErrorValue) → Reads run one →
         Reads run other → one ≡ other }

@@ -1,5 +1,5 @@
 //! Reads an enum: its attributes, generic parameters and variants, with the runs of tokens that
-//! other crates read on.
+//! other crates read further.
 
 #![tactic(auto)]
 

@@ -1,4 +1,4 @@
-//! Takes single tokens from the front of a run.
+//! Takes single tokens from the front of a run. All readers of this crate call it.
 
 ghost use Rattle.std.specs.Prelude.{◌≡◌, ◌<◌, ◌≤◌, true, false, List, Ok, Err, MatchOption, MatchResult};
 ghost use Rattle.logos_enum.specs.Views.{Span, Spacing, none, also, punctuation, count_of, rest_of, tokens_of, tree_of, first_span, greater, begins_with, is_none, is_outer, Grammar, after_item, name_in, ident_slice};
@@ -34,7 +34,7 @@ pub(crate) fn grammar_at(tokens: Tokens<'_, '_>) -> ReadError
     }
 }
 
-/// Returns the first tree and the trees after it.
+/// Returns the first tree and the trees after it, or `None` if the run is empty.
 pub(crate) fn split<'t, 's>(tokens: Tokens<'t, 's>) -> Option<(TokenTree<'t, 's>, Tokens<'t, 's>)>
     ensures { MatchOption result (tokens_of tokens.entry ≡ none)
         (λ read. tokens_of tokens.entry ≡ also (tree_of read.0) (tokens_of read.1)) }
@@ -55,7 +55,8 @@ pub(crate) fn after_mark<'t, 's>(mark: char, tokens: Tokens<'t, 's>) -> Option<T
     }
 }
 
-/// Returns whether a documentation comment documents what follows it, as `///` and `/**` do.
+/// Returns whether a documentation comment is an outer one, which documents the item after it, such
+/// as `///` and `/**`.
 pub fn is_outer(text: &str) -> bool
     ensures { result ≡ is_outer text.now }
 {
@@ -65,7 +66,7 @@ pub fn is_outer(text: &str) -> bool
     }
 }
 
-/// Returns the name that comes first, and the tokens after it.
+/// Returns the name at the front, and the tokens after it.
 pub(crate) fn read_name<'t, 's>(
     tokens: Tokens<'t, 's>,
 ) -> Result<(Ident<'s>, Tokens<'t, 's>), ReadError>
@@ -80,7 +81,8 @@ pub(crate) fn read_name<'t, 's>(
     }
 }
 
-/// Returns the tokens after an element of a list that reaches to the end of its group.
+/// Returns the tokens after the comma between elements of a list that reaches to the end of its
+/// group.
 pub(crate) fn skip_comma<'t, 's>(tokens: Tokens<'t, 's>) -> Result<Tokens<'t, 's>, ReadError>
     ensures { MatchResult result
         (λ rest. (after_item is_none (tokens_of tokens.entry) ≡ Ok (tt, tokens_of rest))
@@ -94,7 +96,7 @@ pub(crate) fn skip_comma<'t, 's>(tokens: Tokens<'t, 's>) -> Result<Tokens<'t, 's
     }
 }
 
-/// Returns the tokens after an element of a list that reaches to `>`.
+/// Returns the tokens after the comma between elements of a list that reaches to `>`.
 pub(crate) fn skip_comma_or_angle<'t, 's>(
     tokens: Tokens<'t, 's>,
 ) -> Result<Tokens<'t, 's>, ReadError>

@@ -1,7 +1,7 @@
-//! Reads the variants of an enum.
+//! Reads the variants of an enum. The reader of enums calls it.
 
 ghost use Rattle.std.specs.Prelude.{◌≡◌, ◌<◌, ◌≤◌, List, map, Ok, Err, MatchOption, MatchResult, IfOk, IfErr};
-ghost use Rattle.logos_enum.specs.Views.{none, count_of, tokens_of, from_comma, value_in, discriminant_in, variant, variants, variant_value, Stands};
+ghost use Rattle.logos_enum.specs.Views.{none, count_of, tokens_of, from_comma, value_in, discriminant_in, variant, variants, variant_value, Occurs};
 
 use crate::attributes::read_attributes;
 use crate::error::ReadError;
@@ -57,8 +57,8 @@ fn skip_value<'t, 's>(tokens: Tokens<'t, 's>) -> Result<Tokens<'t, 's>, ReadErro
     }
 }
 
-/// Returns the tokens after `=` and the discriminant of a variant if `=` comes first, or else all
-/// tokens.
+/// Returns the tokens after `=` and the discriminant of a variant if `=` comes first, and all
+/// tokens otherwise.
 fn skip_discriminant<'t, 's>(tokens: Tokens<'t, 's>) -> Result<Tokens<'t, 's>, ReadError>
     ensures { MatchResult result
         (λ rest. (discriminant_in (tokens_of tokens.entry) ≡ Ok (tt, tokens_of rest))
@@ -71,7 +71,7 @@ fn skip_discriminant<'t, 's>(tokens: Tokens<'t, 's>) -> Result<Tokens<'t, 's>, R
     }
 }
 
-/// Returns the variant that comes first, and the tokens after it.
+/// Returns the variant at the front, and the tokens after it.
 fn read_variant<'t, 's>(
     alloc: Global,
     tokens: Tokens<'t, 's>,
@@ -80,7 +80,7 @@ fn read_variant<'t, 's>(
         (λ read. variant (tokens_of tokens.entry) (Ok (variant_value read.0, tokens_of read.1))) }
     ensures shorter { IfOk result
         (λ read. count_of (tokens_of read.1) < count_of (tokens_of tokens.entry)) }
-    ensures err { IfErr result (Stands (λ error. variant (tokens_of tokens.entry) (Err error))) }
+    ensures err { IfErr result (Occurs (λ error. variant (tokens_of tokens.entry) (Err error))) }
 {
     let (attributes, named) = read_attributes(tokens)?;
     let (name, held) = read_name(named)?;
@@ -94,14 +94,14 @@ fn read_variant<'t, 's>(
     Ok((variant, rest))
 }
 
-/// Returns the variants inside braces. All tokens there must belong to them.
+/// Returns the variants inside braces. All tokens inside the braces must belong to them.
 pub(crate) fn read_variants<'t, 's>(
     alloc: Global,
     tokens: Tokens<'t, 's>,
 ) -> Result<Vec<Variant<'t, 's>>, ReadError>
     ensures ok { IfOk result
         (λ list. variants (tokens_of tokens.entry) (Ok (map variant_value list.items, none))) }
-    ensures err { IfErr result (Stands (λ error. variants (tokens_of tokens.entry) (Err error))) }
+    ensures err { IfErr result (Occurs (λ error. variants (tokens_of tokens.entry) (Err error))) }
 {
     let mut list = Vec::new(alloc);
     let mut rest = tokens;

@@ -9,10 +9,10 @@ use Rattle.logos_graph.specs.Found.{FindsTheLongest, GraphFinds, IsUnmarked}
 use Rattle.logos_graph.specs.Graph.{GraphState}
 use Rattle.logos_graph.specs.GraphOf.{IsGraphOf}
 use Rattle.logos_graph.specs.View.{GraphValue, rules_of}
-use Rattle.logos_search.specs.Machines.{Leads}
-use Rattle.logos_search.specs.Shortest.{NoneLeads, IsShortest}
+use Rattle.logos_evidence.specs.search.Machines.{Leads}
+use Rattle.logos_evidence.specs.search.Shortest.{NoneLeads, IsShortest}
 use Rattle.logos_evidence.specs.Comparing.{Agree, FindTheSame, IsDifference, IsShortestDifference}
-use Rattle.logos_search.specs.declared.point.Point.{Point}
+use Rattle.logos_evidence.specs.declared.search.point.Point.{Point}
 use Rattle.logos_evidence.specs.inside.Lasts.{last_from}
 use Rattle.logos_evidence.specs.inside.Machines.{is_cut, same_option, point_from, first_point, pair_next, pair_goal}
 use Rattle.logos_evidence.proofs.AliveLemmas.{alive, together, parting}
@@ -62,11 +62,11 @@ module _ (g : List GraphState) (leaves : ℕ) (finished : IsFinished g leaves) (
 
 module _ (one other : List GraphState) (leaves twins : ℕ) (one_finished : IsFinished one leaves) (other_finished : IsFinished other twins)
     (names others : List ℕ) (utf8 : Bool) where
-  abbrev told : Option (ℕ × ℕ) → Option (ℕ × ℕ) → List ℕ → Bool
-  told o p w = verdict one other names others utf8 o p false false (errors_part one other names others utf8 0 0 false w)
+  abbrev reported : Option (ℕ × ℕ) → Option (ℕ × ℕ) → List ℕ → Bool
+  reported o p w = verdict one other names others utf8 o p false false (errors_part one other names others utf8 0 0 false w)
 
   abbrev differs : List ℕ → Bool
-  differs w = told (last_from one 0 0 w) (last_from other 0 0 w) w
+  differs w = reported (last_from one 0 0 w) (last_from other 0 0 w) w
 
   leads_differ : (w : List ℕ) → Leads (pair_next one other names others utf8) (pair_goal one other names others utf8) utf8 first_point w → differs w ≡ true
   leads_differ w leads =
@@ -79,14 +79,14 @@ module _ (one other : List GraphState) (leaves twins : ℕ) (one_finished : IsFi
       let run = goes one other names others utf8 w first_point 0 in
       record { input = input; end = run.0; way = run.1; goal = run.2 ∙ e }
 
-  -- ---- Where the machine tells no difference, the same is found
+  -- ---- If the machine detects no difference, equal results are found
 
   module _ (bytes : List ℕ) (from : ℕ) (same : differs (drop from bytes) ≡ false) where
     abbrev rest : List ℕ
     rest = drop from bytes
 
-    told_same : (o p : Option (ℕ × ℕ)) → last_from one 0 0 rest ≡ o → last_from other 0 0 rest ≡ p → told o p rest ≡ false
-    told_same o p e f = ap (λ (x : Option (ℕ × ℕ)). told x p rest) (sym e) ∙ ap (λ (y : Option (ℕ × ℕ)). told (last_from one 0 0 rest) y rest) (sym f) ∙ same
+    reported_same : (o p : Option (ℕ × ℕ)) → last_from one 0 0 rest ≡ o → last_from other 0 0 rest ≡ p → reported o p rest ≡ false
+    reported_same o p e f = ap (λ (x : Option (ℕ × ℕ)). reported x p rest) (sym e) ∙ ap (λ (y : Option (ℕ × ℕ)). reported (last_from one 0 0 rest) y rest) (sym f) ∙ same
 
     agree : (f g : Found) → GraphFinds one utf8 bytes from f → GraphFinds other utf8 bytes from g → Agree names f others g
     agree ended ended x y = tt
@@ -96,21 +96,21 @@ module _ (one other : List GraphState) (leaves twins : ℕ) (one_finished : IsFi
     agree (matched leaf to) (matched k end) x y =
         let a = found_last one leaves one_finished utf8 bytes from leaf to x in
         let b = found_last other twins other_finished utf8 bytes from k end y in
-        let t = and_parts _ _ (not_false _ (told_same _ _ a.2 b.2)) in
+        let t = and_parts _ _ (not_false _ (reported_same _ _ a.2 b.2)) in
         (is_same (slice_get names leaf) (slice_get others k) t.0, a.1 ∙ ap (λ n. from + n) (is_equal a.0 b.0 t.1) ∙ sym b.1)
     agree (matched leaf to) (failed end) x y =
         let a = found_last one leaves one_finished utf8 bytes from leaf to x in
-        absurd (let clash : true ≡ false = told_same _ _ a.2 (unmarked_none other twins other_finished utf8 bytes from end y) in cc)
+        absurd (let clash : true ≡ false = reported_same _ _ a.2 (unmarked_none other twins other_finished utf8 bytes from end y) in cc)
     agree (failed to) ended x y = let l = x.starts in absurd (omega (arith, l, y))
     agree (failed to) (matched k end) x y =
         let b = found_last other twins other_finished utf8 bytes from k end y in
-        absurd (let clash : true ≡ false = told_same _ _ (unmarked_none one leaves one_finished utf8 bytes from to x) b.2 in cc)
+        absurd (let clash : true ≡ false = reported_same _ _ (unmarked_none one leaves one_finished utf8 bytes from to x) b.2 in cc)
     agree (failed to) (failed end) x y =
         let none : errors_part one other names others utf8 0 0 false rest ≡ false =
-        told_same _ _ (unmarked_none one leaves one_finished utf8 bytes from to x) (unmarked_none other twins other_finished utf8 bytes from end y) in
+        reported_same _ _ (unmarked_none one leaves one_finished utf8 bytes from to x) (unmarked_none other twins other_finished utf8 bytes from end y) in
         errors_agree utf8 bytes from one other (λ at l p cut. together one other names others utf8 rest 0 0 false none at l (inr p) cut) to end x y
 
-  -- ---- Where it tells one, different things are found
+  -- ---- If it detects one, different results are found
 
   module _ (rules other_rules : List Rule) (finds : FindsTheLongest rules utf8 one) (other_finds : FindsTheLongest other_rules utf8 other) where
     differences : (bytes : List ℕ) → IsInput utf8 bytes → differs bytes ≡ true → IsDifference rules names other_rules others utf8 bytes
@@ -126,7 +126,7 @@ module _ (one other : List GraphState) (leaves twins : ℕ) (one_finished : IsFi
           differ = h;
         }
 
-        two : (x y : ℕ × ℕ) → told (Some x) (Some y) bytes ≡ true → ¬ Agree names (matched x.0 (0 + x.1)) others (matched y.0 (0 + y.1))
+        two : (x y : ℕ × ℕ) → reported (Some x) (Some y) bytes ≡ true → ¬ Agree names (matched x.0 (0 + x.1)) others (matched y.0 (0 + y.1))
         two x y t a =
             let size : x.1 ≡ y.1 = let h = a.1 in omega (arith, h) in
             let both = both_true _ _ (same_is (slice_get names x.0) (slice_get others y.0) a.0) (eq-eqb x.1 y.1 size) in
@@ -150,7 +150,7 @@ module _ (one other : List GraphState) (leaves twins : ℕ) (one_finished : IsFi
             part to end x y at l p cut (inl h) same = let m = ends_apart utf8 bytes 0 one other at (positive at p) l cut h.0 h.1 to end x y in omega (arith, m, same)
             part to end x y at l p cut (inr h) same = let m = ends_apart utf8 bytes 0 other one at (positive at p) l cut h.1 h.0 end to y x in omega (arith, m, same)
 
-        go : (o p : Option (ℕ × ℕ)) → last_from one 0 0 bytes ≡ o → last_from other 0 0 bytes ≡ p → told o p bytes ≡ true → IsDifference rules names other_rules others utf8 bytes
+        go : (o p : Option (ℕ × ℕ)) → last_from one 0 0 bytes ≡ o → last_from other 0 0 bytes ≡ p → reported o p bytes ≡ true → IsDifference rules names other_rules others utf8 bytes
         go None None a b t = errors a b t
         go None (Some y) a b t =
             let found = last_found other twins other_finished utf8 bytes 0 y.0 y.1 b in

@@ -2,9 +2,9 @@
 use Rattle.std.proofs.Common.{◌≡◌, ◌⊎◌, ℕ, zero, suc, Bool, false, List, [], ◌∷◌, take, Option, None, Some, is_some, IsSomeAnd, option_map, option_and_then, slice_get, refl, sym, ap, ◌∙◌, subst, inl, inr}
 use Rattle.std.proofs.lemmas.Option.{same_Some}
 use Rattle.logos_graph.specs.Graph.{GraphState, next_by, walk}
-use Rattle.logos_search.specs.Covering.{Takes, AreCovering, step_to, end_at}
-use Rattle.logos_search.specs.declared.point.Point.{Point}
-use Rattle.logos_search.proofs.StepLemmas.{not_end, same_points, same_end, takes_here, takes_later}
+use Rattle.logos_evidence.specs.search.Covering.{Takes, AreCovering, step_to, end_at}
+use Rattle.logos_evidence.specs.declared.search.point.Point.{Point}
+use Rattle.logos_evidence.proofs.search.StepLemmas.{not_end, same_points, same_end, takes_here, takes_later}
 use Rattle.logos_evidence.specs.Covering.{AreCoveringInputs}
 use Rattle.logos_evidence.specs.inside.Machines.{point_from, edge_next, edge_goal}
 

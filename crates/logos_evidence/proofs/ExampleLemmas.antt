@@ -9,16 +9,16 @@ use Rattle.logos_graph.specs.Found.{FindsTheLongest}
 use Rattle.logos_graph.specs.Graph.{GraphState}
 use Rattle.logos_graph.specs.GraphOf.{IsGraphOf}
 use Rattle.logos_graph.specs.View.{GraphValue, rules_of}
-use Rattle.logos_search.specs.Machines.{after, Leads}
-use Rattle.logos_search.specs.Shortest.{NoneLeads, IsShortest}
-use Rattle.logos_search.specs.declared.point.Point.{Point}
+use Rattle.logos_evidence.specs.search.Machines.{after, Leads}
+use Rattle.logos_evidence.specs.search.Shortest.{NoneLeads, IsShortest}
+use Rattle.logos_evidence.specs.declared.search.point.Point.{Point}
 use Rattle.logos_evidence.specs.Examples.{IsExample, IsShortestExample, HasNoExample}
 use Rattle.logos_evidence.specs.inside.Lasts.{mark_by, mark_at_end, step_to, with_size, last_from}
 use Rattle.logos_evidence.specs.inside.Machines.{is_last, point_from, first_point, example_next, example_goal}
 use Rattle.logos_evidence.proofs.FoundLemmas.{last_found, found_last}
 use Rattle.logos_evidence.proofs.InputLemmas.{input_on}
 
--- what follows from the two cases of an answer
+-- the consequences of the two cases of an answer
 pub answer_on : {V : Type 0} (P Q : Type 0) (A B : V → Type 0) → (P → Q) → ((v : V) → A v → B v) → (o : Option V) → MatchOption o P A → MatchOption o Q B
 answer_on P Q A B none some None h = none h
 answer_on P Q A B none some (Some v) h = some v h
@@ -42,7 +42,7 @@ module _ (graph : List GraphState) (leaf : ℕ) where
   or_won None m n before = is_won m n before
   or_won (Some x) m n before = refl
 
-  -- what completes the rest completes the whole
+  -- a result for the rest completes to a result for the whole
   goes : (bytes : List ℕ) (p : Point) (n : ℕ) →
       (q : Point) × (after (example_next graph leaf) p bytes ≡ Some q) × (example_goal graph leaf q ≡ won (last_from graph p.here n bytes) p.last)
   goes [] p n = (p, refl, is_won (mark_at_end graph p.here) n p.last)

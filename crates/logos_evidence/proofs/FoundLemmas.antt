@@ -1,4 +1,4 @@
--- The last match, step by step, is what a graph finds first.
+-- The last match, step by step, is the first match that a graph finds.
 use Rattle.std.proofs.Common.{◌≡◌, ℕ, zero, suc, ◌+◌, ◌<◌, ◌≤◌, ◌⊎◌, Bool, false, List, [], ◌∷◌, length, take, drop, IsSomeAnd, Option, None, Some, option_map, option_and_then, nat_lt, slice_get, refl, sym, ap, ◌∙◌, subst, inl, inr, arith, le-ltb}
 use Rattle.std.proofs.lemmas.Bool.{cases_lt}
 use Rattle.std.proofs.lemmas.Bool.Decides.{nat_tests}
@@ -13,7 +13,7 @@ use Rattle.logos_evidence.specs.inside.Lasts.{early_of, last_from}
 use Rattle.logos_evidence.specs.inside.Stops.{mark_at, stop_mark}
 use Rattle.logos_evidence.proofs.LastLemmas.{LastOf, last_of}
 
--- ---- A mark at a stop is the mark after so many bytes
+-- ---- A mark at a stop is the mark after that number of bytes
 
 less : (a b : ℕ) → nat_lt (suc a) (suc b) ≡ nat_lt a b
 less a b = grind (arith, nat_tests)

@@ -1,4 +1,4 @@
--- One more place of an input, and the end.
+-- One more offset of an input, and the end.
 use Rattle.std.proofs.Common.{◌≡◌, ℕ, zero, suc, ◌+◌, ◌<◌, ◌≤◌, List, [], ◌∷◌, ◌++◌, Option, Some, length, map, take, drop, get_or, slice_get, append_assoc, drop-cons, refl, sym, ap, ◌∙◌, subst, arith}
 use Rattle.std.proofs.lemmas.List.{map-append}
 use Rattle.std.proofs.Math.Seq.{take-suc}
@@ -10,7 +10,7 @@ use Rattle.logos_graph.specs.GraphOf.{IsGraphOf}
 use Rattle.logos_graph.specs.View.{GraphValue, rules_of}
 use Rattle.logos_evidence.specs.Matching.{AreMatches}
 use Rattle.logos_evidence.specs.inside.Listed.{match_to, matches_in, matches_at, listed}
-use Rattle.logos_evidence.specs.declared.matching.Match.{Match}
+use Rattle.logos_evidence.specs.declared.matches.Match.{Match}
 use Rattle.logos_evidence.proofs.MatchingLemmas.{matches_are}
 
 -- one more leaf
@@ -27,10 +27,10 @@ one_more_match priority end front old new leaves i leaf p l e f g h =
     append_assoc front (map (match_to priority end) (take i leaves)) (match_to priority end (get_or leaves i 0) ∷ []) ∙ ap (λ (xs : List Match). front ++ xs) more
 
 module _ (dfa : Automaton) (priority : ℕ → ℕ) where
-  pub one_more_place : (end s t : ℕ) (input leaves : List ℕ) (old new whole : List Match) → end < length input → dfa_next dfa (Some s) (get_or input end 0) ≡ Some t →
+  pub one_more_site : (end s t : ℕ) (input leaves : List ℕ) (old new whole : List Match) → end < length input → dfa_next dfa (Some s) (get_or input end 0) ≡ Some t →
       slice_get dfa.matches t ≡ Some leaves → new ≡ old ++ map (match_to priority end) leaves → old ++ listed dfa priority end (Some s) (drop end input) ≡ whole →
       new ++ listed dfa priority (end + 1) (Some t) (drop (end + 1) input) ≡ whole
-  one_more_place end s t input leaves old new whole l next lists made h =
+  one_more_site end s t input leaves old new whole l next lists made h =
       let rest = drop (end + 1) input in
       let b = get_or input end 0 in
       let one : suc end ≡ end + 1 = omega arith in
@@ -48,9 +48,9 @@ module _ (dfa : Automaton) (priority : ℕ → ℕ) where
   none_left (x ∷ input) zero l = absurd (omega arith)
   none_left (x ∷ input) (suc end) l = none_left input end (omega arith)
 
-  pub last_place : (end s t : ℕ) (input leaves : List ℕ) (old new whole : List Match) → end ≡ length input → slice_get dfa.at_end s ≡ Some t →
+  pub last_site : (end s t : ℕ) (input leaves : List ℕ) (old new whole : List Match) → end ≡ length input → slice_get dfa.at_end s ≡ Some t →
       slice_get dfa.matches t ≡ Some leaves → new ≡ old ++ map (match_to priority (length input)) leaves → old ++ listed dfa priority end (Some s) (drop end input) ≡ whole → new ≡ whole
-  last_place end s t input leaves old new whole e next lists made h =
+  last_site end s t input leaves old new whole e next lists made h =
       let last : listed dfa priority end (Some s) [] ≡ map (match_to priority end) leaves =
       ap (λ (o : Option ℕ). matches_at dfa priority end o) next ∙ ap (matches_in dfa priority end) lists in
       made ∙ ap (λ (n : ℕ). old ++ map (match_to priority n) leaves) (sym e) ∙ ap (λ (xs : List Match). old ++ xs) (sym last) ∙

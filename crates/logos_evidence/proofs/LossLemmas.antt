@@ -17,16 +17,16 @@ use Rattle.logos_graph.specs.GraphOf.{IsGraphOf}
 use Rattle.logos_graph.specs.View.{GraphValue, rules_of}
 use Rattle.logos_graph.proofs.Automaton.{no_faults}
 use Rattle.logos_automaton.specs.Faults.{AreFaults}
-use Rattle.logos_search.specs.Machines.{after, Leads}
-use Rattle.logos_search.specs.Shortest.{NoneLeads, IsShortest}
-use Rattle.logos_search.specs.declared.point.Point.{Point}
+use Rattle.logos_evidence.specs.search.Machines.{after, Leads}
+use Rattle.logos_evidence.specs.search.Shortest.{NoneLeads, IsShortest}
+use Rattle.logos_evidence.specs.declared.search.point.Point.{Point}
 use Rattle.logos_evidence.specs.Losses.{IsLoss, IsShortestLoss, NeverLoses}
 use Rattle.logos_evidence.specs.Matching.{AreMatches}
 use Rattle.logos_evidence.specs.inside.Lasts.{mark_by, mark_at_end, step_to, last_from}
 use Rattle.logos_evidence.specs.inside.Listed.{match_to, matches_in, matches_at, listed}
 use Rattle.logos_evidence.specs.inside.Machines.{is_last, lists, point_from, loss_at, loss_next, loss_goal}
 use Rattle.logos_evidence.specs.inside.Steps.{listed_at_end}
-use Rattle.logos_evidence.specs.declared.matching.Match.{Match}
+use Rattle.logos_evidence.specs.declared.matches.Match.{Match}
 use Rattle.logos_evidence.proofs.CompareLemmas.{fails}
 use Rattle.logos_evidence.proofs.ExampleLemmas.{answer_on}
 use Rattle.logos_evidence.proofs.ExampleLemmas.{won, is_won, or_won}
@@ -111,53 +111,53 @@ module _ (rules : List Rule) (dfa : Automaton) (late : ReadsOneByteLate rules df
 
   -- whether the leaf matches on the rest
   abbrev met_on : ℕ → Option ℕ → List ℕ → Bool
-  met_on place o rest = list_any is_leaf (listed dfa (priority_of rules) place o rest)
+  met_on site o rest = list_any is_leaf (listed dfa (priority_of rules) site o rest)
 
-  any_map : (place : ℕ) (leaves : List ℕ) → list_any (λ other. other == leaf) leaves ≡ list_any is_leaf (map (match_to (priority_of rules) place) leaves)
-  any_map place [] = refl
-  any_map place (x ∷ leaves) = ap (λ (b : Bool). (x == leaf) || b) (any_map place leaves)
+  any_map : (site : ℕ) (leaves : List ℕ) → list_any (λ other. other == leaf) leaves ≡ list_any is_leaf (map (match_to (priority_of rules) site) leaves)
+  any_map site [] = refl
+  any_map site (x ∷ leaves) = ap (λ (b : Bool). (x == leaf) || b) (any_map site leaves)
 
-  lists_is : (place : ℕ) (o : Option (List ℕ)) → lists leaf o ≡ list_any is_leaf (matches_in dfa (priority_of rules) place o)
-  lists_is place None = refl
-  lists_is place (Some leaves) = any_map place leaves
+  lists_is : (site : ℕ) (o : Option (List ℕ)) → lists leaf o ≡ list_any is_leaf (matches_in dfa (priority_of rules) site o)
+  lists_is site None = refl
+  lists_is site (Some leaves) = any_map site leaves
 
   abbrev GoesOn : Point → ℕ → List ℕ → Type 0
-  GoesOn p place rest = (q : Point) × (after next p rest ≡ Some q)
-      × (goal q ≡ ((p.met || met_on place (Some p.here) rest) && not (won graph leaf (last_from graph p.there place rest) p.last)))
+  GoesOn p site rest = (q : Point) × (after next p rest ≡ Some q)
+      × (goal q ≡ ((p.met || met_on site (Some p.here) rest) && not (won graph leaf (last_from graph p.there site rest) p.last)))
 
-  -- what completes the rest completes the whole
-  goes : (rest u : List ℕ) (p : Point) (place : ℕ) → IsBytes (u ++ rest) → IsState dfa u p.here → GoesOn p place rest
-  goes [] u p place bytes is =
+  -- a result for the rest completes to a result for the whole
+  goes : (rest u : List ℕ) (p : Point) (site : ℕ) → IsBytes (u ++ rest) → IsState dfa u p.here → GoesOn p site rest
+  goes [] u p site bytes is =
       let own = front_bytes u [] bytes in
       let ends = last_lists rules dfa late u p.here own is in
       let there : listed_at_end dfa p.here ≡ option_and_then (slice_get dfa.matches) (slice_get dfa.at_end p.here) = ends ∙ sym (at_last u own is) in (
         p,
         refl,
         ap (λ (o : Option (List ℕ)). (p.met || lists leaf o) && not (is_last leaf (mark_at_end graph p.there) p.last)) there ∙
-            ap (λ (b : Bool). (p.met || b) && not (is_last leaf (mark_at_end graph p.there) p.last)) (lists_is place (option_and_then (slice_get dfa.matches) (slice_get dfa.at_end p.here))) ∙
-            ap (λ (b : Bool). (p.met || met_on place (Some p.here) []) && not b) (is_won graph leaf (mark_at_end graph p.there) place p.last),
+            ap (λ (b : Bool). (p.met || b) && not (is_last leaf (mark_at_end graph p.there) p.last)) (lists_is site (option_and_then (slice_get dfa.matches) (slice_get dfa.at_end p.here))) ∙
+            ap (λ (b : Bool). (p.met || met_on site (Some p.here) []) && not b) (is_won graph leaf (mark_at_end graph p.there) site p.last),
       )
     where
       at_last : (u : List ℕ) (own : IsBytes u) → IsState dfa u p.here → option_and_then (slice_get dfa.matches) (slice_get dfa.at_end p.here) ≡ Some (late.at_end u own).leaves
       at_last u own is =
           ap (λ (o : Option ℕ). option_and_then (slice_get dfa.matches) (option_and_then (slice_get dfa.at_end) o)) (sym is.after) ∙ (late.at_end u own).listed
-  goes (b ∷ rest) u p place bytes is =
+  goes (b ∷ rest) u p site bytes is =
       let moved = moved_bytes u b rest bytes in
       let own = front_bytes (u ++ b ∷ []) rest moved in
       let n = next_state rules dfa late u b p.here own is in
-      let ih = goes rest (u ++ b ∷ []) (loss_at dfa graph leaf p b n.state) (place + 1) moved n.is in
-      let front : lists leaf (slice_get dfa.matches n.state) ≡ list_any is_leaf (matches_at dfa (priority_of rules) place (dfa_next dfa (Some p.here) b)) =
-      lists_is place (slice_get dfa.matches n.state) ∙ ap (λ (o : Option ℕ). list_any is_leaf (matches_at dfa (priority_of rules) place o)) (sym n.next) in
-      let tail : met_on (place + 1) (Some n.state) rest ≡ met_on (place + 1) (dfa_next dfa (Some p.here) b) rest = ap (λ (o : Option ℕ). met_on (place + 1) o rest) (sym n.next) in
-      let whole : ((p.met || lists leaf (slice_get dfa.matches n.state)) || met_on (place + 1) (Some n.state) rest) ≡ (p.met || met_on place (Some p.here) (b ∷ rest)) =
-      or_assoc p.met (lists leaf (slice_get dfa.matches n.state)) (met_on (place + 1) (Some n.state) rest) ∙
-      ap (λ (c : Bool). p.met || (c || met_on (place + 1) (Some n.state) rest)) front ∙
-      ap (λ (c : Bool). p.met || (list_any is_leaf (matches_at dfa (priority_of rules) place (dfa_next dfa (Some p.here) b)) || c)) tail ∙
-      ap (λ (c : Bool). p.met || c) (sym (any_append is_leaf (matches_at dfa (priority_of rules) place (dfa_next dfa (Some p.here) b)) (listed dfa (priority_of rules) (place + 1) (dfa_next dfa (Some p.here) b) rest))) in (
+      let ih = goes rest (u ++ b ∷ []) (loss_at dfa graph leaf p b n.state) (site + 1) moved n.is in
+      let front : lists leaf (slice_get dfa.matches n.state) ≡ list_any is_leaf (matches_at dfa (priority_of rules) site (dfa_next dfa (Some p.here) b)) =
+      lists_is site (slice_get dfa.matches n.state) ∙ ap (λ (o : Option ℕ). list_any is_leaf (matches_at dfa (priority_of rules) site o)) (sym n.next) in
+      let tail : met_on (site + 1) (Some n.state) rest ≡ met_on (site + 1) (dfa_next dfa (Some p.here) b) rest = ap (λ (o : Option ℕ). met_on (site + 1) o rest) (sym n.next) in
+      let whole : ((p.met || lists leaf (slice_get dfa.matches n.state)) || met_on (site + 1) (Some n.state) rest) ≡ (p.met || met_on site (Some p.here) (b ∷ rest)) =
+      or_assoc p.met (lists leaf (slice_get dfa.matches n.state)) (met_on (site + 1) (Some n.state) rest) ∙
+      ap (λ (c : Bool). p.met || (c || met_on (site + 1) (Some n.state) rest)) front ∙
+      ap (λ (c : Bool). p.met || (list_any is_leaf (matches_at dfa (priority_of rules) site (dfa_next dfa (Some p.here) b)) || c)) tail ∙
+      ap (λ (c : Bool). p.met || c) (sym (any_append is_leaf (matches_at dfa (priority_of rules) site (dfa_next dfa (Some p.here) b)) (listed dfa (priority_of rules) (site + 1) (dfa_next dfa (Some p.here) b) rest))) in (
         ih.0,
         ap (λ (o : Option ℕ). option_and_then (λ q. after next q rest) (option_map (loss_at dfa graph leaf p b) o)) n.step ∙ ih.1,
-        ih.2 ∙ ap (λ (c : Bool). c && not (won graph leaf (last_from graph (step_to graph p.there b) (place + 1) rest) (is_last leaf (mark_by graph p.there b) p.last))) whole ∙
-            ap (λ (c : Bool). (p.met || met_on place (Some p.here) (b ∷ rest)) && not c) (or_won graph leaf (last_from graph (step_to graph p.there b) (place + 1) rest) (mark_by graph p.there b) place p.last),
+        ih.2 ∙ ap (λ (c : Bool). c && not (won graph leaf (last_from graph (step_to graph p.there b) (site + 1) rest) (is_last leaf (mark_by graph p.there b) p.last))) whole ∙
+            ap (λ (c : Bool). (p.met || met_on site (Some p.here) (b ∷ rest)) && not c) (or_won graph leaf (last_from graph (step_to graph p.there b) (site + 1) rest) (mark_by graph p.there b) site p.last),
       )
 
   -- ---- The answers

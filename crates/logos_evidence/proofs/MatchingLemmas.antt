@@ -14,7 +14,7 @@ use Rattle.logos_automaton.proofs.munch.Window.{rule_within_text}
 use Rattle.logos_automaton.proofs.runs.DfaLemmas.{after_more}
 use Rattle.logos_evidence.specs.Matching.{IsBefore, AreMatches}
 use Rattle.logos_evidence.specs.inside.Listed.{match_to, matches_in, matches_at, listed}
-use Rattle.logos_evidence.specs.declared.matching.Match.{Match}
+use Rattle.logos_evidence.specs.declared.matches.Match.{Match}
 use Rattle.logos_evidence.proofs.InputLemmas.{bytes_on}
 use Rattle.logos_evidence.proofs.ListFacts.{map_in, in_map, pairs_append, pairs_map}
 
@@ -173,17 +173,17 @@ module _ (rules : List Rule) (dfa : Automaton) (late : ReadsOneByteLate rules df
                 let here = subst (λ (n : ℕ). RuleMatches rules m.leaf (w ++ b ∷ rest) 0 n) (sym (end_size m (length w) e)) l.matches in
                 Contains-append_left _ tail m (at_end prio dfa (from + length w) lists.leaves m e l.priority ((lists.exactly m.leaf).1 ((window m.leaf w rest b).1 here)))
 
-  listed_are : (rest w : List ℕ) (s : Option ℕ) (place : ℕ) → place ≡ from + length w → IsBytes (w ++ rest) → dfa_after dfa (Some dfa.start) w ≡ s →
-      AreLater w rest (listed dfa prio place s rest)
-  listed_are [] w s place at bytes is =
+  listed_are : (rest w : List ℕ) (s : Option ℕ) (site : ℕ) → site ≡ from + length w → IsBytes (w ++ rest) → dfa_after dfa (Some dfa.start) w ≡ s →
+      AreLater w rest (listed dfa prio site s rest)
+  listed_are [] w s site at bytes is =
       at_last w _ (front_bytes w [] bytes) (ap (λ (n : ℕ). matches_at dfa prio n (option_and_then (slice_get dfa.at_end) s)) at ∙
       ap (λ (o : Option ℕ). matches_at dfa prio (from + length w) (option_and_then (slice_get dfa.at_end) o)) (sym is))
-  listed_are (b ∷ rest) w s place at bytes is =
+  listed_are (b ∷ rest) w s site at bytes is =
       let next : dfa_after dfa (Some dfa.start) (w ++ b ∷ []) ≡ dfa_next dfa s b = after_more dfa (Some dfa.start) w (b ∷ []) ∙ ap (λ (o : Option ℕ). dfa_next dfa o b) is in
       let size = more_size w b in
-      let ih = listed_are rest (w ++ b ∷ []) (dfa_next dfa s b) (place + 1) (omega (arith, at, size)) (all_bytes w b rest bytes) next in
-      one_more w b rest bytes (dfa_next dfa s b) _ (listed dfa prio (place + 1) (dfa_next dfa s b) rest) next
-      (ap (λ (n : ℕ). matches_at dfa prio n (dfa_next dfa s b) ++ listed dfa prio (place + 1) (dfa_next dfa s b) rest) at) ih
+      let ih = listed_are rest (w ++ b ∷ []) (dfa_next dfa s b) (site + 1) (omega (arith, at, size)) (all_bytes w b rest bytes) next in
+      one_more w b rest bytes (dfa_next dfa s b) _ (listed dfa prio (site + 1) (dfa_next dfa s b) rest) next
+      (ap (λ (n : ℕ). matches_at dfa prio n (dfa_next dfa s b) ++ listed dfa prio (site + 1) (dfa_next dfa s b) rest) at) ih
 
   -- ---- From a point of an input
 

@@ -14,9 +14,9 @@ use Rattle.logos_graph.specs.GraphOf.{IsGraphOf}
 use Rattle.logos_graph.specs.View.{GraphValue, rules_of}
 use Rattle.logos_automaton.proofs.ambiguity.SameMembers.{increasing_same}
 use Rattle.logos_automaton.proofs.ambiguity.TopLemmas.{top_highest, top_rises}
-use Rattle.logos_search.specs.Machines.{after, Leads}
-use Rattle.logos_search.specs.Shortest.{NoneLeads, IsShortest}
-use Rattle.logos_search.specs.declared.point.Point.{Point}
+use Rattle.logos_evidence.specs.search.Machines.{after, Leads}
+use Rattle.logos_evidence.specs.search.Shortest.{NoneLeads, IsShortest}
+use Rattle.logos_evidence.specs.declared.search.point.Point.{Point}
 use Rattle.logos_evidence.specs.Meetings.{IsMeeting, IsShortestMeeting, NeverMeet}
 use Rattle.logos_evidence.specs.inside.Machines.{tops_are, meeting_at, meeting_on, meeting_next, meeting_goal}
 use Rattle.logos_evidence.specs.inside.Steps.{step_by, listed_at_end}
@@ -52,7 +52,7 @@ module _ (rules : List Rule) (dfa : Automaton) (late : ReadsOneByteLate rules df
   stays [] = refl
   stays (b ∷ rest) = stays rest
 
-  -- what completes the rest completes the whole
+  -- a result for the rest completes to a result for the whole
   abbrev GoesOn : ℕ → List ℕ → Type 0
   GoesOn s rest = (q : Point) × (after next (meeting_at s false) rest ≡ Some q) × (goal q ≡ met_from (Some s) rest)
 
@@ -72,7 +72,7 @@ module _ (rules : List Rule) (dfa : Automaton) (late : ReadsOneByteLate rules df
     ih.2 ∙ sym (unfold_met s b t rest to ∙ ap (λ (m : Bool). m || met_from (Some t) rest) met),
   )
 
-  -- what completes the rest completes the whole
+  -- a result for the rest completes to a result for the whole
   goes : (rest u : List ℕ) (s : ℕ) → IsBytes (u ++ rest) → IsState dfa u s → GoesOn s rest
   goes [] u s bytes is = (meeting_at s false, refl, refl)
   goes (b ∷ rest) u s bytes is =

@@ -1,10 +1,10 @@
--- Inputs that together pass all edges of a graph.
+-- Inputs that together take all edges of a graph.
 use Rattle.std.specs.Prelude.{◌≡◌, ℕ, Bool, false, List, Contains, Some, slice_get, take}
 use Rattle.logos_automaton.specs.Munch.{IsInput}
 use Rattle.logos_graph.specs.Graph.{GraphState, next_by, next_at_end, walk}
 
 module _ (graph : List GraphState) where
-  -- On its way from the root an input passes the edge between two states: after so many bytes it is
+  -- On its way from the root an input takes the edge between two states: after `count` bytes it is
   -- at the first one, and the next byte leads to the second one.
   pub record PassesEdge (bytes : List ℕ) (from to : ℕ) : Type 0 where
     pub count : ℕ
@@ -13,12 +13,12 @@ module _ (graph : List GraphState) where
     pub reads : slice_get bytes count ≡ Some byte
     pub leads : next_by graph from byte ≡ Some to
 
-  -- It is at the first one when it ends, and the end leads to the second one.
+  -- The input ends at the first state, and the end leads to the second one.
   pub record PassesEnd (bytes : List ℕ) (from to : ℕ) : Type 0 where
     pub way : walk graph 0 bytes false ≡ Some from
     pub leads : next_at_end graph from ≡ Some to
 
-  -- These inputs pass each edge that any input passes.
+  -- These inputs take each edge that any input takes.
   pub record AreCoveringInputs (utf8 : Bool) (inputs : List (List ℕ)) : Type 0 where
     pub are_inputs : (input : List ℕ) → Contains inputs input → IsInput utf8 input
     pub edges : (bytes : List ℕ) (from to : ℕ) → IsInput utf8 bytes → PassesEdge bytes from to →

@@ -1,3 +1,4 @@
+pub mod search
 pub mod Comparing
 pub mod Covering
 pub mod Examples
@@ -5,5 +6,5 @@ pub mod Losses
 pub mod Matching
 pub mod Meetings
 pub mod inside
-pub mod Words
+pub mod Imports
 pub mod Views

@@ -1,4 +1,4 @@
--- Where a leaf matches and another one takes the match.
+-- Inputs on which a leaf matches and another one takes the match.
 use Rattle.std.specs.Prelude.{◌≢◌, ℕ, ◌≤◌, Bool, List, length}
 use Rattle.logos_automaton.specs.Munch.{Rule, IsInput, RuleMatches, Finds, matched}
 
@@ -13,7 +13,7 @@ pub record IsLoss (rules : List Rule) (utf8 : Bool) (leaf : ℕ) (bytes : List �
   pub found : Finds rules utf8 bytes 0 (matched winner to)
   pub other : winner ≢ leaf
 
--- A shortest one.
+-- A shortest loss.
 pub record IsShortestLoss (rules : List Rule) (utf8 : Bool) (leaf : ℕ) (bytes : List ℕ) : Type 0 where
   pub loss : IsLoss rules utf8 leaf bytes
   pub least : (other : List ℕ) → IsLoss rules utf8 leaf other → length bytes ≤ length other

@@ -2,9 +2,9 @@
 use Rattle.std.specs.Prelude.{◌≡◌, ◌↔◌, ◌⊎◌, ◌<◌, ◌≤◌, ℕ, List, Contains}
 use Rattle.std.specs.List.{AllPairs}
 use Rattle.logos_automaton.specs.Munch.{Rule, RuleMatches, priority_of}
-use Rattle.logos_evidence.specs.declared.matching.Match.{Match}
+use Rattle.logos_evidence.specs.declared.matches.Match.{Match}
 
--- A leaf matches from the point up to an end, with its priority.
+-- A leaf matches from the point to an end, with its priority.
 pub record IsMatch (rules : List Rule) (bytes : List ℕ) (from : ℕ) (m : Match) : Type 0 where
   pub matches : RuleMatches rules m.leaf bytes from m.end
   pub priority : m.priority ≡ priority_of rules m.leaf
@@ -18,7 +18,7 @@ pub record AreMatches (rules : List Rule) (bytes : List ℕ) (from : ℕ) (match
   pub in_order : AllPairs IsBefore matches
   pub exactly : (m : Match) → Contains matches m ↔ IsMatch rules bytes from m
 
--- The second match is longer, or as long with no lower priority.
+-- The second match is longer, or of the same length and no lower priority.
 abbrev pub IsAtMost : Match → Match → Type 0
 IsAtMost a b = (a.end < b.end) ⊎ ((a.end ≡ b.end) × (a.priority ≤ b.priority))
 

@@ -1,15 +1,15 @@
-//! What a leaf finds.
+//! Examples of a leaf's matches. Called for `--examples`.
 
 ghost use Rattle.std.specs.Prelude.{◌≡◌, [], IfOk, MatchOption};
-ghost use Rattle.logos_evidence.specs.Words.{IsGraphOf, rules_of, HasNoExample, IsShortestExample, example_next, example_goal, shown};
+ghost use Rattle.logos_evidence.specs.Imports.{IsGraphOf, rules_of, HasNoExample, IsShortestExample, example_next, example_goal, shown};
 ghost use Rattle.logos_evidence.specs.inside.Machines as machines;
 
-use crate::walking::{next_at_end, next_by, seen_by, states_of};
+use crate::graph_steps::{next_at_end, next_by, seen_by, states_of};
+use crate::search::{Machine, Point, shortest};
 use logos_graph::graph::{Graph, StateData};
-use logos_search::{Machine, Point, shortest};
 use std::alloc::{AllocError, Global};
 
-/// A machine that follows a graph, and looks for inputs whose last match on the way is one of a
+/// A machine that follows a graph, and searches for inputs whose last match on the way is one of a
 /// leaf.
 #[derive(Clone, Copy)]
 struct Examples<'g> {
@@ -17,7 +17,7 @@ struct Examples<'g> {
     leaf: usize,
 }
 
-/// Returns whether the last match is one of the leaf, after one more or none.
+/// Returns whether the last match is one of the leaf, after the match of `mark`, if there is one.
 pub(crate) fn is_last(leaf: usize, mark: Option<usize>, before: bool) -> bool
     ensures { result ≡ machines.is_last leaf mark before }
 {
@@ -64,9 +64,9 @@ impl Machine for Examples<'_> {
     }
 }
 
-/// Returns a shortest input on which a lexer finds a match of a leaf first, or `None` exactly if
-/// there is none. Of inputs of the same length it is the one with letters, digits and punctuation
-/// first.
+/// Returns a shortest input on which a lexer finds a match of a leaf first, or `None` if and only
+/// if there is none. Of inputs of the same length it is the one with letters, digits and
+/// punctuation first.
 ///
 /// The graph must have no faults.
 ///

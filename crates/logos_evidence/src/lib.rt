@@ -1,19 +1,20 @@
-//! What a lexer finds, shown by inputs.
+//! Inputs as evidence about lexers: examples, differences, coverage. Called by `logos_show`.
 
 #![tactic(auto)]
 
-mod comparing;
-mod covering;
+mod comparison;
+mod cover;
 mod examples;
+mod graph_steps;
 mod losses;
-mod matching;
+mod matches;
 mod meetings;
+pub mod search;
 mod steps;
-mod walking;
 
-pub use comparing::{Comparison, Named, compare};
-pub use covering::covering_inputs;
+pub use comparison::{Comparison, Named, compare};
+pub use cover::covering_inputs;
 pub use examples::example;
 pub use losses::loses;
-pub use matching::{Match, matches_from, winner};
+pub use matches::{Match, matches_from, winner};
 pub use meetings::meeting;

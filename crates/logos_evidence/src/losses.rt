@@ -1,18 +1,19 @@
-//! Where a leaf matches and another one takes the match.
+//! Inputs on which a leaf matches and another one takes the match. Called for `--examples` and for
+//! warnings.
 
 ghost use Rattle.std.specs.Prelude.{◌≡◌, ◌==◌, [], IfOk, MatchOption, option_map};
-ghost use Rattle.logos_evidence.specs.Words.{list_any, IsGraphOf, rules_of, IsShortestLoss, NeverLoses, dfa_of, loss_next, loss_goal, shown};
+ghost use Rattle.logos_evidence.specs.Imports.{list_any, IsGraphOf, rules_of, IsShortestLoss, NeverLoses, dfa_of, loss_next, loss_goal, shown};
 ghost use Rattle.logos_evidence.specs.inside.Machines as machines;
 
 use crate::examples::{is_last, point_from};
+use crate::graph_steps::{next_at_end, next_by, seen_by, states_of};
+use crate::search::{Machine, Point, shortest};
 use crate::steps::{listed, listed_at_end, step_by};
-use crate::walking::{next_at_end, next_by, seen_by, states_of};
 use logos_automaton::dfa::Dfa;
 use logos_graph::graph::{Graph, StateData};
-use logos_search::{Machine, Point, shortest};
 use std::alloc::{AllocError, Global};
 
-/// A machine that follows an automaton and its graph, and looks for inputs on which a leaf has
+/// A machine that follows an automaton and its graph, and searches for inputs on which a leaf has
 /// matched and the last match is another's.
 #[derive(Clone, Copy)]
 struct Losses<'g> {
@@ -21,7 +22,7 @@ struct Losses<'g> {
     leaf: usize,
 }
 
-/// Returns whether a leaf is one of some leaves.
+/// Returns whether a leaf is among `leaves`.
 fn is_among(leaf: usize, leaves: &[usize]) -> bool
     ensures { result ≡ list_any (λ other. other == leaf) leaves.now }
 {
@@ -65,8 +66,8 @@ impl Machine for Losses<'_> {
 }
 
 /// Returns a shortest input with which a leaf matches from the beginning and on which a lexer finds
-/// a match of another leaf first, or `None` exactly if there is none. Of inputs of the same length
-/// it is the one with letters, digits and punctuation first.
+/// a match of another leaf first, or `None` if and only if there is none. Of inputs of the same
+/// length it is the one with letters, digits and punctuation first.
 ///
 /// The graph must have no faults.
 ///

@@ -1,18 +1,18 @@
-//! Where leaves meet.
+//! Inputs that several leaves match with the same priority. Called to explain ambiguities.
 
 ghost use Rattle.std.specs.Prelude.{◌≡◌, ◌<◌, ◌∷◌, ℕ, List, IfOk, IsTrue, MatchOption, false, length, if◌then◌else◌, option_map, bytes_eq};
-ghost use Rattle.logos_evidence.specs.Words.{IsStrictlyIncreasing, AllStart, highest_of, top_of, IsGraphOf, rules_of, IsShortestMeeting, NeverMeet, meeting_next, meeting_goal};
+ghost use Rattle.logos_evidence.specs.Imports.{IsStrictlyIncreasing, AllStart, highest_of, top_of, IsGraphOf, rules_of, IsShortestMeeting, NeverMeet, meeting_next, meeting_goal};
 ghost use Rattle.logos_evidence.specs.inside.Machines as machines;
 
-use crate::matching::priority_of;
+use crate::matches::priority_of;
+use crate::search::{Machine, Point, shortest};
 use crate::steps::{listed, listed_at_end, step_by};
 use logos_graph::graph::Graph;
 use logos_pattern::leaf::Leaf;
-use logos_search::{Machine, Point, shortest};
 use std::alloc::{AllocError, Global};
 
-/// A machine that follows an automaton, and looks for inputs that begin with a span of which a set
-/// of leaves has the match of highest priority.
+/// A machine that follows an automaton, and searches for inputs that begin with a span for which a
+/// set of leaves has the match of highest priority.
 #[derive(Clone, Copy)]
 struct Meetings<'g, 's> {
     graph: &'g Graph<'s>,
@@ -30,7 +30,7 @@ fn highest(leaves: &[Leaf<'_>], listed: &[usize]) -> usize
     highest
 }
 
-/// Returns what is left of a set after a leaf, if the leaf counts: then it has to be the first one.
+/// Returns the rest of a set after a leaf, if the leaf counts: then it has to be the first one.
 fn after_leaf(rest: &[usize], leaf: usize, counts: bool) -> Option<&[usize]>
     ensures { MatchOption result
         (IsTrue counts × ((ys : List ℕ) → bytes_eq (leaf ∷ ys) rest.now ≡ false))
@@ -44,7 +44,7 @@ fn after_leaf(rest: &[usize], leaf: usize, counts: bool) -> Option<&[usize]>
     if *first == leaf { Some(others) } else { None }
 }
 
-/// Returns whether the listed leaves of highest priority are a set.
+/// Returns whether the listed leaves of highest priority are exactly `set`.
 fn is_top(leaves: &[Leaf<'_>], listed: &[usize], set: &[usize]) -> bool
     ensures { result ≡ bytes_eq (top_of (rules_of leaves.now) listed.now) set.now }
 {
@@ -60,7 +60,7 @@ fn is_top(leaves: &[Leaf<'_>], listed: &[usize], set: &[usize]) -> bool
     rest.is_empty()
 }
 
-/// Returns whether the listed leaves of highest priority are a set, if there are leaves listed.
+/// Returns whether the listed leaves of highest priority are exactly `set`, if any are listed.
 fn tops_are(leaves: &[Leaf<'_>], listed: Option<&[usize]>, set: &[usize]) -> bool
     ensures { result ≡ machines.tops_are (rules_of leaves.now) set.now (option_map (λ listed. listed.now) listed.entry) }
 {
@@ -70,7 +70,7 @@ fn tops_are(leaves: &[Leaf<'_>], listed: Option<&[usize]>, set: &[usize]) -> boo
     }
 }
 
-/// Returns the point at a state, where the set was met or not.
+/// Returns the point at a state, depending on whether the set was met.
 fn point_at(state: usize, met: bool) -> Point
     ensures { result ≡ machines.meeting_at state met }
 {
@@ -104,11 +104,12 @@ impl Machine for Meetings<'_, '_> {
     }
 }
 
-/// Returns a shortest input that begins with a span of which exactly the leaves of a set have the
-/// match of highest priority, or `None` if there is none, and only then. Of inputs of the same
-/// length it is the one with letters, digits and punctuation first.
+/// Returns a shortest input that begins with a span for which exactly the leaves of a set have the
+/// match of highest priority, or `None` if and only if there is none. Of inputs of the same length
+/// it is the one with letters, digits and punctuation first.
 ///
-/// The set must not be empty, and ascend. The leaves must have no fault but ambiguous sets.
+/// The set must be nonempty and in ascending order. The leaves must have no faults except ambiguous
+/// sets.
 ///
 /// # Errors
 ///

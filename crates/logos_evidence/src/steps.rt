@@ -1,4 +1,4 @@
-//! Steps of an automaton, and the leaves that its states list.
+//! Steps of an automaton, and the leaves that its states list. Used by `losses` and `meetings`.
 
 ghost use Rattle.std.specs.Prelude.{◌≡◌, option_map, slice_get};
 ghost use Rattle.logos_automaton.specs.DfaView.{dfa_of};
@@ -17,7 +17,7 @@ pub(crate) fn step_by(dfa: &Dfa, state: usize, byte: u8) -> Option<usize>
     Some(row_at(dfa, state)[byte as usize] as usize)
 }
 
-/// Returns the state to which the end leads, if the automaton has the state.
+/// Returns the state to which the end of the input leads, if the automaton has the state.
 fn step_at_end(dfa: &Dfa, state: usize) -> Option<usize>
     ensures { result ≡ steps.step_at_end (dfa_of dfa.now) state }
 {

@@ -1,2 +1,1 @@
 pub mod GatherLemmas
-pub mod ShownLemmas

@@ -1,10 +1,10 @@
--- A file with the derive of its lexers expanded.
+-- The file in which the derive of the lexers is expanded.
 use Rattle.std.specs.Prelude.{◌≡◌, ℕ, List, [], ◌∷◌, ◌++◌, ◌⊎◌, ◌==◌, ◌&&◌, ◌||◌, Bool, true, false, codes, slice_range, string_bytes}
 use Rattle.logos_expand.specs.Heads.{IsFileWith}
 use Rattle.logos_tables.specs.Shapes.{IsLexerText}
 use Rattle.logos_tables.specs.declared.shape.Shape.{Shape}
-use Rattle.logos_rust_file.specs.declared.finding.FoundEnum.{FoundEnum}
-use Rattle.logos_rust_file.specs.declared.replacing.Replacement.{Replacement}
+use Rattle.logos_rust_file.specs.declared.finder.FoundEnum.{FoundEnum}
+use Rattle.logos_rust_file.specs.declared.replacement.Replacement.{Replacement}
 use Rattle.logos_rust_file.specs.Files.{AreEnumsOf}
 use Rattle.logos_rust_file.specs.Replacing.{replaced}
 use Rattle.logos_layout.specs.Conditions.{conditions_text}
@@ -14,25 +14,24 @@ use Rattle.logos_rust_file.specs.Handed.{IsStripped}
 use Rattle.logos_token.specs.Faults.{Fault}
 use Rattle.logos_token.specs.Tokens.{TokenList}
 
--- The attributes of an implementation: these lints of rustc and clippy do not look at it, and
--- rustfmt leaves it as it is.
+-- The attributes of an implementation: they disable these lints of rustc and clippy, and rustfmt.
 abbrev pub attributes_text : List ℕ
 attributes_text = codes "#[allow(dead_code, deprecated, unused_assignments, unused_imports)]\n#[allow(unused_parens, unused_variables)]\n#[allow(clippy::large_const_arrays, clippy::let_unit_value, clippy::manual_is_ascii_check)]\n#[allow(clippy::manual_range_contains, clippy::needless_else, clippy::question_mark)]\n#[allow(clippy::redundant_locals, clippy::type_complexity, clippy::unit_arg)]\n#[allow(clippy::useless_asref, clippy::useless_conversion)]\n#[rustfmt::skip]\n"
 
--- The text of a lexer with its attributes: under the conditions of its enum.
+-- The text of a lexer with its attributes, under the conditions of its enum.
 abbrev pub lexer_under : TokenList → List ℕ → List ℕ
 lexer_under left lexer = conditions_text left ++ (attributes_text ++ lexer)
 
--- The import of `Logos`, which counts as used then.
+-- The import of `Logos`, marked as used.
 abbrev pub import_text : List ℕ
 import_text = codes "#[allow(unused_imports)]\nuse self::Logos as _;\n"
 
--- The same, if it is wanted: under the conditions of an enum.
+-- The import of `Logos`, if it is requested, under the conditions of an enum.
 abbrev pub import_under : Bool → TokenList → List ℕ
 import_under false left = []
 import_under true left = conditions_text left ++ import_text
 
--- The text of a lexer with its attributes, and perhaps with the import before it.
+-- The text of a lexer with its attributes, and optionally with the import before it.
 abbrev pub under : Bool → TokenList → List ℕ → List ℕ
 under by_name left lexer = import_under by_name left ++ lexer_under left lexer
 
@@ -41,15 +40,15 @@ abbrev pub are_blanks : List ℕ → Bool
 are_blanks [] = true
 are_blanks (byte ∷ rest) = (byte == 32 || byte == 9) && are_blanks rest
 
--- The line before an enum that rustfmt leaves as it is.
+-- The attribute that excludes an enum from rustfmt, on a line.
 abbrev pub guard_text : List ℕ
 guard_text = codes "#[rustfmt::skip]\n"
 
--- Such a line with the blanks before the enum, or nothing.
+-- The line that excludes an enum from rustfmt, with the blanks before the enum; or nothing.
 abbrev pub IsGuard : List ℕ → Type 0
 IsGuard guard = (guard ≡ []) ⊎ ((margin : List ℕ) × (are_blanks margin ≡ true) × (guard ≡ guard_text ++ margin))
 
--- The text of the tokens of an enum that stay, perhaps after such a line.
+-- The text of the remaining tokens of an enum, optionally after such a line.
 pub record IsGuarded (left : TokenList) (shown : List ℕ) : Type 0 where
   pub guard : List ℕ
   pub written : List ℕ
@@ -57,8 +56,8 @@ pub record IsGuarded (left : TokenList) (shown : List ℕ) : Type 0 where
   pub is_written : IsWrittenAs left written
   pub is : shown ≡ guard ++ written
 
--- This is an enum without what belongs to the derive, and after LF the text of its lexer with
--- attributes, laid out.
+-- This is an enum without the derive and its attributes, and after LF the generated code of its
+-- lexer with attributes, laid out.
 pub record IsExpansion (shape : Shape) (source shown : List ℕ) : Type 0 where
   pub left : TokenList
   pub written : List ℕ
@@ -75,26 +74,26 @@ pub record IsExpansion (shape : Shape) (source shown : List ℕ) : Type 0 where
 abbrev pub text_at : List ℕ → FoundEnum → List ℕ
 text_at text found = slice_range text found.span.from found.span.to
 
--- Each enum that derives `Logos` is replaced by its expansion, in order, and no other one.
+-- Each enum that derives `Logos` is replaced by its expansion, in order, and no other enum is.
 pub data Replaces (shape : Shape) (text : List ℕ) : List FoundEnum → List Replacement → Type 0 where
   ended : Replaces shape text [] []
   stays : {one : FoundEnum} {rest : List FoundEnum} {parts : List Replacement} → one.derives ≡ false → Replaces shape text rest parts → Replaces shape text (one ∷ rest) parts
-  gives : {one : FoundEnum} {part : Replacement} {rest : List FoundEnum} {parts : List Replacement} →
+  yields : {one : FoundEnum} {part : Replacement} {rest : List FoundEnum} {parts : List Replacement} →
       one.derives ≡ true → part.span ≡ one.span → IsExpansion shape (text_at text one) (string_bytes part.text) → Replaces shape text rest parts → Replaces shape text (one ∷ rest) (part ∷ parts)
 
--- A file with parts replaced, which has no first line if there are none.
-abbrev pub IsFileOf : Shape → List ℕ → List Replacement → List ℕ → Type 0
-IsFileOf shape text [] bytes = bytes ≡ replaced text 0 []
-IsFileOf shape text (part ∷ parts) bytes = IsFileWith shape (replaced text 0 (part ∷ parts)) bytes
+-- A file at a path with parts replaced. It has no first line if there are none.
+abbrev pub IsFileOf : Shape → List ℕ → List ℕ → List Replacement → List ℕ → Type 0
+IsFileOf shape path text [] bytes = bytes ≡ replaced text 0 []
+IsFileOf shape path text (part ∷ parts) bytes = IsFileWith shape path (replaced text 0 (part ∷ parts)) bytes
 
--- These bytes are the file with the derive of its lexers expanded, and all other bytes as they
--- were, perhaps after a first line that says so.
-pub record IsExpanded (shape : Shape) (text bytes : List ℕ) : Type 0 where
+-- These bytes are the file at a path with the derive of its lexers expanded, and with all other
+-- bytes unchanged, after a first line that names its origin, if it can have one.
+pub record IsExpanded (shape : Shape) (path text bytes : List ℕ) : Type 0 where
   pub found : List FoundEnum
   pub parts : List Replacement
   pub are : AreEnumsOf text found
   pub replaces : Replaces shape text found parts
-  pub is : IsFileOf shape text parts bytes
+  pub is : IsFileOf shape path text parts bytes
 
 -- The file cannot be read into tokens, and this is its one fault.
 abbrev pub IsUnreadable : List ℕ → List Fault → Type 0

@@ -1,66 +1,66 @@
-//! The first line of a file with the derive of its lexers expanded.
+//! The first line of an expanded file. Used by `expansion` and `logos_cli`.
 
 ghost use Rattle.std.specs.Prelude.{◌≡◌, ◌++◌, IfOk, OnOk, string_bytes};
-ghost use Rattle.logos_expand.specs.Views.{IsWithoutInner, IsFileWith, IsHead, code_name, head_text, is_plain, is_printable, line_text, shape_name, shown_name};
+ghost use Rattle.logos_expand.specs.Views.{code_name, head_of, head_text, headed, is_byte_order_mark, is_plain, is_printable, is_script_mark, line_text, may_follow_line, shape_name, shown_name};
 
 use logos_host::file_name;
-use logos_layout::without_inner;
 use logos_tables::Shape;
 use logos_token::error::Memory;
 use std::alloc::Global;
 
-/// Returns the text of a file after its first line, which says what the file was made from.
-/// Documentation and attributes of the file itself are plain comments, so another file can include
-/// it. A file
-/// whose first bytes mean something has no such line: that of `#!`, and U+FEFF.
+/// Returns a file with these bytes, after a first line that names the source of the file. If the
+/// bytes begin with `#!` or U+FEFF, which must remain first, there is no such line.
 pub(crate) fn with_head(
     alloc: Global,
     path: &str,
     shape: Shape,
-    bytes: &[u8],
+    body: &[u8],
 ) -> Result<Vec<u8>, Memory>
-    ensures { IfOk result (λ made. IsFileWith shape bytes.now made.items) }
+    ensures { IfOk result (λ made. made.items ≡ headed shape path.now body.now) }
 {
-    let body = plain_bytes(alloc, bytes)?;
-    let head = head_of(alloc, path, shape, &body)?;
+    let head = head_of(alloc, path, shape, body)?;
     let mut made = head.into_bytes();
-    made.extend_from_slice(&body)?;
+    made.extend_from_slice(body)?;
     Ok(made)
 }
 
-/// Returns the bytes of a file in which documentation and attributes of the file itself are plain
-/// comments.
-fn plain_bytes(alloc: Global, bytes: &[u8]) -> Result<Vec<u8>, Memory>
-    ensures { IfOk result (λ body. IsWithoutInner bytes.now body.items) }
-{
-    match str::from_utf8(bytes) {
-        Ok(text) => match without_inner(alloc, text) {
-            Ok(body) => Ok(body.into_bytes()),
-            Err(Memory) => Err(Memory),
-        },
-        Err(_) => Ok(Vec::from_slice(alloc, bytes)?),
-    }
-}
-
-/// Returns the first line of a file with these bytes, or nothing if it can have none.
+/// Returns the first line of a file with these bytes, or nothing if it cannot have one.
 fn head_of(alloc: Global, path: &str, shape: Shape, bytes: &[u8]) -> Result<String, Memory>
-    ensures { IfOk result (λ head. IsHead shape (string_bytes head)) }
+    ensures { IfOk result (λ head. string_bytes head ≡ head_of shape path.now bytes.now) }
 {
     let mut text = String::new(alloc);
-    if !is_headed(bytes) {
+    if !may_follow_line(bytes) {
         return Ok(text);
     }
     push_head(&mut text, file_name(path), shape)?;
     Ok(text)
 }
 
-/// Returns whether a line can stand before these bytes of a file.
-fn is_headed(bytes: &[u8]) -> bool {
+/// Returns whether a line can be inserted before these bytes of a file.
+fn may_follow_line(bytes: &[u8]) -> bool
+    ensures { result ≡ may_follow_line bytes.now }
+{
     match bytes {
-        [0xEF, 0xBB, 0xBF, ..] => false,
-        [b'#', b'!', next, ..] => *next == b'[',
+        [first, second, third, ..] => {
+            !(is_byte_order_mark(*first, *second, *third) | is_script_mark(*first, *second, *third))
+        }
         _ => true,
     }
+}
+
+/// Returns whether three bytes are U+FEFF in UTF-8.
+fn is_byte_order_mark(first: u8, second: u8, third: u8) -> bool
+    ensures { result ≡ is_byte_order_mark first second third }
+{
+    (first == 0xEF) & ((second == 0xBB) & (third == 0xBF))
+}
+
+/// Returns whether three bytes begin a line that names the program for a script: `#!`, without `[`
+/// after it.
+fn is_script_mark(first: u8, second: u8, third: u8) -> bool
+    ensures { result ≡ is_script_mark first second third }
+{
+    (first == b'#') & ((second == b'!') & (third != b'['))
 }
 
 /// Appends the first line of a file that was made from the file with this name.
@@ -81,8 +81,8 @@ fn push_line(text: &mut String, name: &str, shape: &str) -> Result<(), Memory>
     Ok(())
 }
 
-/// Returns the name of a file as the first line has it: other words stand for a name that has a
-/// character which is not printable ASCII.
+/// Returns the name of a file in the form for the first line. A name with a character that is not
+/// printable ASCII is replaced by other words.
 fn shown_name(name: &str) -> &str
     ensures { result.now ≡ shown_name name.now }
 {

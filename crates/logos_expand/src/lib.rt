@@ -1,10 +1,10 @@
-//! A Rust file with the derive of its lexers expanded.
+//! Expands the derive of the lexers in a Rust file. Called by `logos_cli`.
 
 #![tactic(auto)]
 
-mod expanding;
+mod expansion;
 mod head;
-mod printing;
+mod printer;
 
-pub use expanding::{Expansion, expand};
+pub use expansion::{Expansion, expand};
 pub use head::shape_name;

@@ -5,7 +5,7 @@ use Rattle.logos_graph.specs.View.{GraphValue, rule_of, rules_of}
 use Rattle.logos_automaton.specs.Munch.{Use, Rule, IsInput, Found, ended, matched, failed, Finds}
 use Rattle.logos_code.specs.Code.{CodeValue}
 use Rattle.logos_code.specs.Runs.{CodeFinds, Runs, RunsOn}
-use Rattle.logos_code.specs.Items.{Callback, Search, Item, Items, IsNext, Lexes, over, match, fault, NextItem, passes, gives, fails}
+use Rattle.logos_code.specs.Items.{Callback, Search, Item, Items, IsNext, Lexes, over, match, fault, NextItem, passes, yields, fails}
 use Rattle.logos_graph.specs.Graph.{GraphState}
 use Rattle.logos_graph.specs.Found.{FindsTheLongest}
 use Rattle.logos_code.specs.Headline.{IsLexer}
@@ -29,13 +29,13 @@ uses_of_rules : (leaves : List Leaf) → map (λ leaf. (rule_of leaf).use_of) le
 uses_of_rules [] = refl
 uses_of_rules (leaf ∷ leaves) = ap (λ uses. (rule_of leaf).use_of ∷ uses) (uses_of_rules leaves)
 
--- the same of a graph with its leaves
+-- the lemma above for a graph with its leaves
 pub is_lexer_of : (graph : GraphValue) (code : CodeValue) →
     FindsTheLongest (rules_of graph.leaves) graph.utf8 graph.states → RunsAs graph.states graph.utf8 code → code.utf8 ≡ graph.utf8 →
     code.leaves ≡ map (λ leaf. (rule_of leaf).use_of) graph.leaves → IsLexer (rules_of graph.leaves) graph.utf8 code
 is_lexer_of graph code longest runs mode uses = is_lexer (rules_of graph.leaves) graph.utf8 graph.states code longest runs mode (uses ∙ uses_of_rules graph.leaves)
 
--- the same items, where a search finds no more
+-- the same items, if a search finds no more
 pub lexes_by : (uses : List Use) (callback : Callback) (bytes : List ℕ) (search other : Search) →
     ((from : ℕ) (found : Found) → search from found → other from found) →
     {from : ℕ} {items : List Item} → Lexes uses callback bytes search from items → Lexes uses callback bytes other from items
@@ -45,8 +45,8 @@ lexes_by uses callback bytes search other h (match from to leaf answer rest s a 
 lexes_by uses callback bytes search other h (fault from to rest s l) =
     fault from to rest (h from (failed to) s) (lexes_by uses callback bytes search other h l)
 
--- each run of such a code gives the items of maximal munch, and each such list of items is a run of
--- it
+-- each run of such a code is a list of items of maximal munch, and each such list of items is a run
+-- of it
 pub runs_iff : (rules : List Rule) (utf8 : Bool) (code : CodeValue) (callback : Callback) (bytes : List ℕ) (from : ℕ) (items : List Item) →
     IsLexer rules utf8 code → IsInput utf8 bytes →
     Runs code callback bytes from items ↔ Items rules callback utf8 bytes from items
@@ -65,7 +65,7 @@ next_by : (uses : List Use) (callback : Callback) (bytes : List ℕ) (search oth
     {from : ℕ} {item : Item} {end : ℕ} → NextItem uses callback bytes search from item end → NextItem uses callback bytes other from item end
 next_by uses callback bytes search other h (passes from to leaf answer item end s a e l) =
     passes from to leaf answer item end (h from (matched leaf to) s) a e (next_by uses callback bytes search other h l)
-next_by uses callback bytes search other h (gives from to leaf answer item s a e) = gives from to leaf answer item (h from (matched leaf to) s) a e
+next_by uses callback bytes search other h (yields from to leaf answer item s a e) = yields from to leaf answer item (h from (matched leaf to) s) a e
 next_by uses callback bytes search other h (fails from to s) = fails from to (h from (failed to) s)
 
 -- the next item of a run is the next one of maximal munch

@@ -6,7 +6,7 @@ use Rattle.std.proofs.lemmas.List.{length-take, length-drop}
 use Rattle.std.proofs.lemmas.Option.{slice_get_within, get_or_from_slice_get}
 use Rattle.std.proofs.lemmas.Str.{IsUtf8-append, IsUtf8-take, IsUtf8-encode, IsUtf8-from_ascii, IsUtf8-from_is_utf8, IsCharBoundary-from_take}
 use Rattle.std.proofs.Math.Seq.{take-add}
-use Rattle.logos_hir.specs.Text.{StandsAt}
+use Rattle.logos_hir.specs.Text.{OccursAt}
 use Rattle.logos_hir.specs.Tree.{Tree, empty, literal, byte_class, char_class, look, repetition, capture, concat, alternation, Trees, none, also}
 use Rattle.logos_hir.specs.Matches.{Matches, Pieces, MatchesInOrder, SomeMatches}
 use Rattle.logos_hir.specs.Measure.{is_text, all_text}
@@ -20,7 +20,7 @@ both : (a b : Bool) → (a && b) ≡ true → (a ≡ true) × (b ≡ true)
 both true b e = (refl, e)
 both false b e = absurd (cc)
 
--- what the test says of all ranges it says of one
+-- the result of the test for all ranges holds for one
 one_of : (ranges : List (ℕ × ℕ)) (k : ℕ) (r : ℕ × ℕ) → list_all (λ r. nat_lt r.1 128) ranges ≡ true → k < length ranges → slice_index_or ranges k r ≡ r → r.1 < 128
 one_of [] k r all lt e = absurd (omega (arith, lt))
 one_of (s ∷ ranges) zero r all lt e = let same : s ≡ r = e in subst (λ (x : ℕ × ℕ). x.1 < 128) same (ltb-true s.1 128 (both (nat_lt s.1 128) (list_all (λ r. nat_lt r.1 128) ranges) all).0)
@@ -34,18 +34,18 @@ ascii_text b h = IsUtf8-from_ascii (b ∷ []) small
     small (suc i) = omega arith
 
 module _ (bytes : List ℕ) (valid : IsUtf8 bytes) where
-  -- a text that stands between characters at its start does so at its end
-  stands_cut : (text : List ℕ) (from to : ℕ) → IsUtf8 text → StandsAt text bytes from to → IsCharBoundary bytes from → IsCharBoundary bytes to
-  stands_cut text from to is_text stands cut = IsCharBoundary-from_take bytes to valid within (rw whole (IsUtf8-append (take from bytes) text (IsUtf8-take bytes from valid cut) is_text))
+  -- a text that begins at a character boundary ends at one
+  is_at_cut : (text : List ℕ) (from to : ℕ) → IsUtf8 text → OccursAt text bytes from to → IsCharBoundary bytes from → IsCharBoundary bytes to
+  is_at_cut text from to is_text is_at cut = IsCharBoundary-from_take bytes to valid within (rw whole (IsUtf8-append (take from bytes) text (IsUtf8-take bytes from valid cut) is_text))
     where
       here : take (length text) (drop from bytes) ≡ text
-      here = let e : length text ≡ to - from = omega (arith, stands.end) in ap (λ n. take n (drop from bytes)) e ∙ stands.here
+      here = let e : length text ≡ to - from = omega (arith, is_at.end) in ap (λ n. take n (drop from bytes)) e ∙ is_at.here
 
       within : to ≤ length bytes
-      within = omega (arith, stands.end, cut.0, ap length here, length-take (length text) (drop from bytes), length-drop from bytes)
+      within = omega (arith, is_at.end, cut.0, ap length here, length-take (length text) (drop from bytes), length-drop from bytes)
 
       whole : take to bytes ≡ take from bytes ++ text
-      whole = ap (λ n. take n bytes) stands.end ∙ take-add from (length text) bytes ∙ ap (λ t. take from bytes ++ t) here
+      whole = ap (λ n. take n bytes) is_at.end ∙ take-add from (length text) bytes ∙ ap (λ t. take from bytes ++ t) here
 
   abbrev Keeps : (ℕ → ℕ → Type 0) → Type 0
   Keeps Piece = (from to : ℕ) → Piece from to → IsCharBoundary bytes from → IsCharBoundary bytes to
@@ -57,11 +57,11 @@ module _ (bytes : List ℕ) (valid : IsUtf8 bytes) where
   mutual
     tree_cut : (tree : Tree) → is_text tree ≡ true → (from to : ℕ) → Matches tree bytes from to → IsCharBoundary bytes from → IsCharBoundary bytes to
     tree_cut empty t from to m cut = subst (IsCharBoundary bytes) m cut
-    tree_cut (literal text) t from to m cut = stands_cut text from to (IsUtf8-from_is_utf8 text t) m cut
+    tree_cut (literal text) t from to m cut = is_at_cut text from to (IsUtf8-from_is_utf8 text t) m cut
     tree_cut (byte_class ranges) t from to m cut =
         let one = one_of ranges m.1.0 m.1.1 t m.1.2 m.1.3 in
-        stands_cut (m.0 ∷ []) from to (ascii_text m.0 (omega (arith, one, m.1.4.1))) m.2 cut
-    tree_cut (char_class ranges) t from to m cut = stands_cut _ from to (IsUtf8-encode m.0 m.1) m.3 cut
+        is_at_cut (m.0 ∷ []) from to (ascii_text m.0 (omega (arith, one, m.1.4.1))) m.2 cut
+    tree_cut (char_class ranges) t from to m cut = is_at_cut _ from to (IsUtf8-encode m.0 m.1) m.3 cut
     tree_cut (look l) t from to m cut = subst (IsCharBoundary bytes) m.0 cut
     tree_cut (repetition least most greedy body) t from to m cut = pieces_cut (Matches body bytes) (tree_cut body t) m.0 from to m.2 cut
     tree_cut (capture body) t from to m cut = tree_cut body t from to m cut

@@ -1,4 +1,4 @@
--- What a slice of bytes holds are bytes.
+-- The elements of a slice of bytes are bytes.
 use Rattle.std.proofs.Common.{ℕ, List, get_or, Fits, w8}
 use Rattle.std.proofs.Math.Facts.{Fits-lt-pow}
 use Rattle.std.proofs.lemmas.Grind.{get_or_default_zero}

@@ -32,21 +32,21 @@ skips_alike (UnitVariant name) = refl
 skips_alike (Value name type) = refl
 skips_alike Skip = refl
 
--- what a leaf's value says of its use
+-- the meaning of a leaf's value for its use
 abbrev use_by : LeafValue → Use
-use_by leaf = record { skips = skips_by leaf.kind; asks = is_some leaf.callback }
+use_by leaf = record { skips = skips_by leaf.kind; calls_back = is_some leaf.callback }
 
-asks_alike : (callback : Option Callback) → is_some (option_map callback_value callback) ≡ is_some callback
-asks_alike None = refl
-asks_alike (Some callback) = refl
+calls_back_alike : (callback : Option Callback) → is_some (option_map callback_value callback) ≡ is_some callback
+calls_back_alike None = refl
+calls_back_alike (Some callback) = refl
 
 uses_made : (made : List CodeLeaf) → map use_by (map code_leaf_value made) ≡ map use_of made
 uses_made [] = refl
-uses_made (x ∷ xs) = rw (skips_alike x.kind, asks_alike x.callback, uses_made xs) refl
+uses_made (x ∷ xs) = rw (skips_alike x.kind, calls_back_alike x.callback, uses_made xs) refl
 
 uses_given : (leaves : List Leaf) → map use_by (map leaf_value leaves) ≡ map leaf_use leaves
 uses_given [] = refl
-uses_given (x ∷ xs) = rw (skips_alike x.kind, asks_alike x.callback, uses_given xs) refl
+uses_given (x ∷ xs) = rw (skips_alike x.kind, calls_back_alike x.callback, uses_given xs) refl
 
 -- leaves of the same values are used alike
 pub uses_alike : (made : List CodeLeaf) (leaves : List Leaf) → map code_leaf_value made ≡ map leaf_value leaves → map use_of made ≡ map leaf_use leaves

@@ -32,7 +32,7 @@ some_none h = cc
 true_false : true ≡ false → ⊥
 true_false h = cc
 
--- what `find` finds, or does not
+-- the result of `find`
 found_at : {A : Type 0} (p : A → Bool) (xs : List A) (x : A) → find p xs ≡ Some x → (i : ℕ) × (slice_get xs i ≡ Some x) × (p x ≡ true)
 found_at p [] x e = absurd (some_none e)
 found_at {A = A} p (y ∷ xs) x e = go (p y) refl (found_at p xs x) e
@@ -55,9 +55,9 @@ not_found {A = A} p (y ∷ xs) (suc i) x e is h = go (p y) (λ f. not_found p xs
     go true later e = some_none (sym e)
     go false later e = later e
 
--- two edges with one target stand at one place
-same_place : (edges : List Edge) → AllPairs (λ edge other. edge.1 ≢ other.1) edges → (i j : ℕ) (edge other : Edge) → slice_get edges i ≡ Some edge → slice_get edges j ≡ Some other → edge.1 ≡ other.1 → edge ≡ other
-same_place edges apart i j edge other a b same = ⊎_elim (λ h. absurd (clash i j edge other a b h same)) (λ o. ⊎_elim (λ h. absurd (clash j i other edge b a h (sym same))) equal o) (order i j)
+-- two edges with the same target have the same index
+same_row_start : (edges : List Edge) → AllPairs (λ edge other. edge.1 ≢ other.1) edges → (i j : ℕ) (edge other : Edge) → slice_get edges i ≡ Some edge → slice_get edges j ≡ Some other → edge.1 ≡ other.1 → edge ≡ other
+same_row_start edges apart i j edge other a b same = ⊎_elim (λ h. absurd (clash i j edge other a b h same)) (λ o. ⊎_elim (λ h. absurd (clash j i other edge b a h (sym same))) equal o) (order i j)
   where
     order : (a b : ℕ) → (a < b) ⊎ ((b < a) ⊎ (a ≡ b))
     order a b = grind arith
@@ -91,7 +91,7 @@ mark_named leaves type names = go type.early type.accept names.1 names.0
 not_marked : (type : StateType) → IsUnmarked type → mark_made type ≡ None
 not_marked type none = rw (none.0, none.1) refl
 
--- the mark that is made is late just where the state has a late mark alone
+-- the mark that is made is late exactly where the state has a late mark alone
 late_made : (type : StateType) → IsSomeAnd (mark_made type) (λ mark. IsTrue mark.late) → IsLateType type
 late_made type late = go type.early type.accept late
   where
@@ -100,7 +100,7 @@ late_made type late = go type.early type.accept late
     go None (Some leaf) h = (refl, refl)
     go None None h = absurd h
 
--- what the end leads to is the last state
+-- the end leads to the last state
 last_is : (graph : List GraphState) (t : ℕ) → IsSomeAnd (slice_get graph t) (λ last. IsLateType last.state_type × (last.eoi ≡ None)) → IsLast graph t
 last_is graph t last = go (slice_get graph t) refl last
   where
@@ -113,7 +113,7 @@ last_is graph t last = go (slice_get graph t) refl last
     go (Some state) e h = by_accept state state.state_type.accept e refl h.0.0 h.0.1 h.1
 
 module _ (code : CodeValue) (tests : List (List Bool)) (realised : (k b : ℕ) → b < 256 → passes_test code.bit_tables k b ≡ tests_byte tests k b) (fits : length tests ≤ 8 * length code.bit_tables) where
-  -- the fast loop takes just the bytes that lead back
+  -- the fast loop takes exactly the bytes that lead back
   stays_at : (s : ℕ) (edges : List Edge) (loop : Option ℕ) (b : ℕ) → b < 256 → IsLoopOf tests s edges loop →
       All (λ edge. (b : ℕ) → b < 256 → is_in edge.0 b ≡ true → edge_leads edges b ≡ Some edge.1) edges → AllPairs (λ edge other. edge.1 ≢ other.1) edges →
       stays code loop b ≡ true ↔ edge_leads edges b ≡ Some s
@@ -131,7 +131,7 @@ module _ (code : CodeValue) (tests : List (List Bool)) (realised : (k b : ℕ) �
             λ p. edge_at f.0 edge f.1 b h (sym test ∙ p) ∙ ap Some back,
             λ e.
                 let g = found_edge (λ (e : Edge). is_in e.0 b) edges s e in
-                let same = same_place edges apart f.0 g.0 edge g.1 f.1 g.2 (back ∙ sym g.4) in
+                let same = same_row_start edges apart f.0 g.0 edge g.1 f.1 g.2 (back ∙ sym g.4) in
                 test ∙ ap (λ (x : Edge). is_in x.0 b) same ∙ g.3,
           )
 
@@ -175,7 +175,7 @@ module _ (code : CodeValue) (tests : List (List Bool)) (realised : (k b : ℕ) �
     finished_at : (s : ℕ) (state : GraphState) → slice_get graph s ≡ Some state → IsFinishedState graph (length code.leaves) state
     finished_at s state is = All-slice_get (IsFinishedState graph (length code.leaves)) graph s state finished.states is
 
-    -- the same states are late
+    -- the late states are equal
     late_in : (t : ℕ) → IsLate code t → IsSomeAnd (slice_get graph t) (λ state. IsLateType state.state_type)
     late_in t late = go (slice_get code.states t) refl late
       where

@@ -6,7 +6,7 @@ use Rattle.std.proofs.lemmas.Bool.Decides.{eqb_tells}
 use Rattle.logos_hir.specs.Text.{IsBytes}
 use Rattle.logos_automaton.specs.Munch.{Found, ended, matched, failed}
 use Rattle.logos_code.specs.Code.{CodeValue, CodeState}
-use Rattle.logos_code.specs.Runs.{Stand, Turn, enters, acts, returns, looped, turn, Does, Acts, Goes, goes_on, is_over, acts_on, Tries, CodeFinds}
+use Rattle.logos_code.specs.Runs.{Status, Turn, enters, acts, returns, looped, turn, Does, Acts, Goes, goes_on, is_over, acts_on, Attempts, CodeFinds}
 use Rattle.logos_graph.specs.Graph.{GraphState}
 use Rattle.logos_graph.specs.Found.{GraphFinds}
 use Rattle.logos_generator.specs.Runs.{RunsAs}
@@ -16,23 +16,23 @@ use Rattle.logos_generator.proofs.FoundLemmas.{found_iff}
 use Rattle.logos_generator.proofs.TurnLemmas.{Bound, Turns, turns}
 
 -- an action by another offset, which counts only where there is no context
-acts_by : (code : CodeValue) (bytes : List ℕ) (start : ℕ) (context other : Option (ℕ × ℕ)) (offset place : ℕ) (found : Found) →
-    context ≡ other → (other ≡ None → offset ≡ place) → Acts code bytes start context offset found → Acts code bytes start other place found
-acts_by code bytes start context None offset place found same places a =
-    subst (λ o. Acts code bytes start None o found) (places refl) (subst (λ c. Acts code bytes start c offset found) same a)
-acts_by code bytes start context (Some p) offset place found same places a =
+acts_by : (code : CodeValue) (bytes : List ℕ) (start : ℕ) (context other : Option (ℕ × ℕ)) (offset row_start : ℕ) (found : Found) →
+    context ≡ other → (other ≡ None → offset ≡ row_start) → Acts code bytes start context offset found → Acts code bytes start other row_start found
+acts_by code bytes start context None offset row_start found same row_starts a =
+    subst (λ o. Acts code bytes start None o found) (row_starts refl) (subst (λ c. Acts code bytes start c offset found) same a)
+acts_by code bytes start context (Some p) offset row_start found same row_starts a =
     subst (λ c. Acts code bytes start c offset found) same a
 
-enters_acts : (s : Stand) (c : Option (ℕ × ℕ)) (o : ℕ) → enters s ≡ acts c o → ⊥
+enters_acts : (s : Status) (c : Option (ℕ × ℕ)) (o : ℕ) → enters s ≡ acts c o → ⊥
 enters_acts s c o e = cc
 
-enters_returns : (s : Stand) → returns ≡ enters s → ⊥
+enters_returns : (s : Status) → returns ≡ enters s → ⊥
 enters_returns s e = cc
 
 acts_returns : (c : Option (ℕ × ℕ)) (o : ℕ) → returns ≡ acts c o → ⊥
 acts_returns c o e = cc
 
-enters_same : (s t : Stand) → enters s ≡ enters t → s ≡ t
+enters_same : (s t : Status) → enters s ≡ enters t → s ≡ t
 enters_same s t e = cc
 
 acts_same : (c d : Option (ℕ × ℕ)) (o p : ℕ) → acts c o ≡ acts d p → (c ≡ d) × (o ≡ p)
@@ -40,31 +40,31 @@ acts_same c d o p e = (cc, cc)
 
 module _ (graph : List GraphState) (utf8 : Bool) (code : CodeValue) (is_made : IsMade graph utf8 code) (bytes : List ℕ) (are : IsBytes bytes) where
   module _ (start : ℕ) (starts : start < length bytes) where
-    -- what is found from a stand on
-    abbrev Finds : Stand → Found → Type 0
+    -- the result from a status on
+    abbrev Finds : Status → Found → Type 0
     Finds at found = Acts code bytes start (last_of graph at.state (drop at.offset bytes) at.offset at.context) (at.offset + reach graph at.state (drop at.offset bytes)) found
 
-    abbrev Stands : Stand → Type 0
-    Stands at = (state : GraphState) × (slice_get graph at.state ≡ Some state) × Bound code graph bytes are start starts state at.offset
+    abbrev IsAt : Status → Type 0
+    IsAt at = (state : GraphState) × (slice_get graph at.state ≡ Some state) × Bound code graph bytes are start starts state at.offset
 
-    -- what a state of the code does that is entered there
-    does : (at : Stand) → Stands at → (what : Turn) → Does code bytes start at what → Turns code graph bytes are start starts at what
+    -- the turn of a state of the code that is entered there
+    does : (at : Status) → IsAt at → (what : Turn) → Does code bytes start at what → Turns code graph bytes are start starts at what
     does at s what d =
         let m = is_made.states at.state s.0 s.1 in
         let same : m.0 ≡ d.0 = cc in
         subst (Turns code graph bytes are start starts at) (ap (λ c. turn code bytes start c at) same ∙ d.2)
         (turns code graph bytes are start starts at s.0 m.0 s.1 m.2 (is_made.closed at.state s.0 s.1) s.2)
 
-    early : (at : Stand) → Stands at → at.offset ≤ length bytes + 1
+    early : (at : Status) → IsAt at → at.offset ≤ length bytes + 1
     early at s = ⊎_elim (λ h. omega (arith, h)) (λ h. omega (arith, h.0)) s.2
 
-    pub goes_finds : {at : Stand} {found : Found} {n : ℕ} → Goes code bytes start at found n → Stands at → Finds at found × (n + at.offset ≤ length bytes + 2)
+    pub goes_finds : {at : Status} {found : Found} {n : ℕ} → Goes code bytes start at found n → IsAt at → Finds at found × (n + at.offset ≤ length bytes + 2)
     goes_finds (goes_on at next found n d g) s = go (goes_finds g) (does at s (enters next) d)
       where
-        go : (Stands next → Finds next found × (n + next.offset ≤ length bytes + 2)) → Turns code graph bytes are start starts at (enters next) → Finds at found × (suc n + at.offset ≤ length bytes + 2)
+        go : (IsAt next → Finds next found × (n + next.offset ≤ length bytes + 2)) → Turns code graph bytes are start starts at (enters next) → Finds at found × (suc n + at.offset ≤ length bytes + 2)
         go later (inl v) =
             let same : v.next ≡ next = sym (enters_same next v.next v.is) in
-            let f = subst (λ t. Stands t → Finds t found × (n + t.offset ≤ length bytes + 2)) (sym same) later (v.state, v.has, v.bound) in
+            let f = subst (λ t. IsAt t → Finds t found × (n + t.offset ≤ length bytes + 2)) (sym same) later (v.state, v.has, v.bound) in
             let moves = v.moves in
             (acts_by code bytes start _ _ _ _ found (sym v.last) (λ e. sym (v.reached (sym v.last ∙ e))) f.0, omega (arith, f.1))
         go later (inr v) = absurd (enters_acts next _ v.offset v.is)
@@ -78,14 +78,14 @@ module _ (graph : List GraphState) (utf8 : Bool) (code : CodeValue) (is_made : I
         (acts_by code bytes start _ _ _ _ found e.0 (λ n. e.1 ∙ sym v.reached) a, omega (arith, f)))
         (does at s (acts context offset) d)
 
-    pub finds_goes : (fuel : ℕ) (at : Stand) (found : Found) → Stands at → length bytes + 2 ≤ at.offset + fuel → Finds at found → (n : ℕ) × Goes code bytes start at found n
+    pub finds_goes : (fuel : ℕ) (at : Status) (found : Found) → IsAt at → length bytes + 2 ≤ at.offset + fuel → Finds at found → (n : ℕ) × Goes code bytes start at found n
     finds_goes zero at found s h f = absurd (let k = early at s in omega (arith, k, h))
     finds_goes (suc fuel) at found s h f = go (finds_goes fuel) (turns code graph bytes are start starts at s.0 m.0 s.1 m.2 (is_made.closed at.state s.0 s.1) s.2)
       where
         m : (made : CodeState) × (slice_get code.states at.state ≡ Some made) × Makes code at.state s.0 made
         m = is_made.states at.state s.0 s.1
 
-        go : ((at : Stand) (found : Found) → Stands at → length bytes + 2 ≤ at.offset + fuel → Finds at found → (n : ℕ) × Goes code bytes start at found n) →
+        go : ((at : Status) (found : Found) → IsAt at → length bytes + 2 ≤ at.offset + fuel → Finds at found → (n : ℕ) × Goes code bytes start at found n) →
             Turns code graph bytes are start starts at (turn code bytes start m.0 at) → (n : ℕ) × Goes code bytes start at found n
         go later (inl v) =
             let moves = v.moves in
@@ -109,19 +109,19 @@ module _ (graph : List GraphState) (utf8 : Bool) (code : CodeValue) (is_made : I
       same_is : (n : ℕ) → (n == n) ≡ true
       same_is n = ⊎_elim (λ h. h.0) (λ h. absurd (h.1 refl)) (eqb_tells n n)
 
-  abbrev begin : ℕ → Stand
+  abbrev begin : ℕ → Status
   begin from = record { state = code.root; offset = from; context = None }
 
-  over : (from : ℕ) → length bytes ≤ from → (at : Stand) → at ≡ begin from → (what : Turn) → Does code bytes from at what → what ≡ returns
+  over : (from : ℕ) → length bytes ≤ from → (at : Status) → at ≡ begin from → (what : Turn) → Does code bytes from at what → what ≡ returns
   over from past at is what d = sym d.2 ∙ ap (λ t. turn code bytes from d.0 t) is ∙ at_end from past d.0
 
-  returns_only : (from : ℕ) → length bytes ≤ from → {at : Stand} {found : Found} {n : ℕ} → at ≡ begin from → Goes code bytes from at found n → (found ≡ ended) × (n ≡ 1)
+  returns_only : (from : ℕ) → length bytes ≤ from → {at : Status} {found : Found} {n : ℕ} → at ≡ begin from → Goes code bytes from at found n → (found ≡ ended) × (n ≡ 1)
   returns_only from past is (goes_on at next found n d g) = absurd (enters_returns next (sym (over from past at is _ d)))
   returns_only from past is (is_over at d) = (refl, refl)
   returns_only from past is (acts_on at context offset found d a) = absurd (acts_returns context offset (sym (over from past at is _ d)))
 
-  -- the first stand, by state 0
-  first : (from : ℕ) (starts : from < length bytes) → Stands from starts (record { state = 0; offset = from; context = None })
+  -- the first status, by state 0
+  first : (from : ℕ) (starts : from < length bytes) → IsAt from starts (record { state = 0; offset = from; context = None })
   first from starts = (is_made.first, is_made.has_first, inl (omega arith))
 
   inside : (from : ℕ) → from < length bytes → (found : Found) → CodeFinds code bytes from found ↔ GraphFinds graph utf8 bytes from found
@@ -152,7 +152,7 @@ module _ (graph : List GraphState) (utf8 : Bool) (code : CodeValue) (is_made : I
   pub same_found : (from : ℕ) (found : Found) → CodeFinds code bytes from found ↔ GraphFinds graph utf8 bytes from found
   same_found from found = ⊎_elim (λ h. inside from h found) (λ h. outside from h found) (either from (length bytes))
 
-  pub few_steps : (from n : ℕ) (found : Found) → from ≤ length bytes → Tries code bytes from found n → n ≤ (length bytes - from) + 2
+  pub few_steps : (from n : ℕ) (found : Found) → from ≤ length bytes → Attempts code bytes from found n → n ≤ (length bytes - from) + 2
   few_steps from n found fits g = ⊎_elim
       (λ h. let b = (goes_finds from h (subst (λ r. Goes code bytes from (record { state = r; offset = from; context = None }) found n) is_made.root g) (first from h)).1 in omega (arith, b, fits))
       (λ h. let e = (returns_only from h refl g).1 in omega (arith, e))

@@ -1,4 +1,4 @@
--- What a state of the code does, by the walk of ScanLemmas.
+-- The turn of a state of the code, by the walk of `ScanLemmas`.
 use Rattle.std.proofs.Common.{◌≡◌, ℕ, suc, ◌+◌, ◌-◌, ◌<◌, ◌≤◌, ◌⊎◌, inl, inr, ⊎_elim, Bool, true, false, ◌&&◌, ◌==◌, if◌then◌else◌, cond, List, [], ◌∷◌, length, drop, Option, Some, None, slice_get, refl, sym, ap, ◌∙◌, subst, arith, length-drop, drop-drop}
 use Rattle.std.proofs.lemmas.List.{drop_more, drop_all}
 use Rattle.std.proofs.lemmas.Option.{slice_get_cases}
@@ -9,7 +9,7 @@ use Rattle.std.specs.List.{take_while}
 use Rattle.logos_hir.specs.Text.{IsBytes}
 use Rattle.logos_code.specs.Bytes.{passes_test}
 use Rattle.logos_code.specs.Code.{CodeValue, CodeState}
-use Rattle.logos_code.specs.Runs.{Stand, Turn, enters, acts, marked, looped, target, forked, turn, stays}
+use Rattle.logos_code.specs.Runs.{Status, Turn, enters, acts, marked, looped, target, forked, turn, stays}
 use Rattle.logos_graph.specs.Graph.{GraphState, next_by, next_at_end}
 use Rattle.logos_generator.specs.Makes.{mark_made, led_by, Makes, IsClosed}
 use Rattle.logos_generator.proofs.ScanLemmas.{mark_at, passed, last_of, reach, last_of-remark, last_of-step, last_of-stuck, reach-step, reach-stuck}
@@ -22,7 +22,7 @@ and_false true = refl
 and_false false = refl
 
 module _ (code : CodeValue) (graph : List GraphState) where
-  -- what stays true of the rest of the input behind the bytes that the fast loop takes
+  -- the facts about the rest of the input after the bytes that the fast loop takes
   pub record Skips (p : ℕ → Bool) (s : ℕ) (rest : List ℕ) (at : ℕ) (context : Option (ℕ × ℕ)) (k : ℕ) : Type 0 where
     pub last : last_of graph s rest at context ≡ last_of graph s (drop k rest) (at + k) context
     pub reached : at + reach graph s rest ≡ at + k + reach graph s (drop k rest)
@@ -86,7 +86,7 @@ module _ (code : CodeValue) (graph : List GraphState) where
   end_at : (s : ℕ) (state : GraphState) → slice_get graph s ≡ Some state → next_at_end graph s ≡ state.eoi
   end_at s state is = rw is refl
 
-  -- the fast loop takes what leads back
+  -- the fast loop takes the bytes that lead back
   pub loops : (s : ℕ) (state : GraphState) (made : CodeState) → slice_get graph s ≡ Some state → Makes code s state made →
       (b : ℕ) → b < 256 → stays code made.fast_loop b ≡ true → next_by graph s b ≡ Some s
   loops s state made is makes b small e =
@@ -101,13 +101,13 @@ module _ (code : CodeValue) (graph : List GraphState) where
     are_rest : (at : ℕ) → IsBytes (drop at bytes)
     are_rest at = All-drop (λ b. b < 256) at bytes are
 
-    -- a place that a try can stand at, in this state
+    -- a status that is possible in this state
     abbrev pub Bound : GraphState → ℕ → Type 0
     Bound state at = (at ≤ length bytes) ⊎ ((at ≡ length bytes + 1) × (state.eoi ≡ None))
 
-    -- the try goes on, and finds the same there
-    pub record GoesOn (at : Stand) (what : Turn) : Type 0 where
-      pub next : Stand
+    -- the attempt continues, and finds the same there
+    pub record GoesOn (at : Status) (what : Turn) : Type 0 where
+      pub next : Status
       pub is : what ≡ enters next
       pub state : GraphState
       pub has : slice_get graph next.state ≡ Some state
@@ -117,13 +117,13 @@ module _ (code : CodeValue) (graph : List GraphState) where
       pub reached : last_of graph next.state (drop next.offset bytes) next.offset next.context ≡ None →
           at.offset + reach graph at.state (drop at.offset bytes) ≡ next.offset + reach graph next.state (drop next.offset bytes)
 
-    -- the try is over, and acts on what is found
-    pub record IsDone (at : Stand) (what : Turn) : Type 0 where
+    -- the attempt is over, and acts on the result
+    pub record IsDone (at : Status) (what : Turn) : Type 0 where
       pub offset : ℕ
       pub is : what ≡ acts (last_of graph at.state (drop at.offset bytes) at.offset at.context) offset
       pub reached : at.offset + reach graph at.state (drop at.offset bytes) ≡ offset
 
-    abbrev pub Turns : Stand → Turn → Type 0
+    abbrev pub Turns : Status → Turn → Type 0
     Turns at what = GoesOn at what ⊎ IsDone at what
 
     -- a byte, or the end of the input
@@ -139,7 +139,7 @@ module _ (code : CodeValue) (graph : List GraphState) where
         (λ u. inr (u.0, u.1, drop_all at bytes u.0))
         (slice_get_cases bytes at).1
 
-    -- behind the fast loop
+    -- after the fast loop
     after : (s : ℕ) (state : GraphState) (made : CodeState) → slice_get graph s ≡ Some state → Makes code s state made → IsClosed graph state →
         (at : ℕ) (context : Option (ℕ × ℕ)) → Bound state at →
         ((b : ℕ) (later : List ℕ) → drop at bytes ≡ b ∷ later → stays code made.fast_loop b ≡ false) →
@@ -211,7 +211,7 @@ module _ (code : CodeValue) (graph : List GraphState) where
                 here : Bound state at → at + 1 ≡ length bytes + 1
                 here b = ⊎_elim (λ f. omega (arith, f, u.0)) (λ f. absurd (some_none (sym e ∙ f.1))) b
 
-    pub turns : (at : Stand) (state : GraphState) (made : CodeState) → slice_get graph at.state ≡ Some state → Makes code at.state state made → IsClosed graph state → Bound state at.offset →
+    pub turns : (at : Status) (state : GraphState) (made : CodeState) → slice_get graph at.state ≡ Some state → Makes code at.state state made → IsClosed graph state → Bound state at.offset →
         Turns at (turn code bytes start made at)
     turns at state made is makes closed bound = ⊎_elim
         (λ g. inl record {

@@ -1,4 +1,4 @@
--- What contracts see of a generator, and what its code has of it.
+-- The views of a generator in contracts, and the copies that its code has of its arguments.
 use Rattle.std.specs.Prelude.{◌≡◌, ℕ, Bool, List, [], map, Option, option_map}
 use Rattle.logos_type.specs.TypeTrees.{type_tree}
 use Rattle.logos_pattern.specs.Leaf.{CallbackValue, callback_value, KindValue, kind_value}
@@ -15,12 +15,12 @@ pub record GeneratorValue : Type 0 where
   pub tests : List (List Bool)
   pub jumps : List (List ℕ)
 
--- A generator that was given this, and has made no node yet.
+-- A generator with these arguments that has made no node yet.
 abbrev pub fresh : Header → GraphValue → GeneratorValue
 fresh given graph = record { given = given; graph = graph; tests = []; jumps = [] }
 
--- What the lexer does with the matches of a leaf: its kind, with a type by its parts, and its
--- callback by its tokens.
+-- The use of the matches of a leaf: its kind, with a type as its parts, and its callback as its
+-- tokens.
 pub record LeafValue : Type 0 where
   pub kind : KindValue
   pub callback : Option CallbackValue
@@ -29,11 +29,11 @@ pub record LeafValue : Type 0 where
 abbrev pub leaf_value : Leaf → LeafValue
 leaf_value leaf = record { kind = kind_value leaf.kind; callback = option_map callback_value leaf.callback }
 
--- The same for the leaf of a code.
+-- The kind of a code's leaf, and the tokens of its callback.
 abbrev pub code_leaf_value : CodeLeaf → LeafValue
 code_leaf_value leaf = record { kind = kind_value leaf.kind; callback = option_map callback_value leaf.callback }
 
--- The shape and the name are the same, the type has the same parts, and the error callback the same
+-- The shape and the name are equal, the type has the same parts, and the error callback the same
 -- tokens.
 pub record IsCopy (given header : Header) : Type 0 where
   pub shape : header.shape ≡ given.shape
@@ -41,7 +41,7 @@ pub record IsCopy (given header : Header) : Type 0 where
   pub this : type_tree header.this ≡ type_tree given.this
   pub error_callback : option_map callback_value header.error_callback ≡ option_map callback_value given.error_callback
 
--- The code has copies of what its generator was given, and of the kind and the callback of each
+-- The code has copies of the arguments of its generator, and of the kind and the callback of each
 -- leaf of the graph.
 pub record KeepsGiven (given : Header) (graph : GraphValue) (code : CodeValue) : Type 0 where
   pub copy : IsCopy given code.header

@@ -13,10 +13,10 @@ use Rattle.logos_code.specs.Runs.{Runs, RunsOn}
 use Rattle.logos_code.specs.declared.action.Action.{Action}
 use Rattle.logos_machine.specs.Loops.{AnswersAmong}
 
--- A code is a lexer of a graph's rules if it runs as the graph does, in its mode and with the uses
--- of its leaves, and the graph finds what maximal munch finds.
-abbrev pub GraphsGiveLexers : Type 0
-GraphsGiveLexers = (graph : GraphValue) (code : CodeValue) →
+-- A code is a lexer of a graph's rules if it has the graph's runs, in its mode and with the uses of
+-- its leaves, and the graph has the results of maximal munch.
+abbrev pub GraphsYieldLexers : Type 0
+GraphsYieldLexers = (graph : GraphValue) (code : CodeValue) →
     FindsTheLongest (rules_of graph.leaves) graph.utf8 graph.states → RunsAs graph.states graph.utf8 code →
     code.utf8 ≡ graph.utf8 → code.leaves ≡ map (λ leaf. (rule_of leaf).use_of) graph.leaves →
     IsLexer (rules_of graph.leaves) graph.utf8 code
@@ -39,7 +39,7 @@ LexersAgree callback = (rules : List Rule) (utf8 : Bool) (code other : CodeValue
     IsLexer rules utf8 code → IsLexer rules utf8 other → IsInput utf8 bytes →
     Runs code callback bytes from items ↔ Runs other callback bytes from items
 
--- If all rules match text alone, each item of a run from a character boundary of a text starts and
+-- If all rules match only text, each item of a run from a character boundary of a text starts and
 -- ends at character boundaries.
 abbrev pub RunsAreCut : Callback → Type 0
 RunsAreCut callback = (rules : List Rule) (code : CodeValue) (bytes : List ℕ) (from : ℕ) (items : List Item) →
@@ -47,18 +47,18 @@ RunsAreCut callback = (rules : List Rule) (code : CodeValue) (bytes : List ℕ) 
     IsInput true bytes → IsCharBoundary bytes from →
     Runs code callback bytes from items → All (IsCut bytes) items
 
--- A callback gives at most one answer to each leaf and slice.
+-- A callback has at most one action for each leaf and slice.
 abbrev pub AnswersOnce : Callback → Type 0
 AnswersOnce callback = (leaf : ℕ) (slice : List ℕ) (one other : Action) → callback leaf slice one → callback leaf slice other → one ≡ other
 
--- By a callback that gives at most one answer, an input has at most one list of items from each of
+-- With a callback that has at most one action, an input has at most one list of items from each of
 -- its points on.
 abbrev pub ItemsAreOnce : Callback → Type 0
 ItemsAreOnce callback = AnswersOnce callback → (rules : List Rule) (utf8 : Bool) (bytes : List ℕ) (from : ℕ) (items others : List Item) →
     from ≤ length bytes → Items rules callback utf8 bytes from items → Items rules callback utf8 bytes from others → items ≡ others
 
--- The items by the one callback are items by the other one, if each of its answers is an answer of
--- that one.
+-- The items with the first callback are items with the second, if each action of the first is an
+-- action of the second.
 abbrev pub ItemsGoOver : Callback → Callback → Type 0
 ItemsGoOver callback other = AnswersAmong callback other → (rules : List Rule) (utf8 : Bool) (bytes : List ℕ) (from : ℕ) (items : List Item) →
     Items rules callback utf8 bytes from items → Items rules other utf8 bytes from items

@@ -6,5 +6,5 @@ pub mod StateView
 pub mod GeneratorValue
 pub mod NodeCalls
 pub mod Laws
-pub mod Words
+pub mod Imports
 pub mod Views

@@ -11,14 +11,14 @@ use Rattle.logos_generator.specs.Numbering.{numbered, loop_uses, fork_uses, with
 use Rattle.logos_code.specs.declared.code.Fork.{Fork}
 use Rattle.logos_generator.specs.declared.generator.nodes.FastLoop.{FastLoop}
 
--- The generator has what it was given, and each test and jump table that it had keeps its number.
+-- The generator has the same arguments, and its tests and jump tables keep their numbers.
 pub record Continues (old new : GeneratorValue) : Type 0 where
   pub given : new.given ≡ old.given
   pub graph : new.graph ≡ old.graph
   pub tests : Extends old.tests new.tests
   pub jumps : Extends old.jumps new.jumps
 
--- The fork of a state by its data, without the edge back to it or with it.
+-- The fork of a state with this data, with or without the edge back to it.
 pub record MakesFork (old new : GeneratorValue) (state : State) (state_data : StateData) (ignore_self : Bool) (made : Fork) : Type 0 where
   pub is : IsForkOf new.tests (left_out ignore_self (state_number state)) (graph_state_of state_data).normal (fork_of new.jumps made)
   pub numbers : new.tests ≡ numbered old.tests (fork_uses (left_out ignore_self (state_number state)) (graph_state_of state_data).normal)

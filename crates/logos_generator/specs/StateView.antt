@@ -1,4 +1,4 @@
--- What contracts see of the states that a generator reads and makes.
+-- The views of the states that a generator reads and makes in contracts.
 use Rattle.std.specs.Prelude.{◌≡◌, ℕ, ◌<◌, ◌≤◌, ◌*◌, ◌==◌, ◌++◌, ◌∷◌, [], Bool, List, length, IsSomeAnd, Some, slice_get, MatchBool}
 use Rattle.std.specs.List.{All}
 use Rattle.logos_pattern.specs.declared.leaf.Leaf.{Leaf}
@@ -16,28 +16,28 @@ use Rattle.logos_code.specs.Bytes.{passes_test}
 use Rattle.logos_generator.specs.Numbering.{tests_of, bit_tables_of, jump_tables_of}
 use Rattle.logos_generator.specs.Nodes.{tests_byte, IsBranchOf, IsStateOf}
 
--- What the lexer does with the matches of a leaf.
+-- The use of the matches of a leaf.
 abbrev pub leaf_use : Leaf → Use
 leaf_use leaf = (rule_of leaf).use_of
 
--- The edges of the state are such that a code state can be made of it.
+-- A code state can be made from the edges of the state.
 pub record IsCodable (state : GraphState) : Type 0 where
   pub separated : All (λ edge. AreSeparated edge.0) state.normal
   pub targets : All (λ edge. edge.1 < 4294967295) state.normal
 
--- The branch of an edge is added at the end. None is added if the edge leads back to s.
+-- The branch of an edge is appended, unless the edge leads back to `s`.
 abbrev pub AddsBranch : List (List Bool) → ℕ → ByteClass × State → (old new : List (TheCondition × ℕ)) → Type 0
 AddsBranch tests s edge old new = MatchBool (state_number edge.1 == s)
     (new ≡ old)
     ((branch : TheCondition × ℕ) × (new ≡ old ++ branch ∷ []) × IsBranchOf tests (edge_of edge) (branch_of branch))
 
--- The states of a code are made from those of the graph, one from each.
+-- The states of a code are made from those of the graph, one for each.
 pub record AreStatesOf (tests : List (List Bool)) (jumps : List (List ℕ)) (graph : List GraphState) (states : List TheState) : Type 0 where
   pub count : length states ≡ length graph
   pub each : (s : ℕ) (state : GraphState) → slice_get graph s ≡ Some state → IsSomeAnd (slice_get states s) (λ made. IsStateOf tests s state (state_of jumps made))
 
--- They are made so, with the graph's tests in the bit tables and with its jump tables, no two of
--- which are equal.
+-- The states are made in this way, with the graph's tests in the bit tables and with its jump
+-- tables, no two of which are equal.
 pub record AreTablesOf (graph : List GraphState) (states : List TheState) (bit_tables jump_tables : List (List ℕ)) : Type 0 where
   pub are : AreStatesOf (tests_of graph) jump_tables graph states
   pub hold : (k b : ℕ) → b < 256 → passes_test bit_tables k b ≡ tests_byte (tests_of graph) k b

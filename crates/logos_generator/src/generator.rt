@@ -1,7 +1,8 @@
-//! Turns a graph into a code value.
+//! Turns a graph into a code value. `logos_codegen` calls `generate` once for each source without
+//! faults.
 
 ghost use Rattle.std.specs.Prelude.{◌≡◌, [], IfOk, OnOk, OnErr, map, option_copied};
-ghost use Rattle.logos_generator.specs.Words.{rule_of, RunsAs, fresh, code_leaf_value, leaf_value, IsCopy, KeepsGiven, HasNodesOf, jump_tables_of, tests_of, leaf_use};
+ghost use Rattle.logos_generator.specs.Imports.{rule_of, RunsAs, fresh, code_leaf_value, leaf_value, IsCopy, KeepsGiven, HasNodesOf, jump_tables_of, tests_of, leaf_use};
 
 mod fork;
 mod leaves;
@@ -23,7 +24,7 @@ use states::code_of;
 use std::alloc::{AllocError, Global};
 use std::marker::Model;
 
-/// A generator: makes the code value of a graph without faults, as a whole or node by node.
+/// Makes the code value of a graph without faults, as a whole or node by node.
 #[derive(Drop)]
 pub struct Generator<'g, 's> {
     config: Config,
@@ -31,13 +32,13 @@ pub struct Generator<'g, 's> {
     this: &'g TypeExpr<'s>,
     graph: &'g Graph<'s>,
     error_callback: Option<&'g Callback<'s>>,
-    /// The tables of the nodes that were made.
+    /// The tables of the nodes that have been made.
     tables: NodeTables,
 }
 
 impl<'g, 's> Model for Generator<'g, 's> {
     ghost use Rattle.std.specs.Prelude.{◌≡◌, [], option_copied};
-    ghost use Rattle.logos_generator.specs.Words.{codes, named, GeneratorValue};
+    ghost use Rattle.logos_generator.specs.Imports.{codes, named, GeneratorValue};
     ghost use Rattle.logos_hir.specs.contracts.hir.Hir as e;
     ghost use Rattle.logos_type.specs.contracts.type_expr.TypePart as p;
 
@@ -65,10 +66,10 @@ impl<'g, 's> Model for Generator<'g, 's> {
 }
 
 impl<'g, 's> Generator<'g, 's> {
-    /// Returns a generator for a graph without faults, of the enum with this name and type. Where
-    /// no leaf matches, the code calls the error callback. The generator has made no node yet. This
-    /// call takes no memory; the tests and jump tables take theirs from `alloc` when nodes are
-    /// made.
+    /// Returns a generator for a graph without faults, of the enum with this name and type. The
+    /// code calls the error callback for input that no leaf matches. The generator has made no node
+    /// yet. This call does not allocate; the tests and jump tables take their memory from `alloc`
+    /// when nodes are made.
     pub fn new(
         alloc: Global,
         config: Config,
@@ -95,17 +96,17 @@ impl<'g, 's> Generator<'g, 's> {
         }
     }
 
-    /// Makes the code: from each point of each input it finds what the graph finds, and each try
-    /// enters at most two states more than there are bytes left. It keeps copies of what the
-    /// generator was given, and of the kinds and callbacks of the graph's leaves. Its tests and its
-    /// jump tables are numbered by first use, states ascending and the fast loop before the fork;
-    /// equal ones share a number. The generator's tests and jump tables are those of the code then,
-    /// whatever nodes it made before, so `render_luts` and `render_jump_tables` give the code's
-    /// tables.
+    /// Makes the code: from each point of each input it has the result of the graph, and each
+    /// attempt enters at most two states more than there are bytes left. The code has copies of the
+    /// arguments of `new`, and of the kinds and callbacks of the graph's leaves. Its tests and its
+    /// jump tables are numbered by first use, with states ascending and the fast loop before the
+    /// fork; equal ones share a number. Afterwards the generator's tests and jump tables are those
+    /// of the code, regardless of the nodes that it made before, so `render_luts` and
+    /// `render_jump_tables` return the code's tables.
     ///
     /// # Errors
     ///
-    /// Returns `Memory` if memory runs out. The generator is then as it was.
+    /// Returns `Memory` if memory runs out. The generator is then unchanged.
     pub fn generate(&mut self, alloc: Global) -> Result<Code<'s>, Memory>
         ensures runs { IfOk result (λ code. RunsAs self.old.graph.states self.old.graph.utf8 code) }
         ensures mode { IfOk result (λ code. code.utf8 ≡ self.old.graph.utf8) }
@@ -148,7 +149,7 @@ impl<'g, 's> Generator<'g, 's> {
         }
     }
 
-    /// Returns copies of what the generator was given, for the code.
+    /// Returns copies of the arguments of `new`, for the code.
     fn header(&self) -> Result<Header<'s>, AllocError>
         ensures { IfOk result (IsCopy self.now.given) }
     {

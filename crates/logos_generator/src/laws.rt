@@ -1,32 +1,31 @@
-//! Laws of the definitions. The contract of each function is a law. To use one in a proof, call its
-//! function: the call does nothing.
+//! Laws of the definitions. The contract of each function is a law. A proof uses a law by calling
+//! its function, which does nothing.
 
 ghost use Rattle.std.specs.Prelude.{ℕ, ◌≤◌, Bool, false, List, length};
-ghost use Rattle.logos_generator.specs.Words.{IsInput, Rule, Item, Items, AreInOrder, Parts, IsLeftOut, answers_of, GraphsGiveLexers, RunsAreItems, NextIsTheNext, ItemsAreOnce, ItemsGoOver, LexersAgree, RunsAreCut};
+ghost use Rattle.logos_generator.specs.Imports.{IsInput, Rule, Item, Items, AreInOrder, Parts, IsLeftOut, answers_of, GraphsYieldLexers, RunsAreItems, NextIsTheNext, ItemsAreOnce, ItemsGoOver, LexersAgree, RunsAreCut};
 
 use logos_code::action::Action;
 use logos_hir::leaf::LeafId;
 
-/// The items of maximal munch are not empty, they follow one another, and they lie within the
-/// input.
+/// The items of maximal munch are not empty, they are in order, and they are within the input.
 pub fn items_are_in_order<C: Fn(LeafId, &[u8]) -> Action>(callback: &C)
     ensures { (rules : List Rule) (utf8 : Bool) (bytes : List ℕ) (from : ℕ) (items : List Item) →
         from ≤ length bytes → Items rules (answers_of C.Fn callback.now) utf8 bytes from items →
         AreInOrder (length bytes) from items }
 {}
 
-/// The spans of the items of maximal munch, together with those of the matches that a skip or an
-/// answer leaves out, divide the input in order, and none is empty.
+/// The spans of the items of maximal munch, together with those of the matches without an item,
+/// partition the input in order, and none is empty.
 pub fn items_part_the_input<C: Fn(LeafId, &[u8]) -> Action>(callback: &C)
     ensures { (rules : List Rule) (utf8 : Bool) (bytes : List ℕ) (from : ℕ) (items : List Item) →
         from ≤ length bytes → Items rules (answers_of C.Fn callback.now) utf8 bytes from items →
         Parts (IsLeftOut rules (answers_of C.Fn callback.now) bytes) (length bytes) from items }
 {}
 
-/// A code that runs as a graph does, whose leaves are used as the graph's, is a lexer of the
-/// graph's rules if the graph finds what maximal munch finds.
+/// If a code has the runs of a graph and the uses of the graph's leaves, and the graph has the
+/// results of maximal munch, then the code is a lexer of the graph's rules.
 pub fn code_of_a_graph_is_a_lexer()
-    ensures { GraphsGiveLexers }
+    ensures { GraphsYieldLexers }
 {}
 
 /// The runs of a lexer's code are the lists of items of maximal munch.
@@ -34,8 +33,8 @@ pub fn runs_are_the_items<C: Fn(LeafId, &[u8]) -> Action>(callback: &C)
     ensures { RunsAreItems (answers_of C.Fn callback.now) }
 {}
 
-/// The next item of a lexer's code from a point on is the next one of maximal munch, and ends where
-/// that does.
+/// The next item of a lexer's code from a point on is the next item of maximal munch, with the same
+/// end.
 pub fn next_items_are_the_next<C: Fn(LeafId, &[u8]) -> Action>(callback: &C)
     ensures { NextIsTheNext (answers_of C.Fn callback.now) }
 {}
@@ -45,19 +44,20 @@ pub fn codes_of_the_same_rules_agree<C: Fn(LeafId, &[u8]) -> Action>(callback: &
     ensures { LexersAgree (answers_of C.Fn callback.now) }
 {}
 
-/// When a text is lexed by rules that match only text, each item starts and ends between
-/// characters.
+/// If a text is lexed by rules that match only text, each item starts and ends at character
+/// boundaries.
 pub fn items_are_cut_between_characters<C: Fn(LeafId, &[u8]) -> Action>(callback: &C)
     ensures { RunsAreCut (answers_of C.Fn callback.now) }
 {}
 
-/// By a callback that gives at most one answer to each match, an input has at most one list of
+/// With a callback that has at most one action for each match, an input has at most one list of
 /// items.
 pub fn an_input_has_one_list_of_items<C: Fn(LeafId, &[u8]) -> Action>(callback: &C)
     ensures { ItemsAreOnce (answers_of C.Fn callback.now) }
 {}
 
-/// The items by a callback are items by each callback that may answer as much or more.
+/// The items with a callback are items with each callback whose possible actions include those of
+/// the first.
 pub fn items_go_over<C: Fn(LeafId, &[u8]) -> Action, D: Fn(LeafId, &[u8]) -> Action>(
     callback: &C,
     other: &D,
@@ -69,7 +69,7 @@ pub fn items_go_over<C: Fn(LeafId, &[u8]) -> Action, D: Fn(LeafId, &[u8]) -> Act
 pub fn a_text_is_an_input(text: &str)
     ensures { (utf8 : Bool) → IsInput utf8 text.now }
 {
-    // A read of the text brings what its type says into the proof.
+    // Reading the text brings the invariant of its type into the proof.
     let _ = text.as_bytes();
 }
 
@@ -77,6 +77,6 @@ pub fn a_text_is_an_input(text: &str)
 pub fn bytes_are_an_input(bytes: &[u8])
     ensures { IsInput false bytes.now }
 {
-    // A read of the slice brings what its type says into the proof.
+    // Reading the slice brings the invariant of its type into the proof.
     let _ = bytes.len();
 }

@@ -1,4 +1,4 @@
-//! Turns graphs into code values. Hands on code values, and the machine that runs them.
+//! Turns graphs into code values. Re-exports code values and the machine that runs them.
 
 #![tactic(auto)]
 

@@ -11,7 +11,7 @@ use Rattle.logos_byte_class.specs.Bytes.{AreSeparated, AreSeparatedFrom}
 use Rattle.logos_graph.specs.FinishedGraph.{Edge, edge_leads, AreNeat}
 use Rattle.logos_hir.specs.ByteRanges.{is_in}
 use Rattle.logos_graph.specs.GraphView.{edge_of, state_number}
-use Rattle.logos_places.specs.Marks.{IsRising, IsFirstFrom}
+use Rattle.logos_positions.specs.Marks.{IsRising, IsFirstFrom}
 use Rattle.logos_graph.specs.inside.States.{targets, with_range, with_run, IsEdgeOf, AreEdgesOf}
 use Rattle.logos_byte_class.specs.declared.byte_class.ByteClass.{ByteClass}
 use Rattle.logos_graph.specs.declared.graph.State.{State}
@@ -65,31 +65,31 @@ first_tail edge edges t i first = record {
 }
 
 -- the edge is there
-pub place_hit : (edges : List Edge) (i : ℕ) (d : Edge) (range : ℕ × ℕ) (t : ℕ) → IsFirstFrom (targets edges) t i → i < length edges → (get_or edges i d).1 ≡ t →
+pub slot_hit : (edges : List Edge) (i : ℕ) (d : Edge) (range : ℕ × ℕ) (t : ℕ) → IsFirstFrom (targets edges) t i → i < length edges → (get_or edges i d).1 ≡ t →
     with_range edges range t ≡ slice_set edges i ((get_or edges i d).0 ++ range ∷ [], (get_or edges i d).1)
-place_hit [] i d range t first l e = absurd (omega arith)
-place_hit (edge ∷ edges) zero d range t first l e =
+slot_hit [] i d range t first l e = absurd (omega arith)
+slot_hit (edge ∷ edges) zero d range t first l e =
     rw (not_lt_test t edge.1 (omega arith), same_test t edge.1 (sym e)) refl
-place_hit (edge ∷ edges) (suc i) d range t first l e =
+slot_hit (edge ∷ edges) (suc i) d range t first l e =
     let before : edge.1 < t = first.below 0 (omega arith) in
     rw (not_lt_test t edge.1 (omega arith), other_test t edge.1 (λ e. omega arith))
-    (ap (λ rest. edge ∷ rest) (place_hit edges i d range t (first_tail edge edges t i first) (omega arith) e))
+    (ap (λ rest. edge ∷ rest) (slot_hit edges i d range t (first_tail edge edges t i first) (omega arith) e))
 
 -- the edge is new
-pub place_new : (edges : List Edge) (i : ℕ) (range : ℕ × ℕ) (t : ℕ) → IsFirstFrom (targets edges) t i → (i < length edges → slice_index (targets edges) i ≢ t) →
+pub slot_new : (edges : List Edge) (i : ℕ) (range : ℕ × ℕ) (t : ℕ) → IsFirstFrom (targets edges) t i → (i < length edges → slice_index (targets edges) i ≢ t) →
     with_range edges range t ≡ take i edges ++ (range ∷ [], t) ∷ drop i edges
-place_new [] zero range t first d = refl
-place_new [] (suc i) range t first d = let w = first.within in absurd (omega arith)
-place_new (edge ∷ edges) zero range t first d =
+slot_new [] zero range t first d = refl
+slot_new [] (suc i) range t first d = let w = first.within in absurd (omega arith)
+slot_new (edge ∷ edges) zero range t first d =
     let here : t ≤ edge.1 = first.above 0 (omega arith) (omega arith) in
     let other : edge.1 ≢ t = d (omega arith) in
     rw (lt_test t edge.1 (omega arith)) refl
-place_new (edge ∷ edges) (suc i) range t first d =
+slot_new (edge ∷ edges) (suc i) range t first d =
     let before : edge.1 < t = first.below 0 (omega arith) in
     rw (not_lt_test t edge.1 (omega arith), other_test t edge.1 (λ e. omega arith))
-    (ap (λ rest. edge ∷ rest) (place_new edges i range t (first_tail edge edges t i first) (λ l. d (omega arith))))
+    (ap (λ rest. edge ∷ rest) (slot_new edges i range t (first_tail edge edges t i first) (λ l. d (omega arith))))
 
--- the same of the edges of the program
+-- the lemma above for the edges of the program
 pub pushed_at : (edges : List (ByteClass × State)) (i : ℕ) (old new : ByteClass × State) (range : ℕ × ℕ) (t : ℕ) → IsFirstFrom (targets (map edge_of edges)) t i →
     i < length edges → slice_index (targets (map edge_of edges)) i ≡ t → old ≡ get_or edges i old → edge_of new ≡ ((edge_of old).0 ++ range ∷ [], (edge_of old).1) →
     map edge_of (slice_set edges i new) ≡ with_range (map edge_of edges) range t
@@ -97,7 +97,7 @@ pushed_at edges i old new range t first l hit is grown =
     let at : get_or (map edge_of edges) i (edge_of old) ≡ edge_of old = get_or-map edge_of edges i old (edge_of old) l ∙ ap edge_of (sym is) in
     map-set edge_of edges i new
     ∙ ap (slice_set (map edge_of edges) i) (grown ∙ ap (λ (edge : Edge). (edge.0 ++ range ∷ [], edge.1)) (sym at))
-    ∙ sym (place_hit (map edge_of edges) i (edge_of old) range t first (let n = length-map edges edge_of in omega arith)
+    ∙ sym (slot_hit (map edge_of edges) i (edge_of old) range t first (let n = length-map edges edge_of in omega arith)
     (ap (λ (edge : Edge). edge.1) (get_or-map edge_of edges i old (edge_of old) l) ∙ sym (target_at edges i old l) ∙ hit))
 
 pub inserted_at : (edges : List (ByteClass × State)) (i : ℕ) (new : ByteClass × State) (range : ℕ × ℕ) (t : ℕ) → IsFirstFrom (targets (map edge_of edges)) t i →
@@ -108,7 +108,7 @@ inserted_at edges i new range t first miss made =
     ∙ ap (λ rest. map edge_of (take i edges) ++ edge_of new ∷ rest) (sym (drop-map edge_of i edges))
     ∙ ap (λ front. front ++ edge_of new ∷ drop i (map edge_of edges)) (sym (take-map edge_of i edges))
     ∙ ap (λ edge. take i (map edge_of edges) ++ edge ∷ drop i (map edge_of edges)) made
-    ∙ sym (place_new (map edge_of edges) i range t first (λ l. miss (let n = length-map edges edge_of in omega arith)))
+    ∙ sym (slot_new (map edge_of edges) i range t first (λ l. miss (let n = length-map edges edge_of in omega arith)))
 
 -- each target is less than the next, and none is below n
 abbrev RiseFrom : ℕ → List Edge → Type 0
@@ -152,7 +152,7 @@ range_rises n (edge ∷ edges) range t r l = go (order t edge.1) (λ p. range_ri
         rw (not_lt_test t edge.1 (omega arith), other_test t edge.1 (λ e. omega arith))
         (r.0, later (omega arith))
 
--- what holds of each edge when a range is added
+-- a property of each edge when a range is added
 module _ (P Q : Edge → Type 0) (range : ℕ × ℕ) (t : ℕ) (other : (edge : Edge) → P edge → Q edge)
     (same : (edge : Edge) → P edge → edge.1 ≡ t → Q (edge.0 ++ range ∷ [], edge.1)) (new : Q (range ∷ [], t)) where
   all_with : (edges : List Edge) → All P edges → All Q (with_range edges range t)
@@ -392,7 +392,7 @@ edges_neat leads edges are = record {
 pub edges_increase : (leads : ℕ → Option ℕ) (edges : List Edge) → AreEdgesOf leads 256 edges → IsStrictlyIncreasing (map (λ edge. edge.1) edges)
 edges_increase leads edges are = λ k l. are.rising.rise k (k + 1) (omega arith) l
 
--- different entries stand for different targets
+-- different entries have different targets
 pub targets_differ : (a b : ℕ) → target_of a ≡ target_of b → a ≡ b
 targets_differ zero zero e = refl
 targets_differ zero (suc b) e = absurd (cc)

@@ -1,4 +1,5 @@
--- What distinguishes two states of a table distinguishes those of the graph that shows it.
+-- Bytes that distinguish two states of a table distinguish the states of the graph that represents
+-- it.
 use Rattle.std.proofs.Common.{◌≡◌, ◌≢◌, ◌↔◌, ℕ, ◌<◌, Bool, true, false, List, [], ◌∷◌, Option, Some, None, option_map, option_and_then, refl, sym, ◌∙◌, ap, arith}
 use Rattle.logos_hir.specs.Text.{IsBytes}
 use Rattle.logos_reduce.specs.Table.{size, to, mark, type_of}

@@ -1,4 +1,4 @@
--- A graph that shows the reduced table of an automaton finds what maximal munch finds.
+-- A graph that represents the reduced table of an automaton has the results of maximal munch.
 use Rattle.std.proofs.Common.{◌≡◌, ◌↔◌, ℕ, ◌<◌, inl, inr, Bool, slice_get, drop, List, length, Option, Some, None, option_map, option_and_then, refl, sym, ◌∙◌, ap, subst}
 use Rattle.std.specs.Option.{option_map_or}
 use Rattle.logos_hir.specs.Text.{IsBytes}

@@ -1,4 +1,4 @@
--- What holds of a graph that shows the reduced table of an automaton, beside what it finds.
+-- Properties of a graph that represents the reduced table of an automaton, besides its results.
 use Rattle.std.proofs.Common.{◌≡◌, ◌≢◌, ◌↔◌, ℕ, zero, suc, ◌<◌, ◌≤◌, ◌⊎◌, inl, inr, Bool, true, false, nat_eq, slice_get, List, [], ◌∷◌, length, Option, Some, None, option_map, option_and_then, IfSome, IsSomeAnd, refl, sym, ◌∙◌, ap, subst, arith}
 use Rattle.std.proofs.lemmas.Bool.{cases_lt}
 use Rattle.std.proofs.lemmas.Bool.Decides.{eqb_tells}
@@ -29,7 +29,7 @@ use Rattle.logos_reduce.specs.Raw.{IsRaw}
 use Rattle.logos_reduce.specs.Reduction as table
 use Rattle.logos_reduce.specs.Settle.{AllAccepted, IsNeededOrSpare}
 use Rattle.logos_reduce.specs.Table.{size, to, mark, type_of, edges}
-use Rattle.logos_reduce.specs.History.{GivesEvidence}
+use Rattle.logos_reduce.specs.History.{YieldsEvidence}
 use Rattle.logos_reduce.specs.declared.reduction.Reduction.{Reduction}
 use Rattle.logos_reduce.specs.declared.table.Table.{Table}
 use Rattle.logos_reduce.proofs.settling.LeadLemmas.{none_is_none, kept_accept}
@@ -52,7 +52,7 @@ walk_reach : (graph : List GraphState) (bytes : List ℕ) (s : ℕ) → walk gra
 walk_reach graph [] s = refl
 walk_reach graph (b ∷ bytes) s = ap (λ (f : ℕ → Option ℕ). option_and_then f (next_by graph s b)) (λ i t. walk_reach graph bytes t i)
 
--- what a state is goes by its entry
+-- a state is determined by its entry
 same_state : (graph : List GraphState) (s t : ℕ) → slice_get graph s ≡ slice_get graph t → (bytes : List ℕ) (ends : Bool) → type_after graph s bytes ends ≡ type_after graph t bytes ends
 same_state graph s t e [] false = ap (option_map (λ (state : GraphState). state.state_type)) e
 same_state graph s t e [] true =
@@ -186,7 +186,7 @@ module _ (final : Table) (apart : table.IsLeast final) (ends : (s t k : ℕ) →
         has_type e.0 (λ type. type.early ≢ Some leaf) (edge_within final e.0 e.1 t e.2).0 e.3,
       )
 
--- what holds of the reduced table of an automaton
+-- a property of the reduced table of an automaton
 module _ (raw : Table) (root : ℕ) (reduction : Reduction) (made : table.IsReductionOf raw root reduction) (is_raw : IsRaw raw root) where
   abbrev mid : Table
   mid = made.marked
@@ -352,7 +352,7 @@ module _ (raw : Table) (root : ℕ) (reduction : Reduction) (made : table.IsRedu
       first_end = first_no_end;
     }
 
-  module _ (apart : table.IsLeast final) (order : table.IsInOrder final) (spareless : table.IsSpareless final) (evidence : GivesEvidence reduction) (graph : List GraphState) (shows : Shows final graph) where
+  module _ (apart : table.IsLeast final) (order : table.IsInOrder final) (spareless : table.IsSpareless final) (evidence : YieldsEvidence reduction) (graph : List GraphState) (shows : Shows final graph) where
     abbrev ends : (s t k : ℕ) → to final s 256 ≡ Some t → to final t k ≡ None
     ends = evidence.ends
 

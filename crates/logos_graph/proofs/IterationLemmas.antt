@@ -1,4 +1,4 @@
--- The iterator over the states of a graph gives each of them once, in order.
+-- The iterator over the states of a graph returns each of them once, in order.
 use Rattle.std.proofs.Common.{◌≡◌, ◌∙◌, ℕ, ◌+◌, ◌<◌, arith, length, get_or}
 use Rattle.std.specs.List.{range_with_len}
 use Rattle.std.specs.Iterator.{YieldsFirstBy}
@@ -18,6 +18,6 @@ number_at n i x h =
     from_zero : 0 + i ≡ i
     from_zero = omega arith
 
--- the iterator gives all states
+-- the iterator returns all states
 pub road : {s t : States} (n : ℕ) → states_left t ≡ range_with_len 0 n → s ≡ t → YieldsList (YieldsFirstBy state_number states_left) state_number s (range_with_len 0 n)
 road n left same = YieldsList-at same (YieldsList-from_first state_number states_left (range_with_len 0 n) left)

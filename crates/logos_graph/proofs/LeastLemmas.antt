@@ -1,5 +1,5 @@
--- A word of symbols that distinguishes two states of a table gives bytes, with the end after them
--- or not, that distinguish the states of the graph.
+-- A word of symbols that distinguishes two states of a table yields bytes, with or without the end
+-- after them, that distinguish the states of the graph.
 use Rattle.std.proofs.Common.{◌≡◌, ◌≢◌, ℕ, ◌<◌, ◌≤◌, ◌⊎◌, inl, inr, Bool, true, false, List, [], ◌∷◌, length, Option, Some, None, option_map, refl, sym, ◌∙◌, ap, arith}
 use Rattle.std.proofs.lemmas.Bool.{cases_lt}
 use Rattle.std.proofs.lemmas.List.Elements.{All-cons, All-nil}
@@ -31,7 +31,7 @@ module _ (table : Table) (graph : List GraphState) (shows : Shows table graph) w
   pub type_no_end : (s : ℕ) → s < size table → to table s 256 ≡ None → type_after graph s [] true ≡ None
   type_no_end s l e = let q = shows.ends s l ∙ e in rw q refl
 
-  -- bytes, and the end after them or not, that tell two states apart
+  -- bytes, with or without the end after them, that distinguish two states
   abbrev pub Evidence : ℕ → ℕ → ℕ → Type 0
   Evidence n s t = (bytes : List ℕ) × (ends : Bool) × IsBytes bytes × (length bytes ≤ n) × Distinguishes graph s t bytes ends
 
@@ -45,7 +45,7 @@ module _ (table : Table) (graph : List GraphState) (shows : Shows table graph) w
     one : (b : ℕ) → b < 256 → IsBytes (b ∷ [])
     one b l = All-cons (λ b. b < 256) b [] l nil
 
-    -- the byte leads on from just one of the two
+    -- the byte leads on from exactly one of the two
     at_byte : (n s t k a : ℕ) → 1 ≤ n → s < size table → t < size table → k < 256 → to table s k ≡ Some a → to table t k ≡ None → Evidence n s t
     at_byte n s t k a some hs ht l e f = (
       k ∷ [],
@@ -99,16 +99,16 @@ module _ (table : Table) (graph : List GraphState) (shows : Shows table graph) w
         none_of : (o : Option ℕ) → o ≡ None → option_map (mark table) (state_after table o word) ≡ None
         none_of o e = ap (λ (o : Option ℕ). option_map (mark table) (state_after table o word)) e
 
-        by_place : (a : ℕ) → to table s k ≡ Some a → to table t k ≡ None → (k < 256) ⊎ (256 ≤ k) → Evidence (length (k ∷ word)) s t
-        by_place a e f (inl l) = at_byte (length (k ∷ word)) s t k a (omega arith) hs ht l e f
-        by_place a e f (inr l) =
+        by_slot : (a : ℕ) → to table s k ≡ Some a → to table t k ≡ None → (k < 256) ⊎ (256 ≤ k) → Evidence (length (k ∷ word)) s t
+        by_slot a e f (inl l) = at_byte (length (k ∷ word)) s t k a (omega arith) hs ht l e f
+        by_slot a e f (inr l) =
             let m = edge_symbol table s k a e in
             let z : k ≡ 256 = omega arith in
             at_end (length (k ∷ word)) s t a hs ht (ap (to table s) (sym z) ∙ e) (ap (to table t) (sym z) ∙ f)
 
-        other_place : (b : ℕ) → to table s k ≡ None → to table t k ≡ Some b → (k < 256) ⊎ (256 ≤ k) → Evidence (length (k ∷ word)) s t
-        other_place b e f (inl l) = turned (length (k ∷ word)) t s (at_byte (length (k ∷ word)) t s k b (omega arith) ht hs l f e)
-        other_place b e f (inr l) =
+        other_slot : (b : ℕ) → to table s k ≡ None → to table t k ≡ Some b → (k < 256) ⊎ (256 ≤ k) → Evidence (length (k ∷ word)) s t
+        other_slot b e f (inl l) = turned (length (k ∷ word)) t s (at_byte (length (k ∷ word)) t s k b (omega arith) ht hs l f e)
+        other_slot b e f (inr l) =
             let m = edge_symbol table t k b f in
             let z : k ≡ 256 = omega arith in
             turned (length (k ∷ word)) t s (at_end (length (k ∷ word)) t s b ht hs (ap (to table t) (sym z) ∙ f) (ap (to table s) (sym z) ∙ e))
@@ -131,8 +131,8 @@ module _ (table : Table) (graph : List GraphState) (shows : Shows table graph) w
 
         go : (o : Option ℕ) → to table s k ≡ o → (p : Option ℕ) → to table t k ≡ p → ((s t : ℕ) → s < size table → t < size table → WordDistinguishes table s t word → Evidence (length word) s t) → Evidence (length (k ∷ word)) s t
         go None e None f ih = absurd (d (none_of (to table s k) e ∙ sym (none_of (to table t k) f)))
-        go (Some a) e None f ih = by_place a e f (cases_lt k 256)
-        go None e (Some b) f ih = other_place b e f (cases_lt k 256)
+        go (Some a) e None f ih = by_slot a e f (cases_lt k 256)
+        go None e (Some b) f ih = other_slot b e f (cases_lt k 256)
         go (Some a) e (Some b) f ih =
             on a b e f
             (λ q. d (ap (λ (o : Option ℕ). option_map (mark table) (state_after table o word)) e ∙ q ∙ sym (ap (λ (o : Option ℕ). option_map (mark table) (state_after table o word)) f)))

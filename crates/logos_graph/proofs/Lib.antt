@@ -20,6 +20,6 @@ pub mod BackwardLemmas
 pub mod EvidenceLemmas
 pub mod RawLemmas
 pub mod GraphMade
-pub mod ChartLemmas
+pub mod DiagramLemmas
 pub mod MarkLaws
 pub mod IterationLemmas

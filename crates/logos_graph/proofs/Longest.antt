@@ -1,4 +1,4 @@
--- The finished graph finds what maximal munch finds.
+-- The finished graph has the results of maximal munch.
 use Rattle.std.proofs.Common.{◌≡◌, ◌↔◌, ℕ, zero, suc, ◌+◌, ◌<◌, ◌≤◌, ◌⊎◌, inl, inr, Bool, true, false, ◌||◌, option_and_then, List, [], ◌∷◌, length, take, drop, Option, Some, None, IsTrue, IsFalse, refl, sym, ◌∙◌, subst, arith, take-append-drop, length-take-le}
 use Rattle.std.proofs.lemmas.List.Elements.{All-cons, All-nil, All-drop}
 use Rattle.std.proofs.lemmas.Bool.{cases_lt}
@@ -34,7 +34,7 @@ rule_order [] leaf bytes from to m = absurd m
 rule_order (rule ∷ rules) zero bytes from to m = matches_order rule.tree bytes from to m
 rule_order (rule ∷ rules) (suc leaf) bytes from to m = rule_order rules leaf bytes from to m
 
--- what the last mark says of munch
+-- the meaning of the last mark for maximal munch
 abbrev Says : List Rule → List ℕ → ℕ → Option (ℕ × ℕ) → Type 0
 Says rules bytes from None = NoMatch rules bytes from
 Says rules bytes from (Some m) = IsBest rules bytes from m.1 m.0

@@ -1,4 +1,4 @@
--- What an early mark of a reduced graph promises.
+-- The meaning of an early mark of a reduced graph.
 use Rattle.std.proofs.Common.{◌≡◌, ◌↔◌, ℕ, ◌<◌, Bool, false, List, length, Option, Some, None, IsSomeAnd, slice_get, arith}
 use Rattle.logos_hir.specs.Text.{IsBytes}
 use Rattle.logos_automaton.specs.Munch.{Rule, Finds, matched}
@@ -6,7 +6,7 @@ use Rattle.logos_automaton.proofs.munch.Unique.{rule_within}
 use Rattle.logos_graph.specs.Graph.{GraphState, walk}
 use Rattle.logos_graph.specs.Reduced.{HasType, IsReduced, IsSettled}
 
--- what a state has twice, it has together
+-- two facts about a state hold together
 settled_here : (rules : List Rule) (bytes : List ℕ) (leaf : ℕ) (state : Option GraphState) →
     IsSomeAnd state (λ state. (state.state_type.early ≡ Some leaf) ↔ IsSettled rules bytes leaf) →
     IsSomeAnd state (λ state. state.state_type.early ≡ Some leaf) → IsSettled rules bytes leaf

@@ -1,5 +1,5 @@
 -- An automaton that marks one byte late, without reductions: its last mark is the longest match,
--- and its states lead on just where the bytes read can still grow.
+-- and its states lead on exactly where the bytes read can still grow.
 use Rattle.std.proofs.Common.{◌≡◌, ◌↔◌, ℕ, zero, suc, ◌+◌, ◌<◌, ◌≤◌, ◌⊎◌, inl, inr, List, [], ◌∷◌, ◌++◌, length, take, Option, Some, None, IsSome, IsFalse, MatchOption, refl, sym, ◌∙◌, ap, subst, option_and_then, arith, length-append, append_assoc, append-nil}
 use Rattle.std.proofs.lemmas.List.Elements.{All-append, All-cons, All-nil, All-take}
 use Rattle.std.proofs.lemmas.Bool.{cases_lt}
@@ -14,7 +14,7 @@ use Rattle.logos_reduce.specs.Edges.{StateType, IsMarked, Edges, reach, Leads, t
 abbrev pub FirstOrNone : List Rule → Option ℕ → List ℕ → ℕ → ℕ → Type 0
 FirstOrNone rules x bytes from to = MatchOption x (NoneMatches rules bytes from to) (IsFirst rules bytes from to)
 
--- the longest match from the place that ends below the limit, if there is one
+-- the longest match from the offset that ends below the limit, if there is one
 pub record IsBestBelow (rules : List Rule) (bytes : List ℕ) (from limit leaf to : ℕ) : Type 0 where
   pub order : from ≤ to
   pub below : to < limit
@@ -29,8 +29,8 @@ module _ (rules : List Rule) (bytes : List ℕ) (from at : ℕ) (order : from �
   abbrev MatchesHere : ℕ → ℕ → Type 0
   MatchesHere leaf to = RuleMatches rules leaf bytes from to
 
-  last_place : (to : ℕ) → to < at + 1 → (to < at) ⊎ (to ≡ at)
-  last_place to l = go (cases_lt to at)
+  last_slot : (to : ℕ) → to < at + 1 → (to < at) ⊎ (to ≡ at)
+  last_slot to l = go (cases_lt to at)
     where
       go : (to < at) ⊎ (at ≤ to) → (to < at) ⊎ (to ≡ at)
       go (inl x) = inl x
@@ -39,7 +39,7 @@ module _ (rules : List Rule) (bytes : List ℕ) (from at : ℕ) (order : from �
   best_grows : (x : Option ℕ) (last : Option (ℕ × ℕ)) → FirstOrNone rules x bytes from at → BestBelow rules bytes from at last →
       BestBelow rules bytes from (at + 1) (marked (record { accept = x; early = None }) at last)
   best_grows (Some leaf) last first best = record { order = order; below = omega arith; first = first; longest = λ other end o l m. omega arith }
-  best_grows None None none best = λ leaf to o l m. go leaf to o m (last_place to l)
+  best_grows None None none best = λ leaf to o l m. go leaf to o m (last_slot to l)
     where
       go : (leaf to : ℕ) → from ≤ to → MatchesHere leaf to → (to < at) ⊎ (to ≡ at) → ⊥
       go leaf to o m (inl x) = best leaf to o x m
@@ -48,14 +48,14 @@ module _ (rules : List Rule) (bytes : List ℕ) (from at : ℕ) (order : from �
     order = best.order;
     below = let b = best.below in omega arith;
     first = best.first;
-    longest = λ other end o l m. go other end o m (last_place end l);
+    longest = λ other end o l m. go other end o m (last_slot end l);
   }
     where
       go : (other end : ℕ) → from ≤ end → MatchesHere other end → (end < at) ⊎ (end ≡ at) → end ≤ p.1
       go other end o m (inl x) = best.longest other end o x m
       go other end o m (inr x) = absurd (none other (subst (MatchesHere other) x m))
 
--- where a rule matches does not depend on what lies around
+-- the matches of a rule do not depend on the bytes around them
 first_around : (rules : List Rule) → IsFalse (some_leads rules) → (pre w post : List ℕ) (k : ℕ) → (k < length w) ⊎ ((k ≡ length w) × (post ≡ [])) →
     (x : Option ℕ) → FirstOrNone rules x w 0 k → FirstOrNone rules x (pre ++ (w ++ post)) (length pre) (length pre + k)
 first_around rules free pre w post k l None none = λ leaf m. none leaf ((rule_within_text rules leaf pre w post k free l).0 m)
@@ -142,7 +142,7 @@ module _ {S : Type 0} (g : Edges S) where
       go None y z ih = absurd (cc)
       go (Some u) y z ih = onward c (first_byte c v ok) y (ih u z x m)
 
--- a beginning of what can still grow can
+-- a prefix of bytes that can still grow can still grow
 grows_front : (rules : List Rule) (u v : List ℕ) → IsBytes v → Grows rules (u ++ v) → Grows rules u
 grows_front rules u v ok h = record {
   more = v ++ h.more;
@@ -225,7 +225,7 @@ module _ (rules : List Rule) (free : IsFalse (some_leads rules)) {S : Type 0} (g
       let f = mark_is_first (g.type_of q.1) u 0 (length u) q.4 (subst (λ x. IsMarked (g.type_of x)) here m) in
       record { more = []; after = []; are_bytes = All-nil (λ b. b < 256); leaf = f.0; matches = rw (append-nil u, append-nil u) f.1 }
 
-  -- no beginning of the rest that can still grow goes beyond the place
+  -- no beginning of the rest that can still grow goes beyond the offset
   abbrev pub GrowsUpTo : List ℕ → List ℕ → ℕ → ℕ → Type 0
   GrowsUpTo u v at to = (n : ℕ) → 0 < n → n ≤ length v → Grows rules (u ++ take n v) → at + n ≤ to
 

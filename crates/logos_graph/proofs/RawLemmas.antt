@@ -67,7 +67,7 @@ module _ (rules : List Rule) where
   joins leaves None x r = refl
   joins leaves (Some b) x r = ap Some (higher_joins b x r)
 
--- what holds of all listed holds of the first by priority
+-- a property of all listed holds of the first by priority
 pub first_too : (rules : List Rule) (P : ℕ → Type 0) (leaves : List ℕ) → All P leaves → IfSome (first_of rules leaves) P
 first_too rules P [] all = tt
 first_too rules P (x ∷ leaves) all = go (first_of rules leaves) (All-head P x leaves all) (first_too rules P leaves (All-tail P x leaves all))
@@ -80,7 +80,7 @@ first_too rules P (x ∷ leaves) all = go (first_of rules leaves) (All-head P x 
     go None here rest = here
     go (Some best) here rest = pick best (nat_lt (priority_of rules x) (priority_of rules best)) here rest
 
--- a first leaf that is none of these many leaves
+-- a first leaf that is not among this number of leaves
 pub not_among : (rules : List Rule) (leaves leaf : ℕ) (listed : List ℕ) → first_of rules listed ≡ Some leaf → leaves ≤ leaf → All (λ leaf. leaf < leaves) listed → ⊥
 not_among rules leaves leaf listed e l all = let w = rw e at (first_too rules (λ leaf. leaf < leaves) listed all) in omega (arith, w, l)
 

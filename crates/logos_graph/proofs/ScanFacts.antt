@@ -1,4 +1,4 @@
--- What a graph finds, by its marks after each number of bytes, and by one walk over the rest.
+-- The result of a graph, by its marks after each number of bytes, and by one walk over the rest.
 use Rattle.std.proofs.Common.{◌≡◌, ◌↔◌, ℕ, zero, suc, ◌+◌, ◌-◌, ◌<◌, ◌≤◌, ◌⊎◌, inl, inr, Bool, false, List, [], ◌∷◌, length, take, drop, Option, Some, None, IsSome, option_map, option_and_then, slice_get, nat_lt, refl, sym, ◌∙◌, ap, arith, rules}
 use Rattle.std.specs.Option.{option_map_or}
 use Rattle.logos_graph.specs.Found as found
@@ -175,7 +175,7 @@ module _ (graph : List GraphState) where
     abbrev placed : Option (ℕ × ℕ) → Option (ℕ × ℕ)
     placed = option_map (λ p. (p.0, from + p.1))
 
-    -- a mark by its place, and by the length of its match
+    -- a mark by its offset, and by the length of its match
     placed_mark : (early accept : Option ℕ) (m : ℕ) → marked (record { accept = accept; early = early }) (from + m) None ≡ placed (found.mark_of (record { accept = accept; early = early }) (suc m))
     placed_mark (Some leaf) accept m = let e : from + m + 1 ≡ from + suc m = omega arith in rw e refl
     placed_mark None (Some leaf) m = let e : from + m ≡ from + (suc m - 1) = omega arith in rw e refl
@@ -274,7 +274,7 @@ module _ (graph : List GraphState) where
       },
     )
 
-    -- what a graph finds is what its walk finds
+    -- a graph finds the match that its walk finds
     pub finds_alike : (f : Found) → found.GraphFinds graph utf8 bytes from f ↔ GraphFindsByWalk graph utf8 bytes from f
     finds_alike ended = (λ x. x, λ x. x)
     finds_alike (matched leaf to) =

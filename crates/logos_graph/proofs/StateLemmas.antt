@@ -16,7 +16,7 @@ use Rattle.logos_reduce.specs.declared.table.Table.{Table}
 use Rattle.logos_reduce.proofs.tables.EdgeLemmas.{edge_within}
 use Rattle.logos_graph.proofs.EdgeLemmas.{edges_neat, edges_increase}
 
--- what stands at an index of a list with one more element
+-- the element at an index of a list with one more element
 pub got_pushed : {A : Type 0} (xs : List A) (x y : A) (i : ℕ) → slice_get (xs ++ x ∷ []) i ≡ Some y → (slice_get xs i ≡ Some y) ⊎ ((i ≡ length xs) × (x ≡ y))
 got_pushed [] x y zero e = inr (refl, cc)
 got_pushed [] x y (suc i) e = absurd (cc)
@@ -56,7 +56,7 @@ module _ (table : Table) (graph : List GraphState) (len : length graph ≡ size 
   each : (P : GraphState → Type 0) → ((s : ℕ) (state : GraphState) → s < size table → IsStateOf table s state → P state) → All P graph
   each P all = λ k d l. all k (get_or graph k d) (omega arith) (are k (get_or graph k d) (slice_get-get_or graph k d l))
 
-  -- what holds of the state to which an edge leads
+  -- a property of the state to which an edge leads
   at : (t : ℕ) (P : GraphState → Type 0) → t < size table → ((state : GraphState) → IsStateOf table t state → P state) → IsSomeAnd (slice_get graph t) P
   at t P l all = let f = found t l in subst (λ (o : Option GraphState). IsSomeAnd o P) (sym f.1) (all f.0 f.2)
 
@@ -120,7 +120,7 @@ module _ (table : Table) (graph : List GraphState) (len : length graph ≡ size 
       first = at 0 (IsFirstState graph leaves) fit.some first_state;
     }
 
--- the same of the states of the program
+-- the lemma above for the states of the program
 pub program_neat : (states : List StateData) → All (λ state. AreNeat state.normal) (map graph_state_of states) → All (λ state. AreNeat (graph_state_of state).normal) states
 program_neat states all = λ k d l.
     subst (λ (state : GraphState). AreNeat state.normal) (get_or-map graph_state_of states k d (graph_state_of d) l)

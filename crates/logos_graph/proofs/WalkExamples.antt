@@ -1,4 +1,4 @@
--- What two worked graphs find, by computing.
+-- The results of two worked graphs, by computing.
 use Rattle.std.proofs.Common.{◌≡◌, List, [], ◌∷◌, Some, None, refl}
 use Rattle.logos_graph.specs.Graph.{GraphState}
 use Rattle.logos_graph.specs.inside.Walk.{last_mark, followed, edges_of}

@@ -1,4 +1,4 @@
--- What a generator requires of a graph.
+-- The properties of a graph that a generator requires.
 use Rattle.std.specs.Prelude.{◌≡◌, ◌≢◌, ℕ, ◌<◌, true, List, length, Option, None, Some, IsSome, IfSome, IsSomeAnd, option_map, find, slice_get}
 use Rattle.std.specs.List.{All, AllPairs}
 use Rattle.logos_byte_class.specs.Bytes.{AreSeparated}
@@ -8,7 +8,7 @@ use Rattle.logos_reduce.specs.Edges.{StateType}
 use Rattle.logos_reduce.specs.Table.{size, to, mark, type_of}
 use Rattle.logos_reduce.specs.declared.table.Table.{Table}
 
--- A late mark alone.
+-- Only a late mark.
 abbrev pub IsLate : StateType → Type 0
 IsLate type = (type.early ≡ None) × IsSome type.accept
 
@@ -16,7 +16,7 @@ IsLate type = (type.early ≡ None) × IsSome type.accept
 abbrev pub IsUnmarked : StateType → Type 0
 IsUnmarked type = (type.early ≡ None) × (type.accept ≡ None)
 
--- Each mark names one of so many leaves.
+-- Each mark is a leaf below this number.
 abbrev pub NamesLeaves : ℕ → StateType → Type 0
 NamesLeaves leaves type = IfSome type.accept (λ leaf. leaf < leaves) × IfSome type.early (λ leaf. leaf < leaves)
 
@@ -24,18 +24,19 @@ NamesLeaves leaves type = IfSome type.accept (λ leaf. leaf < leaves) × IfSome 
 abbrev pub Edge : Type 0
 Edge = List (ℕ × ℕ) × ℕ
 
--- Where a byte leads.
+-- The target of a byte.
 abbrev pub edge_leads : List Edge → ℕ → Option ℕ
 edge_leads edges b = option_map (λ e. e.1) (find (λ e. is_in e.0 b) edges)
 
--- An edge's bytes lead where the edge says, and no two edges lead to one state.
+-- The bytes of an edge lead to the target of the edge, and no two edges lead to the same state.
 pub record AreNeat (edges : List Edge) : Type 0 where
   pub separated : All (λ edge. AreSeparated edge.0) edges
   pub leads : All (λ edge. (b : ℕ) → b < 256 → is_in edge.0 b ≡ true → edge_leads edges b ≡ Some edge.1) edges
   pub apart : AllPairs (λ edge other. edge.1 ≢ other.1) edges
 
--- A table that code can be made of: its marks name leaves, a state that the end leads to has a late
--- mark and no end edge, and the first state has no mark, no end edge, and no edge to a late mark.
+-- A table from which code can be made. Its marks are leaves, a state to which the end leads has a
+-- late mark and no edge on the end, and the first state has no mark, no edge on the end, and no
+-- edge to a late mark.
 pub record IsFit (table : Table) (leaves : ℕ) : Type 0 where
   pub some : 0 < size table
   pub marks : (s : ℕ) → s < size table → NamesLeaves leaves (type_of (mark table s))
@@ -44,7 +45,7 @@ pub record IsFit (table : Table) (leaves : ℕ) : Type 0 where
   pub first_edges : (b t : ℕ) → b < 256 → to table 0 b ≡ Some t → ¬ IsLate (type_of (mark table t))
   pub first_end : to table 0 256 ≡ None
 
--- The same of a finished graph.
+-- The same properties for a finished graph.
 module _ (graph : List GraphState) (leaves : ℕ) where
   pub record IsFinishedState (state : GraphState) : Type 0 where
     pub neat : AreNeat state.normal

@@ -1,4 +1,4 @@
--- What contracts see of the states of a graph.
+-- The views of the states of a graph in contracts.
 use Rattle.std.specs.Prelude.{ℕ, List, map, option_map}
 use Rattle.logos_hir.specs.declared.leaf.LeafId.{LeafId}
 use Rattle.logos_reduce.specs.Edges.{StateType}
@@ -23,7 +23,7 @@ state_type_of type = record { accept = option_map leaf_number type.accept; early
 abbrev pub edge_of : ByteClass × State → List (ℕ × ℕ) × ℕ
 edge_of edge = (ranges_of edge.0, state_number edge.1)
 
--- The marks and the edges that a state shows.
+-- The marks and the edges of a state.
 abbrev pub graph_state_of : StateData → GraphState
 graph_state_of state = record {
   state_type = state_type_of state.state_type;

@@ -13,5 +13,5 @@ pub mod StatesView
 pub mod Mermaid
 pub mod StateEquality
 pub mod inside
-pub mod Words
+pub mod Imports
 pub mod Views

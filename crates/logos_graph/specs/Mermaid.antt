@@ -1,4 +1,4 @@
--- The chart of a graph, in Mermaid's language.
+-- The state diagram of a graph, in Mermaid's language.
 use Rattle.std.specs.Prelude.{ℕ, ◌+◌, ◌==◌, Option, Some, None, List, [], ◌∷◌, ◌++◌, codes, if◌then◌else◌}
 use Rattle.std.specs.Fmt.{decimal}
 use Rattle.std.specs.List.{flat_map, join_by}
@@ -13,19 +13,19 @@ label_character c = if c == 34 then codes "&quot" else (if c == 92 then codes "\
 abbrev pub label_text : List ℕ → List ℕ
 label_text text = flat_map label_character text
 
--- A range of bytes in a label, as it prints.
+-- A range of bytes in a label, as printed.
 abbrev pub range_label : ℕ × ℕ → List ℕ
 range_label range = label_text (range_text range)
 
--- The same, below a former one.
+-- A range of bytes in a label, on a new line.
 abbrev pub next_label : ℕ × ℕ → List ℕ
 next_label range = label_character 10 ++ range_label range
 
--- The ranges of an edge, one below another.
+-- The ranges of an edge, each on its own line.
 abbrev pub class_label : List (ℕ × ℕ) → List ℕ
 class_label ranges = join_by range_label (label_character 10) ranges
 
--- The mark of a state, on a line of its own: an early one comes first.
+-- The mark of a state, on its own line. An early mark comes first.
 abbrev pub mark_label : Option ℕ → Option ℕ → List ℕ
 mark_label (Some leaf) accept = codes "<br>early(" ++ decimal leaf ++ codes ")"
 mark_label None (Some leaf) = codes "<br>late(" ++ decimal leaf ++ codes ")"
@@ -49,7 +49,7 @@ mark_colour None None = black
 abbrev pub state_colour : StateType → List ℕ
 state_colour type = mark_colour type.early type.accept
 
--- The names of the nodes of a state, and of an edge.
+-- The name of the node of a state or of an edge.
 abbrev pub node_name : ℕ → List ℕ
 node_name s = codes "n" ++ decimal s
 
@@ -74,7 +74,7 @@ edge_lines from to label =
 abbrev pub byte_edge_lines : List ℕ → List (ℕ × ℕ) × ℕ → List ℕ
 byte_edge_lines from edge = edge_lines from (node_name edge.1) (class_label edge.0)
 
--- The edge by the end.
+-- The lines of the edge on the end.
 abbrev pub end_edge_lines : List ℕ → Option ℕ → List ℕ
 end_edge_lines from None = []
 end_edge_lines from (Some t) = edge_lines from (node_name t) (codes "EOI")
@@ -84,11 +84,11 @@ state_lines s state =
     node_lines (node_name s) (state_label s state.state_type) (state_colour state.state_type)
     ++ flat_map (byte_edge_lines (node_name s)) state.normal ++ end_edge_lines (node_name s) state.eoi
 
--- The lines of the states from the number s on.
+-- The lines of the states from the number `s` on.
 abbrev pub lines_from : ℕ → List GraphState → List ℕ
 lines_from s [] = []
 lines_from s (state ∷ states) = state_lines s state ++ lines_from (s + 1) states
 
--- The whole chart, state by state.
+-- The whole diagram, state by state.
 abbrev pub mermaid_of : List GraphState → List ℕ
 mermaid_of states = codes "flowchart TB" ++ 10 ∷ [] ++ lines_from 0 states

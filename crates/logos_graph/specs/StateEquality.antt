@@ -1,4 +1,4 @@
--- When `==` holds between states: whatever leads to them.
+-- The equality `==` of states, which ignores the states that lead to them.
 use Rattle.std.specs.Prelude.{Bool}
 use Rattle.std.specs.Cmp.{IsPartialEquivalence, on_per, and_per, partial_equiv_from_equiv}
 use Rattle.std.specs.Cmp.Lexicographic.{pointwise, lists_per, options_equiv}
@@ -18,13 +18,13 @@ use Rattle.logos_graph.specs.declared.graph.StateData.{StateData}
 abbrev pub same_edge : ByteClass × State → ByteClass × State → Bool
 same_edge = eq_of_both (on (λ edge. edge.0) (class_eq.ghosts).eq) (on (λ edge. edge.1) (number_eq.ghosts).eq)
 
--- The same type, edges and target at the end.
+-- The states have the same type, the same edges and the same target of the end.
 abbrev pub same_state : StateData → StateData → Bool
 same_state =
     eq_of_both (on (λ state. state.state_type) (type_eq.ghosts).eq)
     (eq_of_both (on (λ state. state.normal.items) (pointwise same_edge)) (on (λ state. state.eoi) (option_eq (number_eq.ghosts).eq)))
 
--- It holds both ways round, and along a chain.
+-- The equality is symmetric and transitive.
 pub same_state_laws : IsPartialEquivalence same_state
 same_state_laws =
     and_per (on_per (λ (state : StateData). state.state_type) type_laws.laws-law)

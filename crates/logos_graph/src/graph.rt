@@ -1,12 +1,12 @@
-//! Graphs of a lexer.
+//! The types of graphs: options, states and their edges. Every crate that reads a graph uses them.
 
 ghost use Rattle.std.specs.Prelude.{◌≡◌};
 ghost use Rattle.logos_graph.specs.StateEquality.{same_state, same_state_laws};
 
+mod construction;
+mod display;
 mod evidence;
-mod making;
 mod mermaid;
-mod printing;
 mod states;
 mod value;
 
@@ -37,29 +37,29 @@ impl State {
     }
 }
 
-/// The leaves whose matches end where the state is, or one byte before.
+/// The leaves whose matches end at the state, or one byte before it.
 #[derive(Clone, Copy, Debug, PartialEq, Eq)]
 pub struct StateType {
     /// The match ends one byte before.
     pub accept: Option<LeafId>,
-    /// The match ends here.
+    /// The match ends at the state.
     pub early: Option<LeafId>,
 }
 
-/// A state of a graph: its type, and where it leads.
+/// A state of a graph: its type and its edges.
 #[derive(Debug, Drop)]
 pub struct StateData {
     pub state_type: StateType,
-    /// For each target the bytes that lead to it, by target number.
+    /// For each target, the bytes that lead to it, ascending by the number of the target.
     pub normal: Vec<(ByteClass, State)>,
-    /// Where the end of the input leads.
+    /// The target of the end of the input.
     pub eoi: Option<State>,
-    /// The states from which a byte or the end leads here, ascending and each once. No equality
-    /// looks at them.
+    /// The states from which a byte or the end leads to this state, ascending and without
+    /// duplicates. Equality ignores them.
     pub backward: Vec<State>,
 }
 
-/// States are equal whatever leads to them.
+/// States are equal regardless of the states that lead to them.
 impl PartialEq for StateData {
     ghost eq = { same_state };
 

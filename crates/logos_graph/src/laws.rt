@@ -1,10 +1,10 @@
-//! Laws of the definitions. The contract of each function is a law. To use one in a proof, call its
-//! function: the call does nothing.
+//! Laws of the definitions. The contract of each function is a law. A proof uses a law by calling
+//! its function, which does nothing.
 
 ghost use Rattle.std.specs.Prelude.{◌≡◌, ℕ, ◌<◌, ◌≤◌, Bool, false, List, Some, length};
-ghost use Rattle.logos_graph.specs.Words.{IsBytes, Rule, Found, Finds, matched, Fault, AreFaults, GraphState, walk, HasType, IsReduced};
+ghost use Rattle.logos_graph.specs.Imports.{IsBytes, Rule, Found, Finds, matched, Fault, AreFaults, GraphState, walk, HasType, IsReduced};
 
-/// At a point of an input, maximal munch finds one thing.
+/// At a point of an input, maximal munch has one result.
 pub fn one_is_found()
     ensures { (rules : List Rule) (utf8 : Bool) (bytes : List ℕ) (from : ℕ) (f g : Found) →
         from ≤ length bytes → Finds rules utf8 bytes from f →
@@ -17,9 +17,9 @@ pub fn one_list_of_faults()
         AreFaults rules others → faults ≡ others }
 {}
 
-/// Where a state of a reduced graph that bytes lead to marks a leaf early, maximal munch finds the
-/// leaf in these bytes. A late mark promises no such input: another match may end after it,
-/// whatever follows.
+/// If bytes lead to a state of a reduced graph with an early mark, maximal munch finds the leaf of
+/// the mark in these bytes. A late mark promises no such input: another match may end after it,
+/// regardless of the bytes that follow.
 pub fn early_marks_are_found()
     ensures { (rules : List Rule) (utf8 : Bool) (graph : List GraphState) (bytes : List ℕ)
         (s leaf : ℕ) → IsReduced rules graph → IsBytes bytes → 0 < length bytes →

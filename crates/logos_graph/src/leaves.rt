@@ -1,7 +1,7 @@
-//! Leaves as rules of an automaton. `graph::making` calls it before it builds the automaton.
+//! Leaves as rules of an automaton. `graph::construction` calls it before it builds the automaton.
 
 ghost use Rattle.std.specs.Prelude.{◌≡◌, ◌^◌, ◌≤◌, ◌↔◌, IsTrue, IfOk};
-ghost use Rattle.logos_graph.specs.Words.{size_of, rule_of, rules_of};
+ghost use Rattle.logos_graph.specs.Imports.{size_of, rule_of, rules_of};
 ghost use Rattle.logos_automaton.specs.View as views;
 
 use logos_automaton::measures::{limited_size, plus};
@@ -9,7 +9,7 @@ use logos_automaton::rule::RuleView;
 use logos_pattern::leaf::{Leaf, VariantKind};
 use std::alloc::{AllocError, Global};
 
-/// Returns whether the size of all trees is at most 1,048,576. It takes no memory.
+/// Returns whether the size of all trees is at most 1,048,576. Does not allocate.
 pub(crate) fn is_size_within(leaves: &[Leaf<'_>]) -> bool
     ensures { IsTrue result ↔ (size_of (rules_of leaves.now) ≤ 2 ^ 20) }
 {
@@ -20,7 +20,7 @@ pub(crate) fn is_size_within(leaves: &[Leaf<'_>]) -> bool
     sum.is_some()
 }
 
-/// Returns the rule that a leaf stands for.
+/// Returns the rule that a leaf represents.
 fn rule_view<'l>(leaf: &'l Leaf<'_>) -> RuleView<'l>
     ensures { views.rule_of result ≡ rule_of leaf.now }
 {
@@ -28,11 +28,11 @@ fn rule_view<'l>(leaf: &'l Leaf<'_>) -> RuleView<'l>
         tree: leaf.pattern.hir(),
         priority: leaf.priority,
         skips: matches!(leaf.kind, VariantKind::Skip),
-        asks: leaf.callback.is_some(),
+        calls_back: leaf.callback.is_some(),
     }
 }
 
-/// Returns the rules that leaves stand for.
+/// Returns the rules that leaves represent.
 pub(crate) fn rule_views<'l>(
     alloc: Global,
     leaves: &'l [Leaf<'_>],

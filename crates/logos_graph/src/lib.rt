@@ -1,7 +1,8 @@
-//! The graph of a lexer.
+//! Builds the graph of a lexer from its leaves. `logos_codegen` builds one for each source.
 
 #![tactic(auto)]
 
+mod distinction;
 pub mod graph;
 pub mod laws;
 mod leaves;

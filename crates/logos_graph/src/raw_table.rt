@@ -1,8 +1,8 @@
-//! Makes the table of an automaton, with late marks alone. `graph::making` calls it between the
-//! automaton and the reduction.
+//! Makes the table of an automaton, with only late marks. `graph::construction` calls it between
+//! the automaton and the reduction.
 
 ghost use Rattle.std.specs.Prelude.{◌≡◌, ℕ, ◌+◌, ◌<◌, ◌^◌, Some, IfOk, IfSome, List, [], length, vec_len, slice_index, slice_get};
-ghost use Rattle.logos_graph.specs.Words.{All, dfa_of, AreFaults, NamesLeaves, priority_of, first_of, best_with, IsRawMark, IsMarkOf, AreRawRows, rules_of, IsTotal, ReadsOneByteLate, MarksOneByteLate, size, mark, type_of, edges, mark_in, IsRaw, target_by, IsClosed, rows_of};
+ghost use Rattle.logos_graph.specs.Imports.{All, dfa_of, AreFaults, NamesLeaves, priority_of, first_of, best_with, IsRawMark, IsMarkOf, AreRawRows, rules_of, IsTotal, ReadsOneByteLate, MarksOneByteLate, size, mark, type_of, edges, mark_in, IsRaw, target_by, IsClosed, rows_of};
 
 use logos_automaton::dfa::parts::{end_at, leaves_at, row_at, state_count};
 use logos_automaton::dfa::{Dfa, Row as ByteRow};
@@ -21,7 +21,8 @@ fn priority_at(leaves: &[Leaf<'_>], leaf: usize) -> usize
     }
 }
 
-/// Returns the leaf, if it has a higher priority than the best one before it, or else that one.
+/// Returns the leaf with the higher priority of `best` and `leaf`, and `best` if their priorities
+/// are equal.
 fn best_with(leaves: &[Leaf<'_>], best: Option<usize>, leaf: usize) -> usize
     ensures { result ≡ best_with (rules_of leaves.now) (length leaves.now) best leaf }
 {
@@ -37,7 +38,7 @@ fn best_with(leaves: &[Leaf<'_>], best: Option<usize>, leaf: usize) -> usize
     }
 }
 
-/// Returns the first leaf of highest priority among those listed.
+/// Returns the first leaf with the highest priority among `listed`.
 fn first_leaf(leaves: &[Leaf<'_>], listed: &[usize]) -> Option<usize>
     ensures { result ≡ first_of (rules_of leaves.now) listed.now }
 {
@@ -76,7 +77,7 @@ fn raw_marks(alloc: Global, leaves: &[Leaf<'_>], dfa: &Dfa) -> Result<Vec<StateM
     Ok(marks)
 }
 
-/// Returns the row of a state: its targets by bytes, and by the end.
+/// Returns the row of a state: its targets for bytes and for the end.
 fn raw_row(row: &ByteRow, end: u32) -> Row
     requires few { (k : ℕ) → k < 256 → slice_index row.now k + 1 < 2 ^ 32 }
     requires end { end + 1 < 2 ^ 32 }
@@ -104,8 +105,8 @@ fn raw_rows(alloc: Global, dfa: &Dfa) -> Result<Rows, AllocError>
     Ok(rows)
 }
 
-/// Returns the table of the automaton: each state accepts the leaf of highest priority that it
-/// lists. Its states have their numbers, and the first is the start.
+/// Returns the table of the automaton, in which each state accepts the leaf with the highest
+/// priority that it lists. The states keep their numbers, and the first is the start.
 pub(crate) fn raw_table(alloc: Global, leaves: &[Leaf<'_>], dfa: &Dfa) -> Result<Table, AllocError>
     requires total { IsTotal (dfa_of dfa.now) }
     requires few { length (dfa_of dfa.now).matches + 1 < 2 ^ 32 }

@@ -1,12 +1,14 @@
-//! What to do about a fault: a sentence for each code, for each kind of pattern fault, and for what
-//! stands at the fault.
+//! The help for each fault: a sentence for each code, for each kind of pattern fault, and for the
+//! tokens at the fault. The programs and the derive macro add it to the faults that they report.
 
 #![tactic(auto)]
 
-mod by_code;
-mod by_sight;
-mod for_pattern;
+mod adding;
+mod codes;
+mod patterns;
 mod sight;
+mod sights;
 
-pub use by_code::help_for;
+pub use adding::{FaultHelps, add_helps};
+pub use codes::help_for;
 pub use sight::Sight;

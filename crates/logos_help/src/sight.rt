@@ -1,18 +1,16 @@
-//! What stands at the span of a fault.
+//! The text of a source at the span of a fault.
 
-/// The text of a file at a span, and around it.
+/// The text of a source at a span, and after it.
 #[derive(Clone, Copy, Debug)]
 pub struct Sight<'t> {
-    /// What stands in front of the span.
-    pub before: &'t str,
-    /// What the span covers.
+    /// The text that the span covers.
     pub text: &'t str,
-    /// What follows it.
+    /// The text after the span.
     pub after: &'t str,
 }
 
-/// Returns what stands between the quotes of a literal, as it is written. A text that is not a
-/// literal is returned whole.
+/// Returns the text between the quotes of a literal, as it is written. A text that is not a literal
+/// is returned whole.
 pub(crate) fn between_quotes(literal: &str) -> &str {
     let Some(parts) = literal.split_once('"') else {
         return literal;

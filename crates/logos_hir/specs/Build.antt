@@ -1,5 +1,5 @@
--- Trees in their simplest form: how characters, classes, parts, branches and repetitions are put
--- together.
+-- Trees in their simplest form: how characters, classes, parts, branches and repetitions are
+-- combined.
 use Rattle.std.specs.Prelude.{ℕ, min, Bool, true, false, ◌&&◌, ◌==◌, List, [], ◌∷◌, ◌++◌, Option, Some, None, unwrap_or, option_map, option_and_then, flat_map, if◌then◌else◌, encode_utf8, chars}
 use Rattle.std.specs.Str.{is_utf8}
 use Rattle.logos_hir.specs.Sets.{Set, members, char_ranges, byte_ranges}
@@ -11,7 +11,7 @@ list_of (also t rest) = t ∷ list_of rest
 
 -- ---- literals and classes.
 
--- These bytes; none of them is `Empty`.
+-- These bytes. No bytes are `Empty`.
 abbrev pub literal_of : List ℕ → Tree
 literal_of [] = empty
 literal_of (b ∷ rest) = literal (b ∷ rest)
@@ -22,11 +22,11 @@ sole_member [] = None
 sole_member (r ∷ []) = if r.0 == r.1 then Some r.0 else None
 sole_member (r ∷ s ∷ rest) = None
 
--- A class of characters by its ranges; of one member, a literal.
+-- A class of characters with these ranges. A class of one member is a literal.
 abbrev pub char_tree : List (ℕ × ℕ) → Tree
 char_tree ranges = unwrap_or (option_map (λ c. literal (encode_utf8 c)) (sole_member ranges)) (char_class ranges)
 
--- A class of bytes by its ranges; of one member, a literal.
+-- A class of bytes with these ranges. A class of one member is a literal.
 abbrev pub byte_tree : List (ℕ × ℕ) → Tree
 byte_tree ranges = unwrap_or (option_map (λ b. literal (b ∷ [])) (sole_member ranges)) (byte_class ranges)
 
@@ -41,7 +41,7 @@ one_byte_of set = byte_tree (byte_ranges set)
 -- ---- repetitions.
 
 abbrev mutual
-  -- The tree matches no byte, whatever it stands in.
+  -- The tree matches no byte in any context.
   pub is_byteless : Tree → Bool
   is_byteless empty = true
   is_byteless (literal text) = false
@@ -57,7 +57,7 @@ abbrev mutual
   all_byteless none = true
   all_byteless (also t rest) = is_byteless t && all_byteless rest
 
--- The greatest count is this one.
+-- The greatest count is this number.
 abbrev pub is_most : ℕ → Option ℕ → Bool
 is_most n None = false
 is_most n (Some most) = most == n
@@ -67,11 +67,12 @@ abbrev pub cut : Option ℕ → Option ℕ
 cut None = Some 1
 cut (Some most) = Some (min most 1)
 
--- Once is the body itself.
+-- A repetition of exactly one time is the body itself.
 abbrev pub times : ℕ → Option ℕ → Bool → Tree → Tree
 times least most greedy body = if least == 1 && is_most 1 most then body else repetition least most greedy body
 
--- A repetition. Never is `Empty`, and of a tree that matches no byte both counts are at most 1.
+-- A repetition. A repetition of zero times is `Empty`, and both counts of a tree that matches no
+-- byte are at most 1.
 abbrev pub repetition_of : ℕ → Option ℕ → Bool → Tree → Tree
 repetition_of least most greedy body =
     if is_most 0 most then empty
@@ -80,23 +81,23 @@ repetition_of least most greedy body =
 
 -- ---- concatenations.
 
--- The parts that a tree brings into a concatenation.
+-- The parts that a tree adds to a concatenation.
 abbrev pub parts_of : Tree → List Tree
 parts_of empty = []
 parts_of (concat parts) = list_of parts
 parts_of t = t ∷ []
 
--- Bytes in front of parts: a literal that stands first takes them in.
+-- Bytes before parts. If the first part is a literal, the bytes are added to it.
 abbrev pub with_text : List ℕ → List Tree → List Tree
 with_text text (literal more ∷ rest) = literal (text ++ more) ∷ rest
 with_text text rest = literal text ∷ rest
 
--- A part in front of others.
+-- A part before others.
 abbrev pub join : Tree → List Tree → List Tree
 join (literal text) rest = with_text text rest
 join t rest = t ∷ rest
 
--- The parts with neighbouring literals joined.
+-- The parts with neighboring literals joined.
 abbrev pub junction : List Tree → List Tree
 junction [] = []
 junction (t ∷ rest) = join t (junction rest)
@@ -107,7 +108,7 @@ in_a_row [] = empty
 in_a_row (t ∷ []) = t
 in_a_row (t ∷ u ∷ rest) = concat (trees (t ∷ u ∷ rest))
 
--- A concatenation: flattened, without `Empty`, neighbouring literals joined.
+-- A concatenation: flattened, without `Empty`, neighboring literals joined.
 abbrev pub concat_of : List Tree → Tree
 concat_of parts = in_a_row (junction (flat_map parts_of parts))
 
@@ -141,22 +142,22 @@ all_ranges ranges_of [] = Some []
 all_ranges ranges_of (t ∷ rest) =
     option_and_then (λ first. option_map (λ more. first ++ more) (all_ranges ranges_of rest)) (ranges_of t)
 
--- The branches that a tree brings into an alternation.
+-- The branches that a tree adds to an alternation.
 abbrev pub branches_of : Tree → List Tree
 branches_of (alternation branches) = list_of branches
 branches_of t = t ∷ []
 
--- One byte of these ranges if there are some, else one of the branches.
+-- One byte of these ranges if there are some, and one of the branches otherwise.
 abbrev pub bytes_or : List Tree → Option (List (ℕ × ℕ)) → Tree
 bytes_or branches (Some ranges) = one_byte_of (members ranges)
 bytes_or branches None = alternation (trees branches)
 
--- One character of these ranges if there are some, else bytes or branches.
+-- One character of these ranges if there are some, and bytes or branches otherwise.
 abbrev pub chars_or : List Tree → Option (List (ℕ × ℕ)) → Tree
 chars_or branches (Some ranges) = one_char_of (members ranges)
 chars_or branches None = bytes_or branches (all_ranges byte_ranges_of branches)
 
--- One branch is itself, characters alone make a class, bytes alone make a class.
+-- One branch is itself, only characters make a class, and only bytes make a class.
 abbrev pub choice_of : List Tree → Tree
 choice_of [] = chars_or [] (all_ranges char_ranges_of [])
 choice_of (t ∷ []) = t

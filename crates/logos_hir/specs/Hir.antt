@@ -16,7 +16,7 @@ abbrev pub class_tree : Class → Tree
 class_tree (Bytes ranges) = byte_class (pairs ranges.items)
 class_tree (Characters ranges) = char_class (pairs ranges.items)
 
--- One node, with the tree of each child in its place.
+-- One node with the trees of its children.
 abbrev pub node_tree : Hir-F Tree → Tree
 node_tree Hir-F.Empty = empty
 node_tree (Hir-F.Literal bytes) = literal bytes.items

@@ -15,5 +15,5 @@ pub mod Operands
 pub mod Simplest
 pub mod Priority
 pub mod Measure
-pub mod Words
+pub mod Imports
 pub mod Views

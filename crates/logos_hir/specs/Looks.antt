@@ -1,5 +1,5 @@
--- Where a look holds: read off the byte before the point, the byte after it, or the absence of
--- either.
+-- The meaning of look-around assertions: conditions on the byte before a position, the byte after
+-- it, or the absence of either.
 use Rattle.std.specs.Prelude.{ℕ, Bool, not, ◌&&◌, ◌||◌, List, Option, is_none, if◌then◌else◌, ◌==◌, IsTrue}
 use Rattle.std.specs.Option.{option_map_or}
 use Rattle.std.specs.Char.{is_ascii_alphanumeric}
@@ -8,11 +8,11 @@ use Rattle.logos_hir.specs.declared.hir.Look.{Look}
 use Rattle.logos_hir.specs.declared.hir.Look.TheVariants.{Start, End, StartLF, EndLF, StartCRLF, EndCRLF, WordAscii, WordAsciiNegate}
 use Rattle.logos_hir.specs.Text.{byte_before, byte_after}
 
--- The byte is there, and it is this one.
+-- The byte exists and is this one.
 abbrev pub is_byte : ℕ → Option ℕ → Bool
 is_byte c side = option_map_or (λ b. b == c) side false
 
--- The byte is there, and it is one of `[0-9A-Za-z_]`.
+-- The byte exists and is one of `[0-9A-Za-z_]`.
 abbrev pub is_word : Option ℕ → Bool
 is_word side = option_map_or (λ b. is_ascii_alphanumeric b || b == 95) side false
 
@@ -20,7 +20,7 @@ is_word side = option_map_or (λ b. is_ascii_alphanumeric b || b == 95) side fal
 abbrev pub differ : Bool → Bool → Bool
 differ a b = if a then not b else b
 
--- The look holds between the byte before and the byte after. LF is 10, CR is 13.
+-- The look-around assertion holds between the byte before and the byte after. LF is 10, CR is 13.
 abbrev pub holds_between : Look → Option ℕ → Option ℕ → Bool
 holds_between Start before after = is_none before
 holds_between End before after = is_none after
@@ -31,6 +31,6 @@ holds_between EndCRLF before after = is_none after || is_byte 13 after || (is_by
 holds_between WordAscii before after = differ (is_word before) (is_word after)
 holds_between WordAsciiNegate before after = not (differ (is_word before) (is_word after))
 
--- The look holds at this point of the bytes.
+-- The look-around assertion holds at this position of the bytes.
 abbrev pub Holds : Look → List ℕ → ℕ → Type 0
 Holds look bytes at = IsTrue (holds_between look (byte_before bytes at) (byte_after bytes at))

@@ -1,11 +1,11 @@
--- What a pattern matches: the span from one point of the bytes to another.
+-- The matches of a pattern: spans from one position of the bytes to another.
 use Rattle.std.specs.Prelude.{◌≡◌, ℕ, zero, suc, ◌≤◌, ◌⊎◌, List, [], ◌∷◌, Option, IfSome, encode_utf8}
 use Rattle.std.specs.Char.{IsScalar}
-use Rattle.logos_hir.specs.Text.{StandsAt, InRanges}
+use Rattle.logos_hir.specs.Text.{OccursAt, InRanges}
 use Rattle.logos_hir.specs.Tree.{Tree, empty, literal, byte_class, char_class, look, repetition, capture, concat, alternation, Trees, none, also}
 use Rattle.logos_hir.specs.Looks.{Holds}
 
--- N pieces in a row lead from one point to another.
+-- A number of consecutive pieces lead from one position to another.
 abbrev pub Pieces : (ℕ → ℕ → Type 0) → ℕ → ℕ → ℕ → Type 0
 Pieces piece zero from to = from ≡ to
 Pieces piece (suc n) from to = (cut : ℕ) × piece from cut × Pieces piece n cut to
@@ -18,10 +18,10 @@ abbrev mutual
   -- The tree matches the bytes from `from` to `to`.
   pub Matches : Tree → List ℕ → ℕ → ℕ → Type 0
   Matches empty bytes from to = from ≡ to
-  Matches (literal text) bytes from to = StandsAt text bytes from to
-  Matches (byte_class ranges) bytes from to = (b : ℕ) × InRanges ranges b × StandsAt (b ∷ []) bytes from to
+  Matches (literal text) bytes from to = OccursAt text bytes from to
+  Matches (byte_class ranges) bytes from to = (b : ℕ) × InRanges ranges b × OccursAt (b ∷ []) bytes from to
   Matches (char_class ranges) bytes from to =
-      (c : ℕ) × IsScalar c × InRanges ranges c × StandsAt (encode_utf8 c) bytes from to
+      (c : ℕ) × IsScalar c × InRanges ranges c × OccursAt (encode_utf8 c) bytes from to
   Matches (look l) bytes from to = (from ≡ to) × Holds l bytes from
   Matches (repetition least most greedy body) bytes from to =
       (n : ℕ) × IsCount least most n × Pieces (Matches body bytes) n from to

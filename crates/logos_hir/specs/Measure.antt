@@ -1,5 +1,5 @@
--- What is asked of a tree: whether a number fits, whether its literals are text, and whether it
--- repeats a dot greedily.
+-- Measures of a tree: whether a number fits, whether its literals are text, and whether it repeats
+-- a dot greedily.
 use Rattle.std.specs.Prelude.{ℕ, ◌^◌, Bool, true, false, ◌&&◌, ◌||◌, nat_lt, List, [], ◌∷◌, Option, Some, None, if◌then◌else◌, ◌==◌}
 use Rattle.std.specs.List.{list_all}
 use Rattle.std.specs.Cmp.Lexicographic.{pointwise}
@@ -11,7 +11,7 @@ abbrev pub fitted : ℕ → Option ℕ
 fitted n = if nat_lt n (2 ^ 64) then Some n else None
 
 abbrev mutual
-  -- Each literal is UTF-8, and each class of bytes holds ASCII only.
+  -- Each literal is UTF-8, and each class of bytes contains only ASCII.
   pub is_text : Tree → Bool
   is_text empty = true
   is_text (literal text) = is_utf8 text
@@ -30,14 +30,14 @@ abbrev mutual
 abbrev pub is_same : ℕ × ℕ → ℕ × ℕ → Bool
 is_same r s = (r.0 == s.0) && (r.1 == s.1)
 
--- All numbers up to the last one, perhaps without LF, or without LF and CR: these are 10 and 13.
+-- All numbers up to the last one, possibly without LF, or without LF and CR. LF is 10, CR is 13.
 abbrev pub is_all : ℕ → List (ℕ × ℕ) → Bool
 is_all last ranges =
     pointwise is_same ranges ((0, last) ∷ [])
     || pointwise is_same ranges ((0, 9) ∷ (11, last) ∷ [])
     || pointwise is_same ranges ((0, 9) ∷ (11, 12) ∷ (14, last) ∷ [])
 
--- A class that a dot can stand for.
+-- A class that a dot can denote.
 abbrev pub is_dot : Tree → Bool
 is_dot (char_class ranges) = is_all 0x10_FFFF ranges
 is_dot (byte_class ranges) = is_all 255 ranges

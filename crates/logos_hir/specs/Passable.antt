@@ -1,9 +1,9 @@
--- Whether a tree can match nothing, and whether a look comes first.
+-- Whether a tree matches the empty string, and whether a look-around assertion comes first.
 use Rattle.std.specs.Prelude.{Bool, true, false, ◌&&◌, ◌||◌, length, ◌==◌}
 use Rattle.logos_hir.specs.Tree.{Tree, empty, literal, byte_class, char_class, look, repetition, capture, concat, alternation, Trees, none, also}
 
 abbrev mutual
-  -- The tree can be passed without a byte.
+  -- The tree matches the empty string.
   pub passable : Tree → Bool
   passable empty = true
   passable (literal text) = length text == 0
@@ -24,7 +24,7 @@ abbrev mutual
   some_passable (also branch branches) = passable branch || some_passable branches
 
 abbrev mutual
-  -- The tree can meet a look before its first byte.
+  -- The tree can have a look-around assertion before its first byte.
   pub leads : Tree → Bool
   leads empty = false
   leads (literal text) = false
@@ -36,7 +36,7 @@ abbrev mutual
   leads (concat parts) = leads_in_order parts
   leads (alternation branches) = some_leads branches
 
-  -- Some part leads, and all parts before it can be passed.
+  -- Some part leads, and all parts before it match the empty string.
   pub leads_in_order : Trees → Bool
   leads_in_order none = false
   leads_in_order (also part parts) = leads part || (passable part && leads_in_order parts)

@@ -3,12 +3,12 @@ use Rattle.std.specs.Prelude.{ℕ, ◌+◌, ◌*◌, min, List, length, if◌the
 use Rattle.std.specs.Str.{is_utf8}
 use Rattle.logos_hir.specs.Tree.{Tree, empty, literal, byte_class, char_class, look, repetition, capture, concat, alternation, Trees, none, also}
 
--- The number of characters if the bytes are UTF-8, else the number of bytes.
+-- The number of characters if the bytes are UTF-8, otherwise the number of bytes.
 abbrev pub text_size : List ℕ → ℕ
 text_size text = if is_utf8 text then length (chars text) else length text
 
 abbrev mutual
-  -- The priority that a tree has by default.
+  -- The default priority of a tree.
   pub value : Tree → ℕ
   value empty = 0
   value (literal text) = 2 * text_size text
@@ -24,7 +24,7 @@ abbrev mutual
   sum_of_values none = 0
   sum_of_values (also part parts) = value part + sum_of_values parts
 
-  -- The least value of a branch.
+  -- The least value of the branches.
   pub least_value : Trees → ℕ
   least_value none = 0
   least_value (also branch none) = value branch

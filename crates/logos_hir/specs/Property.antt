@@ -14,7 +14,7 @@ use Rattle.logos_hir.specs.declared.property.PerlKind.{PerlKind}
 use Rattle.logos_hir.specs.declared.property.PerlKind.TheVariants as perl
 use Rattle.logos_hir.specs.Sets.{Set, difference}
 
--- The set of `[:alnum:]` and the like.
+-- The set of `[:alnum:]` and the other ASCII classes.
 abbrev pub ascii_set : AsciiKind → Set
 ascii_set Alnum = is_ascii_alphanumeric
 ascii_set Alpha = is_ascii_alphabetic
@@ -31,7 +31,7 @@ ascii_set Upper = is_ascii_uppercase
 ascii_set Word = λ c. is_ascii_alphanumeric c || (c == 95)
 ascii_set Xdigit = is_ascii_hexdigit
 
--- What the name in `[:name:]` stands for.
+-- The class that the name in `[:name:]` denotes.
 abbrev pub ascii_named : List ℕ → Option AsciiKind
 ascii_named name =
     if bytes_eq name (codes "alnum") then Some Alnum
@@ -56,7 +56,7 @@ perl_set perl.Digit unicode = if unicode then is_digit_char else ascii_set Digit
 perl_set perl.Space unicode = if unicode then is_space_char else ascii_set Space
 perl_set perl.Word unicode = if unicode then is_word_char else ascii_set Word
 
--- What a name in its loose form stands for in `\p{name}`.
+-- The property that a normalized name denotes in `\p{name}`.
 abbrev pub property_normalized : List ℕ → Option PropertySet
 property_normalized name =
     if bytes_eq name (codes "any") then Some Any
@@ -64,6 +64,6 @@ property_normalized name =
     else if bytes_eq name (codes "assigned") then Some Assigned
     else by_name name
 
--- What the name in `\p{name}` stands for.
+-- The property that the name in `\p{name}` denotes.
 abbrev pub property_named : List ℕ → Option PropertySet
 property_named name = property_normalized (normalize name)

@@ -28,13 +28,13 @@ symmetric_difference a b c = if a c then not (b c) else b c
 abbrev pub only_chars : Set → Set
 only_chars set c = scalar c && set c
 
--- The characters up to the last one that are no members.
+-- The characters up to the last one that are not members.
 abbrev pub complement : ℕ → Set → Set
 complement last set c = scalar c && (nat_le c last && not (set c))
 
 -- ---- ranges, each with its first and its last number.
 
--- What lies in a range, with both of its ends.
+-- The numbers in a range, with both of its ends.
 abbrev pub in_range : ℕ × ℕ → Set
 in_range r c = nat_le r.0 c && nat_le c r.1
 
@@ -46,7 +46,7 @@ in_ranges (r ∷ rest) c = in_range r c || in_ranges rest c
 abbrev pub members : List (ℕ × ℕ) → Set
 members ranges = only_chars (in_ranges ranges)
 
--- The character after a character: none stands between U+D7FF and U+E000.
+-- The character after a character: there is none between U+D7FF and U+E000.
 abbrev pub next : ℕ → ℕ
 next c = if c == 0xD7FF then 0xE000 else c + 1
 
@@ -54,7 +54,8 @@ next c = if c == 0xD7FF then 0xE000 else c + 1
 abbrev pub is_range : ℕ × ℕ → Bool
 is_range r = (scalar r.0 && scalar r.1) && nat_le r.0 r.1
 
--- Each is a range, the first from n on, and each other after the character after the one before.
+-- Each pair is a range. The first begins at or after `n`, and each other one after the character
+-- that follows the range before it.
 abbrev pub rises_from : ℕ → List (ℕ × ℕ) → Bool
 rises_from n [] = true
 rises_from n (r ∷ rest) = (nat_le n r.0 && is_range r) && rises_from (next r.1 + 1) rest
@@ -65,13 +66,12 @@ AreCanonical ranges = rises_from 0 ranges ≡ true
 
 -- ---- the ranges of a set, as few as can be.
 
--- A number in front of ranges that start after it: it lengthens the first range, or is one of its
--- own.
+-- A number before ranges that start after it: it extends the first range, or is a range of its own.
 abbrev pub with_number : ℕ → List (ℕ × ℕ) → List (ℕ × ℕ)
 with_number c [] = (c, c) ∷ []
 with_number c (r ∷ rest) = if next c == r.0 then (c, r.1) ∷ rest else (c, c) ∷ r ∷ rest
 
--- The members among n numbers from c on.
+-- The members among `n` numbers from `c` on.
 unfoldable pub ranges_from : ℕ → ℕ → Set → List (ℕ × ℕ)
 ranges_from c zero set = []
 ranges_from c (suc n) set =

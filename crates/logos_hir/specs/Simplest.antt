@@ -1,4 +1,4 @@
--- The tree that the builders make of a tree.
+-- The tree that the builders make from a tree.
 use Rattle.std.specs.Prelude.{◌≡◌, List, [], ◌∷◌}
 use Rattle.logos_hir.specs.declared.hir.Hir.{Hir}
 use Rattle.logos_hir.specs.Hir.{tree_of}
@@ -6,7 +6,8 @@ use Rattle.logos_hir.specs.Tree.{Tree, empty, literal, byte_class, char_class, l
 use Rattle.logos_hir.specs.Build.{repetition_of, concat_of, alternation_of}
 
 abbrev mutual
-  -- Each repetition, concatenation and alternation, from the innermost on, as its builder makes it.
+  -- Each repetition, concatenation and alternation as its builder makes it, from the innermost
+  -- outwards.
   pub simplest : Tree → Tree
   simplest empty = empty
   simplest (literal text) = literal text
@@ -22,7 +23,7 @@ abbrev mutual
   all_simplest none = []
   all_simplest (also t rest) = simplest t ∷ all_simplest rest
 
--- The tree that the builders make of what a `Hir` holds.
+-- The tree that the builders make from the tree that a `Hir` holds.
 abbrev pub simplest_tree : Hir → Tree
 simplest_tree hir = simplest (tree_of hir)
 

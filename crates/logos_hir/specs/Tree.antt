@@ -1,11 +1,11 @@
--- The tree of a pattern, without where it lies in memory.
+-- The tree of a pattern, independent of its memory.
 use Rattle.std.specs.Prelude.{ℕ, Bool, List, [], ◌∷◌, Option}
 use Rattle.logos_hir.specs.declared.hir.Look.{Look}
 
 mutual
   -- A pattern as a tree.
   pub data Tree : Type 0 where
-    -- The empty text.
+    -- The empty string.
     empty : Tree
     -- These bytes.
     literal : List ℕ → Tree
@@ -13,7 +13,7 @@ mutual
     byte_class : List (ℕ × ℕ) → Tree
     -- One character of these ranges.
     char_class : List (ℕ × ℕ) → Tree
-    -- A condition on the point.
+    -- A look-around assertion.
     look : Look → Tree
     -- The least count, the greatest one if there is one, and whether it is greedy.
     repetition : ℕ → Option ℕ → Bool → Tree → Tree

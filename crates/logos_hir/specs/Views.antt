@@ -1,5 +1,5 @@
--- Definitions that clauses cite: those of `Words`, and those that name types of this crate.
-pub use Rattle.logos_hir.specs.Words.{Adds, AreCanonical, HasExactly, IsNonDecreasingBy, Set, byte_ranges, char_ranges, chars, complement, difference, fold_ascii, fold_case, fold_pairs, in_image, in_range, in_ranges, in_set, in_values, intersection, is_utf8, list_all, members, only_chars, pointwise, scalar, shift, symmetric_difference, union}
+-- Definitions that contracts cite: those of `Imports`, and those that name types of this crate.
+pub use Rattle.logos_hir.specs.Imports.{Adds, AreCanonical, HasExactly, IsNonDecreasingBy, Set, byte_ranges, char_ranges, chars, complement, difference, fold_ascii, fold_case, fold_pairs, in_image, in_range, in_ranges, in_set, in_values, intersection, is_utf8, list_all, members, only_chars, pointwise, scalar, shift, symmetric_difference, union}
 pub use Rattle.logos_hir.specs.Build.{all_ranges, alternation_of, branches_of, byte_ranges_of, bytes_or, char_ranges_of, chars_or, choice_of, concat_of, cut, in_a_row, is_byteless, is_most, literal_of, one_byte_of, one_char_of, parts_of, repetition_of, sole_char, sole_member, times}
 pub use Rattle.logos_hir.specs.Hir.{class_tree, pairs, tree_of}
 pub use Rattle.logos_hir.specs.Looks.{Holds, is_word}

@@ -1,8 +1,9 @@
-//! The tree of a pattern. Names are those of regex-syntax.
+//! The tree of a pattern. The names are those of regex-syntax. `builder` makes trees, and
+//! `logos_positions` and `logos_automaton` read them.
 
 ghost use Rattle.std.specs.Prelude.{◌≡◌};
 
-/// A condition on the bytes on both sides of a point.
+/// A look-around assertion: a condition on the bytes before and after a position of the input.
 #[derive(Clone, Copy, Debug, PartialEq, Eq)]
 pub enum Look {
     /// The start of the input.
@@ -19,7 +20,7 @@ pub enum Look {
     EndCRLF,
     /// An ASCII word boundary.
     WordAscii,
-    /// Anything but an ASCII word boundary.
+    /// Not an ASCII word boundary.
     WordAsciiNegate,
 }
 
@@ -51,15 +52,15 @@ pub enum Class {
 /// A pattern as a tree.
 #[derive(Drop)]
 pub enum Hir {
-    /// The empty text.
+    /// The empty string.
     Empty,
     /// These bytes, in order.
     Literal(Vec<u8>),
     /// One member of the class.
     Class(Class),
-    /// A condition on the point.
+    /// A condition on the position.
     Look(Look),
-    /// At least `min` times the body, and at most `max` times if there is such a count.
+    /// At least `min` times the body, and at most `max` times if `max` is not `None`.
     Repetition {
         min: u32,
         max: Option<u32>,

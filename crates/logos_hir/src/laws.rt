@@ -1,5 +1,5 @@
-//! Laws of looks, and of trees and their default priority. No code calls these functions: the
-//! contract of each is a proved law.
+//! Laws of look-around assertions, and of trees and their default priority. No code calls these
+//! functions: the contract of each is a proved law.
 
 ghost use Rattle.std.specs.Prelude.{
   ◌≡◌,
@@ -16,8 +16,8 @@ ghost use Rattle.std.specs.Prelude.{
 };
 ghost use Rattle.logos_hir.specs.Views.{is_word, Holds, Matches, value, Tree, repetition, Look};
 
-/// A look that holds in front of a byte that is neither a word byte nor CR nor LF also holds where
-/// the bytes end there.
+/// A look-around assertion that holds before a byte that is neither a word byte nor CR nor LF also
+/// holds if the bytes end there.
 pub fn looks_hold_at_the_end()
     ensures { (look : Look) (bytes rest : List ℕ) (b : ℕ) →
         is_word (Some b) ≡ false → b ≢ 10 → b ≢ 13 →

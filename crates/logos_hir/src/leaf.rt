@@ -1,4 +1,4 @@
-//! The numbers by which trees are known.
+//! The numbers that identify leaves. Automata, graphs, codes and lexers refer to leaves by them.
 
 /// The number of a leaf.
 #[derive(Clone, Copy, Debug, PartialEq, Eq)]

@@ -1,14 +1,15 @@
-//! Trees of patterns: what they hold, how they are built, their measures, and the sets of
-//! characters and of bytes in them.
+//! Trees of patterns: their nodes, their builders, their measures, and the sets of characters and
+//! of bytes in them. `logos_syntax` builds trees, and `logos_automaton` and `logos_positions` read
+//! them.
 
 #![tactic(auto)]
 
-pub mod build;
-pub mod fold;
+pub mod builder;
+pub mod case_folding;
 pub mod hir;
 pub mod laws;
 pub mod leaf;
-pub mod measure;
+pub mod measures;
 pub mod property;
 pub mod sets;
-pub mod simplify;
+pub mod simplifier;

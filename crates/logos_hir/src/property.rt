@@ -1,5 +1,5 @@
 //! Sets that a pattern names. `logos_pattern_tokens` and `logos_syntax` look up `\p{..}`,
-//! `[:name:]` and `\d` here.
+//! `[:name:]` and `\d` in this module.
 
 ghost use Rattle.std.specs.Prelude.{◌≡◌, ℕ, Bool, IfOk, bytes_eq};
 ghost use Rattle.logos_hir.specs.Views.{only_chars, in_ranges, HasExactly, in_set, pairs, set_of, ascii_set, ascii_named, perl_set, property_named, property_normalized};
@@ -60,7 +60,7 @@ fn ascii_runs(kind: AsciiKind) -> &'static [(u32, u32)]
     }
 }
 
-/// Returns whether the characters are those of the ASCII word.
+/// Returns whether `name` consists of the characters of the ASCII text `word`.
 fn spells(name: &[char], word: &[u8]) -> bool
     ensures { result ≡ bytes_eq name.now word.now }
 {
@@ -130,7 +130,7 @@ fn ranges_of(alloc: Global, runs: &[(u32, u32)]) -> Result<Vec<Range>, AllocErro
     Ok(ranges)
 }
 
-/// Returns the characters of the ranges, which may hold surrogates.
+/// Returns the characters in the ranges, which may contain surrogates.
 fn from_runs(alloc: Global, runs: &[(u32, u32)]) -> Result<RangeSet, AllocError>
     ensures { (p : ℕ → Bool) → HasExactly runs.now p →
         IfOk result (λ set. set_of set ≡ only_chars p) }
@@ -138,8 +138,8 @@ fn from_runs(alloc: Global, runs: &[(u32, u32)]) -> Result<RangeSet, AllocError>
     RangeSet::from_ranges(alloc, &ranges_of(alloc, runs)?)
 }
 
-/// Returns the members of `\d`, `\s` or `\w`: of characters as Unicode has them, of bytes ASCII
-/// alone.
+/// Returns the members of `\d`, `\s` or `\w`: Unicode characters, or only ASCII bytes if `unicode`
+/// is `false`.
 pub fn perl_set(alloc: Global, kind: PerlKind, unicode: bool) -> Result<RangeSet, AllocError>
     ensures { IfOk result (λ set. set_of set ≡ only_chars (perl_set kind unicode)) }
 {
@@ -153,7 +153,7 @@ pub fn perl_set(alloc: Global, kind: PerlKind, unicode: bool) -> Result<RangeSet
     }
 }
 
-/// Returns the set of a property by its name, which is compared loosely.
+/// Returns the set of the property with this name. Names are compared loosely.
 pub fn property_named(alloc: Global, name: &[char]) -> Result<Option<Set>, AllocError>
     ensures { IfOk result (λ set. set ≡ property_named name.now) }
 {
@@ -161,7 +161,7 @@ pub fn property_named(alloc: Global, name: &[char]) -> Result<Option<Set>, Alloc
     Ok(property_normalized(&name))
 }
 
-/// Returns the set of a property by its normalized name.
+/// Returns the set of the property with this normalized name.
 fn property_normalized(name: &[u8]) -> Option<Set>
     ensures { result ≡ property_normalized name.now }
 {

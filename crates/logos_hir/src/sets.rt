@@ -1,7 +1,8 @@
-//! Sets of characters and of bytes, as ranges.
+//! Sets of characters and of bytes, as ranges. The builders of trees and the readers of brackets
+//! combine them.
 
 ghost use Rattle.std.specs.Prelude.{◌≡◌, ℕ, ◌+◌, ◌<◌, ◌≤◌, true, ◌||◌, ◌&&◌, not, nat_le, [], IfOk, OnOk, MatchOption};
-ghost use Rattle.logos_hir.specs.Words.{IsNonDecreasingBy, scalar, AreCanonical, in_range, in_ranges, is_range, next, IsPlace, AreRanges, free_from, in_gap, AddsCharacters, HasCharacters};
+ghost use Rattle.logos_hir.specs.Imports.{IsNonDecreasingBy, scalar, AreCanonical, in_range, in_ranges, is_range, next, IsLimit, AreRanges, free_from, in_gap, AddsCharacters, HasCharacters};
 ghost use Rattle.logos_hir.specs.Hir.{pairs};
 
 use crate::hir::Range;
@@ -13,9 +14,9 @@ pub const LAST_BYTE: u32 = 0xFF;
 /// The greatest character.
 pub const LAST_CHAR: u32 = 0x10_FFFF;
 
-/// A set of characters, or of bytes: as few ranges as can be, in ascending order. Each range starts
-/// and ends with a character, and between any two stands another one, so that sets with the same
-/// members have the same ranges.
+/// A set of characters, or of bytes: the fewest ranges, in ascending order. Each range starts and
+/// ends with a character, and there is a character between any two ranges, so that sets with the
+/// same members have the same ranges.
 #[derive(Drop)]
 pub struct RangeSet {
     ranges: Vec<Range>,
@@ -31,19 +32,19 @@ fn after(c: u32) -> u32
 }
 
 /// Returns the character before a scalar value that is not the first.
-fn before(place: u32) -> u32
-    requires place { IsPlace place }
-    requires some { 0 < place }
+fn before(limit: u32) -> u32
+    requires limit { IsLimit limit }
+    requires some { 0 < limit }
     ensures char { scalar result ≡ true }
-    ensures next { next result ≡ place }
+    ensures next { next result ≡ limit }
 {
-    if place == 0xE000 { 0xD7FF } else { place - 1 }
+    if limit == 0xE000 { 0xD7FF } else { limit - 1 }
 }
 
-/// Appends the characters from `first` up to `end`, which is left out, and up to `last`.
+/// Appends the characters from `first` up to but not including `end`, and not after `last`.
 fn push_gap(out: &mut Vec<Range>, first: u32, end: u32, last: u32) -> Result<(), AllocError>
-    requires first { IsPlace first }
-    requires end { IsPlace end }
+    requires first { IsLimit first }
+    requires end { IsLimit end }
     requires last { scalar last ≡ true }
     requires canonical { AreCanonical (pairs out.old.items) }
     requires free { free_from 0 (pairs out.old.items) ≤ first }
@@ -64,7 +65,8 @@ fn push_gap(out: &mut Vec<Range>, first: u32, end: u32, last: u32) -> Result<(),
     Ok(())
 }
 
-/// Returns the characters up to `last` in none of the ranges, whose starts do not descend.
+/// Returns the characters up to `last` that are in none of the ranges. The starts of the ranges
+/// must not descend.
 fn gaps(alloc: Global, ranges: &[Range], last: u32) -> Result<Vec<Range>, AllocError>
     requires ranges { AreRanges (pairs ranges.now) }
     requires sorted { IsNonDecreasingBy (λ r. r.first) ranges.now }
@@ -83,7 +85,7 @@ fn gaps(alloc: Global, ranges: &[Range], last: u32) -> Result<Vec<Range>, AllocE
     Ok(out)
 }
 
-/// Returns the first character that is not before `c`, or a number after all characters.
+/// Returns the first character at or after `c`, or a number after all characters.
 fn first_char(c: u32) -> u32
     ensures same { (d : ℕ) → scalar d ≡ true → nat_le result d ≡ nat_le c d }
     ensures char { result ≤ 0x10_FFFF → scalar result ≡ true }
@@ -95,7 +97,7 @@ fn first_char(c: u32) -> u32
     }
 }
 
-/// Returns the last character that is not after `c`.
+/// Returns the last character at or before `c`.
 fn last_char(c: u32) -> u32
     ensures same { (d : ℕ) → scalar d ≡ true → nat_le d result ≡ nat_le d c }
     ensures char { scalar result ≡ true }
@@ -124,7 +126,7 @@ fn push_chars(out: &mut Vec<Range>, range: Range) -> Result<(), AllocError>
     Ok(())
 }
 
-/// Returns the ranges cut to characters, where they have some.
+/// Returns the ranges cut to characters, without ranges that contain none.
 fn chars_of(alloc: Global, ranges: &[Range]) -> Result<Vec<Range>, AllocError>
     ensures ranges { IfOk result (λ out. AreRanges (pairs out.items)) }
     ensures members { IfOk result (λ out. HasCharacters (pairs out.items)
@@ -141,8 +143,9 @@ impl RangeSet {
     ghost use Rattle.std.specs.Prelude.{◌≡◌, ℕ, ◌≤◌, true, IfOk, MatchBool};
     ghost use Rattle.logos_hir.specs.Views.{scalar, Set, members, union, intersection, difference, symmetric_difference, complement, in_range, pairs, sole_member, set_of};
 
-    /// Returns the characters in the ranges. These may come in any order, overlap, and hold numbers
-    /// that are no characters; a range whose first number is above its last is empty.
+    /// Returns the characters in the ranges. The ranges may be in any order, overlap, and contain
+    /// numbers that are not characters. A range whose first number is greater than its last is
+    /// empty.
     pub fn from_ranges(alloc: Global, ranges: &[Range]) -> Result<RangeSet, AllocError>
         ensures { IfOk result (λ set. set_of set ≡ members (pairs ranges.now)) }
     {
@@ -153,7 +156,7 @@ impl RangeSet {
         Ok(RangeSet { ranges })
     }
 
-    /// Returns the characters up to `last` that are no members.
+    /// Returns the characters up to `last` that are not members.
     pub fn complement(&self, last: char) -> Result<RangeSet, AllocError>
         ensures { IfOk result (λ set. set_of set ≡ complement last (set_of self.now)) }
     {
@@ -169,7 +172,7 @@ impl RangeSet {
         self.complement(char::MAX)?.complement('\u{FF}')
     }
 
-    /// Returns the only member, if there is exactly one.
+    /// Returns the only member, or `None` if there is not exactly one.
     pub fn sole_member(&self) -> Option<char>
         ensures { result ≡ sole_member (pairs self.now.ranges.items) }
     {
@@ -215,7 +218,7 @@ impl RangeSet {
         outside.complement(char::MAX)
     }
 
-    /// Returns the members of this set that the other one lacks.
+    /// Returns the members of this set that are not in `other`.
     pub fn difference(&self, other: &RangeSet) -> Result<RangeSet, AllocError>
         ensures { IfOk result (λ set. set_of set ≡
             difference (set_of self.now) (set_of other.now)) }

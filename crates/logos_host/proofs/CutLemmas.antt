@@ -1,4 +1,4 @@
--- Cutting a text at the last place of an ASCII character.
+-- Cutting a text at the last occurrence of an ASCII character.
 use Rattle.std.proofs.Common.{◌≡◌, ℕ, zero, suc, ◌+◌, ◌-◌, ◌≤◌, ◌<◌, List, length, get_or, take, drop, Option, Some, None, MatchOption, refl, sym, ap, ◌∙◌, ⊎_elim, arith, Bor, eq-eqb, ne_eqb, length-drop, get_or-drop, option_map}
 use Rattle.std.specs.Str.Pattern.{RFindsChar}
 use Rattle.std.specs.Path.{rfind_below, rsplit_once}

@@ -9,7 +9,7 @@ has_colors Always is_terminal = true
 has_colors Never is_terminal = false
 has_colors Auto is_terminal = is_terminal
 
--- What a value of `--color` stands for.
+-- The color setting for a value of `--color`.
 abbrev pub color_named : List ℕ → Option Color
 color_named name =
     if bytes_eq name (codes "always") then Some Always

@@ -3,7 +3,8 @@ pub mod Failures
 pub mod Formats
 pub mod Messages
 pub mod Paths
+pub mod PlainMessages
 pub mod Reading
 pub mod Writers
-pub mod Words
+pub mod Imports
 pub mod Views

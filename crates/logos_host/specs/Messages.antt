@@ -5,7 +5,7 @@ use Rattle.logos_host.specs.declared.failure.Failure.TheVariants.{Misuse, Unknow
 use Rattle.logos_host.specs.declared.reason.Reason.{Reason}
 use Rattle.logos_host.specs.declared.reason.Reason.TheVariants as reasons
 
--- What a message says after a path.
+-- The part of a message after the path.
 abbrev pub reason_text : Reason → List ℕ
 reason_text reasons.Missing = codes ": there is no such file"
 reason_text reasons.Folder = codes ": it is a folder"
@@ -19,17 +19,17 @@ reason_text reasons.ReadOnly = codes ": the file system is read-only"
 reason_text reasons.Taken = codes ": all names for a new file beside it are taken"
 reason_text reasons.Other = []
 
--- What is wrong with the words, and the word that is.
+-- The reason that the arguments are invalid, and the invalid argument.
 abbrev pub misuse_line : List ℕ → List ℕ → List ℕ
 misuse_line what [] = codes "error: " ++ (what ++ codes "\n")
 misuse_line what (byte ∷ word) = codes "error: " ++ (what ++ (codes " `" ++ ((byte ∷ word) ++ codes "`\n")))
 
--- Which option may be meant.
+-- The option that may be meant.
 abbrev pub hint_line : List ℕ → List ℕ
 hint_line [] = []
 hint_line (byte ∷ word) = codes "help: is `" ++ ((byte ∷ word) ++ codes "` meant?\n")
 
--- What standard error is to get of a failure.
+-- The message of a failure on standard error.
 abbrev pub message_of : List ℕ → Failure → List ℕ
 message_of usage (Misuse what word) = misuse_line what.now word.now ++ usage
 message_of usage (UnknownOption word nearest) = misuse_line (codes "unknown option") word.now ++ (hint_line nearest.now ++ usage)

@@ -1,8 +1,8 @@
--- What writers gain.
+-- The bytes that writers append.
 use Rattle.std.specs.Prelude.{◌≡◌, ℕ, List, ◌++◌, Option}
 use Rattle.std.specs.Io.KnownBytes.{Appends}
 
--- The front of a block was written, and the rest is left.
+-- A prefix of a block was written, and the rest is left.
 pub record AppendsFront (old new : Option (List ℕ)) (block left : List ℕ) : Type 0 where
   pub front : List ℕ
   pub parts : block ≡ front ++ left

@@ -1,9 +1,9 @@
-//! When a text has colors.
+//! The condition under which a text has colors. Used by `logos_cli` and `logos_options`.
 
 ghost use Rattle.std.specs.Prelude.{◌≡◌};
 ghost use Rattle.logos_host.specs.Colors.{color_named, has_colors};
 
-/// When a text has colors.
+/// The condition under which a text has colors.
 #[derive(Clone, Copy, Debug, PartialEq, Eq)]
 pub enum Color {
     /// Always.
@@ -15,7 +15,7 @@ pub enum Color {
 }
 
 impl Color {
-    /// Returns whether a text has colors that goes to a terminal or not.
+    /// Returns whether a text has colors, depending on whether it is written to a terminal.
     pub fn is_on(self, is_terminal: bool) -> bool
         ensures { result ≡ has_colors self is_terminal }
     {
@@ -27,7 +27,7 @@ impl Color {
     }
 }
 
-/// Returns what a value of `--color` stands for: `always`, `never` or `auto`.
+/// Returns the color setting for a value of `--color`: `always`, `never` or `auto`.
 pub fn color_by_name(name: &str) -> Option<Color>
     ensures { result ≡ color_named name.now }
 {

@@ -1,7 +1,8 @@
 //! The ways in which a program fails.
 
-ghost use Rattle.std.specs.Prelude.{◌≡◌};
-ghost use Rattle.logos_host.specs.Views.{status_of, Memory as OutOfMemory};
+ghost use Rattle.std.specs.IoError.{error_kind};
+ghost use Rattle.std.specs.Prelude.{◌≡◌, ◌≢◌};
+ghost use Rattle.logos_host.specs.Views.{Closed, IsOutputFailure, IsReadingFailure, IsUnread, IsUnwritten, IsWritingFailure, Output, status_of, Memory as OutOfMemory};
 
 use crate::files::FileError;
 use crate::reason::Reason;
@@ -13,26 +14,26 @@ use std::io::ErrorKind;
 /// The ways in which a program fails.
 #[derive(Drop)]
 pub enum Failure<'w> {
-    /// The words are no command: what is wrong, and the word that is, which may be empty.
+    /// The arguments are invalid: the reason, and the invalid argument, which may be empty.
     Misuse {
         what: &'static str,
         word: &'w str,
     },
-    /// A word is no option of the program. The option that may be meant stands with it, if there is
-    /// one.
+    /// An argument is not an option of the program. `nearest` is the name of the nearest option, or
+    /// empty if none is near.
     UnknownOption {
         word: &'w str,
         nearest: &'static str,
     },
-    /// The file for the result is the file that is read.
+    /// The output file is the input file.
     OwnOutput(&'w str),
-    /// What was asked for has faults. This text shows them.
+    /// The source is refused, for the reasons in this text.
     Refused(String),
-    /// The input is valid UTF-8 up to this byte.
+    /// The input is valid UTF-8 only up to this byte.
     NotUtf8 {
         valid_up_to: usize,
     },
-    /// The file at this path is not UTF-8. It is valid up to this byte.
+    /// The file at this path is not UTF-8. It is valid only up to this byte.
     NotText {
         path: &'w str,
         valid_up_to: usize,
@@ -43,7 +44,7 @@ pub enum Failure<'w> {
     Write(&'w str, Reason),
     /// Standard output cannot be written.
     Output,
-    /// Who read standard output has closed it. This has no message.
+    /// The reader of standard output has closed it.
     Closed,
     /// Memory ran out.
     Memory,
@@ -74,7 +75,7 @@ impl From<Memory> for Failure<'_> {
 }
 
 impl Failure<'_> {
-    /// Returns the exit status: 1 if something is refused, 2 if the words are no command or name
+    /// Returns the exit status: 1 if something is refused, 2 if the arguments are invalid or name
     /// the input as the output, 3 if a file or memory fails.
     pub fn status(&self) -> u8
         ensures { result ≡ status_of self.now }
@@ -86,9 +87,11 @@ impl Failure<'_> {
         }
     }
 
-    /// Returns the failure of a file at a path that is not read.
+    /// Returns the failure for a file that cannot be read.
     pub fn of_reading<'w>(path: &'w str, error: FileError) -> Failure<'w>
-        ensures { status_of result ≡ 3 }
+        ensures failure { IsReadingFailure path.now error result }
+        ensures unread { IsUnread path.now result }
+        ensures status { status_of result ≡ 3 }
     {
         match error {
             FileError::Failed(reason) => Failure::Read(path, reason),
@@ -97,9 +100,11 @@ impl Failure<'_> {
         }
     }
 
-    /// Returns the failure of a file at a path that is not written.
+    /// Returns the failure for a file that cannot be written.
     pub fn of_writing<'w>(path: &'w str, error: FileError) -> Failure<'w>
-        ensures { status_of result ≡ 3 }
+        ensures failure { IsWritingFailure path.now error result }
+        ensures unwritten { IsUnwritten path.now result }
+        ensures status { status_of result ≡ 3 }
     {
         match error {
             FileError::Failed(reason) => Failure::Write(path, reason),
@@ -107,13 +112,26 @@ impl Failure<'_> {
         }
     }
 
-    /// Returns the failure of standard output.
+    /// Returns the failure for an error of standard output.
     pub fn of_output(error: &io::Error) -> Failure<'static>
-        ensures { status_of result ≡ 3 }
+        ensures closed { error_kind error.now ≡ ErrorKind.BrokenPipe → result ≡ Closed }
+        ensures other { error_kind error.now ≢ ErrorKind.BrokenPipe → result ≡ Output }
+        ensures failure { IsOutputFailure result }
+        ensures status { status_of result ≡ 3 }
     {
-        match error.kind() {
-            ErrorKind::BrokenPipe => Failure::Closed,
-            _ => Failure::Output,
-        }
+        output_failure(error.kind())
+    }
+}
+
+/// Returns the failure for an error of this kind of standard output.
+fn output_failure(kind: ErrorKind) -> Failure<'static>
+    ensures closed { kind ≡ ErrorKind.BrokenPipe → result ≡ Closed }
+    ensures other { kind ≢ ErrorKind.BrokenPipe → result ≡ Output }
+    ensures failure { IsOutputFailure result }
+    ensures status { status_of result ≡ 3 }
+{
+    match kind {
+        ErrorKind::BrokenPipe => Failure::Closed,
+        _ => Failure::Output,
     }
 }

@@ -1,15 +1,16 @@
-//! Files by their paths.
+//! The interface to files, by their paths. `Disk` and `SourceDisk` implement it; the tests have
+//! others.
 
 ghost use Rattle.std.specs.Prelude.{ℕ, List, ⊤, IfOk, OnOk};
 
 use crate::reason::Reason;
 
-/// Why a call on a file failed.
+/// The errors of an operation on a file.
 #[derive(Clone, Copy, Debug, PartialEq, Eq)]
 pub enum FileError {
     /// The file was not read or written, for this reason.
     Failed(Reason),
-    /// The file was to be a text, and is UTF-8 up to this byte alone.
+    /// The file should be text, but is valid UTF-8 only up to this byte.
     NotText { valid_up_to: usize },
     /// Memory ran out.
     Memory,
@@ -18,7 +19,7 @@ pub enum FileError {
 /// Files by their paths.
 pub trait Files {
     // Holds of the files before a read, the path, all bytes that are read, and the files after it.
-    ghost read_gives: { Self → List ℕ → List ℕ → Self → Type 0 } = { λ _ _ _ _. ⊤ };
+    ghost read_yields: { Self → List ℕ → List ℕ → Self → Type 0 } = { λ _ _ _ _. ⊤ };
 
     // Holds of the files before a write, the path, all bytes of the file there from then on, and
     // the files after it.
@@ -30,15 +31,15 @@ pub trait Files {
     ///
     /// Returns `Failed` if the file cannot be read, and `Memory` if memory runs out.
     fn read(&mut self, path: &str) -> Result<Vec<u8>, FileError>
-        ensures { IfOk result (λ bytes. read_gives self.old path.now bytes.items self.new) };
+        ensures { IfOk result (λ bytes. read_yields self.old path.now bytes.items self.new) };
 
-    /// Writes these bytes to the file at this path, in place of what the file has, and makes the
-    /// folders of the path that are missing.
+    /// Replaces the content of the file at this path with these bytes, and creates the missing
+    /// folders of the path.
     ///
     /// # Errors
     ///
-    /// Returns `Failed` if a folder or the file cannot be made or written, and `Memory` if memory
-    /// runs out. The folders that were made stay.
+    /// Returns `Failed` if a folder or the file cannot be created or written, and `Memory` if
+    /// memory runs out. Folders that were created stay.
     fn write(&mut self, path: &str, bytes: &[u8]) -> Result<(), FileError>
         ensures { OnOk result (write_makes self.old path.now bytes.now self.new) };
 }

@@ -1,33 +1,35 @@
-//! What the programs share: files, the words of a command line, failures and their messages, and
-//! what is written.
+//! The shell of the three programs: their arguments, files, failures and messages, reading and
+//! writing.
 
 #![tactic(auto)]
 
+mod atomic_file;
 mod color;
 mod command_line;
-mod comparing;
+mod comparison;
 mod failure;
 mod files;
 mod message;
 mod message_format;
 mod paths;
-mod reading;
+mod plain_message;
+mod reader;
 mod reason;
 mod source_disk;
 mod system;
-mod whole;
-mod writing;
+mod writer;
 
 pub use color::{Color, color_by_name};
-pub use command_line::words;
-pub use comparing::{ComparableFiles, Standing};
+pub use command_line::arguments;
+pub use comparison::{ComparableFiles, Occurrence};
 pub use failure::Failure;
 pub use files::{FileError, Files};
-pub use message::{refuse_words, report};
+pub use message::report;
 pub use message_format::{MessageFormat, format_by_name};
 pub use paths::file_name;
-pub use reading::read_text;
+pub use plain_message::report_plainly;
+pub use reader::{read_bytes, read_text};
 pub use reason::Reason;
 pub use source_disk::SourceDisk;
 pub use system::Disk;
-pub use writing::{write_block, write_full, write_through};
+pub use writer::{print_bytes, write_block, write_file, write_full, write_through};

@@ -1,14 +1,15 @@
-//! The messages of failures.
+//! The messages of failures in `logos_cli` and `logos_show`. They begin with `error:` and state the
+//! reason.
 
-ghost use Rattle.std.specs.Prelude.{◌≡◌, ◌++◌, ◌↔◌, ◌⊎◌, OnOk, codes, decimal};
-ghost use Rattle.logos_host.specs.Views.{Appends, status_of, hint_line, message_of, misuse_line};
+ghost use Rattle.std.specs.Prelude.{◌++◌, OnOk, codes, decimal};
+ghost use Rattle.logos_host.specs.Views.{Appends, hint_line, message_of, misuse_line};
 
 use crate::failure::Failure;
 use std::io;
-use std::io::{ErrorKind, Write};
+use std::io::Write;
 
-/// Writes the message of a failure, and flushes the writer. Words that are no command are followed
-/// by `usage`.
+/// Writes the message of a failure, and flushes the writer. The message for invalid arguments ends
+/// with `usage`.
 ///
 /// # Errors
 ///
@@ -59,7 +60,7 @@ fn write_not_text<E: Write>(path: &str, valid_up_to: usize, err: &mut E) -> io::
     writeln!(err, ": it is not UTF-8 at byte {valid_up_to}")
 }
 
-/// Writes what is wrong with the words, and the usage.
+/// Writes the reason that the arguments are invalid, and the usage.
 fn write_misuse<E: Write>(what: &str, word: &str, usage: &str, err: &mut E) -> io::Result<()>
     ensures { OnOk result (Appends (E.contents err.old) (E.contents err.new)
         (misuse_line what.now word.now ++ usage.now)) }
@@ -68,7 +69,7 @@ fn write_misuse<E: Write>(what: &str, word: &str, usage: &str, err: &mut E) -> i
     err.write_all(usage.as_bytes())
 }
 
-/// Writes what is wrong with the words.
+/// Writes the reason that the arguments are invalid.
 fn write_misuse_line<E: Write>(what: &str, word: &str, err: &mut E) -> io::Result<()>
     ensures { OnOk result (Appends (E.contents err.old) (E.contents err.new)
         (misuse_line what.now word.now)) }
@@ -79,7 +80,7 @@ fn write_misuse_line<E: Write>(what: &str, word: &str, err: &mut E) -> io::Resul
     writeln!(err, "error: {what} `{word}`")
 }
 
-/// Writes that a word is no option, which one may be meant, and the usage.
+/// Writes that an argument is an unknown option, the option that may be meant, and the usage.
 fn write_unknown<E: Write>(word: &str, nearest: &str, usage: &str, err: &mut E) -> io::Result<()>
     ensures { OnOk result (Appends (E.contents err.old) (E.contents err.new)
         (misuse_line (codes "unknown option") word.now ++ (hint_line nearest.now ++ usage.now))) }
@@ -89,7 +90,7 @@ fn write_unknown<E: Write>(word: &str, nearest: &str, usage: &str, err: &mut E) 
     err.write_all(usage.as_bytes())
 }
 
-/// Writes which option may be meant, if there is one.
+/// Writes the option that may be meant, if there is one.
 fn write_hint<E: Write>(nearest: &str, err: &mut E) -> io::Result<()>
     ensures { OnOk result (Appends (E.contents err.old) (E.contents err.new)
         (hint_line nearest.now)) }
@@ -99,27 +100,3 @@ fn write_hint<E: Write>(nearest: &str, err: &mut E) -> io::Result<()>
     }
     writeln!(err, "help: is `{nearest}` meant?")
 }
-
-/// Writes why the words of a command line cannot be read, and returns the exit status: 3 if memory
-/// ran out, and else 2, since a word is not UTF-8.
-pub fn refuse_words<E: Write>(why: ErrorKind, usage: &str, err: &mut E) -> u8
-    ensures memory { (result ≡ 3) ↔ (why ≡ ErrorKind.OutOfMemory) }
-    ensures known { (result ≡ 2) ⊎ (result ≡ 3) }
-{
-    match why {
-        ErrorKind::OutOfMemory => {
-            let _ = report(&Failure::Memory, usage, err);
-            3
-        }
-        _ => {
-            let _ = report(&NOT_TEXT, usage, err);
-            2
-        }
-    }
-}
-
-/// The error of a word that is not UTF-8.
-const NOT_TEXT: Failure<'static> = Failure::Misuse {
-    what: "a word is not UTF-8",
-    word: "",
-};

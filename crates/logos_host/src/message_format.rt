@@ -1,9 +1,9 @@
-//! How messages are written.
+//! The formats of messages, and their names in `--message-format`.
 
 ghost use Rattle.std.specs.Prelude.{◌≡◌};
 ghost use Rattle.logos_host.specs.Formats.{format_named};
 
-/// How messages are written.
+/// The format of messages.
 #[derive(Clone, Copy, Debug, PartialEq, Eq)]
 pub enum MessageFormat {
     /// As a report.
@@ -12,7 +12,7 @@ pub enum MessageFormat {
     Json,
 }
 
-/// Returns what a value of `--message-format` stands for: `human` or `json`.
+/// Returns the format for a value of `--message-format`: `human` or `json`.
 pub fn format_by_name(name: &str) -> Option<MessageFormat>
     ensures { result ≡ format_named name.now }
 {

@@ -1,9 +1,9 @@
-//! The paths of files.
+//! The paths of files. Used by `logos_cli`, `logos_commands` and `logos_expand`.
 
 ghost use Rattle.std.specs.Prelude.{◌≡◌};
-ghost use Rattle.logos_host.specs.Words.{file_name};
+ghost use Rattle.logos_host.specs.Imports.{file_name};
 
-/// Returns the name at the end of a path: what follows its last `/`, or all of it.
+/// Returns the name at the end of a path: the part after its last `/`, or all of it.
 pub fn file_name(path: &str) -> &str
     ensures { result.now ≡ file_name path.now }
 {

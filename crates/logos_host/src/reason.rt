@@ -1,11 +1,11 @@
-//! Why a file is not read or written.
+//! The reasons why a file cannot be read or written. Used by `logos_commands` and `logos_items`.
 
 ghost use Rattle.std.specs.Prelude.{◌≡◌};
 ghost use Rattle.logos_host.specs.Messages.{reason_text};
 
 use std::io::ErrorKind;
 
-/// Why a file is not read or written.
+/// The reasons why a file cannot be read or written.
 #[derive(Clone, Copy, Debug, PartialEq, Eq)]
 pub enum Reason {
     /// There is no such file.
@@ -16,7 +16,7 @@ pub enum Reason {
     NoFolder,
     /// The system does not allow it.
     Permission,
-    /// The links of the path lead round, or are too many.
+    /// The links of the path form a cycle, or there are too many.
     Links,
     /// A name of the path is too long.
     LongName,
@@ -28,12 +28,12 @@ pub enum Reason {
     ReadOnly,
     /// All names for a new file beside the old one are taken.
     Taken,
-    /// The system gives another reason.
+    /// The system reports another reason.
     Other,
 }
 
 impl Reason {
-    /// Returns the reason that the system gives.
+    /// Returns the reason for an error of this kind.
     pub fn of_kind(kind: ErrorKind) -> Reason {
         match kind {
             ErrorKind::NotFound => Reason::Missing,
@@ -50,7 +50,7 @@ impl Reason {
         }
     }
 
-    /// Returns what a message says after the path.
+    /// Returns the part of a message after the path.
     pub fn text(self) -> &'static str
         ensures { result.now ≡ reason_text self }
     {

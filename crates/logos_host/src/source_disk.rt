@@ -1,6 +1,6 @@
-//! The files of the system, for programs that read sources.
+//! The files of the system, for programs that read sources. Used by `logos_cli`.
 
-use crate::comparing::{ComparableFiles, Standing};
+use crate::comparison::{ComparableFiles, Occurrence};
 use crate::files::{FileError, Files};
 use crate::system::{Disk, file_error};
 use std::alloc::AllocError;
@@ -8,12 +8,13 @@ use std::io::Read;
 use std::rt::Files as Runtime;
 use std::{fs, io};
 
-/// The most bytes of a file that are read: five more than the longest source has, so that it is
-/// still too long where the last character is cut off.
+/// The maximum number of bytes that are read from a file: five more than the longest source, so
+/// that the text is still too long after its last character is removed.
 const MAX_READ: u64 = 16_777_221;
 
-/// The files that a runtime reaches. No more of a file is read than shows that it is too long for a
-/// source, so a device without an end is read as such a source.
+/// The files that a runtime can access, for reading sources. Of a longer file only enough is read
+/// to detect that it is too long for a source, so a device without an end is refused as such a
+/// file.
 #[derive(Drop)]
 pub struct SourceDisk<'r, R> {
     /// The runtime.
@@ -34,7 +35,7 @@ impl<R: Runtime + AllocGlobal + Clone + Drop> Files for SourceDisk<'_, R> {
 }
 
 impl<R: Runtime + AllocGlobal + Clone + Drop> ComparableFiles for SourceDisk<'_, R> {
-    fn compare(&mut self, path: &str, bytes: &[u8]) -> Result<Standing, AllocError> {
+    fn compare(&mut self, path: &str, bytes: &[u8]) -> Result<Occurrence, AllocError> {
         Disk { rt: self.rt }.compare(path, bytes)
     }
 
@@ -47,7 +48,7 @@ impl<R: Runtime + AllocGlobal + Clone + Drop> ComparableFiles for SourceDisk<'_,
     }
 }
 
-/// Returns the bytes of a file, or a front of them that is too long for a source.
+/// Returns the bytes of a file, or a prefix of them that is too long for a source.
 fn read_front<R: Runtime + AllocGlobal>(rt: &R, path: &str) -> io::Result<Vec<u8>> {
     let mut bytes = Vec::new(rt.alloc());
     fs::File::open(rt, path)?
@@ -59,7 +60,7 @@ fn read_front<R: Runtime + AllocGlobal>(rt: &R, path: &str) -> io::Result<Vec<u8
     Ok(bytes)
 }
 
-/// Takes the last character away, which may be cut off.
+/// Removes the last character, which may be incomplete.
 fn cut_last(bytes: &mut Vec<u8>) {
     for _ in 0..4 {
         match bytes.pop() {
@@ -69,7 +70,7 @@ fn cut_last(bytes: &mut Vec<u8>) {
     }
 }
 
-/// Returns whether a byte is none that a character begins with.
+/// Returns whether a byte is a continuation byte, with which no character begins.
 fn is_continuation(byte: u8) -> bool {
     (0x80 <= byte) & (byte <= 0xBF)
 }

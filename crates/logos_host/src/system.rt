@@ -1,9 +1,9 @@
-//! The files of the system.
+//! The files of the system. Used by `source_disk`, `logos_program` and `logos_show`.
 
-use crate::comparing::{ComparableFiles, Standing};
+use crate::atomic_file::write_whole;
+use crate::comparison::{ComparableFiles, Occurrence};
 use crate::files::{FileError, Files};
 use crate::reason::Reason;
-use crate::whole::write_whole;
 use std::alloc::AllocError;
 use std::fs::Metadata;
 use std::io::ErrorKind;
@@ -11,7 +11,7 @@ use std::os::unix::fs::MetadataExt;
 use std::rt::Files as Runtime;
 use std::{fs, io};
 
-/// The files that a runtime reaches.
+/// The files that a runtime can access.
 #[derive(Drop)]
 pub struct Disk<'r, R> {
     /// The runtime.
@@ -35,19 +35,19 @@ impl<R: Runtime + AllocGlobal + Clone + Drop> Files for Disk<'_, R> {
 }
 
 impl<R: Runtime + AllocGlobal + Clone + Drop> ComparableFiles for Disk<'_, R> {
-    fn compare(&mut self, path: &str, bytes: &[u8]) -> Result<Standing, AllocError> {
+    fn compare(&mut self, path: &str, bytes: &[u8]) -> Result<Occurrence, AllocError> {
         let size = match fs::metadata(self.rt, path) {
             Ok(found) if found.is_file() => found.len(),
-            Ok(_) => return Ok(Standing::Differs),
-            Err(_) => return Ok(Standing::Missing),
+            Ok(_) => return Ok(Occurrence::Differs),
+            Err(_) => return Ok(Occurrence::Missing),
         };
         if size != bytes.len() as u64 {
-            return Ok(Standing::Differs);
+            return Ok(Occurrence::Differs);
         }
         match self.read(path) {
-            Ok(found) if found.as_slice() == bytes => Ok(Standing::Same),
+            Ok(found) if found.as_slice() == bytes => Ok(Occurrence::Same),
             Err(FileError::Memory) => Err(AllocError),
-            _ => Ok(Standing::Differs),
+            _ => Ok(Occurrence::Differs),
         }
     }
 
@@ -66,10 +66,10 @@ impl<R: Runtime + AllocGlobal + Clone + Drop> ComparableFiles for Disk<'_, R> {
     }
 }
 
-/// The most bytes of a file that is read for a message.
+/// The maximum length of a file that is read for a message, in bytes.
 const MAX_SHOWN: u64 = 67_108_864;
 
-/// Returns the bytes of a file, or none if it cannot be read.
+/// Returns the bytes of a file, or no bytes if it cannot be read.
 fn bytes_at<R: Runtime + AllocGlobal>(rt: &R, path: &str) -> Result<Vec<u8>, AllocError> {
     match fs::read(rt, path) {
         Ok(bytes) => Ok(bytes),
@@ -83,7 +83,7 @@ fn is_same(one: &Metadata, other: &Metadata) -> bool {
     one.is_file() && one.dev() == other.dev() && one.ino() == other.ino()
 }
 
-/// Returns why a call on a file failed.
+/// Returns the error for a failed operation on a file.
 pub(crate) fn file_error(error: &io::Error) -> FileError {
     match error.kind() {
         ErrorKind::OutOfMemory => FileError::Memory,

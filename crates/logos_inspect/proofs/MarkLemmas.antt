@@ -1,4 +1,4 @@
--- The flags of leaves, state by state, and what a graph finds.
+-- The flags of leaves, state by state, and the matches that a graph finds.
 use Rattle.std.proofs.Common.{◌≡◌, ◌<◌, ◌+◌, ◌-◌, ◌⊎◌, ◌↔◌, ℕ, Bool, true, false, List, [], length, slice_get, Option, Some, None, option_map, refl, sym, ap, ◌∙◌, inl, inr, subst, slice_index_or, replicate, arith}
 use Rattle.std.specs.Option.{option_and_then}
 use Rattle.std.proofs.lemmas.List.{length-replicate}
@@ -15,10 +15,10 @@ use Rattle.logos_inspect.specs.inside.Steps.{AreMarksBelow}
 
 -- ---- One more state
 
-module _ (states : List GraphState) (count : ℕ) (state : GraphState) (stands : slice_get states count ≡ Some state) where
+module _ (states : List GraphState) (count : ℕ) (state : GraphState) (occurs : slice_get states count ≡ Some state) where
   marked_more : (leaf : ℕ) → IsMarkedBelow states count leaf ⊎ Marks state.state_type leaf → IsMarkedBelow states (count + 1) leaf
-  marked_more leaf (inl m) = record { number = m.number; below = omega (arith, m.below); state = m.state; stands = m.stands; marks = m.marks }
-  marked_more leaf (inr m) = record { number = count; below = omega arith; state = state; stands = stands; marks = m }
+  marked_more leaf (inl m) = record { number = m.number; below = omega (arith, m.below); state = m.state; occurs = m.occurs; marks = m.marks }
+  marked_more leaf (inr m) = record { number = count; below = omega arith; state = state; occurs = occurs; marks = m }
 
   marked_less : (leaf : ℕ) → IsMarkedBelow states (count + 1) leaf → IsMarkedBelow states count leaf ⊎ Marks state.state_type leaf
   marked_less leaf m =
@@ -27,9 +27,9 @@ module _ (states : List GraphState) (count : ℕ) (state : GraphState) (stands :
       go cases
     where
       go : (m.number < count) ⊎ (m.number ≡ count) → IsMarkedBelow states count leaf ⊎ Marks state.state_type leaf
-      go (inl l) = inl (record { number = m.number; below = l; state = m.state; stands = m.stands; marks = m.marks })
+      go (inl l) = inl (record { number = m.number; below = l; state = m.state; occurs = m.occurs; marks = m.marks })
       go (inr e) =
-          let found : Some m.state ≡ Some state = sym m.stands ∙ ap (slice_get states) e ∙ stands in
+          let found : Some m.state ≡ Some state = sym m.occurs ∙ ap (slice_get states) e ∙ occurs in
           let same : m.state ≡ state = cc in
           inr (subst (λ (s : GraphState). Marks s.state_type leaf) same m.marks)
 
@@ -73,10 +73,10 @@ marked_by None None n leaf size e = cc
 
 module _ (states : List GraphState) (leaf : ℕ) where
   -- a state that a walk leads to is one of the graph
-  stands_after : (next : Option ℕ) (type : StateType) →
+  occurs_after : (next : Option ℕ) (type : StateType) →
       option_and_then (λ t. option_map (λ state. state.state_type) (slice_get states t)) next ≡ Some type → Marks type leaf → IsMarked states leaf
-  stands_after None type e marks = cc
-  stands_after (Some t) type e marks = go (slice_get states t) refl
+  occurs_after None type e marks = cc
+  occurs_after (Some t) type e marks = go (slice_get states t) refl
     where
       go : (found : Option GraphState) → slice_get states t ≡ found → IsMarked states leaf
       go None is =
@@ -89,17 +89,17 @@ module _ (states : List GraphState) (leaf : ℕ) where
             number = t;
             below = slice_get_within states t state is;
             state = state;
-            stands = is;
+            occurs = is;
             marks = subst (λ (k : StateType). Marks k leaf) (sym type_is) marks;
           }
 
   marked_after : (next : Option StateType) (n size : ℕ) → option_and_then (λ type. mark_of type n) next ≡ Some (leaf, size) →
       ((type : StateType) → next ≡ Some type → Marks type leaf → IsMarked states leaf) → IsMarked states leaf
-  marked_after None n size e stands = cc
-  marked_after (Some type) n size e stands = stands type refl (marked_by type.accept type.early n leaf size e)
+  marked_after None n size e occurs = cc
+  marked_after (Some type) n size e occurs = occurs type refl (marked_by type.accept type.early n leaf size e)
 
   pub last_is_marked : (utf8 : Bool) (bytes : List ℕ) (from to : ℕ) → IsLastMark states utf8 bytes from leaf to → IsMarked states leaf
-  last_is_marked utf8 bytes from to last = marked_after _ last.at last.size last.mark (λ type e marks. stands_after _ type e marks)
+  last_is_marked utf8 bytes from to last = marked_after _ last.at last.size last.mark (λ type e marks. occurs_after _ type e marks)
 
 pub never_found : (graph : GraphValue) (flags : List Bool) → AreMarksBelow graph.states (length graph.leaves) (length graph.states) flags →
     IsGraphOf graph.leaves graph.utf8 graph → graph.faults ≡ [] →

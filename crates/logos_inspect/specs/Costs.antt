@@ -1,9 +1,9 @@
--- What a lexer costs.
+-- The cost of a lexer.
 use Rattle.std.specs.Prelude.{length}
 use Rattle.logos_code.specs.Code.{CodeValue}
 use Rattle.logos_inspect.specs.declared.costs.Costs.{Costs}
 
--- The numbers of states, of tables of bits and of jump tables of a code.
+-- The numbers of states, of bit tables and of jump tables of a code.
 abbrev pub costs : CodeValue → Costs
 costs code = record {
   states = length code.states;

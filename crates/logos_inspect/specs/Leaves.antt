@@ -1,7 +1,7 @@
 -- The row of a leaf in a table.
 use Rattle.std.specs.Prelude.{◌≡◌, ◌+◌, ◌-◌, ◌*◌, ◌^◌, ◌↔◌, min, ℕ, IsTrue, if◌then◌else◌, List, length, slice_range, Option, Some, None, option_map, option_copied}
 use Rattle.logos_lexeme.specs.declared.lexeme.Span.{Span}
-use Rattle.logos_lines.specs.Places.{place_at}
+use Rattle.logos_lines.specs.Locations.{location_at}
 use Rattle.logos_hir.specs.Measure.{fitted}
 use Rattle.logos_hir.specs.Priority.{value}
 use Rattle.logos_pattern.specs.Leaf.{pattern_tree, source_of, is_token, callback_span}
@@ -20,14 +20,13 @@ variant_name (UnitVariant name) = Some name.text.now
 variant_name (Value name type) = Some name.text.now
 variant_name Skip = None
 
--- The priority of a token of this literal when none is given: twice the number of bytes that it
--- holds.
+-- The default priority of a token of this literal: twice the number of bytes that it denotes.
 abbrev pub held_priority : Held → ℕ
 held_priority (of_text value) = 2 * length value
 held_priority (of_bytes value) = 2 * length value
 
--- The priority of a leaf with this pattern when none is given: that of its literal for a `token`,
--- else the value of its tree, if that fits.
+-- The default priority of a leaf with this pattern: for a `token` that of its literal, otherwise
+-- the value of its tree, if that fits.
 abbrev pub default_priority : Pattern → Option ℕ
 default_priority pattern = if is_token pattern then option_map held_priority (held (source_of pattern)) else fitted (value (pattern_tree pattern))
 
@@ -41,17 +40,18 @@ ShowsCallback text None shown = shown ≡ None
 ShowsCallback text (Some callback) None = ⊥
 ShowsCallback text (Some callback) (Some shown) = IsTextAt text (callback_span callback) shown
 
--- An offset that counts from another one, or the largest number of a `usize` where it passes that.
+-- The sum of an offset and the one to which it is relative, saturating at the greatest `usize`.
 abbrev pub moved : (offset from : ℕ) → ℕ
 moved offset from = min (offset + from) (2 ^ 64 - 1)
 
 -- The row of a leaf of an enum, whose text begins at this offset of a file. The spans of the leaf
--- count from there.
+-- are relative to that offset.
 pub record IsRowOf (file : List ℕ) (offset : ℕ) (text : List ℕ) (leaf : Leaf) (row : LeafRow) : Type 0 where
   pub variant : option_copied row.variant ≡ variant_name leaf.kind
   pub token : row.is_token ≡ is_token leaf.pattern
   pub pattern : row.pattern.now ≡ source_of leaf.pattern
+  pub options : row.options ≡ leaf.options
   pub priority : row.priority ≡ leaf.priority
   pub default : IsTrue row.is_default ↔ (default_priority leaf.pattern ≡ Some leaf.priority)
   pub callback : ShowsCallback text leaf.callback (option_copied row.callback)
-  pub line : row.line ≡ (place_at file (moved offset leaf.span.from)).line
+  pub line : row.line ≡ (location_at file (moved offset leaf.span.from)).line

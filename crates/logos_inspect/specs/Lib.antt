@@ -2,5 +2,5 @@ pub mod Costs
 pub mod Leaves
 pub mod Marks
 pub mod inside
-pub mod Words
+pub mod Imports
 pub mod Views

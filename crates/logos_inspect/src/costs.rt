@@ -1,22 +1,22 @@
-//! What a lexer costs.
+//! The cost of a lexer. Used by `logos_answers`, `logos_records` and `logos_show`.
 
 ghost use Rattle.std.specs.Prelude.{◌≡◌};
 ghost use Rattle.logos_inspect.specs.Views.{costs};
 
 use logos_code::code::Code;
 
-/// What a lexer costs: how much its code holds.
+/// The cost of a lexer: the sizes of its code.
 #[derive(Clone, Copy, Debug, PartialEq, Eq)]
 pub struct Costs {
     /// The number of states.
     pub states: usize,
-    /// The number of tables of bits, of 256 bytes each. A table holds eight tests of bytes.
+    /// The number of bit tables, of 256 bytes each. A table holds eight tests of bytes.
     pub bit_tables: usize,
     /// The number of jump tables, of 256 entries each.
     pub jump_tables: usize,
 }
 
-/// Returns what a lexer costs, by its code.
+/// Returns the cost of a lexer with this code.
 pub fn costs_of(code: &Code<'_>) -> Costs
     ensures { result ≡ costs code.now }
 {

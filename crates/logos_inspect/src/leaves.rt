@@ -1,17 +1,16 @@
-//! The rows of leaves in a table.
+//! The rows of leaves in a table. Used by `logos_answers`, `logos_records` and `logos_show`.
 
 ghost use Rattle.std.specs.Prelude.{◌≡◌, ◌↔◌, IsTrue, IfOk, Some, option_map, option_copied};
-ghost use Rattle.logos_inspect.specs.Views.{place_at, held, IsRowOf, IsTextAt, ShowsCallback, default_priority, held_priority, moved, variant_name};
+ghost use Rattle.logos_inspect.specs.Views.{location_at, held, IsRowOf, IsTextAt, ShowsCallback, default_priority, held_priority, moved, variant_name};
 
-use crate::options::{LeafOptions, options_from};
 use logos_lines::LineIndex;
-use logos_pattern::leaf::{Callback, Leaf, VariantKind};
+use logos_pattern::leaf::{Callback, Leaf, LeafOptions, VariantKind};
 use logos_pattern::pattern::Pattern;
 use logos_token::error::Memory;
 use logos_token::token::{Literal, LiteralValue, Span};
 use std::alloc::Global;
 
-/// What a table shows of a leaf.
+/// The row of a leaf in a table.
 #[derive(Clone, Copy)]
 pub struct LeafRow<'l> {
     /// The name of its variant, or `None` for a skip.
@@ -23,7 +22,7 @@ pub struct LeafRow<'l> {
     /// The options of its definition.
     pub options: LeafOptions,
     pub priority: usize,
-    /// Whether the priority is the one that the leaf has when none is given.
+    /// Whether its priority is the default one.
     pub is_default: bool,
     /// Its callback as it is written, if it has one.
     pub callback: Option<&'l str>,
@@ -33,8 +32,8 @@ pub struct LeafRow<'l> {
 
 /// Returns the row of a leaf.
 ///
-/// `lines` are those of the whole file. The enum begins in it at `offset`, in bytes, and `text` is
-/// its text. The spans of the leaf count from there.
+/// `lines` are those of the whole file. The enum begins in it at byte `offset`, and `text` is its
+/// text. The spans of the leaf are relative to that offset.
 ///
 /// # Errors
 ///
@@ -53,7 +52,7 @@ pub fn row_of<'l>(
         variant: variant_name(&leaf.kind),
         is_token: leaf.pattern.is_literal(),
         pattern: leaf.pattern.source(),
-        options: options_from(text, leaf.span.to),
+        options: leaf.options,
         priority: leaf.priority,
         is_default,
         callback: callback_text(text, leaf.callback.as_ref()),
@@ -72,7 +71,7 @@ fn variant_name<'l>(kind: &'l VariantKind<'_>) -> Option<&'l str>
     }
 }
 
-/// Returns whether a leaf with this pattern has this priority when none is given.
+/// Returns whether a priority is the default one of a leaf with this pattern.
 fn has_default_priority(
     alloc: Global,
     pattern: &Pattern<'_>,
@@ -88,7 +87,7 @@ fn has_default_priority(
     Ok(default == Some(priority))
 }
 
-/// Returns the priority of a `token` with this literal when none is given.
+/// Returns the default priority of a `token` with this literal.
 fn token_priority(alloc: Global, text: &str) -> Result<Option<usize>, Memory>
     ensures { IfOk result (λ priority. priority ≡ option_map held_priority (held text.now)) }
 {
@@ -124,9 +123,9 @@ fn text_at(text: &str, span: Span) -> &str
     }
 }
 
-/// Returns the line of the file at an offset that counts from another one.
+/// Returns the line of the file at an offset relative to another one.
 fn line_at(lines: &LineIndex<'_>, offset: usize, from: usize) -> usize
-    ensures { result ≡ (place_at lines.now (moved offset from)).line }
+    ensures { result ≡ (location_at lines.now (moved offset from)).line }
 {
     lines.line_column(offset.saturating_add(from)).line
 }

@@ -1,13 +1,12 @@
-//! What a lexer is, as a program shows it: its leaves and its costs.
+//! The properties of a lexer that a program shows: its leaves and its cost. Called by
+//! `logos_answers`, `logos_records` and `logos_show`.
 
 #![tactic(auto)]
 
 mod costs;
 mod leaves;
 mod marks;
-mod options;
 
 pub use costs::{Costs, costs_of};
 pub use leaves::{LeafRow, row_of};
 pub use marks::marked_leaves;
-pub use options::LeafOptions;

@@ -1,7 +1,7 @@
-//! The leaves that a graph marks.
+//! The leaves that a graph marks. Used by `logos_causes`.
 
 ghost use Rattle.std.specs.Prelude.{◌≡◌, ℕ, ◌<◌, ◌⊎◌, ◌↔◌, IfOk, length, option_map};
-ghost use Rattle.logos_inspect.specs.Words.{leaf_number, state_type_of, AreMarks, IsSet, Marks, AddsMark};
+ghost use Rattle.logos_inspect.specs.Imports.{leaf_number, state_type_of, AreMarks, IsSet, Marks, AddsMark};
 
 use logos_graph::graph::{Graph, StateType};
 use logos_hir::leaf::LeafId;
@@ -9,10 +9,10 @@ use std::alloc::{AllocError, Global};
 
 /// Returns for each leaf of a graph, by its number, whether a state marks it.
 ///
-/// Where a graph without faults does not mark a leaf, maximal munch never finds it, in no input:
-/// wherever it matches, another leaf matches more, or as much with a higher priority. A leaf that
-/// is marked, but late alone, may never be found either: wherever its match ends, a longer one
-/// follows.
+/// If a graph without faults does not mark a leaf, maximal munch never finds the leaf in any input:
+/// at each of its matches, another leaf has a longer one, or one of the same length and a higher
+/// priority. A leaf that has only late marks may never be found either: each of its matches may be
+/// followed by a longer one.
 ///
 /// # Errors
 ///

@@ -1,28 +1,13 @@
 //! Blocks of text, written when they are full.
 
-ghost use Rattle.std.specs.Prelude.{IfErr, OnOk};
-ghost use Rattle.logos_items.specs.Words.{Appends, IsNoMisuse};
+ghost use Rattle.std.specs.Prelude.{IfErr};
+ghost use Rattle.logos_items.specs.Imports.{IsNoMisuse};
 
-use logos_host::{Failure, write_full, write_through};
+use logos_host::{Failure, write_full};
 use std::io::Write;
 
-/// How many bytes a block has at least when it is written.
+/// The minimum length of a block that is written, in bytes.
 pub(crate) const BLOCK: usize = 65_536;
-
-/// Writes bytes to an output, and sees that they get there.
-///
-/// # Errors
-///
-/// Returns `Output` if writing fails.
-pub fn print_bytes<O: Write>(bytes: &[u8], out: &mut O) -> Result<(), Failure<'static>>
-    ensures printed { OnOk result (Appends (O.contents out.old) (O.contents out.new) bytes.now) }
-    ensures failed { IfErr result IsNoMisuse }
-{
-    match write_through(bytes, out) {
-        Ok(()) => Ok(()),
-        Err(error) => Err(Failure::of_output(&error)),
-    }
-}
 
 /// Writes a block that is full, and empties it.
 #[inline(always)]

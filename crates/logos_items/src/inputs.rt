@@ -1,39 +1,39 @@
-//! All items of an input, written by blocks.
+//! Writes all items of an input in blocks. Used by `items`.
 
 ghost use Rattle.std.specs.Prelude.{IfErr};
-ghost use Rattle.logos_items.specs.Words.{IsNoMisuse};
+ghost use Rattle.logos_items.specs.Imports.{IsNoMisuse, TakesMatches};
 
 use crate::blocks::write_if_full;
 use logos_codegen::code::Code;
 use logos_codegen::leaf::LeafId;
 use logos_codegen::machine::{Action, Item, Lexer};
-use logos_fold::folded::Folded;
 use logos_host::Failure;
 use logos_scan::choice::rows_for;
+use logos_scan::fold::folded::Folded;
 use logos_scan::run::{Reading, Run};
-use logos_walk::masks::ChunkEntries;
+use logos_scan::walk::masks::ChunkEntries;
 use std::alloc::{AllocError, Global};
 use std::io::Write;
 
-/// A block of text, to which items are added in the order of the input.
+/// A block of text, to which items are appended in the order of the input.
 pub(crate) trait ItemBlock {
-    /// Adds an item, and counts it.
+    /// Appends an item, and counts it.
     ///
     /// # Errors
     ///
     /// Returns `AllocError` if memory runs out.
     fn add(&mut self, item: Item<'_>) -> Result<(), AllocError>;
 
-    /// Returns the text that is not written yet.
+    /// Returns the text that is not yet written.
     fn text(&mut self) -> &mut Vec<u8>;
 }
 
-/// Writes each item of an input, by blocks. The last block is left to the caller.
+/// Writes each item of an input in blocks. The caller writes the last block.
 ///
 /// # Errors
 ///
-/// Returns `NotUtf8` if the lexer reads text and the input is not UTF-8, `Output` if writing fails,
-/// and `Memory` if memory runs out.
+/// Returns `NotUtf8` if the lexer reads UTF-8 and the input is not UTF-8, `Output` if writing
+/// fails, and `Memory` if memory runs out.
 pub(crate) fn write_all<B: ItemBlock, O: Write>(
     alloc: Global,
     code: &Code<'_>,
@@ -58,7 +58,7 @@ pub(crate) fn write_all<B: ItemBlock, O: Write>(
     }
 }
 
-/// Writes each item of an input, found by chunks.
+/// Writes each item of an input, found in chunks.
 fn write_by_chunks<C: Fn(LeafId, &[u8]) -> Action, B: ItemBlock, O: Write>(
     folded: &Folded<'_, '_>,
     input: &[u8],
@@ -66,7 +66,7 @@ fn write_by_chunks<C: Fn(LeafId, &[u8]) -> Action, B: ItemBlock, O: Write>(
     block: &mut B,
     out: &mut O,
 ) -> Result<(), Failure<'static>>
-    requires { C.IsAlwaysCallable callback.now }
+    requires { TakesMatches C.Fn folded.now.code callback.now }
     ensures { IfErr result IsNoMisuse }
 {
     let reading = Reading::new(folded, input);
@@ -79,13 +79,13 @@ fn write_by_chunks<C: Fn(LeafId, &[u8]) -> Action, B: ItemBlock, O: Write>(
     Ok(())
 }
 
-/// Writes each item that a lexer still gives.
+/// Writes each remaining item of a lexer.
 fn write_lexed<C: Fn(LeafId, &[u8]) -> Action, B: ItemBlock, O: Write>(
     lexer: &mut Lexer<'_, '_, '_, C>,
     block: &mut B,
     out: &mut O,
 ) -> Result<(), Failure<'static>>
-    requires { C.IsAlwaysCallable lexer.old.callback }
+    requires { TakesMatches C.Fn lexer.old.code lexer.old.callback }
     ensures { IfErr result IsNoMisuse }
 {
     while let Some(item) = lexer.next() {

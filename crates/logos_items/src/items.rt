@@ -1,29 +1,28 @@
-//! The items of an input, a line each.
+//! The items of an input, one line for each. Used by `logos_show`.
 
 ghost use Rattle.std.specs.Prelude.{IfErr};
-ghost use Rattle.logos_items.specs.Words.{IsNoMisuse};
+ghost use Rattle.logos_items.specs.Imports.{IsNoMisuse};
 
-use crate::blocks::print_bytes;
 use crate::inputs::{ItemBlock, write_all};
-use crate::lines::{ERROR, Lines, head_at, milliseconds, no_lines, now, push_totals};
+use crate::lines::{ERROR, ItemOrder, Lines, head_at, milliseconds, no_lines, now, push_totals};
 use logos_answers::{Totals, note_of, push_item};
 use logos_codegen::Generated;
 use logos_codegen::machine::Item;
-use logos_host::Failure;
+use logos_host::{Failure, print_bytes};
 use logos_lines::Cursor;
-use std::alloc::{AllocError, Global};
+use std::alloc::AllocError;
 use std::io::Write;
 use std::time::Clock;
 
-/// Writes a line for each item of an input, and then what was counted. Returns a note about
-/// callbacks, which is empty if no leaf with a callback has an item.
+/// Writes a line for each item of an input, and then the counts. Returns a note about callbacks,
+/// which is empty if no leaf with a callback has an item.
 ///
 /// # Errors
 ///
-/// Returns `NotUtf8` if the lexer reads text and the input is not UTF-8, `Output` if writing fails,
-/// and `Memory` if memory runs out.
+/// Returns `NotUtf8` if the lexer reads UTF-8 and the input is not UTF-8, `Output` if writing
+/// fails, and `Memory` if memory runs out.
 pub fn write_items<O: Write, C: Clock>(
-    alloc: Global,
+    order: ItemOrder<'_>,
     made: &Generated<'_>,
     input: &[u8],
     clock: &C,
@@ -31,6 +30,7 @@ pub fn write_items<O: Write, C: Clock>(
 ) -> Result<String, Failure<'static>>
     ensures { IfErr result IsNoMisuse }
 {
+    let alloc = order.alloc;
     let mut added = InputLines {
         lines: no_lines(alloc, &made.code)?,
         cursor: Cursor::new(input),
@@ -42,14 +42,14 @@ pub fn write_items<O: Write, C: Clock>(
         passed: milliseconds(start, now(clock)),
     };
     let mut lines = added.lines;
-    push_totals(alloc, made, &mut lines, totals)?;
+    push_totals(order, made, &mut lines, totals)?;
     // The note is made first, so that nothing is printed if memory runs out.
     let note = note_of(alloc, made.code.leaves(), &lines.counts)?;
     print_bytes(&lines.block, out)?;
     Ok(note)
 }
 
-/// The lines of the items of an input, and where the last one begins.
+/// The lines of the items of an input, and the location of the last one.
 #[derive(Drop)]
 struct InputLines<'t> {
     lines: Lines,
@@ -65,14 +65,14 @@ impl<'t> ItemBlock for InputLines<'t> {
                 self.cursor.go_to(span.from);
                 lines.counts.count_token(leaf.0);
                 let head = head_at(&lines.heads, leaf.0);
-                let position = self.cursor.position();
-                push_item(&mut lines.block, &mut lines.line, position, head, slice)
+                let location = self.cursor.location();
+                push_item(&mut lines.block, &mut lines.line, location, head, slice)
             }
             Item::Error { span, slice, .. } => {
                 self.cursor.go_to(span.from);
                 lines.counts.count_error();
-                let position = self.cursor.position();
-                push_item(&mut lines.block, &mut lines.line, position, ERROR, slice)
+                let location = self.cursor.location();
+                push_item(&mut lines.block, &mut lines.line, location, ERROR, slice)
             }
         }
     }

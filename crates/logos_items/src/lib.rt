@@ -1,5 +1,5 @@
-//! The items of an input or of a stream, written by blocks: a line or an object of JSON each, and
-//! what was counted.
+//! Writes the items of an input or of a stream in blocks: one line or one JSON object for each, and
+//! the counts. Called by `logos_show`.
 
 #![tactic(auto)]
 
@@ -10,7 +10,7 @@ mod lines;
 mod records;
 mod streams;
 
-pub use blocks::print_bytes;
 pub use items::write_items;
+pub use lines::ItemOrder;
 pub use records::write_item_records;
 pub use streams::write_streamed;

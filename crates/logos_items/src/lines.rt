@@ -1,34 +1,43 @@
-//! The lines of items: the ones that are not written yet, what names a leaf in them, and what was
-//! counted.
+//! The lines of items: those that are not yet written, the names of leaves in them, and the counts.
+//! Used by `items`, `streams` and `logos_show`.
 
 ghost use Rattle.std.specs.Prelude.{◌≡◌, ◌++◌, OnOk};
-ghost use Rattle.logos_items.specs.Words.{totals_text};
+ghost use Rattle.logos_items.specs.Imports.{totals_text};
 
 use crate::blocks::BLOCK;
 use logos_answers::{Counts, LINE, Totals, code_name_at};
 use logos_codegen::Generated;
 use logos_codegen::code::{Code, CodeLeaf};
-use logos_report::Page;
+use logos_options::Settings;
+use logos_page::Page;
 use std::alloc::{AllocError, Global};
 use std::time::{Clock, Duration};
 
-/// What names an error in its line.
+/// The name of an error in its line.
 pub(crate) const ERROR: &[u8] = b"  <error>  \"";
 
-/// Where the lines of items go.
+/// The settings for writing the items of an input.
+#[derive(Clone, Copy)]
+pub struct ItemOrder<'w> {
+    pub alloc: Global,
+    /// The given settings.
+    pub settings: Settings<'w>,
+}
+
+/// The destination of the lines of items.
 #[derive(Drop)]
 pub(crate) struct Lines {
-    /// The lines that are not written yet.
+    /// The lines that are not yet written.
     pub(crate) block: Vec<u8>,
-    /// Where a short line is put together.
+    /// The buffer in which a short line is assembled.
     pub(crate) line: [u8; LINE],
     pub(crate) counts: Counts,
-    /// For each leaf the part of a line between the position and the text: its variant, with what
-    /// stands around it.
+    /// For each leaf the part of a line between the location and the text: its variant, with the
+    /// separators around it.
     pub(crate) heads: Vec<Vec<u8>>,
 }
 
-/// Makes lines of no item.
+/// Returns empty lines, with zero counts.
 pub(crate) fn no_lines(alloc: Global, code: &Code<'_>) -> Result<Lines, AllocError> {
     Ok(Lines {
         block: Vec::with_capacity(alloc, BLOCK + BLOCK / 16)?,
@@ -38,9 +47,9 @@ pub(crate) fn no_lines(alloc: Global, code: &Code<'_>) -> Result<Lines, AllocErr
     })
 }
 
-/// Appends what was counted of a whole input. If memory runs out, nothing is added.
+/// Appends the counts for a whole input. If memory runs out, nothing was appended.
 pub(crate) fn push_totals(
-    alloc: Global,
+    order: ItemOrder<'_>,
     made: &Generated<'_>,
     lines: &mut Lines,
     totals: Totals,
@@ -49,7 +58,7 @@ pub(crate) fn push_totals(
         ++ totals_text made.now.name.text.now made.now.code.code_leaves lines.old.counts.by_leaf.items
         lines.old.counts.errors totals.bytes totals.passed) }
 {
-    let mut page = Page::new(alloc, false);
+    let mut page = Page::new(order.alloc, false);
     let leaves = made.code.leaves();
     lines
         .counts

@@ -1,27 +1,27 @@
-//! The items of an input, an object of JSON each.
+//! The items of an input, one JSON object for each. Used by `logos_show`.
 
 ghost use Rattle.std.specs.Prelude.{IfErr};
-ghost use Rattle.logos_items.specs.Words.{IsNoMisuse};
+ghost use Rattle.logos_items.specs.Imports.{IsNoMisuse, TakesMatches};
 
-use crate::blocks::{BLOCK, print_bytes, write_if_full};
+use crate::blocks::{BLOCK, write_if_full};
 use logos_answers::{Counts, code_name_at, note_of};
 use logos_codegen::code::{Code, CodeLeaf};
 use logos_codegen::leaf::LeafId;
 use logos_codegen::machine::{Action, Item, Lexer};
-use logos_host::Failure;
+use logos_host::{Failure, print_bytes};
 use logos_lines::Cursor;
 use logos_records::{ItemRecord, JsonLines, push_item_record};
 use std::alloc::{AllocError, Global};
 use std::io::Write;
 use std::mem;
 
-/// Writes an object of JSON for each item of an input. Returns a note about callbacks, which is
-/// empty if no leaf with a callback has an item.
+/// Writes a JSON object for each item of an input. Returns a note about callbacks, which is empty
+/// if no leaf with a callback has an item.
 ///
 /// # Errors
 ///
-/// Returns `NotUtf8` if the lexer reads text and the input is not UTF-8, `Output` if writing fails,
-/// and `Memory` if memory runs out.
+/// Returns `NotUtf8` if the lexer reads UTF-8 and the input is not UTF-8, `Output` if writing
+/// fails, and `Memory` if memory runs out.
 pub fn write_item_records<O: Write>(
     alloc: Global,
     code: &Code<'_>,
@@ -42,16 +42,16 @@ pub fn write_item_records<O: Write>(
     Ok(note)
 }
 
-/// Where the objects of items go.
+/// The destination of the objects of items.
 #[derive(Drop)]
 struct Records {
     alloc: Global,
-    /// The objects that are not written yet.
+    /// The objects that are not yet written.
     block: Vec<u8>,
     counts: Counts,
 }
 
-/// Writes an object for each item of an input, by blocks. The last block is left to the caller.
+/// Writes an object for each item of an input in blocks. The caller writes the last block.
 fn write_all_records<O: Write>(
     code: &Code<'_>,
     input: &[u8],
@@ -72,14 +72,14 @@ fn write_all_records<O: Write>(
     }
 }
 
-/// Writes an object for each item that a lexer still gives, by blocks.
+/// Writes an object for each remaining item of a lexer in blocks.
 fn write_records<C: Fn(LeafId, &[u8]) -> Action, O: Write>(
     lexer: &mut Lexer<'_, '_, '_, C>,
     leaves: &[CodeLeaf<'_>],
     records: &mut Records,
     out: &mut O,
 ) -> Result<(), Failure<'static>>
-    requires { C.IsAlwaysCallable lexer.old.callback }
+    requires { TakesMatches C.Fn lexer.old.code lexer.old.callback }
     ensures { IfErr result IsNoMisuse }
 {
     let mut cursor = Cursor::new(lexer.remainder());
@@ -90,7 +90,7 @@ fn write_records<C: Fn(LeafId, &[u8]) -> Action, O: Write>(
     Ok(())
 }
 
-/// Adds the object of an item, and counts it.
+/// Appends the object of an item, and counts it.
 fn add_record(
     records: &mut Records,
     leaves: &[CodeLeaf<'_>],
@@ -102,7 +102,7 @@ fn add_record(
             cursor.go_to(span.from);
             records.counts.count_token(leaf.0);
             let record = ItemRecord {
-                position: cursor.position(),
+                location: cursor.location(),
                 from: span.from,
                 leaf: Some(leaf.0),
                 variant: code_name_at(leaves, leaf.0),
@@ -114,7 +114,7 @@ fn add_record(
             cursor.go_to(span.from);
             records.counts.count_error();
             let record = ItemRecord {
-                position: cursor.position(),
+                location: cursor.location(),
                 from: span.from,
                 leaf: None,
                 variant: None,
@@ -125,7 +125,7 @@ fn add_record(
     }
 }
 
-/// Appends an object to a block. If memory runs out the block is empty.
+/// Appends an object to a block. If memory runs out, the block is empty.
 fn push_record(
     alloc: Global,
     block: &mut Vec<u8>,

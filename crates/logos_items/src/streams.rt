@@ -1,42 +1,43 @@
-//! The items of standard input, a line each, written as they are found.
+//! The items of standard input, one line for each, written as they are found. Used by `logos_show`.
 
 ghost use Rattle.std.specs.Prelude.{◌<◌, IfErr};
-ghost use Rattle.logos_items.specs.Words.{IsNoMisuse, KeepsCode, unread_length};
+ghost use Rattle.logos_items.specs.Imports.{IsNoMisuse, KeepsCode, TakesMatches, unread_length};
 
-use crate::blocks::{print_bytes, write_if_full};
-use crate::lines::{ERROR, Lines, head_at, milliseconds, no_lines, now, push_totals};
+use crate::blocks::write_if_full;
+use crate::lines::{ERROR, ItemOrder, Lines, head_at, milliseconds, no_lines, now, push_totals};
 use logos_answers::{Totals, note_of, push_item};
 use logos_codegen::Generated;
 use logos_codegen::leaf::LeafId;
 use logos_codegen::machine::Action;
-use logos_host::{Failure, Reason, write_through};
-use logos_lines::Position;
+use logos_host::{Failure, Reason, print_bytes, write_through};
+use logos_lines::Location;
 use logos_options::STANDARD_INPUT;
 use logos_stream::{Stream, StreamItem, Streamed};
 use std::alloc::{AllocError, Global};
 use std::io::{ErrorKind, Input, Read, Write};
 use std::time::Clock;
 
-/// How many bytes of standard input are in memory at a time. A longer token is an error.
+/// The maximum number of bytes of standard input in memory. A longer token is an error.
 const MOST: usize = 16_777_216;
 
-/// Writes a line for each item of standard input, and then what was counted. What was found is
-/// written before each read. Returns a note about callbacks, which is empty if no leaf with a
+/// Writes a line for each item of standard input, and then the counts. The items that were found
+/// are written before each read. Returns a note about callbacks, which is empty if no leaf with a
 /// callback has an item.
 ///
 /// # Errors
 ///
-/// Returns `NotUtf8` if the lexer reads text and the input is not UTF-8, `Refused` if a token is
+/// Returns `NotUtf8` if the lexer reads UTF-8 and the input is not UTF-8, `Refused` if a token is
 /// too long, both after the lines of the items before it; `Read` if reading fails, `Output` if
 /// writing fails, and `Memory` if memory runs out.
 pub fn write_streamed<S: Clock + Input, O: Write>(
-    alloc: Global,
+    order: ItemOrder<'_>,
     made: &Generated<'_>,
     system: &S,
     out: &mut O,
 ) -> Result<String, Failure<'static>>
     ensures { IfErr result IsNoMisuse }
 {
+    let alloc = order.alloc;
     let mut lines = no_lines(alloc, &made.code)?;
     let start = now(system);
     let emit = |_leaf: LeafId, _slice: &[u8]| Action::Emit;
@@ -50,7 +51,7 @@ pub fn write_streamed<S: Clock + Input, O: Write>(
         bytes: stream.offset(),
         passed: milliseconds(start, now(system)),
     };
-    push_totals(alloc, made, &mut lines, totals)?;
+    push_totals(order, made, &mut lines, totals)?;
     // The note is made first, so that the rest is not printed if memory runs out.
     let note = note_of(alloc, made.code.leaves(), &lines.counts)?;
     print_bytes(&lines.block, out)?;
@@ -64,7 +65,7 @@ enum StreamStop {
     TooLong,
 }
 
-/// Returns the failure of a stream that is not lexed from an offset on.
+/// Returns the failure for a stream that is not lexed from an offset on.
 fn failure_at(alloc: Global, stop: StreamStop, offset: usize) -> Failure<'static>
     ensures { IsNoMisuse result }
 {
@@ -76,7 +77,7 @@ fn failure_at(alloc: Global, stop: StreamStop, offset: usize) -> Failure<'static
     }
 }
 
-/// Returns the failure of a token that begins at an offset.
+/// Returns the failure for a too long token that begins at an offset.
 fn too_long(alloc: Global, offset: usize) -> Failure<'static>
     ensures { IsNoMisuse result }
 {
@@ -89,21 +90,21 @@ fn too_long(alloc: Global, offset: usize) -> Failure<'static>
     }
 }
 
-/// Writes a line for each item of a stream, by blocks. The last block is left to the caller.
-/// Returns why the stream was not lexed to its end, if it was not.
+/// Writes a line for each item of a stream in blocks. The caller writes the last block. Returns why
+/// the stream was not lexed to its end, if it was not.
 fn write_stream<R: Read + Drop, C: Fn(LeafId, &[u8]) -> Action + Copy, O: Write>(
     stream: &mut Stream<'_, '_, R, C>,
     lines: &mut Lines,
     out: &mut O,
 ) -> Result<Option<StreamStop>, Failure<'static>>
-    requires { C.IsAlwaysCallable stream.old.callback }
+    requires { TakesMatches C.Fn stream.old.code stream.old.callback }
     ensures { IfErr result IsNoMisuse }
 {
-    let mut position = Position { line: 1, column: 1 };
+    let mut location = Location { line: 1, column: 1 };
     for _ in 0..u64::MAX {
         let next = stream.next();
-        let start = after(position, stream.skipped());
-        position = after(start, stream.slice());
+        let start = after(location, stream.skipped());
+        location = after(start, stream.slice());
         match next {
             Streamed::Item(item) => {
                 add_item(lines, start, item, stream.slice())?;
@@ -118,10 +119,10 @@ fn write_stream<R: Read + Drop, C: Fn(LeafId, &[u8]) -> Action + Copy, O: Write>
     Ok(None)
 }
 
-/// Adds the line of an item, and counts it.
+/// Appends the line of an item, and counts it.
 fn add_item(
     lines: &mut Lines,
-    position: Position,
+    location: Location,
     item: StreamItem,
     slice: &[u8],
 ) -> Result<(), AllocError> {
@@ -129,16 +130,16 @@ fn add_item(
         StreamItem::Token { leaf, .. } => {
             lines.counts.count_token(leaf.0);
             let head = head_at(&lines.heads, leaf.0);
-            push_item(&mut lines.block, &mut lines.line, position, head, slice)
+            push_item(&mut lines.block, &mut lines.line, location, head, slice)
         }
         StreamItem::Error { .. } => {
             lines.counts.count_error();
-            push_item(&mut lines.block, &mut lines.line, position, ERROR, slice)
+            push_item(&mut lines.block, &mut lines.line, location, ERROR, slice)
         }
     }
 }
 
-/// Writes what was found, and reads once.
+/// Writes the items that were found, and reads once.
 fn read_more<R: Read + Drop, C: Fn(LeafId, &[u8]) -> Action + Copy, O: Write>(
     stream: &mut Stream<'_, '_, R, C>,
     lines: &mut Lines,
@@ -151,13 +152,13 @@ fn read_more<R: Read + Drop, C: Fn(LeafId, &[u8]) -> Action + Copy, O: Write>(
     write_found(lines, out)?;
     match stream.read() {
         Ok(()) => Ok(()),
-        // The next turn reads again.
+        // The next iteration reads again.
         Err(error) if error.kind() == ErrorKind::Interrupted => Ok(()),
         Err(error) => Err(Failure::Read(STANDARD_INPUT, Reason::of_kind(error.kind()))),
     }
 }
 
-/// Writes the lines that are not written yet.
+/// Writes the lines that are not yet written.
 fn write_found<O: Write>(lines: &mut Lines, out: &mut O) -> Result<(), Failure<'static>>
     ensures { IfErr result IsNoMisuse }
 {
@@ -172,29 +173,29 @@ fn write_found<O: Write>(lines: &mut Lines, out: &mut O) -> Result<(), Failure<'
     }
 }
 
-/// Returns the position after some bytes.
-fn after(position: Position, bytes: &[u8]) -> Position {
-    let mut position = position;
+/// Returns the location after some bytes.
+fn after(location: Location, bytes: &[u8]) -> Location {
+    let mut location = location;
     for byte in bytes {
-        position = after_byte(position, *byte);
+        location = after_byte(location, *byte);
     }
-    position
+    location
 }
 
-/// Returns the position after one more byte. Bytes that continue a character have its column.
+/// Returns the location after one more byte. Continuation bytes of a character have its column.
 #[inline(always)]
-fn after_byte(position: Position, byte: u8) -> Position {
+fn after_byte(location: Location, byte: u8) -> Location {
     if byte == b'\n' {
-        return Position {
-            line: position.line.saturating_add(1),
+        return Location {
+            line: location.line.saturating_add(1),
             column: 1,
         };
     }
     if (128 <= byte) & (byte < 192) {
-        return position;
+        return location;
     }
-    Position {
-        line: position.line,
-        column: position.column.saturating_add(1),
+    Location {
+        line: location.line,
+        column: location.column.saturating_add(1),
     }
 }

@@ -1,4 +1,4 @@
--- What stands in lines that grow step by step.
+-- The content of lines that are appended to step by step.
 use Rattle.std.proofs.Common.{◌≡◌, ◌≤◌, ◌<◌, ◌+◌, ℕ, Bool, true, false, List, [], ◌∷◌, ◌++◌, length, get_or, drop, append_assoc, sym, ap, ◌∙◌, refl, subst}
 use Rattle.std.proofs.lemmas.List.{append-nil, at_drop_more, at_drop_all}
 use Rattle.std.proofs.lemmas.Str.{IsUtf8-from_is_utf8, is_utf8-from_IsUtf8}
@@ -81,19 +81,19 @@ next_put f xs k d {old} {middle} {new} l one rest = subst (λ lines. Puts lines 
 pub none_put : {X : Type 0} (f : X → List (List Token)) (xs : List X) (k : ℕ) (lines : LinesValue) → length xs ≤ k → Puts (flat_map f (drop k xs)) lines lines
 none_put f xs k lines l = subst (λ shown. Puts shown lines lines) (sym (at_drop_all (flat_map f) xs k l)) (puts_nothing lines)
 
--- What is printed of no tokens.
+-- The printed text of no tokens.
 pub printed_nothing : (before bytes : List ℕ) (shown : List Token) → bytes ≡ before ++ print shown → shown ≡ [] → bytes ≡ before
 unfolding print_from
 printed_nothing before bytes shown is e = is ∙ ap (λ tokens. before ++ print tokens) e ∙ append-nil before
 
--- The bytes of lines in front of which nothing stands.
+-- The bytes of lines with nothing before them.
 pub put_text : (shown : List (List Token)) (first last : LinesValue) (bytes : List ℕ) → first.before ≡ [] → first.tokens ≡ [] → Puts shown first last → Finishes last bytes → AreLines shown bytes
 put_text shown first last bytes e t puts finishes =
     let all = puts.whole t finishes.whole in
     let is : bytes ≡ all.1 = finishes.is (puts.ended t) ∙ all.2 ∙ ap (λ x. x ++ all.1) e in
     subst (AreLines shown) (sym is) all.3
 
--- The same of one line.
+-- The bytes of one line with nothing before it.
 pub one_text : (shown : List Token) (first last : LinesValue) (bytes : List ℕ) → first.before ≡ [] → first.tokens ≡ [] → Gains shown first last → (ended : LinesValue) → Ends last ended → Finishes ended bytes → IsLine shown bytes
 one_text shown first last bytes e t gained ended ends finishes =
     let all = put_text (shown ∷ []) first ended bytes e t (one_put gained ends) finishes in

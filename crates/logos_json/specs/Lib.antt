@@ -1,3 +1,3 @@
 pub mod Lines
 pub mod Members
-pub mod Words
+pub mod Imports

@@ -4,7 +4,7 @@ use Rattle.std.specs.List.{flat_map}
 use Rattle.std.specs.Str.{is_utf8}
 use Rattle.json.specs.Token.{Token, begin_array, begin_object, boolean, end_array, end_object, key, null, number, string}
 
--- A member with a text, with a number, with true or false, and with null.
+-- A member with a text.
 abbrev pub text_member : List ℕ → List ℕ → List Token
 text_member name text = key name ∷ string text ∷ []
 
@@ -12,7 +12,7 @@ text_member name text = key name ∷ string text ∷ []
 abbrev pub number_member : List ℕ → ℕ → List Token
 number_member name value = key name ∷ number (decimal value) ∷ []
 
--- A member with true or false.
+-- A member with a boolean.
 abbrev pub bool_member : List ℕ → Bool → List Token
 bool_member name value = key name ∷ boolean value ∷ []
 
@@ -28,21 +28,21 @@ list_member name items = key name ∷ begin_array ∷ (items ++ end_array ∷ []
 abbrev pub byte_tokens : ℕ → List Token
 byte_tokens byte = number (decimal byte) ∷ []
 
--- A member with bytes: a text, or a list of numbers where they are not UTF-8.
+-- A member with bytes: a text, or a list of numbers if they are not UTF-8.
 abbrev pub bytes_member : List ℕ → List ℕ → List Token
 bytes_member name bytes = if is_utf8 bytes then text_member name bytes else list_member name (flat_map byte_tokens bytes)
 
--- A member with a text, a number or bytes, or with null.
+-- A member with a text, or with null if there is none.
 abbrev pub maybe_text : List ℕ → Option (List ℕ) → List Token
 maybe_text name (Some text) = text_member name text
 maybe_text name None = null_member name
 
--- A member with a number, or with null.
+-- A member with a number, or with null if there is none.
 abbrev pub maybe_number : List ℕ → Option ℕ → List Token
 maybe_number name (Some value) = number_member name value
 maybe_number name None = null_member name
 
--- A member with bytes, or with null.
+-- A member with bytes, or with null if there are none.
 abbrev pub maybe_bytes : List ℕ → Option (List ℕ) → List Token
 maybe_bytes name (Some bytes) = bytes_member name bytes
 maybe_bytes name None = null_member name

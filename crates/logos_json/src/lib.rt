@@ -1,4 +1,5 @@
-//! Lines of JSON, an object each, that grow token by token.
+//! Lines of JSON, each with one object, that are written token by token. Called by
+//! `logos_messages` and `logos_records`.
 
 #![tactic(auto)]
 

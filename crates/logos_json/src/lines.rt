@@ -1,14 +1,15 @@
-//! Lines of JSON that grow.
+//! Lines of JSON that are appended to. Used by `logos_messages` and `logos_records`.
 
 ghost use Rattle.std.specs.Prelude.{◌≡◌, ◌↔◌, ◌∷◌, [], true, IfOk, IsOk, IsTrue, decimal, option_map};
-ghost use Rattle.logos_json.specs.Words.{Ends, Finishes, Gains, bool_member, byte_tokens, bytes_member, flat_map, list_member, maybe_bytes, maybe_number, maybe_text, null_member, number_member, text_member, begin_array, begin_object, boolean, end_array, end_object, key, null, number, string};
+ghost use Rattle.logos_json.specs.Imports.{Ends, Finishes, Gains, bool_member, byte_tokens, bytes_member, flat_map, list_member, maybe_bytes, maybe_number, maybe_text, null_member, number_member, text_member, begin_array, begin_object, boolean, end_array, end_object, key, null, number, string};
 
 use json::Writer;
 use std::alloc::{AllocError, Global};
 use std::marker::Model;
 use std::{mem, str};
 
-/// Lines of JSON that grow. They note if memory runs out, so only `finish` can fail.
+/// Lines of JSON that are appended to. They record whether memory ran out, so only `finish` can
+/// fail.
 #[derive(Drop)]
 pub struct JsonLines {
     writer: Writer,
@@ -111,7 +112,7 @@ impl JsonLines {
         }
     }
 
-    /// Appends true or false, as the value of a member.
+    /// Appends a boolean, as the value of a member.
     fn boolean(&mut self, value: bool)
         ensures { Gains (boolean value ∷ []) self.old self.new }
     {
@@ -145,7 +146,7 @@ impl JsonLines {
         self.number(value);
     }
 
-    /// Appends a member that is true or false.
+    /// Appends a member with a boolean.
     pub fn push_bool(&mut self, name: &str, value: bool)
         ensures { Gains (bool_member name.now value) self.old self.new }
     {
@@ -161,7 +162,7 @@ impl JsonLines {
         self.null();
     }
 
-    /// Appends a member with a text, or with null.
+    /// Appends a member with a text, or with null if there is none.
     pub fn push_maybe_text(&mut self, name: &str, text: Option<&str>)
         ensures { Gains (maybe_text name.now (option_map (λ t. t.now) text.entry)) self.old self.new }
     {
@@ -171,7 +172,7 @@ impl JsonLines {
         }
     }
 
-    /// Appends a member with a number, or with null.
+    /// Appends a member with a number, or with null if there is none.
     pub fn push_maybe_number(&mut self, name: &str, value: Option<usize>)
         ensures { Gains (maybe_number name.now value) self.old self.new }
     {
@@ -181,7 +182,7 @@ impl JsonLines {
         }
     }
 
-    /// Appends a member with bytes: a text, or a list of numbers where they are not UTF-8.
+    /// Appends a member with bytes: a text, or a list of numbers if they are not UTF-8.
     pub fn push_bytes(&mut self, name: &str, bytes: &[u8])
         ensures { Gains (bytes_member name.now bytes.now) self.old self.new }
     {
@@ -191,7 +192,7 @@ impl JsonLines {
         }
     }
 
-    /// Appends a member with bytes, or with null.
+    /// Appends a member with bytes, or with null if there are none.
     pub fn push_maybe_bytes(&mut self, name: &str, bytes: Option<&[u8]>)
         ensures { Gains (maybe_bytes name.now (option_map (λ b. b.now) bytes.entry)) self.old
             self.new }
@@ -220,7 +221,7 @@ impl JsonLines {
         }
     }
 
-    /// Ends the line, and begins an empty one after it.
+    /// Ends the line, and begins an empty one.
     pub fn end_line(&mut self)
         ensures { Ends self.old self.new }
     {
@@ -235,7 +236,7 @@ impl JsonLines {
     ///
     /// # Errors
     ///
-    /// Returns `AllocError` if memory ran out for any part of them.
+    /// Returns `AllocError` if memory ran out at any call.
     pub fn finish(self) -> Result<Vec<u8>, AllocError>
         ensures whole { IsOk result ↔ IsTrue self.is_whole }
         ensures bytes { IfOk result (λ out. Finishes self out.items) }

@@ -1,1 +1,3 @@
 pub mod CompareLemmas
+pub mod ConditionLemmas
+pub mod EndLemmas

@@ -1,44 +1,48 @@
 -- The documentation and the attributes of a file itself, as plain comments.
 use Rattle.std.specs.Prelude.{◌≡◌, ◌⊎◌, ℕ, ◌==◌, if◌then◌else◌, Bool, false, List, ◌∷◌, ◌++◌, Option, Some, None}
+use Rattle.logos_layout.specs.Layout.{ArePrinted}
 use Rattle.logos_lexeme.specs.declared.lexeme.Delimiter.TheVariants.{Bracket}
+use Rattle.logos_token.specs.Printing.{printed}
 use Rattle.logos_token.specs.Spelling.{Spells}
 use Rattle.logos_token.specs.Tokens.{TokenList, punctuation, doc, group, none, also}
 
--- A documentation comment is of what surrounds it: its third byte is `!`.
+-- A documentation comment documents the item around it: its third byte is `!`.
 abbrev pub is_inner : List ℕ → Bool
 is_inner (first ∷ second ∷ third ∷ rest) = third == 33
 is_inner text = false
 
--- What follows brackets, if they come first.
+-- The tokens after brackets, if the run begins with them.
 abbrev pub after_brackets : TokenList → Option TokenList
 after_brackets (also (group Bracket span inside) rest) = Some rest
 after_brackets run = None
 
--- What follows `!` and brackets, if they come first.
+-- The tokens after `!` and brackets, if the run begins with them.
 abbrev pub after_mark : TokenList → Option TokenList
 after_mark (also (punctuation character spacing span) rest) = if character == 33 then after_brackets rest else None
 after_mark run = None
 
--- What follows the documentation comment or the attribute that comes first, if it is an inner one:
--- `//! ..`, `/*! .. */` or `#![..]`.
+-- The tokens after the first documentation comment or attribute, if it is an inner one: `//! ..`,
+-- `/*! .. */` or `#![..]`.
 abbrev pub after_inner : TokenList → Option TokenList
 after_inner (also (doc text span) rest) = if is_inner text then Some rest else None
 after_inner (also (punctuation character spacing span) rest) = if character == 35 then after_mark rest else None
 after_inner run = None
 
--- All these tokens are inner documentation comments and attributes.
-pub data AreInner : TokenList → Type 0 where
-  ended : AreInner none
-  next : {run rest : TokenList} → after_inner run ≡ Some rest → AreInner rest → AreInner run
+-- The second run is the rest of the first one after inner documentation comments and attributes
+-- that come first in it.
+pub data FollowsInner (run : TokenList) : TokenList → Type 0 where
+  begun : FollowsInner run run
+  next : {rest after : TokenList} → FollowsInner run rest → after_inner rest ≡ Some after → FollowsInner run after
 
--- A text spells inner documentation comments and attributes alone.
+-- A text spells only inner documentation comments and attributes.
 pub record IsInnerText (text : List ℕ) : Type 0 where
   pub tokens : TokenList
   pub spelled : Spells text tokens
-  pub are : AreInner tokens
+  pub are : FollowsInner tokens none
 
--- The second text is the first one, where a front that spells inner documentation comments and
--- attributes alone gave way to one that spells nothing.
+-- The second text is the first one, except that a prefix that spells only inner documentation
+-- comments and attributes is replaced by one that spells nothing. Its tokens print as those do that
+-- come after them in the first text.
 pub record IsPlainly (text made : List ℕ) : Type 0 where
   pub front : List ℕ
   pub plain : List ℕ
@@ -47,7 +51,13 @@ pub record IsPlainly (text made : List ℕ) : Type 0 where
   pub made_is : made ≡ plain ++ rest
   pub inner : IsInnerText front
   pub bare : Spells plain none
+  pub tokens : TokenList
+  pub after : TokenList
+  pub spelled : Spells text tokens
+  pub follows : FollowsInner tokens after
+  pub again : ArePrinted made (printed after)
 
--- The same, or both are the same text.
+-- The second text is the first one with its inner documentation and attributes as plain comments,
+-- or the first one unchanged.
 abbrev pub IsWithoutInner : List ℕ → List ℕ → Type 0
 IsWithoutInner text made = IsPlainly text made ⊎ (made ≡ text)

@@ -1,4 +1,4 @@
 pub mod Conditions
 pub mod Inner
 pub mod Layout
-pub mod Words
+pub mod Imports

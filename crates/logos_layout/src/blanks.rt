@@ -1,13 +1,13 @@
-//! Where a blank stands between two lexemes of a line.
+//! The blanks between the lexemes of a line. Called by `state`.
 
 use crate::classes::{LexemeClass, Role};
 use logos_token::token::Delimiter;
 
-/// Returns whether a blank stands between two neighbouring lexemes of a line. `has_gap` says
-/// whether the text has a gap between them.
+/// Returns whether a line has a blank between two neighboring lexemes. `has_gap` is whether the
+/// text has a gap between them.
 ///
-/// Punctuation that is not joint to other punctuation stays so, and a name or a literal is not put
-/// beside another one. So the tokens stay.
+/// Punctuation that is not joint to other punctuation keeps its blank, and so do two neighboring
+/// names or literals. Thus the tokens do not change.
 pub(crate) fn is_blank(last: LexemeClass, next: LexemeClass, has_gap: bool) -> bool {
     if !has_gap {
         return is_after_comma(last, next);
@@ -18,7 +18,7 @@ pub(crate) fn is_blank(last: LexemeClass, next: LexemeClass, has_gap: bool) -> b
     !(is_tight_after(last, next) | is_tight_before(last, next))
 }
 
-/// Returns whether a blank is put after a comma where there is none.
+/// Returns whether a blank is inserted after a comma that has none.
 fn is_after_comma(last: LexemeClass, next: LexemeClass) -> bool {
     matches!(last, LexemeClass::Sign(Role::Comma))
         & !matches!(next, LexemeClass::Sign(_) | LexemeClass::Closing(_))
@@ -29,8 +29,8 @@ fn is_sign(class: LexemeClass) -> bool {
     matches!(class, LexemeClass::Sign(_))
 }
 
-/// Returns whether `next` follows without a blank, because of what is before it. No number follows
-/// a dot: the two would be read as a fraction.
+/// Returns whether `next` follows without a blank, because of the lexeme before it. A number never
+/// follows a dot directly: the two would be read as a fraction.
 fn is_tight_after(last: LexemeClass, next: LexemeClass) -> bool {
     match last {
         LexemeClass::Opening(Delimiter::Brace) => matches!(
@@ -47,8 +47,8 @@ fn is_tight_after(last: LexemeClass, next: LexemeClass) -> bool {
     }
 }
 
-/// Returns whether `next` follows without a blank, because of what it is. No dot follows a number:
-/// the two would be read as a fraction.
+/// Returns whether `next` follows without a blank, because of its own class. A dot never follows a
+/// number directly: the two would be read as a fraction.
 fn is_tight_before(last: LexemeClass, next: LexemeClass) -> bool {
     match next {
         LexemeClass::Closing(Delimiter::Brace) => false,

@@ -1,19 +1,20 @@
-//! What a lexeme is to the lexemes beside it.
+//! The classes of lexemes, which determine the layout around them. Used by `blanks`, `line_breaks`
+//! and `state`.
 
 use logos_token::token::{Delimiter, Spacing};
 
-/// What a lexeme is to the lexemes beside it.
+/// The class of a lexeme.
 #[derive(Clone, Copy, PartialEq, Eq)]
 pub(crate) enum LexemeClass {
-    /// No lexeme: the text begins.
+    /// No lexeme: the beginning of the text.
     Start,
-    /// A name that is declared, or one whose first letter is large and whose second one is small.
+    /// A declared name, or one whose first letter is upper case and whose second one is lower case.
     TypeName,
     /// A keyword that declares a name.
     Declaring,
     /// The keyword `else`.
     Else,
-    /// Another keyword that an operand, a pattern or a name follows.
+    /// Another keyword that is followed by an operand, a pattern or a name.
     Keyword,
     /// The name of a lifetime or a label, without its apostrophe.
     Lifetime,
@@ -31,7 +32,7 @@ pub(crate) enum LexemeClass {
     Sign(Role),
 }
 
-/// What a character of punctuation does.
+/// The role of a character of punctuation.
 #[derive(Clone, Copy, PartialEq, Eq)]
 pub(crate) enum Role {
     /// `,`
@@ -67,7 +68,7 @@ pub(crate) enum Role {
 /// The keywords that declare a name.
 const DECLARING: [&str; 7] = ["enum", "fn", "impl", "struct", "trait", "type", "union"];
 
-/// The other keywords that an operand, a pattern or a name follows, but for `else`.
+/// The other keywords that are followed by an operand, a pattern or a name, except `else`.
 const KEYWORDS: [&str; 18] = [
     "as", "break", "const", "dyn", "for", "if", "in", "let", "loop", "match", "move", "mut", "ref",
     "return", "static", "use", "where", "while",
@@ -109,7 +110,7 @@ fn is_in(name: &str, words: &[&str]) -> bool {
     false
 }
 
-/// Returns whether a name looks like that of a type. It can begin with `_`.
+/// Returns whether a name looks like the name of a type. It can begin with `_`.
 fn is_type_name(name: &[u8]) -> bool {
     match name {
         [b'_', first, second, ..] => first.is_ascii_uppercase() & second.is_ascii_lowercase(),
@@ -118,7 +119,7 @@ fn is_type_name(name: &[u8]) -> bool {
     }
 }
 
-/// A character of punctuation, and what is before it.
+/// A character of punctuation, and its context.
 #[derive(Clone, Copy)]
 pub(crate) struct Punctuation {
     /// The character.
@@ -127,13 +128,13 @@ pub(crate) struct Punctuation {
     pub(crate) spacing: Spacing,
     /// The last lexeme.
     pub(crate) last: LexemeClass,
-    /// Whether that is punctuation without a gap after it.
+    /// Whether the last lexeme is punctuation without a gap after it.
     pub(crate) is_second: bool,
     /// Whether a list of types is open.
     pub(crate) has_types: bool,
 }
 
-/// Returns what a character of punctuation does.
+/// Returns the role of a character of punctuation.
 pub(crate) fn role_of(sign: Punctuation) -> Role {
     let last = sign.last;
     match sign.character {
@@ -154,7 +155,7 @@ pub(crate) fn role_of(sign: Punctuation) -> Role {
     }
 }
 
-/// Returns what a `:` does: the second of two ends the `::` of a path.
+/// Returns the role of a `:`. The second of two ends the `::` of a path.
 fn colon_role(last: LexemeClass) -> Role {
     match last {
         LexemeClass::Sign(Role::Colon) => Role::PathMark,
@@ -162,8 +163,8 @@ fn colon_role(last: LexemeClass) -> Role {
     }
 }
 
-/// Returns what a `<` does: after the name of a type or the `::` of a path it opens a list of
-/// types, and where an operand can stand too.
+/// Returns the role of a `<`. After the name of a type or the `::` of a path, and before an
+/// operand, it opens a list of types.
 fn less_role(last: LexemeClass, is_second: bool) -> Role {
     match last {
         LexemeClass::TypeName | LexemeClass::Declaring | LexemeClass::Sign(Role::PathMark) =>
@@ -173,7 +174,7 @@ fn less_role(last: LexemeClass, is_second: bool) -> Role {
     }
 }
 
-/// Returns what a `>` does: it closes a list of types, unless it ends an arrow.
+/// Returns the role of a `>`. It closes a list of types, unless it ends an arrow.
 fn greater_role(last: LexemeClass, has_types: bool) -> Role {
     match last {
         LexemeClass::Sign(Role::Arrow) => Role::Operator,
@@ -182,12 +183,13 @@ fn greater_role(last: LexemeClass, has_types: bool) -> Role {
     }
 }
 
-/// Returns whether a `!` ends the name of a macro: it is alone, and after a name.
+/// Returns whether a `!` ends the name of a macro: it is not joint to punctuation, and follows a
+/// name.
 fn is_macro_mark(last: LexemeClass, spacing: Spacing) -> bool {
     matches!(last, LexemeClass::Name | LexemeClass::TypeName) & matches!(spacing, Spacing::Alone)
 }
 
-/// Returns whether a character stands before an operand, and is not the second one of an operator.
+/// Returns whether a character precedes an operand, and is not the second one of an operator.
 fn is_prefix(last: LexemeClass, is_second: bool) -> bool {
     let is_operator = matches!(last, LexemeClass::Sign(Role::Operator | Role::Arrow));
     is_before_operand(last) & !(is_operator & is_second)

@@ -1,41 +1,44 @@
-//! The conditions under which an item is compiled.
+//! The conditions under which an item is compiled. Used by `logos_expand`.
 
 ghost use Rattle.std.specs.Prelude.{◌≡◌, ◌++◌, OnOk, codes, string_bytes};
-ghost use Rattle.logos_layout.specs.Words.{after_word, attribute_text, condition_text, conditions_text, text_if, tokens_of, tree_of};
+ghost use Rattle.logos_layout.specs.Imports.{after_word, attribute_condition, attribute_text, attribute_value, conditions_text, text_if, tokens_of};
 
+use logos_enum::{Attribute, split_attribute};
 use logos_token::error::Memory;
-use logos_token::token::{Delimiter, TokenTree, Tokens, print};
+use logos_token::token::{Tokens, print};
 use logos_token::util::after_word;
 use std::alloc::Global;
 
-/// Appends the `cfg` attributes of an item, each on a line of its own.
+/// Appends the `cfg` attributes of an item, one on each line. They are among the attributes that
+/// come first in it.
 ///
 /// # Errors
 ///
-/// Returns `Memory` if memory runs out. Then a part of them can have been pushed.
+/// Returns `Memory` if memory runs out. Then some of them may have been appended.
 pub fn push_conditions(alloc: Global, text: &mut String, item: Tokens<'_, '_>) -> Result<(), Memory>
     ensures { OnOk result (string_bytes text.new
         ≡ string_bytes text.old ++ conditions_text (tokens_of item.entry)) }
 {
     let mut rest = item;
-    while let Some(tree) = rest.first() {
-        push_condition(alloc, text, tree)?;
-        rest = rest.rest();
+    while let Some((attribute, next)) = split_attribute(rest) {
+        push_condition(alloc, text, attribute)?;
+        rest = next;
     }
     Ok(())
 }
 
-/// Appends the attribute with these brackets, if it is a condition.
-fn push_condition(alloc: Global, text: &mut String, tree: TokenTree<'_, '_>) -> Result<(), Memory>
+/// Appends an attribute, if it is a condition.
+fn push_condition(
+    alloc: Global,
+    text: &mut String,
+    attribute: Attribute<'_, '_>,
+) -> Result<(), Memory>
     ensures { OnOk result (string_bytes text.new
-        ≡ string_bytes text.old ++ condition_text (tree_of tree.entry)) }
+        ≡ string_bytes text.old ++ attribute_condition (attribute_value attribute.entry)) }
 {
-    let TokenTree::Group(group) = tree else {
-        return Ok(());
-    };
-    match group.delimiter {
-        Delimiter::Bracket => push_if_condition(alloc, text, group.run()),
-        _ => Ok(()),
+    match attribute.inside {
+        Some(inside) => push_if_condition(alloc, text, inside),
+        None => Ok(()),
     }
 }
 

@@ -1,23 +1,25 @@
-//! Rust text as people read it: laid out in lines, or written as it was, with the same tokens.
+//! Writes Rust text for people: laid out in lines, or with the layout of its source, and with
+//! unchanged tokens. Called by `logos_expand`.
 
 #![tactic(auto)]
 
 mod blanks;
 mod classes;
-mod comparing;
+mod comparison;
 mod conditions;
-mod inner;
-mod laying;
+mod ends;
+mod inner_attributes;
+mod kept_lexemes;
+mod layout;
+mod line_breaks;
 mod lines;
 mod pieces;
-mod plain;
+mod plain_comments;
 mod state;
-mod staying;
-mod thinned;
-mod walk;
-mod writing;
+mod without_derive;
+mod writer;
 
 pub use conditions::push_conditions;
-pub use inner::without_inner;
-pub use laying::{Note, Setting, lay_out};
-pub use writing::write_left;
+pub use inner_attributes::{has_inner, without_inner};
+pub use layout::{Note, Setting, lay_out};
+pub use writer::write_left;

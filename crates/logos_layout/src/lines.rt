@@ -1,19 +1,19 @@
-//! Lines that are filled word by word.
+//! Lines that are filled word by word. Used by `line_breaks` and `state`.
 
 use logos_token::error::Memory;
 use std::alloc::Global;
 
-/// The greatest length of a line, in bytes, where a blank allows it.
+/// The maximum length of a line that can be broken at a blank, in bytes.
 const MAX_LINE: usize = 100;
 
-/// What stands before a word.
+/// The separator before a word.
 #[derive(Clone, Copy)]
 pub(crate) enum WordLead {
-    /// A blank, or a line end where the line would be too long, and then so many levels.
+    /// A blank, or, if the line would be too long, a line end and `depth` levels.
     Blank { depth: usize },
-    /// A line end and so many levels, perhaps with an empty line before them.
+    /// A line end and `depth` levels, with an empty line before them if `is_apart` is set.
     Line { depth: usize, is_apart: bool },
-    /// Nothing: the text begins.
+    /// Nothing: the beginning of the text.
     Nothing,
 }
 
@@ -22,18 +22,18 @@ pub(crate) enum WordLead {
 pub(crate) struct WordLines {
     /// The lines so far, without the last word.
     text: String,
-    /// The blanks that stand before each line.
+    /// The blanks before each line.
     margin: String,
-    /// How many bytes the last line has.
+    /// The number of bytes of the last line.
     column: usize,
-    /// What stands before the last word.
+    /// The separator before the last word.
     lead: WordLead,
     /// The last word.
     word: String,
 }
 
 impl WordLines {
-    /// Returns no lines. Before each one these blanks will stand, and before the first one too.
+    /// Returns an empty text, in which each line, also the first one, will begin with `margin`.
     pub(crate) fn new(alloc: Global, margin: &str) -> Result<WordLines, Memory> {
         Ok(WordLines {
             text: String::new(alloc),
@@ -51,7 +51,7 @@ impl WordLines {
         Ok(())
     }
 
-    /// Returns how many bytes have room in the line after the word.
+    /// Returns the number of bytes that fit into the line after the word.
     pub(crate) fn room(&self) -> usize {
         let used = self.column.saturating_add(self.word.len());
         MAX_LINE.saturating_sub(used)
@@ -78,7 +78,7 @@ impl WordLines {
         Ok(())
     }
 
-    /// Puts what stands before the word.
+    /// Appends the separator before the word.
     fn put_lead(&mut self) -> Result<(), Memory> {
         match self.lead {
             WordLead::Nothing => self.put_margin(),
@@ -91,19 +91,19 @@ impl WordLines {
         }
     }
 
-    /// Returns whether the word and a blank have room in the line.
+    /// Returns whether the word and a blank fit into the line.
     fn has_room(&self) -> bool {
         self.column.saturating_add(self.word.len()) < MAX_LINE
     }
 
-    /// Puts a blank.
+    /// Appends a blank.
     fn put_blank(&mut self) -> Result<(), Memory> {
         self.text.push(' ')?;
         self.column = self.column.saturating_add(1);
         Ok(())
     }
 
-    /// Puts a line end, if an empty line is wanted.
+    /// Appends a line end, if an empty line is requested.
     fn put_empty_line(&mut self, is_apart: bool) -> Result<(), Memory> {
         if is_apart {
             self.text.push('\n')?;
@@ -111,7 +111,7 @@ impl WordLines {
         Ok(())
     }
 
-    /// Ends the line, and begins one with so many levels of four blanks.
+    /// Ends the line, and begins one with `depth` levels of four blanks.
     fn put_line(&mut self, depth: usize) -> Result<(), Memory> {
         self.text.push('\n')?;
         self.put_margin()?;
@@ -122,7 +122,7 @@ impl WordLines {
         Ok(())
     }
 
-    /// Puts the blanks that stand before each line.
+    /// Appends the blanks before each line.
     fn put_margin(&mut self) -> Result<(), Memory> {
         self.text.push_str(self.margin.as_str())?;
         self.column = self.margin.len();

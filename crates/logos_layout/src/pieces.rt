@@ -1,10 +1,11 @@
-//! The lexemes and the gaps of a text, one after another.
+//! The lexemes and the gaps of a text, one after another. Used by `line_breaks`, `plain_comments`
+//! and `without_derive`.
 
 ghost use Rattle.std.specs.Prelude.{◌<◌, IfSome, length};
 
 use logos_lexeme::lexeme::{LexemeKind, lexeme_at};
 
-/// The lexeme or the gap that a text begins with.
+/// The first lexeme or gap of a text.
 #[derive(Clone, Copy)]
 pub(crate) struct FirstPiece<'t> {
     pub(crate) kind: LexemeKind,
@@ -13,8 +14,8 @@ pub(crate) struct FirstPiece<'t> {
     pub(crate) rest: &'t str,
 }
 
-/// Returns the lexeme or the gap that a text begins with, or `None` if the text is empty or does
-/// not begin with one.
+/// Returns the first lexeme or gap of a text, or `None` if the text is empty or does not begin with
+/// one.
 pub(crate) fn first_piece(text: &str) -> Option<FirstPiece<'_>>
     ensures { IfSome result (λ first. length first.rest.now < length text.now) }
 {

@@ -1,24 +1,25 @@
-//! What the lexemes so far say of the next one.
+//! The state of a layout: the properties of the lexemes so far that determine the separator before
+//! the next one. Used by `line_breaks`.
 
 use crate::blanks::is_blank;
 use crate::classes::{LexemeClass, Role};
 use crate::lines::WordLead;
 use logos_token::token::Delimiter;
 
-/// What the innermost open delimiter encloses.
+/// The content of an open delimiter.
 #[derive(Clone, Copy, PartialEq, Eq)]
 pub(crate) enum Open {
-    /// Lines of their own.
+    /// Separate lines.
     Block,
-    /// What stays on the line of its braces.
+    /// Tokens that stay on the line of their braces.
     Short,
     /// An attribute.
     Attribute,
-    /// Anything else in parentheses or brackets.
+    /// Any other content of parentheses or brackets.
     Group,
 }
 
-/// What the gap before the next lexeme has.
+/// The content of the gap before the next lexeme.
 #[derive(Clone, Copy, PartialEq, Eq)]
 pub(crate) enum Gap {
     /// No byte: there is no gap.
@@ -31,7 +32,7 @@ pub(crate) enum Gap {
     EmptyLine,
 }
 
-/// What ends with the last lexeme.
+/// The unit that ends with the last lexeme.
 #[derive(Clone, Copy, PartialEq, Eq)]
 pub(crate) enum LastEnd {
     /// Nothing.
@@ -40,24 +41,24 @@ pub(crate) enum LastEnd {
     Line,
     /// Braces around lines.
     Block,
-    /// Braces that stand on one line.
+    /// Braces on a single line.
     Short,
 }
 
-/// What the lexemes so far say of the next one.
+/// The state of a layout.
 #[derive(Clone, Copy)]
 pub(crate) struct LayoutState {
-    /// How many blocks are open.
+    /// The number of open blocks.
     pub(crate) depth: usize,
-    /// How many lists of types are open.
+    /// The number of open lists of types.
     pub(crate) types: usize,
     /// The last lexeme.
     pub(crate) last: LexemeClass,
     /// The gap after it.
     pub(crate) gap: Gap,
-    /// What ends with it.
+    /// The unit that ends with it.
     pub(crate) end: LastEnd,
-    /// What the innermost open delimiter encloses.
+    /// The content of the innermost open delimiter.
     pub(crate) inner: Open,
 }
 
@@ -74,7 +75,7 @@ impl LayoutState {
         }
     }
 
-    /// Returns what stands before the next lexeme, or `None` if it goes on with the word.
+    /// Returns the separator before the next lexeme, or `None` if it continues the word.
     pub(crate) fn lead(self, next: LexemeClass) -> Option<WordLead> {
         if matches!(self.last, LexemeClass::Start) {
             return None;
@@ -105,7 +106,7 @@ impl LayoutState {
         }
     }
 
-    /// Returns how many levels the line has that the next lexeme begins.
+    /// Returns the number of levels of the line that the next lexeme begins.
     fn depth_before(self, next: LexemeClass) -> usize {
         if closes_block(self.inner, next) {
             return self.depth.saturating_sub(1);
@@ -119,7 +120,7 @@ impl LayoutState {
         self.depth
     }
 
-    /// Returns the state after an opening delimiter, inside which this is open.
+    /// Returns the state after an opening delimiter with the content `inner`.
     pub(crate) fn after_opening(self, delimiter: Delimiter, inner: Open) -> LayoutState {
         let is_block = matches!(inner, Open::Block);
         LayoutState {
@@ -136,7 +137,7 @@ impl LayoutState {
         }
     }
 
-    /// Returns the state after a closing delimiter, where this is what is open around it.
+    /// Returns the state after a closing delimiter inside the content `outer`.
     pub(crate) fn after_closing(self, delimiter: Delimiter, outer: Open) -> LayoutState {
         let is_block = matches!(self.inner, Open::Block);
         LayoutState {
@@ -160,7 +161,7 @@ impl LayoutState {
         }
     }
 
-    /// Returns what ends with a lexeme that is not a delimiter.
+    /// Returns the unit that ends with a lexeme that is not a delimiter.
     fn end_at(self, next: LexemeClass) -> LastEnd {
         let ends = match next {
             LexemeClass::Comment => true,
@@ -176,12 +177,12 @@ impl LayoutState {
     }
 }
 
-/// Returns whether the lexeme closes the block that is open.
+/// Returns whether the lexeme closes the innermost block.
 fn closes_block(inner: Open, next: LexemeClass) -> bool {
     matches!(inner, Open::Block) & matches!(next, LexemeClass::Closing(_))
 }
 
-/// Returns whether a lexeme goes on with the line of closing braces.
+/// Returns whether a lexeme continues the line of closing braces.
 fn goes_on(next: LexemeClass) -> bool {
     match next {
         LexemeClass::Sign(role) => matches!(
@@ -199,7 +200,7 @@ fn goes_on(next: LexemeClass) -> bool {
     }
 }
 
-/// Returns what closing delimiters around this end.
+/// Returns the unit that ends with the delimiters around this content.
 fn end_of(inner: Open) -> LastEnd {
     match inner {
         Open::Block => LastEnd::Block,
@@ -209,7 +210,7 @@ fn end_of(inner: Open) -> LastEnd {
     }
 }
 
-/// Returns how many lists of types are open after a delimiter: braces end all of them.
+/// Returns the number of open lists of types after a delimiter. Braces end all of them.
 fn types_inside(delimiter: Delimiter, types: usize) -> usize {
     match delimiter {
         Delimiter::Brace => 0,
@@ -217,7 +218,7 @@ fn types_inside(delimiter: Delimiter, types: usize) -> usize {
     }
 }
 
-/// Returns how many lists of types are open after a lexeme.
+/// Returns the number of open lists of types after a lexeme.
 fn types_after(next: LexemeClass, types: usize) -> usize {
     match next {
         LexemeClass::Sign(Role::Semicolon) => 0,
@@ -227,8 +228,8 @@ fn types_after(next: LexemeClass, types: usize) -> usize {
     }
 }
 
-/// Returns what a delimiter opens after a lexeme of the class `last`, where these bytes follow it,
-/// and so many have room in the line.
+/// Returns the content that a delimiter opens after a lexeme of the class `last`. The bytes `ahead`
+/// follow it, and `room` of them fit into the line.
 pub(crate) fn opened(last: LexemeClass, delimiter: Delimiter, ahead: &[u8], room: usize) -> Open {
     match delimiter {
         Delimiter::Brace if is_short(ahead, room) => Open::Short,
@@ -238,7 +239,7 @@ pub(crate) fn opened(last: LexemeClass, delimiter: Delimiter, ahead: &[u8], room
     }
 }
 
-/// Returns whether braces close within so many bytes, without a line end, `;` or other braces.
+/// Returns whether braces close within `room` bytes, without a line end, `;` or other braces.
 fn is_short(ahead: &[u8], room: usize) -> bool {
     for at in 0..room {
         match ahead.get(at) {

@@ -1,4 +1,4 @@
--- What a definition makes, by what its text is.
+-- The leaf of a definition, by the result of reading its text.
 use Rattle.std.proofs.Common.{◌≡◌, ◌∙◌, ℕ, List, [], ◌++◌, Option, Some, None, refl, sym, ap, append-nil}
 use Rattle.std.specs.Str.{chars}
 use Rattle.logos_token.specs.Faults.{Fault}
@@ -6,8 +6,8 @@ use Rattle.logos_hir.specs.Tree.{Tree}
 use Rattle.logos_pattern.specs.Leaf.{KindValue}
 use Rattle.logos_attribute.specs.Reports.{Report, IsReport, and_then}
 use Rattle.logos_definition.specs.Definitions.{DefinitionView}
-use Rattle.logos_subpattern.specs.PatternFaults.{Reading, spelled, broken, too_deep, Reads, IsRead, tree_in, pattern_faults}
-use Rattle.logos_subpattern.specs.Substitution.{Stored}
+use Rattle.logos_leaf.specs.subpattern.PatternFaults.{Reading, spelled, broken, too_deep, Reads, IsRead, tree_in, pattern_faults}
+use Rattle.logos_leaf.specs.subpattern.Substitution.{Stored}
 use Rattle.logos_leaf.specs.Leaves.{LeafView, is_string, greedy_faults, fitted_report, tree_report, reading_report, regex_priority, text_report, whole_report, IsRegexLeaf}
 use Rattle.logos_leaf.specs.inside.Readings.{IsWholeLeaf}
 use Rattle.logos_attribute.proofs.ReportLemmas.{listed_then, report_alone}
@@ -38,7 +38,7 @@ module _ (d : DefinitionView) (kind : KindValue) where
         go (broken k at) reads is lists = absurd cc
         go too_deep reads is lists = absurd cc
 
-    -- it spells none, which was listed
+    -- it spells none, which was reported
     pub unread_whole : (old new : List Fault) → IsRead (is_string d.literal.held) d.ignore_case (chars text) d.literal.token.span None old new → IsWholeLeaf d kind text None old new
     unread_whole old new read = go read.reading read.reads read.is_tree read.adds
       where
@@ -73,7 +73,7 @@ module _ (d : DefinitionView) (kind : KindValue) where
               (n ∙ ap (λ t. mid ++ (text_report d kind whole.reading t).faults) e),
         )
 
-    -- one is missing, which was listed
+    -- one is missing, which was reported
     pub missing_is_regex : (old new : List Fault) → IsReport (whole_report d names) None old new → IsRegexLeaf d kind names None old new
     missing_is_regex old new put =
         let value : None ≡ (whole_report d names).value = put.0 in
@@ -93,7 +93,7 @@ module _ (d : DefinitionView) (kind : KindValue) where
               (sym (append-nil new) ∙ ap (λ t. new ++ (text_report d kind too_deep t).faults) e),
         )
 
--- faults that are found alone, and then stand after others
+-- faults that are found alone, and are then appended to others
 pub regex_alone : {d : DefinitionView} {kind : KindValue} {names : List Stored} {leaf : Option LeafView} (ahead none found all : List Fault) → none ≡ [] → IsRegexLeaf d kind names leaf none found →
     all ≡ ahead ++ found → IsRegexLeaf d kind names leaf ahead all
 regex_alone ahead none found all n h e = record { reading = h.reading; reads = h.reads; reports = report_alone _ _ ahead none found all n h.reports e }

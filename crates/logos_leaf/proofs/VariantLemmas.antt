@@ -31,7 +31,7 @@ pub param_values : (entries : List (Bor (List ℕ) × TypeParam)) → map param_
 param_values [] = refl
 param_values (x ∷ xs) = ap (λ values. param_value x ∷ values) (param_values xs)
 
--- parsers with equal views give equal types
+-- parsers with equal views yield equal types
 pub same_params : (p q : Parser) (held : List (List ℕ)) → parser_view p ≡ parser_view q → params_with p.types held ≡ params_with q.types held
 same_params p q held e =
     let same : map param_of (map given_of p.types.types.entries.items) ≡ map param_of (map given_of q.types.types.entries.items) = ap (λ (v : OptionsView). map param_of v.types.types) e in

@@ -1,4 +1,4 @@
--- What contracts see of leaves.
+-- The views of leaves in contracts.
 use Rattle.std.specs.Prelude.{option_map}
 use Rattle.logos_pattern.specs.Leaf.{pattern_tree, source_of, is_token, kind_value}
 use Rattle.logos_pattern.specs.declared.leaf.Leaf.{Leaf}
@@ -15,4 +15,5 @@ leaf_view leaf = record {
   priority = leaf.priority;
   kind = kind_value leaf.kind;
   callback = option_map callback_view leaf.callback;
+  options = leaf.options;
 }

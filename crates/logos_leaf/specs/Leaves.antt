@@ -7,6 +7,7 @@ use Rattle.logos_token.specs.declared.error.fault_code.FaultCode.TheVariants.{Gr
 use Rattle.logos_token.specs.Faults.{Fault}
 use Rattle.logos_token.specs.Held.{Held, of_text, of_bytes}
 use Rattle.logos_pattern.specs.Leaf.{KindValue}
+use Rattle.logos_pattern.specs.declared.leaf.LeafOptions.{LeafOptions}
 use Rattle.logos_pattern.specs.Escaping.{escaped_text, escaped_bytes}
 use Rattle.logos_hir.specs.Hir.{literal_tree}
 use Rattle.logos_hir.specs.Measure.{fitted, has_greedy_dot}
@@ -15,12 +16,12 @@ use Rattle.logos_hir.specs.Tree.{Tree}
 use Rattle.logos_attribute.specs.Callbacks.{CallbackView}
 use Rattle.logos_attribute.specs.Reports.{Report, with_faults, without_faults, and_then, fault, only, IsReport}
 use Rattle.logos_definition.specs.Definitions.{DefinitionView}
-use Rattle.logos_subpattern.specs.PatternFaults.{Reading, spelled, broken, too_deep, Reads, pattern_faults}
-use Rattle.logos_subpattern.specs.Substitution.{Stored, subst_report}
-use Rattle.logos_subpattern.specs.Subpatterns.{pattern_text}
+use Rattle.logos_leaf.specs.subpattern.PatternFaults.{Reading, spelled, broken, too_deep, Reads, pattern_faults}
+use Rattle.logos_leaf.specs.subpattern.Substitution.{Stored, subst_report}
+use Rattle.logos_leaf.specs.subpattern.Subpatterns.{pattern_text}
 
--- A leaf as contracts see it: the tree and the source of its pattern, its span, its priority, its
--- kind and its callback.
+-- A leaf in contracts: the tree and the source of its pattern, its span, its priority, its kind,
+-- its callback and its options.
 pub record LeafView : Type 0 where
   pub is_token : Bool
   pub tree : Tree
@@ -29,8 +30,9 @@ pub record LeafView : Type 0 where
   pub priority : ℕ
   pub kind : KindValue
   pub callback : Option CallbackView
+  pub options : LeafOptions
 
--- The bytes that a literal holds.
+-- The bytes of a literal's value.
 abbrev pub bytes_of : Held → List ℕ
 bytes_of (of_text value) = value
 bytes_of (of_bytes value) = value
@@ -40,10 +42,14 @@ abbrev pub is_string : Held → Bool
 is_string (of_text value) = true
 is_string (of_bytes value) = false
 
--- The text of a pattern that matches the value of a literal alone.
+-- The text of a pattern that matches exactly the value of a literal.
 abbrev pub escaped_of : Held → List ℕ
 escaped_of (of_text value) = escaped_text true value
 escaped_of (of_bytes value) = escaped_bytes true value
+
+-- The options of a definition: `ignore(case)` and `allow_greedy = true`.
+abbrev pub options_of : DefinitionView → LeafOptions
+options_of d = record { ignores_case = d.ignore_case; allows_greedy = unwrap_or d.allow_greedy false }
 
 -- The leaf of a definition, with this tree and this priority.
 abbrev pub leaf_with : Bool → DefinitionView → KindValue → Tree → ℕ → LeafView
@@ -55,24 +61,25 @@ leaf_with is_token d kind tree priority = record {
   priority = priority;
   kind = kind;
   callback = d.callback;
+  options = options_of d;
 }
 
 -- ---- `token`.
 
--- The priority of a `token`: the given one, or twice the number of bytes that its literal holds.
+-- The priority of a `token`: the given one, or twice the number of bytes of its literal's value.
 abbrev pub token_priority : DefinitionView → ℕ
 token_priority d = unwrap_or d.priority (2 * length (bytes_of d.literal.held))
 
 abbrev pub token_leaf : DefinitionView → KindValue → Tree → LeafView
 token_leaf d kind tree = leaf_with true d kind tree (token_priority d)
 
--- The leaf of a `token` whose letters match in either case, by what reading its text gives.
+-- The report of a `token` whose letters match in either case, given the result of reading its text.
 abbrev pub folded_report : DefinitionView → KindValue → Reading → Report (Option LeafView)
 folded_report d kind (spelled tree) = without_faults (Some (token_leaf d kind tree))
-folded_report d kind (broken kind_of at) = with_faults None (pattern_faults d.literal.token.span (broken kind_of at))
+folded_report d kind (broken cause detail) = with_faults None (pattern_faults d.literal.token.span (broken cause detail))
 folded_report d kind too_deep = with_faults None (pattern_faults d.literal.token.span too_deep)
 
--- The leaf of a `token`. Its text is read only where letters match in either case.
+-- The report of a `token`. Its text is read as a pattern only if letters match in either case.
 abbrev pub token_report : DefinitionView → KindValue → Reading → Report (Option LeafView)
 token_report d kind reading =
     if d.ignore_case then folded_report d kind reading
@@ -112,18 +119,19 @@ regex_priority d tree = option_or d.priority (fitted (value tree))
 abbrev pub tree_report : DefinitionView → KindValue → Tree → Report (Option LeafView)
 tree_report d kind tree = and_then (with_faults tree (greedy_faults d tree)) (λ t. fitted_report d kind t (regex_priority d t))
 
--- The leaf of a pattern, by what reading its text gives.
+-- The report of a pattern, given the result of reading its text.
 abbrev pub reading_report : DefinitionView → KindValue → Reading → Report (Option LeafView)
 reading_report d kind (spelled tree) = tree_report d kind tree
-reading_report d kind (broken kind_of at) = with_faults None (pattern_faults d.literal.token.span (broken kind_of at))
+reading_report d kind (broken cause detail) = with_faults None (pattern_faults d.literal.token.span (broken cause detail))
 reading_report d kind too_deep = with_faults None (pattern_faults d.literal.token.span too_deep)
 
--- The leaf of a pattern by its text with the subpatterns put in, if all of them are found.
+-- The report of a pattern, given its text with the subpatterns substituted, if all of them are
+-- found.
 abbrev pub text_report : DefinitionView → KindValue → Reading → Option (List ℕ) → Report (Option LeafView)
 text_report d kind reading None = without_faults None
 text_report d kind reading (Some text) = reading_report d kind reading
 
--- The text of a pattern with the subpatterns put in, if all of them are found.
+-- The text of a pattern with the subpatterns substituted, if all of them are found.
 abbrev pub whole_report : DefinitionView → List Stored → Report (Option (List ℕ))
 whole_report d names = subst_report names d.literal.token.span (chars (pattern_text d.literal.held))
 
@@ -131,7 +139,7 @@ abbrev pub regex_report : DefinitionView → KindValue → List Stored → Readi
 regex_report d kind names reading = and_then (whole_report d names) (text_report d kind reading)
 
 -- This is the leaf of a `regex` or `skip`, if it has one, and its faults are added to the list.
--- `reading` is what reading its text gives, if all subpatterns are found.
+-- `reading` is the result of reading its text, if all subpatterns are found.
 pub record IsRegexLeaf (d : DefinitionView) (kind : KindValue) (names : List Stored) (leaf : Option LeafView) (old new : List Fault) : Type 0 where
   pub reading : Reading
   pub reads : (text : List ℕ) → (whole_report d names).value ≡ Some text → Reads (is_string d.literal.held) d.ignore_case (chars text) reading

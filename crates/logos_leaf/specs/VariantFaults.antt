@@ -13,7 +13,7 @@ fields_text count = codes "Logos currently only supports variants with one field
 abbrev pub variant_fields : ℕ → Span → Fault
 variant_fields count span = fault VariantFields (fields_text count) span
 
--- The faults of a variant by the number of its fields: one field has none.
+-- The faults of a variant, given the number of its fields. A variant with one field has none.
 abbrev pub count_faults : ℕ → Span → List Fault
 count_faults count span = if count == 1 then [] else only (variant_fields count span)
 

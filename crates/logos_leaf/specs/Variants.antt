@@ -17,7 +17,7 @@ use Rattle.logos_attribute.specs.Reports.{IsReport, AddsFault}
 use Rattle.logos_definition.specs.Definitions.{DefinitionView}
 use Rattle.logos_definition.specs.Metas.{Meta, meta_of}
 use Rattle.logos_definition.specs.Attributes.{meta_report}
-use Rattle.logos_subpattern.specs.Substitution.{Stored}
+use Rattle.logos_leaf.specs.subpattern.Substitution.{Stored}
 use Rattle.logos_leaf.specs.Leaves.{LeafView, IsTokenLeaf, IsRegexLeaf}
 use Rattle.logos_leaf.specs.VariantFaults.{variant_fields, count_faults, named_fields, error_variant, token_form, regex_form}
 
@@ -25,9 +25,9 @@ use Rattle.logos_leaf.specs.VariantFaults.{variant_fields, count_faults, named_f
 pub data HoldsType (params : Params) (name : Ident) (field : FieldValue) (old new : List Fault) : KindValue → Type 0 where
   holds : {type : TypeTree} → GetsType params field.type (run_span field.run) old new type → HoldsType params name field old new (holding name type)
 
--- The kind of a variant. One without a field in its parentheses, and one with named fields, is
--- reported and then read as a skip. Of two or more fields, which are reported, the first one's type
--- is taken.
+-- The kind of a variant. A variant with empty parentheses, or with named fields, is reported and
+-- then read as a skip. A variant with two or more fields is reported, and its kind has the type of
+-- the first field.
 pub data KindIs (params : Params) (name : Ident) (old new : List Fault) : FieldsValue → KindValue → Type 0 where
   no_field : new ≡ old → KindIs params name old new no_fields (plain name)
   empty : {span : Span} → AddsFault (variant_fields 0 span) old new → KindIs params name old new (in_parenthesis span []) skipped
@@ -40,32 +40,33 @@ abbrev pub is_named : Option Meta → List ℕ → Bool
 is_named None text = false
 is_named (Some meta) text = bytes_eq meta.name.text text
 
--- The leaf of a `token` attribute, if it has one. One without a definition is reported at the
--- attribute, after the faults of the definition.
-pub data TokenGives (kind : KindValue) (attribute : AttributeValue) (old new : List Fault) : Option LeafView → Type 0 where
-  no_token : {mid : List Fault} → IsReport (meta_report (meta_of attribute)) None old mid → AddsFault (token_form attribute.span) mid new → TokenGives kind attribute old new None
+-- The leaf of a `token` attribute, if it has one. An attribute without a definition is reported,
+-- after the faults of the definition.
+pub data TokenYields (kind : KindValue) (attribute : AttributeValue) (old new : List Fault) : Option LeafView → Type 0 where
+  no_token : {mid : List Fault} → IsReport (meta_report (meta_of attribute)) None old mid → AddsFault (token_form attribute.span) mid new → TokenYields kind attribute old new None
   a_token : {mid : List Fault} {definition : DefinitionView} {leaf : Option LeafView} → IsReport (meta_report (meta_of attribute)) (Some definition) old mid →
-      IsTokenLeaf definition kind leaf mid new → TokenGives kind attribute old new leaf
+      IsTokenLeaf definition kind leaf mid new → TokenYields kind attribute old new leaf
 
 -- The leaf of a `regex` attribute, if it has one.
-pub data RegexGives (names : List Stored) (kind : KindValue) (attribute : AttributeValue) (old new : List Fault) : Option LeafView → Type 0 where
-  no_regex : {mid : List Fault} → IsReport (meta_report (meta_of attribute)) None old mid → AddsFault (regex_form attribute.span) mid new → RegexGives names kind attribute old new None
+pub data RegexYields (names : List Stored) (kind : KindValue) (attribute : AttributeValue) (old new : List Fault) : Option LeafView → Type 0 where
+  no_regex : {mid : List Fault} → IsReport (meta_report (meta_of attribute)) None old mid → AddsFault (regex_form attribute.span) mid new → RegexYields names kind attribute old new None
   a_regex : {mid : List Fault} {definition : DefinitionView} {leaf : Option LeafView} → IsReport (meta_report (meta_of attribute)) (Some definition) old mid →
-      IsRegexLeaf definition kind names leaf mid new → RegexGives names kind attribute old new leaf
+      IsRegexLeaf definition kind names leaf mid new → RegexYields names kind attribute old new leaf
 
--- The leaf of an attribute of a variant, if it has one, by its name. Any other attribute has none.
-pub data AttributeGives (names : List Stored) (kind : KindValue) (attribute : AttributeValue) (old new : List Fault) : Option LeafView → Type 0 where
-  on_error : is_named (meta_of attribute) (codes "error") ≡ true → AddsFault (error_variant attribute.span) old new → AttributeGives names kind attribute old new None
-  on_token : {leaf : Option LeafView} → is_named (meta_of attribute) (codes "token") ≡ true → TokenGives kind attribute old new leaf → AttributeGives names kind attribute old new leaf
-  on_regex : {leaf : Option LeafView} → is_named (meta_of attribute) (codes "regex") ≡ true → RegexGives names kind attribute old new leaf → AttributeGives names kind attribute old new leaf
+-- The leaf of an attribute of a variant, if it has one, according to the attribute's name.
+-- Attributes with other names have none.
+pub data AttributeYields (names : List Stored) (kind : KindValue) (attribute : AttributeValue) (old new : List Fault) : Option LeafView → Type 0 where
+  on_error : is_named (meta_of attribute) (codes "error") ≡ true → AddsFault (error_variant attribute.span) old new → AttributeYields names kind attribute old new None
+  on_token : {leaf : Option LeafView} → is_named (meta_of attribute) (codes "token") ≡ true → TokenYields kind attribute old new leaf → AttributeYields names kind attribute old new leaf
+  on_regex : {leaf : Option LeafView} → is_named (meta_of attribute) (codes "regex") ≡ true → RegexYields names kind attribute old new leaf → AttributeYields names kind attribute old new leaf
   on_other : is_named (meta_of attribute) (codes "error") ≡ false → is_named (meta_of attribute) (codes "token") ≡ false → is_named (meta_of attribute) (codes "regex") ≡ false →
-      new ≡ old → AttributeGives names kind attribute old new None
+      new ≡ old → AttributeYields names kind attribute old new None
 
 -- Reading a run of attributes adds their leaves and their faults, in order.
 pub data AttributesAdd (names : List Stored) (kind : KindValue) : TokenList → (before after : List LeafView) → (old new : List Fault) → Type 0 where
   no_attribute : {run : TokenList} {leaves : List LeafView} {faults : List Fault} → attribute_in run ≡ None → AttributesAdd names kind run leaves leaves faults faults
   one_attribute : {run : TokenList} {split : SplitAttribute} {leaf : Option LeafView} {before after : List LeafView} {old mid new : List Fault} → attribute_in run ≡ Some split →
-      AttributeGives names kind split.attribute old mid leaf → AttributesAdd names kind split.rest (before ++ option_to_list leaf) after mid new →
+      AttributeYields names kind split.attribute old mid leaf → AttributesAdd names kind split.rest (before ++ option_to_list leaf) after mid new →
       AttributesAdd names kind run before after old new
 
 -- Reading a variant adds its leaves and its faults.

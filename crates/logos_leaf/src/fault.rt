@@ -1,7 +1,7 @@
-//! The faults of leaves. Each function reports one.
+//! Reports the faults of leaves. Each function adds one fault. `leaf` calls it.
 
 ghost use Rattle.std.specs.Prelude.{OnOk};
-ghost use Rattle.logos_leaf.specs.Words.{AddsFault, greedy_dot, priority_overflow};
+ghost use Rattle.logos_leaf.specs.Imports.{AddsFault, greedy_dot, priority_overflow};
 
 use logos_token::error::{Errors, FaultCode, Memory};
 use logos_token::token::Span;

@@ -1,10 +1,10 @@
 //! Laws of reading enums. No code calls these functions: the contract of each is a proved law.
 
 ghost use Rattle.std.specs.Prelude.{◌≡◌, List, [], map, Option, Some, None};
-ghost use Rattle.logos_leaf.specs.Words.{Fault, Tree, EnumValue, Slice, ident_slice, plain, holding, skipped, OptionsView, LeafView, ReadsSource};
+ghost use Rattle.logos_leaf.specs.Imports.{Fault, Tree, EnumValue, Slice, ident_slice, plain, holding, skipped, OptionsView, LeafView, ReadsSource};
 
-/// An enum without faults is read in one way. Whatever else it is read as has no fault, the same
-/// options, and the same leaves, where the name of a variant is known by its text and its span.
+/// An enum without faults has one reading. Any other reading of it has no fault, the same options,
+/// and the same leaves, where a variant's name is compared by its text and its span.
 pub fn one_source()
     ensures no_fault { (item : EnumValue) (o p : OptionsView) (leaves others : List LeafView)
         (faults : List Fault) → ReadsSource item o leaves [] → ReadsSource item p others faults →

@@ -1,16 +1,27 @@
-//! Leaves of definitions. Skips and attributes of variants call it, once for each leaf.
+//! Makes the leaves of definitions. The readers of skips and of the attributes of variants call it,
+//! once for each leaf.
 
 ghost use Rattle.std.specs.Prelude.{◌≡◌, ◌++◌, IfOk, IfSome, OnOk, OnErr, true, false, option_map, chars, string_bytes};
-ghost use Rattle.logos_leaf.specs.Words.{literal_tree, KindValue, pattern_tree, source_of, is_token, kind_value, token_of, literal_view, IsReport, definition_view, IsRead, pattern_text, subst_report, names_of, bytes_of, is_string, escaped_of, leaf_with, token_priority, token_leaf, regex_priority, greedy_faults, tree_report, IsTokenLeaf, IsRegexLeaf, leaf_view, leaf_by, IsFoldedLeaf, IsWholeLeaf};
+ghost use Rattle.logos_leaf.specs.Imports.{literal_tree, KindValue, pattern_tree, source_of, is_token, kind_value, token_of, literal_view, IsReport, definition_view, IsRead, pattern_text, subst_report, names_of, bytes_of, is_string, escaped_of, leaf_with, options_of, token_priority, token_leaf, regex_priority, greedy_faults, tree_report, IsTokenLeaf, IsRegexLeaf, leaf_view, leaf_by, IsFoldedLeaf, IsWholeLeaf};
 
 use crate::fault::{report_greedy_dot, report_overflow};
+use crate::subpattern::fault::{Making, ReadingMode, WrittenPattern, read_pattern};
+use crate::subpattern::{Subpatterns, pattern_text};
 use logos_definition::definition::Definition;
-use logos_pattern::leaf::{Leaf, VariantKind};
+use logos_pattern::leaf::{Leaf, LeafOptions, VariantKind};
 use logos_pattern::pattern::{Literal, Pattern, token_priority};
-use logos_subpattern::fault::{ReadingMode, read_pattern};
-use logos_subpattern::subpattern::{Subpatterns, pattern_text};
 use logos_token::error::{Errors, Memory};
 use std::alloc::Global;
+
+/// Returns the options of a definition.
+fn options_of(definition: &Definition<'_>) -> LeafOptions
+    ensures { result ≡ options_of (definition_view definition.now) }
+{
+    LeafOptions {
+        ignores_case: definition.ignore_flags.ignore_case,
+        allows_greedy: definition.allow_greedy.unwrap_or(false),
+    }
+}
 
 /// Returns the leaf of a definition with this pattern and this priority.
 fn leaf_with<'s>(
@@ -25,14 +36,16 @@ fn leaf_with<'s>(
         (kind_value kind.entry) (pattern_tree pattern.entry) priority }
 {
     let span = definition.literal.span();
+    let options = options_of(&definition);
     Leaf::new(span, pattern)
         .variant_kind(kind)
         .priority(priority)
         .callback(definition.callback)
+        .options(options)
 }
 
-/// Returns the priority of a `token`: the given one, or twice the number of bytes that its literal
-/// holds.
+/// Returns the priority of a `token`: the given one, or twice the number of bytes of its literal's
+/// value.
 fn priority_of(definition: &Definition<'_>) -> usize
     ensures { result ≡ token_priority (definition_view definition.now) }
 {
@@ -50,19 +63,19 @@ fn is_string(literal: &Literal<'_>) -> bool
     }
 }
 
-/// Returns the text of a pattern that matches the value of a literal alone.
+/// Returns the text of a pattern that matches exactly the value of a literal.
 fn escaped_of(alloc: Global, literal: &Literal<'_>) -> Result<String, Memory>
     ensures { IfOk result (λ text. string_bytes text ≡ escaped_of (literal_view literal.now).held) }
 {
-    // Both arms are the same call: in each the prover knows the form of the literal.
+    // Both arms make the same call: in each of them the prover knows the form of the literal.
     match literal {
         Literal::Utf8(_) => literal.escape(alloc, true),
         Literal::Bytes(_) => literal.escape(alloc, true),
     }
 }
 
-/// Returns the pattern of a `token` whose letters match in either case. Returns `None` when its
-/// text is not a pattern, which is reported.
+/// Returns the pattern of a `token` whose letters match in either case. Returns `None` if its text
+/// is not a pattern, and reports that.
 fn folded_pattern<'s>(
     literal: &Literal<'s>,
     errors: &mut Errors,
@@ -82,11 +95,13 @@ fn folded_pattern<'s>(
         unicode: is_string(literal),
         ignore_case: true,
     };
-    read_pattern(text.as_str(), literal, mode, errors)
+    let making = Making::Escaped;
+    let written = WrittenPattern { literal, making };
+    read_pattern(text.as_str(), written, mode, errors)
 }
 
-/// Returns the leaf of a `token` whose letters match in either case. Returns `None` when its text
-/// is not a pattern, which is reported.
+/// Returns the leaf of a `token` whose letters match in either case. Returns `None` if its text is
+/// not a pattern, and reports that.
 fn folded_leaf<'s>(
     definition: Definition<'s>,
     kind: VariantKind<'s>,
@@ -115,7 +130,7 @@ fn folded_leaf<'s>(
     }
 }
 
-/// Returns the leaf of a `token` that matches the bytes of its literal.
+/// Returns the leaf of a `token` that matches the bytes of its literal's value.
 fn plain_leaf<'s>(
     alloc: Global,
     definition: Definition<'s>,
@@ -138,11 +153,11 @@ fn plain_leaf<'s>(
     }
 }
 
-/// Returns the leaf of a `token`. Returns `None` when its text is not a pattern, which is reported.
+/// Returns the leaf of a `token`. Returns `None` if its text is not a pattern, and reports that.
 ///
 /// # Errors
 ///
-/// Returns `Memory` if memory runs out. The faults are then as before.
+/// Returns `Memory` if memory runs out. The faults are then unchanged.
 pub fn token_leaf<'s>(
     definition: Definition<'s>,
     kind: VariantKind<'s>,
@@ -183,9 +198,9 @@ fn regex_priority(definition: &Definition<'_>, pattern: &Pattern<'_>) -> Option<
     definition.priority.or(pattern.priority())
 }
 
-/// Returns a pattern with its priority: the given one, or its default. Returns `None` when its
-/// default does not fit `usize`, which is reported. A greedy dot is reported before that, unless
-/// the definition allows it.
+/// Returns a pattern with its priority: the given one, or its default. Returns `None` if its
+/// default does not fit `usize`, and reports that. A greedy dot is reported before that, unless the
+/// definition allows it.
 fn fitted_pattern<'s>(
     definition: &Definition<'s>,
     pattern: Pattern<'s>,
@@ -213,11 +228,12 @@ fn fitted_pattern<'s>(
     Ok(Some((pattern, priority)))
 }
 
-/// Returns the pattern of a text with all subpatterns put in, and its priority. Returns `None` when
-/// the text is not a pattern or the priority does not fit `usize`, which is reported.
+/// Returns the pattern of a text with all subpatterns substituted, and its priority. Returns `None`
+/// if the text is not a pattern or the priority does not fit `usize`, and reports that.
 fn whole_pattern<'s>(
     definition: &Definition<'s>,
     text: &str,
+    subpatterns: &Subpatterns<'s>,
     errors: &mut Errors,
 ) -> Result<Option<(Pattern<'s>, usize)>, Memory>
     ensures made { IfOk result (λ fitted. (kind : KindValue) →
@@ -232,18 +248,21 @@ fn whole_pattern<'s>(
         unicode: is_string(&definition.literal),
         ignore_case: definition.ignore_flags.ignore_case,
     };
-    match read_pattern(text, &definition.literal, mode, errors) {
+    let literal = &definition.literal;
+    let making = Making::PutIn(subpatterns);
+    let written = WrittenPattern { literal, making };
+    match read_pattern(text, written, mode, errors) {
         Ok(Some(pattern)) => fitted_pattern(definition, pattern, errors),
         Ok(None) => {
-            // It is reported already why the text is not a pattern.
+            // The reason why the text is not a pattern has already been reported.
             Ok(None)
         }
         Err(Memory) => Err(Memory),
     }
 }
 
-/// Returns the pattern text that a literal's value spells, with all subpatterns put in. Returns
-/// `None` when one is missing, which is reported.
+/// Returns the pattern text that a literal's value spells, with all subpatterns substituted.
+/// Returns `None` if a subpattern is missing, and reports that.
 fn whole_text(
     literal: &Literal<'_>,
     subpatterns: &Subpatterns<'_>,
@@ -259,9 +278,9 @@ fn whole_text(
     subpatterns.subst_subpatterns(alloc, text.as_str(), literal.span(), errors)
 }
 
-/// Returns the pattern of a `regex` or `skip`, and its priority. Returns `None` when a subpattern
-/// is missing, when its text is not a pattern, or when its priority does not fit `usize`, which is
-/// reported.
+/// Returns the pattern of a `regex` or `skip`, and its priority. Returns `None` if a subpattern is
+/// missing, when its text is not a pattern, or when its priority does not fit `usize`, and reports
+/// that.
 fn regex_pattern<'s>(
     definition: &Definition<'s>,
     subpatterns: &Subpatterns<'s>,
@@ -275,14 +294,14 @@ fn regex_pattern<'s>(
     ensures regex { IfOk result (λ fitted. IfSome fitted (λ p. is_token p.0 ≡ false)) }
 {
     match whole_text(&definition.literal, subpatterns, errors) {
-        Ok(Some(text)) => whole_pattern(definition, text.as_str(), errors),
+        Ok(Some(text)) => whole_pattern(definition, text.as_str(), subpatterns, errors),
         Ok(None) => Ok(None),
         Err(Memory) => Err(Memory),
     }
 }
 
 /// Returns the leaf of a `regex` or `skip`, if it has one, and reports its faults. After an error
-/// some of these may be in the list.
+/// some faults may have been added.
 fn read_leaf<'s>(
     definition: Definition<'s>,
     kind: VariantKind<'s>,
@@ -308,13 +327,13 @@ fn read_leaf<'s>(
     }
 }
 
-/// Returns the leaf of a `regex` or `skip`. Returns `None` when a subpattern is missing, when its
-/// text is not a pattern, or when its priority does not fit `usize`, which is reported. A greedy
-/// dot is reported too, but there is a leaf.
+/// Returns the leaf of a `regex` or `skip`. Returns `None` if a subpattern is missing, if its text
+/// is not a pattern, or if its priority does not fit `usize`, and reports that. A greedy dot is
+/// also reported, but the leaf is returned.
 ///
 /// # Errors
 ///
-/// Returns `Memory` if memory runs out. The faults are then as before.
+/// Returns `Memory` if memory runs out. The faults are then unchanged.
 pub fn regex_leaf<'s>(
     definition: Definition<'s>,
     kind: VariantKind<'s>,

@@ -1,4 +1,5 @@
-//! The leaves of an enum, which its definitions make.
+//! Makes the leaves of an enum from its definitions. `logos_parser` calls `read_leaves` for each
+//! source.
 
 #![tactic(auto)]
 
@@ -6,4 +7,5 @@ mod fault;
 pub mod laws;
 pub mod leaf;
 pub mod source;
+pub mod subpattern;
 pub mod variant;

@@ -1,15 +1,15 @@
-//! The leaves of an enum. `logos_parser` calls `read_leaves` once for each source.
+//! Reads the leaves of an enum. `logos_parser` calls `read_leaves` once for each source.
 
 ghost use Rattle.std.specs.Prelude.{◌≡◌, IfOk, OnOk, map, []};
-ghost use Rattle.logos_leaf.specs.Words.{tokens_of, texts, params_with, parameter_value, enum_value, variant_value, names_of, definition_view, no_options, parser_view, leaf_view, SkipsAdd, ReadsParameters, ReadsAttributes, GivesLeaves, IsSourceRead, IsWithoutSkips, AreMadeWith};
+ghost use Rattle.logos_leaf.specs.Imports.{tokens_of, texts, params_with, parameter_value, enum_value, variant_value, names_of, definition_view, no_options, parser_view, leaf_view, SkipsAdd, ReadsParameters, ReadsAttributes, YieldsLeaves, IsSourceRead, IsWithoutSkips, AreMadeWith};
 
 use crate::leaf::regex_leaf;
+use crate::subpattern::Subpatterns;
 use crate::variant::{add_variants, push_leaf};
 use logos_definition::definition::Definition;
 use logos_definition::parser::Parser;
 use logos_enum::{ItemEnum, Parameter, Variant, split_attribute};
 use logos_pattern::leaf::{Leaf, VariantKind};
-use logos_subpattern::subpattern::Subpatterns;
 use logos_token::error::{Errors, Memory};
 use logos_token::token::Tokens;
 use std::collections::HashSet;
@@ -60,8 +60,8 @@ fn add_skips<'s>(
     Ok(())
 }
 
-/// Takes the skips out of a parser, and makes their leaves and those of these variants. `held` has
-/// the parameters that hold themselves.
+/// Removes the skips from a parser, and makes their leaves and those of these variants. `held`
+/// contains the names of the parameters whose types contain them.
 fn leaves_with<'s>(
     variants: &[Variant<'_, 's>],
     held: &HashSet<&'s str>,
@@ -83,13 +83,13 @@ fn leaves_with<'s>(
     Ok(leaves)
 }
 
-/// Reports each parameter that holds itself, reads the subpatterns, and makes the leaves of the
-/// skips and of these variants.
+/// Reports each parameter whose type contains it, reads the subpatterns, and makes the leaves of
+/// the skips and of these variants.
 fn make_leaves<'s>(
     variants: &[Variant<'_, 's>],
     parser: &mut Parser<'s>,
 ) -> Result<Vec<Leaf<'s>>, Memory>
-    ensures leaves { IfOk result (λ leaves. GivesLeaves (parser_view parser.old)
+    ensures leaves { IfOk result (λ leaves. YieldsLeaves (parser_view parser.old)
         (map variant_value variants.now) (map leaf_view leaves.items)
         parser.old.errors parser.new.errors) }
     ensures options { OnOk result (IsWithoutSkips
@@ -107,9 +107,9 @@ fn make_leaves<'s>(
 }
 
 /// Reads an enum into a new parser, and returns its leaves: those of its skips first, then those of
-/// its variants, in source order. It reads the generic parameters, the attributes, the subpatterns,
-/// the skips and the variants, in this order, and takes each step whatever faults were reported
-/// before it. The parser then has the options without the skips, and all these faults.
+/// its variants, in source order. Reads the generic parameters, the attributes, the subpatterns,
+/// the skips and the variants, in this order, and performs each step regardless of earlier faults.
+/// The parser then has the options without the skips, and all faults.
 ///
 /// # Errors
 ///

@@ -1,11 +1,12 @@
-//! Leaves of variants, which their attributes define. `read_leaves` calls it for each variant.
+//! Makes the leaves of variants from their attributes. `read_leaves` calls it for each variant.
 
 ghost use Rattle.std.specs.Prelude.{◌≡◌, ◌++◌, IfOk, OnOk, map, option_map};
-ghost use Rattle.logos_leaf.specs.Words.{option_to_list, tokens_of, texts, params_with, attribute_value, field_value, fields_value, in_parenthesis, variant_value, kind_value, names_of, parser_view, leaf_view, HoldsType, KindIs, TokenGives, RegexGives, AttributeGives, AttributesAdd, VariantAdds, VariantsAdd};
+ghost use Rattle.logos_leaf.specs.Imports.{option_to_list, tokens_of, texts, params_with, attribute_value, field_value, fields_value, in_parenthesis, variant_value, kind_value, names_of, parser_view, leaf_view, HoldsType, KindIs, TokenYields, RegexYields, AttributeYields, AttributesAdd, VariantAdds, VariantsAdd};
 
 mod fault;
 
 use crate::leaf::{regex_leaf, token_leaf};
+use crate::subpattern::Subpatterns;
 use crate::variant::fault::{
     report_count, report_error_variant, report_named_fields, report_regex_form, report_token_form,
     report_variant_fields,
@@ -14,14 +15,13 @@ use logos_definition::meta::meta_of;
 use logos_definition::parser::Parser;
 use logos_enum::{Attribute, Field, Fields, Variant, split_attribute};
 use logos_pattern::leaf::{Leaf, VariantKind};
-use logos_subpattern::subpattern::Subpatterns;
 use logos_token::error::{Errors, Memory};
 use logos_token::token::{Ident, Span, Tokens};
 use logos_type_params::TypeParams;
 use std::alloc::AllocError;
 use std::collections::HashSet;
 
-/// The declared type parameters of an enum, and the names of those that hold themselves.
+/// The declared type parameters of an enum, and the names of those whose types contain them.
 #[derive(Clone, Copy)]
 pub struct Types<'p, 's> {
     pub params: &'p TypeParams<'s>,
@@ -46,8 +46,8 @@ fn value_kind<'s>(
     Ok(VariantKind::Value(name, got))
 }
 
-/// Returns the kind of a variant with these fields in parentheses with this span, and reports any
-/// number of fields but one.
+/// Returns the kind of a variant with these fields in the parentheses with this span. Reports the
+/// variant if it does not have exactly one field.
 fn tuple_kind<'s>(
     types: Types<'_, 's>,
     name: Ident<'s>,
@@ -95,7 +95,7 @@ fn read_token<'s>(
     kind: &VariantKind<'s>,
     parser: &mut Parser<'s>,
 ) -> Result<Option<Leaf<'s>>, Memory>
-    ensures given { IfOk result (λ leaf. TokenGives (kind_value kind.now)
+    ensures given { IfOk result (λ leaf. TokenYields (kind_value kind.now)
         (attribute_value attribute.entry) parser.old.errors parser.new.errors
         (option_map leaf_view leaf)) }
     ensures unchanged { OnOk result (parser_view parser.new ≡ parser_view parser.old) }
@@ -115,7 +115,7 @@ fn read_regex<'s>(
     subpatterns: &Subpatterns<'s>,
     parser: &mut Parser<'s>,
 ) -> Result<Option<Leaf<'s>>, Memory>
-    ensures given { IfOk result (λ leaf. RegexGives (names_of subpatterns.now)
+    ensures given { IfOk result (λ leaf. RegexYields (names_of subpatterns.now)
         (kind_value kind.now) (attribute_value attribute.entry)
         parser.old.errors parser.new.errors (option_map leaf_view leaf)) }
     ensures unchanged { OnOk result (parser_view parser.new ≡ parser_view parser.old) }
@@ -135,7 +135,7 @@ fn read_attribute<'s>(
     subpatterns: &Subpatterns<'s>,
     parser: &mut Parser<'s>,
 ) -> Result<Option<Leaf<'s>>, Memory>
-    ensures given { IfOk result (λ leaf. AttributeGives (names_of subpatterns.now)
+    ensures given { IfOk result (λ leaf. AttributeYields (names_of subpatterns.now)
         (kind_value kind.now) (attribute_value attribute.entry)
         parser.old.errors parser.new.errors (option_map leaf_view leaf)) }
     ensures unchanged { OnOk result (parser_view parser.new ≡ parser_view parser.old) }

@@ -8,7 +8,7 @@ use Rattle.std.proofs.lemmas.List.Sums.{fold_push}
 use Rattle.std.proofs.Math.Nat.{pow-succ'}
 use Rattle.std.specs.Char.{digit_value}
 use Rattle.logos_lexeme.specs.LexemeRuns.{IsFirst}
-use Rattle.logos_lexeme.specs.LiteralBodies.{is_simple, is_hex, hex_value, greatest_of, digits_between, BreaksLine, IsHexEscape, IsUnicodeEscape, IsEscape, simple, hex, unicode, StandsFor, plain, return, escape, continuation, IsPiece, IsCharacterPiece, unescaped, escaped}
+use Rattle.logos_lexeme.specs.LiteralBodies.{is_simple, is_hex, hex_value, greatest_of, digits_between, BreaksLine, IsHexEscape, IsUnicodeEscape, IsEscape, simple, hex, unicode, Represents, plain, return, escape, continuation, IsPiece, IsCharacterPiece, unescaped, escaped}
 use Rattle.logos_lexeme.specs.LiteralBodies.{bytes_of}
 use Rattle.logos_lexeme.specs.inside.LiteralReads.{HasRead, ReadsByte, IsPlain, itself, break}
 use Rattle.logos_lexeme.specs.declared.lexeme.bodies.Piece.{Piece}
@@ -88,35 +88,35 @@ module _ (bytes : List ℕ) (at : ℕ) where
     no_break next held (unicode c u v) (inr f) = let e = u.letter in let g = f.0 in omega arith
 
 module _ (escapes : Bool) (content : Content) (bytes : List ℕ) where
-  pub StandsFor-one : (at m n : ℕ) (xs ys : List ℕ) → StandsFor escapes content bytes at m xs → StandsFor escapes content bytes at n ys → (m ≡ n) × (xs ≡ ys)
-  StandsFor-one at m n xs ys (plain e a v) (plain f b w) = (v ∙ sym w, refl)
-  StandsFor-one at m n xs ys (plain e a v) (return r) = absurd (a.no_return r.0)
-  StandsFor-one at m n xs ys (plain e a v) (escape t f) = absurd (e t (escape-backslash bytes at content n ys f))
-  StandsFor-one at m n xs ys (plain e a v) (continuation t k) = absurd (e t k.backslash)
-  StandsFor-one at m n xs ys (return r) (plain f b w) = absurd (b.no_return r.0)
-  StandsFor-one at m n xs ys (return r) (return s) = (r.2 ∙ sym s.2, refl)
-  StandsFor-one at m n xs ys (return r) (escape t f) = absurd (let e = escape-backslash bytes at content n ys f in let g = r.0 in omega arith)
-  StandsFor-one at m n xs ys (return r) (continuation t k) = absurd (let e = k.backslash in let g = r.0 in omega arith)
-  StandsFor-one at m n xs ys (escape t e) (plain f b w) = absurd (f t (escape-backslash bytes at content m xs e))
-  StandsFor-one at m n xs ys (escape t e) (return r) = absurd (let f = escape-backslash bytes at content m xs e in let g = r.0 in omega arith)
-  StandsFor-one at m n xs ys (escape t e) (escape u f) = IsEscape-one bytes at content m n xs ys e f
-  StandsFor-one at m n xs ys (escape t e) (continuation u k) = absurd (no_break bytes at content m xs e k.breaks)
-  StandsFor-one at m n xs ys (continuation t k) (plain f b w) = absurd (f t k.backslash)
-  StandsFor-one at m n xs ys (continuation t k) (return r) = absurd (let e = k.backslash in let g = r.0 in omega arith)
-  StandsFor-one at m n xs ys (continuation t k) (escape u f) = absurd (no_break bytes at content n ys f k.breaks)
-  StandsFor-one at m n xs ys (continuation t k) (continuation u l) = (IsFirst-one k.blanks l.blanks, refl)
+  pub Represents-one : (at m n : ℕ) (xs ys : List ℕ) → Represents escapes content bytes at m xs → Represents escapes content bytes at n ys → (m ≡ n) × (xs ≡ ys)
+  Represents-one at m n xs ys (plain e a v) (plain f b w) = (v ∙ sym w, refl)
+  Represents-one at m n xs ys (plain e a v) (return r) = absurd (a.no_return r.0)
+  Represents-one at m n xs ys (plain e a v) (escape t f) = absurd (e t (escape-backslash bytes at content n ys f))
+  Represents-one at m n xs ys (plain e a v) (continuation t k) = absurd (e t k.backslash)
+  Represents-one at m n xs ys (return r) (plain f b w) = absurd (b.no_return r.0)
+  Represents-one at m n xs ys (return r) (return s) = (r.2 ∙ sym s.2, refl)
+  Represents-one at m n xs ys (return r) (escape t f) = absurd (let e = escape-backslash bytes at content n ys f in let g = r.0 in omega arith)
+  Represents-one at m n xs ys (return r) (continuation t k) = absurd (let e = k.backslash in let g = r.0 in omega arith)
+  Represents-one at m n xs ys (escape t e) (plain f b w) = absurd (f t (escape-backslash bytes at content m xs e))
+  Represents-one at m n xs ys (escape t e) (return r) = absurd (let f = escape-backslash bytes at content m xs e in let g = r.0 in omega arith)
+  Represents-one at m n xs ys (escape t e) (escape u f) = IsEscape-one bytes at content m n xs ys e f
+  Represents-one at m n xs ys (escape t e) (continuation u k) = absurd (no_break bytes at content m xs e k.breaks)
+  Represents-one at m n xs ys (continuation t k) (plain f b w) = absurd (f t k.backslash)
+  Represents-one at m n xs ys (continuation t k) (return r) = absurd (let e = k.backslash in let g = r.0 in omega arith)
+  Represents-one at m n xs ys (continuation t k) (escape u f) = absurd (no_break bytes at content n ys f k.breaks)
+  Represents-one at m n xs ys (continuation t k) (continuation u l) = (IsFirst-one k.blanks l.blanks, refl)
 
-  pub StandsFor-moves : (at next : ℕ) (held : List ℕ) → StandsFor escapes content bytes at next held → at < next
-  StandsFor-moves at next held (plain e a v) = omega arith
-  StandsFor-moves at next held (return r) = omega (arith, r.2)
-  StandsFor-moves at next held (escape t e) = escape-moves bytes at content next held e
-  StandsFor-moves at next held (continuation t k) = let b = k.blanks.begun in omega arith
+  pub Represents-moves : (at next : ℕ) (held : List ℕ) → Represents escapes content bytes at next held → at < next
+  Represents-moves at next held (plain e a v) = omega arith
+  Represents-moves at next held (return r) = omega (arith, r.2)
+  Represents-moves at next held (escape t e) = escape-moves bytes at content next held e
+  Represents-moves at next held (continuation t k) = let b = k.blanks.begun in omega arith
 
   pub piece-one : (at m n : ℕ) → IsPiece escapes content bytes at m → IsPiece escapes content bytes at n → m ≡ n
-  piece-one at m n p q = (StandsFor-one at m n p.0 q.0 p.1 q.1).0
+  piece-one at m n p q = (Represents-one at m n p.0 q.0 p.1 q.1).0
 
   pub piece-moves : (at next : ℕ) → IsPiece escapes content bytes at next → at < next
-  piece-moves at next p = StandsFor-moves at next p.0 p.1
+  piece-moves at next p = Represents-moves at next p.0 p.1
 
 module _ (content : Content) (bytes : List ℕ) (at : ℕ) where
   pub character-one : (m n : ℕ) → IsCharacterPiece content bytes at m → IsCharacterPiece content bytes at n → m ≡ n
@@ -125,11 +125,11 @@ module _ (content : Content) (bytes : List ℕ) (at : ℕ) where
   character-one m n (escaped {held} e) (unescaped f b w) = absurd (f (escape-backslash bytes at content m held e))
   character-one m n (escaped {held = xs} e) (escaped {held = ys} f) = (IsEscape-one bytes at content m n xs ys e f).0
 
-  -- a piece of a string is an escape behind a backslash that no line break follows, and else stands
-  -- for itself
+  -- a piece of a string is an escape after a backslash that no line break follows, and represents
+  -- itself otherwise
 
   module _ (escapes : Bool) where
-    pub says-escape : escapes ≡ true → get_or bytes at 0 ≡ 92 → (BreaksLine bytes (at + 1) → ⊥) → (next : ℕ) (held : List ℕ) → StandsFor escapes content bytes at next held → IsEscape content bytes at next held
+    pub says-escape : escapes ≡ true → get_or bytes at 0 ≡ 92 → (BreaksLine bytes (at + 1) → ⊥) → (next : ℕ) (held : List ℕ) → Represents escapes content bytes at next held → IsEscape content bytes at next held
     says-escape t e b next held (plain f a v) = absurd (f t e)
     says-escape t e b next held (return r) = absurd (let f = r.0 in omega arith)
     says-escape t e b next held (escape u f) = f
@@ -137,23 +137,23 @@ module _ (content : Content) (bytes : List ℕ) (at : ℕ) where
 
     pub says_at_backslash : (found : Option (Piece × ℕ)) → escapes ≡ true → get_or bytes at 0 ≡ 92 → (BreaksLine bytes (at + 1) → ⊥) →
         MatchOption found ((next : ℕ) (held : List ℕ) → IsEscape content bytes at next held → ⊥) (λ f. IsEscape content bytes at f.1 (bytes_of f.0)) →
-        MatchOption found ((next : ℕ) (held : List ℕ) → StandsFor escapes content bytes at next held → ⊥) (λ f. StandsFor escapes content bytes at f.1 (bytes_of f.0))
+        MatchOption found ((next : ℕ) (held : List ℕ) → Represents escapes content bytes at next held → ⊥) (λ f. Represents escapes content bytes at f.1 (bytes_of f.0))
     says_at_backslash None t e b h = λ next held s. h next held (says-escape t e b next held s)
     says_at_backslash (Some f) t e b h = escape t h
 
-    pub says-plain : (escapes ≡ true → get_or bytes at 0 ≢ 92) → (next : ℕ) (held : List ℕ) → StandsFor escapes content bytes at next held → IsPlain content bytes at next held
+    pub says-plain : (escapes ≡ true → get_or bytes at 0 ≢ 92) → (next : ℕ) (held : List ℕ) → Represents escapes content bytes at next held → IsPlain content bytes at next held
     says-plain f next held (plain g a v) = itself a v
     says-plain f next held (return r) = break r
     says-plain f next held (escape t e) = absurd (f t (escape-backslash bytes at content next held e))
     says-plain f next held (continuation t k) = absurd (f t k.backslash)
 
-    pub plain-says : (escapes ≡ true → get_or bytes at 0 ≢ 92) → (next : ℕ) (held : List ℕ) → IsPlain content bytes at next held → StandsFor escapes content bytes at next held
+    pub plain-says : (escapes ≡ true → get_or bytes at 0 ≢ 92) → (next : ℕ) (held : List ℕ) → IsPlain content bytes at next held → Represents escapes content bytes at next held
     plain-says f next held (itself a v) = plain f a v
     plain-says f next held (break r) = return r
 
     pub says_at_other : (found : Option (Piece × ℕ)) → (escapes ≡ true → get_or bytes at 0 ≢ 92) →
         MatchOption found ((next : ℕ) (held : List ℕ) → IsPlain content bytes at next held → ⊥) (λ f. IsPlain content bytes at f.1 (bytes_of f.0)) →
-        MatchOption found ((next : ℕ) (held : List ℕ) → StandsFor escapes content bytes at next held → ⊥) (λ f. StandsFor escapes content bytes at f.1 (bytes_of f.0))
+        MatchOption found ((next : ℕ) (held : List ℕ) → Represents escapes content bytes at next held → ⊥) (λ f. Represents escapes content bytes at f.1 (bytes_of f.0))
     says_at_other None f h = λ next held s. h next held (says-plain f next held s)
     says_at_other (Some g) f h = plain-says f g.1 (bytes_of g.0) h
 

@@ -1,4 +1,4 @@
--- Characters at places of a text, and the places behind them.
+-- Characters at offsets of a text, and the offsets after them.
 use Rattle.std.proofs.Common.{◌≡◌, ℕ, ◌+◌, ◌<◌, ◌≤◌, List, [], ◌∷◌, ◌++◌, length, length-drop, get_or, drop, refl, sym, ap, arith, inl, inr, suc, IsUtf8, encode_utf8}
 use Rattle.std.proofs.lemmas.Str.{IsUtf8-drop, IsCharBoundary-past_char, IsCharBoundary-after_ascii, IsCharBoundary-before_ascii, chars_past_char, chars-nil, len_utf8_ascii, len_utf8_bounds}
 use Rattle.std.specs.Str.{IsCharBoundary, encode_utf8_all, chars as chars_of, chars_after}
@@ -56,7 +56,7 @@ past-moves bytes at = omega (arith, (len_utf8_bounds (character bytes at)).0)
 pub inside_from_byte : (bytes : List ℕ) (at : ℕ) → 0 < get_or bytes at 0 → at < length bytes
 inside_from_byte bytes at h = elim (cases_lt at (length bytes)) [ inl l ↦ l | inr l ↦ absurd (omega (arith, get_or_past bytes at 0 l)) ]
 
--- a character ends behind an ASCII byte, and begins before one
+-- a character ends after an ASCII byte, and begins before one
 pub boundary-after : (bytes : List ℕ) → IsUtf8 bytes → (at to : ℕ) → 0 < get_or bytes at 0 → get_or bytes at 0 < 128 → to ≡ at + 1 → IsCharBoundary bytes to
 boundary-after bytes utf8 at to low high e = rw e (IsCharBoundary-after_ascii bytes at utf8 (inside_from_byte bytes at low) high)
 

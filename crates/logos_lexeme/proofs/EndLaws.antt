@@ -1,4 +1,5 @@
--- What opens at a place ends behind it, between characters, and at one place alone.
+-- A lexeme or gap that opens at an offset ends after it, between characters, and at only one
+-- offset.
 use Rattle.std.proofs.Common.{◌≡◌, ◌≢◌, ℕ, ◌+◌, ◌-◌, ◌<◌, ◌≤◌, ◌⊎◌, inl, inr, Bool, true, false, cond, ◌&&◌, nat_eq, List, length, get_or, Option, Some, None, IsUtf8, MatchOption, refl, sym, ◌∙◌, ap, arith}
 use Rattle.std.proofs.lemmas.Bool.{cases_lt, and_parts, eqb-true, false≢true}
 use Rattle.std.proofs.lemmas.Str.{IsCharBoundary-end, IsCharBoundary-after_ascii}
@@ -21,7 +22,7 @@ pub Passes-one : (test : ℕ → Bool) (bytes : List ℕ) (at m n : ℕ) → Pas
 Passes-one test bytes at m n p q = p.moves ∙ sym q.moves
 
 module _ (based : Bool) (bytes : List ℕ) where
-  -- a sign and a point are ASCII, and end behind one byte also where they continue an identifier
+  -- a sign and a point are ASCII, and end after one byte also where they continue an identifier
   one_after : (at n : ℕ) → GoesOn based bytes at n → get_or bytes at 0 < 128 → n ≡ at + 1
   one_after at n (letter p) h = p.moves ∙ past-ascii bytes at h
   one_after at n (point b e d m) h = m
@@ -61,7 +62,7 @@ module _ (quote : ℕ) (bytes : List ℕ) where
   pub quote-inside : 0 < quote → (at : ℕ) → get_or bytes at 0 ≡ quote → at < length bytes
   quote-inside visible at e = inside_from_byte bytes at (omega arith)
 
-  -- from a place with another byte the same quote is reached behind it
+  -- from an offset with another byte the same quote is reached after it
   pub quote-on : (at next to : ℕ) → InQuotes quote bytes at next → ReachesQuote quote bytes next to → ReachesQuote quote bytes at to
   quote-on at next to s u = Until-step (InQuotes quote bytes) s u
 
@@ -188,7 +189,7 @@ starts_inside bytes at e = elim (cases_lt at (length bytes)) [
   | inr l ↦ absurd (false≢true (sym is_start-nothing ∙ ap is_start (sym (character-end bytes at l)) ∙ e))
 ]
 
--- what is known of the place where the name of an identifier begins
+-- the facts about the offset where the name of an identifier begins
 pub record IsNameStart (bytes : List ℕ) (at name : ℕ) : Type 0 where
   pub after : at ≤ name
   pub begins : name < length bytes
@@ -287,7 +288,7 @@ module _ (bytes : List ℕ) (at : ℕ) where
   pub IsSuffix-boundary : IsUtf8 bytes → IsCharBoundary bytes at → (to : ℕ) → IsSuffix bytes at to → IsCharBoundary bytes to
   IsSuffix-boundary utf8 bound to p = suffix-boundary utf8 bound (name_at bytes at) refl to p
 
--- what opens at a place has one end
+-- a lexeme that opens at an offset has one end
 
 IsRaw-one : (count : ℕ) (bytes : List ℕ) (body a b : ℕ) → IsRaw count bytes body a → IsRaw count bytes body b → a ≡ b
 IsRaw-one count bytes body a b p q = p.after ∙ ap (λ n. n + 1 + count) (IsFirst-one p.first q.first) ∙ sym q.after
@@ -304,8 +305,8 @@ number-one based bytes from a b p q = Run-one (GoesOn based bytes) (GoesOn-one b
 character-one : (bytes : List ℕ) (from a b : ℕ) → IsCharacter bytes from a → IsCharacter bytes from b → a ≡ b
 character-one bytes from a b p q = p.after ∙ sym q.after
 
-same_place : (n a b : ℕ) → a ≡ n → b ≡ n → a ≡ b
-same_place n a b p q = p ∙ sym q
+same_spot : (n a b : ℕ) → a ≡ n → b ≡ n → a ≡ b
+same_spot n a b p q = p ∙ sym q
 
 line-one : (bytes : List ℕ) (from a b : ℕ) → IsFirst (IsLineEnd bytes) from a → IsFirst (IsLineEnd bytes) from b → a ≡ b
 line-one bytes from a b p q = IsFirst-one p q
@@ -320,10 +321,10 @@ Ends-one bytes from (Quotes content) a b p q = quotes-one bytes (from + prefix_o
 Ends-one bytes from (Raw content count) a b p q = IsRaw-one count bytes (from + prefix_of content + 1 + count + 1) a b p q
 Ends-one bytes from (Apostrophes content) a b p q = apostrophes-one bytes (from + prefix_of content + 1) a b p q
 Ends-one bytes from Character a b p q = character-one bytes from a b p q
-Ends-one bytes from (Single kind) a b p q = same_place (past bytes from) a b p q
+Ends-one bytes from (Single kind) a b p q = same_spot (past bytes from) a b p q
 Ends-one bytes from Nothing a b p q = absurd p
 
--- and behind the place
+-- and after the offset
 
 pub IsQuoted-after : (quote : ℕ) (bytes : List ℕ) (body to : ℕ) → IsQuoted quote bytes body to → body < to
 IsQuoted-after quote bytes body to p = omega (arith, p.after, Steps-le (InQuotes quote bytes) (InQuotes-moves quote bytes) p.until.steps)

@@ -1,5 +1,5 @@
--- The laws of lexemes: what stands at a place ends behind it, between characters, and is one; a
--- fault stands where none does.
+-- The laws of lexemes: a lexeme or gap at an offset ends after it, between characters, and is
+-- unique; a fault is at each offset without one.
 use Rattle.std.proofs.Common.{◌≡◌, ℕ, ◌<◌, ◌≤◌, List, length, IsUtf8, refl, sym, ◌∙◌, subst, arith}
 use Rattle.std.specs.Str.{IsCharBoundary}
 use Rattle.logos_lexeme.specs.LexemeOpenings.{opening_at}
@@ -39,7 +39,7 @@ suffixed-one bytes (Punctuation spacing) end a b p q = p ∙ sym q
 suffixed-one bytes (Opening delimiter) end a b p q = p ∙ sym q
 suffixed-one bytes (Closing delimiter) end a b p q = p ∙ sym q
 
--- what is no literal has no suffix
+-- a lexeme that is not a literal has no suffix
 pub no_suffix : (bytes : List ℕ) (kind : LexemeKind) (end : ℕ) → (kind ≡ Literal → ⊥) → IsSuffixed bytes kind end end
 no_suffix bytes Literal end other = absurd (other refl)
 no_suffix bytes Gap end other = refl
@@ -49,7 +49,7 @@ no_suffix bytes (Punctuation spacing) end other = refl
 no_suffix bytes (Opening delimiter) end other = refl
 no_suffix bytes (Closing delimiter) end other = refl
 
--- what stands at a place is not empty, and stands in the source
+-- a lexeme or gap at an offset is not empty, and is in the source
 pub next_advances : {bytes : List ℕ} {from : ℕ} {kind : LexemeKind} {to : ℕ} → IsNext bytes from kind to → (from < to) × (to ≤ length bytes)
 next_advances {bytes} {from} {kind} {to} n = (omega (arith, Ends-after bytes from (opening_at bytes from) n.end n.ends, suffixed-le bytes kind n.end to n.suffixed), n.within)
 
@@ -59,7 +59,7 @@ next_boundary {bytes} {from} {kind} {to} utf8 here n =
     let advances = next_advances n in
     suffixed-boundary bytes kind n.end to utf8 (Ends-boundary bytes utf8 from (omega (arith, advances.0, advances.1)) here (opening_at bytes from) n.end n.ends) n.suffixed
 
--- nothing else stands there
+-- no other lexeme is there
 pub next_one : {bytes : List ℕ} {from : ℕ} {kind other : LexemeKind} {to end : ℕ} → IsNext bytes from kind to → IsNext bytes from other end → (kind ≡ other) × (to ≡ end)
 next_one {bytes} {from} {kind} {other} {to} {end} m n =
     let same_kind : other ≡ kind = n.is_kind ∙ sym m.is_kind in

@@ -1,19 +1,19 @@
--- The piece that stands at a place is the one that the rules of pieces allow there.
+-- The piece at an offset is the one that the rules of pieces allow there.
 use Rattle.std.proofs.Common.{◌≡◌, ◌≢◌, ℕ, ◌+◌, ◌-◌, ◌<◌, ◌≤◌, ◌==◌, ◌&&◌, not, nat_lt, nat_le, inl, inr, Bool, true, false, Option, Some, None, MatchOption, List, length, drop, get_or, slice_range, get_or-drop, refl, sym, ◌∙◌, ap, arith}
 use lib.Utf8.{scalar}
 use Rattle.std.proofs.lemmas.Bool.{cases_lt, cases_Bool, false≢true, eqb-true, eq-eqb, leb-true, le-leb, ltb-true, lt-ltb, cond_both, and_from, and_parts, or_left, or_right, not_from_true, not_from_false}
 use Rattle.std.proofs.lemmas.List.{get_or_past}
 use Rattle.std.proofs.lemmas.List.Sums.{prefix_len_passes, prefix_len_stops}
 use Rattle.logos_lexeme.specs.LexemeRuns.{IsFirst}
-use Rattle.logos_lexeme.specs.LiteralBodies.{is_simple, is_hex, hex_value, greatest_of, digits_between, is_blank, BreaksLine, IsAllowed, IsUnicodeEscape, IsEscape, simple, hex, unicode, StandsFor, escape, continuation}
+use Rattle.logos_lexeme.specs.LiteralBodies.{is_simple, is_hex, hex_value, greatest_of, digits_between, is_blank, BreaksLine, IsAllowed, IsUnicodeEscape, IsEscape, simple, hex, unicode, Represents, escape, continuation}
 use Rattle.logos_lexeme.specs.inside.LiteralReads.{IsPlain, itself, break}
 use Rattle.logos_lexeme.specs.LiteralPieces.{run_length, is_hex_or_line, hex_escape, has_unicode, unicode_escape, escape_at, is_allowed, is_return, plain_at, breaks_line, piece_at}
 use Rattle.logos_lexeme.specs.declared.lexeme.openings.Content.{Content}
 use Rattle.logos_lexeme.specs.declared.lexeme.openings.Content.TheVariants.{Text, Bytes, C}
 use Rattle.logos_lexeme.proofs.RunLaws.{IsFirst-one}
-use Rattle.logos_lexeme.proofs.BodyLaws.{StandsFor-one, says-escape, says-plain, plain-says}
+use Rattle.logos_lexeme.proofs.BodyLaws.{Represents-one, says-escape, says-plain, plain-says}
 
--- a function says what a relation allows, and nothing where it allows nothing
+-- the value of a function is allowed by a relation, and there is none if the relation allows none
 abbrev pub Tells : (ℕ → List ℕ → Type 0) → Option (List ℕ × ℕ) → Type 0
 Tells P found = MatchOption found ((next : ℕ) (held : List ℕ) → P next held → ⊥) (λ f. P f.1 f.0)
 
@@ -22,7 +22,7 @@ tells-same : (P Q : ℕ → List ℕ → Type 0) → ((next : ℕ) (held : List 
 tells-same P Q on back None t = λ next held q. t next held (back next held q)
 tells-same P Q on back (Some f) t = on f.1 f.0 t
 
--- a run ends at the first place that does not pass
+-- a run ends at the first offset that does not pass
 module _ (test : ℕ → Bool) (bytes : List ℕ) (from : ℕ) (none : test 0 ≡ false) where
   stops : test (get_or bytes (from + run_length test bytes from) 0) ≡ false
   stops = elim (cases_lt (run_length test bytes from) (length (drop from bytes))) [
@@ -63,7 +63,7 @@ module _ (content : Content) (bytes : List ℕ) (at : ℕ) where
       none f next held (hex h v) = false≢true (sym f ∙ and_from _ _ h.first (and_from _ _ h.second (le-leb _ _ h.small)))
       none f next held (unicode c u v) = let g = u.letter in omega arith
 
-  -- what `\u{N}` asks, as one test
+  -- the conditions of `\u{N}`, as one test
   abbrev unicode_test : ℕ → Bool
   unicode_test brace = has_unicode content && ((get_or bytes (at + 2) 0 == 123) && (is_hex (get_or bytes (at + 3) 0) && ((get_or bytes brace 0 == 125) && (nat_le (length (digits_between bytes (at + 3) brace)) 6 && scalar (hex_value (digits_between bytes (at + 3) brace))))))
 
@@ -137,7 +137,7 @@ module _ (content : Content) (bytes : List ℕ) (at : ℕ) where
       none n x u next held (hex h v) = false≢true (sym x ∙ eq-eqb (get_or bytes (at + 1) 0) 120 h.letter)
       none n x u next held (unicode c w v) = false≢true (sym u ∙ eq-eqb (get_or bytes (at + 1) 0) 117 w.letter)
 
--- a byte that stands for itself
+-- a byte that represents itself
 
 no_thirteen : (byte : ℕ) → not (byte == 13) ≡ true → byte ≢ 13
 no_thirteen byte t e = false≢true (sym (not_from_true (byte == 13) (eq-eqb byte 13 e)) ∙ t)
@@ -185,18 +185,18 @@ module _ (content : Content) (bytes : List ℕ) (at : ℕ) where
       none n f next held (itself a v) = false≢true (sym n ∙ allowed-into content (get_or bytes at 0) a)
       none n f next held (break r) = false≢true (sym f ∙ return-test bytes at r.0 r.1)
 
-  pub piece-tells : (escapes : Bool) → Tells (StandsFor escapes content bytes at) (piece_at escapes content bytes at)
+  pub piece-tells : (escapes : Bool) → Tells (Represents escapes content bytes at) (piece_at escapes content bytes at)
   unfolding piece_at
   piece-tells escapes =
-      cond_both (not (escapes && (get_or bytes at 0 == 92))) _ _ (Tells (StandsFor escapes content bytes at))
+      cond_both (not (escapes && (get_or bytes at 0 == 92))) _ _ (Tells (Represents escapes content bytes at))
       (λ t. let other = no_escape t in
-      tells-same (IsPlain content bytes at) (StandsFor escapes content bytes at) (plain-says content bytes at escapes other) (says-plain content bytes at escapes other) (plain_at content bytes at) plain-tells)
+      tells-same (IsPlain content bytes at) (Represents escapes content bytes at) (plain-says content bytes at escapes other) (says-plain content bytes at escapes other) (plain_at content bytes at) plain-tells)
       (λ f.
       let p = and_parts escapes (get_or bytes at 0 == 92) (escaped f) in
       let e = eqb-true (get_or bytes at 0) 92 p.1 in
-      cond_both (breaks_line bytes (at + 1)) _ _ (Tells (StandsFor escapes content bytes at))
+      cond_both (breaks_line bytes (at + 1)) _ _ (Tells (Represents escapes content bytes at))
       (λ t. continuation p.0 (record { backslash = e; breaks = breaks-from bytes (at + 1) t; blanks = run-first is_blank bytes (at + 1) no_blank }))
-      (λ n. tells-same (IsEscape content bytes at) (StandsFor escapes content bytes at) (λ next held h. escape p.0 h)
+      (λ n. tells-same (IsEscape content bytes at) (Represents escapes content bytes at) (λ next held h. escape p.0 h)
       (says-escape content bytes at escapes p.0 e (λ b. false≢true (sym n ∙ breaks-into bytes (at + 1) b))) (escape_at content bytes at) (escape-tells content bytes at e)))
     where
       no_escape : not (escapes && (get_or bytes at 0 == 92)) ≡ true → escapes ≡ true → get_or bytes at 0 ≢ 92
@@ -205,13 +205,13 @@ module _ (content : Content) (bytes : List ℕ) (at : ℕ) where
       escaped : not (escapes && (get_or bytes at 0 == 92)) ≡ false → (escapes && (get_or bytes at 0 == 92)) ≡ true
       escaped f = elim (cases_Bool (escapes && (get_or bytes at 0 == 92))) [ inl t ↦ t | inr g ↦ absurd (false≢true (sym f ∙ not_from_false (escapes && (get_or bytes at 0 == 92)) g)) ]
 
-  -- so it is the piece that stands there
+  -- so it is the piece at this offset
 
-  tells-all : (escapes : Bool) (found : Option (List ℕ × ℕ)) → Tells (StandsFor escapes content bytes at) found → (next : ℕ) (held : List ℕ) → StandsFor escapes content bytes at next held → found ≡ Some (held, next)
+  tells-all : (escapes : Bool) (found : Option (List ℕ × ℕ)) → Tells (Represents escapes content bytes at) found → (next : ℕ) (held : List ℕ) → Represents escapes content bytes at next held → found ≡ Some (held, next)
   tells-all escapes None t next held s = absurd (t next held s)
   tells-all escapes (Some (said, end)) t next held s =
-      let one = StandsFor-one escapes content bytes at end next said held t s in
+      let one = Represents-one escapes content bytes at end next said held t s in
       rw (one.0, one.1) refl
 
-  pub piece-all : (escapes : Bool) (next : ℕ) (held : List ℕ) → StandsFor escapes content bytes at next held → piece_at escapes content bytes at ≡ Some (held, next)
+  pub piece-all : (escapes : Bool) (next : ℕ) (held : List ℕ) → Represents escapes content bytes at next held → piece_at escapes content bytes at ≡ Some (held, next)
   piece-all escapes next held s = tells-all escapes (piece_at escapes content bytes at) (piece-tells escapes) next held s

@@ -11,7 +11,7 @@ module _ (Step : ℕ → ℕ → Type 0) where
   pub Steps-push : {a b c : ℕ} → Steps Step a b → Step b c → Steps Step a c
   Steps-push r s = Steps-join r (step s here)
 
-  -- what steps keep
+  -- properties that steps preserve
   pub Steps-keep : (P : ℕ → Type 0) → ((at next : ℕ) → P at → Step at next → P next) → {a b : ℕ} → Steps Step a b → P a → P b
   Steps-keep P keep here p = p
   Steps-keep P keep (step s r) p = Steps-keep P keep r (keep _ _ p s)
@@ -20,17 +20,17 @@ module _ (Step : ℕ → ℕ → Type 0) where
   Steps-le moves here = omega arith
   Steps-le moves (step {at} {mid} s r) = omega (arith, moves at mid s, Steps-le moves r)
 
-  -- from a last place steps lead nowhere else
+  -- from a last offset steps lead to no other offset
   pub Steps-last : {at to : ℕ} → IsLast Step at → Steps Step at to → at ≡ to
   Steps-last last here = refl
   Steps-last {at} last (step {mid = mid} s r) = absurd (last mid s)
 
-  -- a place has at most one next
+  -- an offset has at most one next
   abbrev pub IsFunction : Type 0
   IsFunction = (at m n : ℕ) → Step at m → Step at n → m ≡ n
 
   module _ (one : IsFunction) where
-    -- steps that do not end here go on by the one step that there is
+    -- steps that do not end here continue by the one step that there is
     pub Steps-back : {at next to : ℕ} → Step at next → Steps Step at to → (at ≡ to) ⊎ Steps Step next to
     Steps-back s here = inl refl
     Steps-back {at} {next} {to} s (step {mid = mid} s' r) = inr (subst (λ m. Steps Step m to) (one at mid next s' s) r)

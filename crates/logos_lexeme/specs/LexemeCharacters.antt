@@ -1,4 +1,4 @@
--- The characters of a source text, and what each can be part of.
+-- The characters of a source text, and the lexemes that each can be part of.
 use Rattle.std.specs.Prelude.{ℕ, ◌+◌, ◌==◌, ◌||◌, Bool, List, drop, slice_index, chars, codes}
 use Rattle.std.specs.Char.{len_utf8}
 use Rattle.std.specs.Int.{is_in_range}

@@ -15,7 +15,7 @@ pub record IsLineEnd (bytes : List ℕ) (at : ℕ) : Type 0 where
   pub returns : (i : ℕ) → at ≤ i → i < feed → slice_index bytes i ≡ 13
   pub closes : (feed ≡ length bytes) ⊎ (slice_index bytes feed ≡ 10)
 
--- These two bytes stand next to each other.
+-- These two bytes are next to each other.
 abbrev pub IsPair : List ℕ → ℕ → ℕ → ℕ → Type 0
 IsPair bytes at first second = (slice_index bytes at ≡ first) × (slice_index bytes (at + 1) ≡ second)
 
@@ -30,29 +30,29 @@ pub data Closes (bytes : List ℕ) : (depth at to : ℕ) → Type 0 where
 abbrev pub IsName : List ℕ → ℕ → ℕ → Type 0
 IsName bytes at to = MatchOption (name_at bytes at) ⊥ (λ name. Run (Passes is_continuing bytes) (past bytes name) to)
 
--- The suffix of a literal that ends at the first byte offset ends at the second; it can be empty.
+-- The suffix of a literal that ends at the first byte offset ends at the second. It can be empty.
 abbrev pub IsSuffix : List ℕ → ℕ → ℕ → Type 0
 IsSuffix bytes at to = MatchOption (name_at bytes at) (to ≡ at) (λ name. Run (Passes is_continuing bytes) (past bytes name) to)
 
--- Whether a number starts with `0x`, `0o` or `0b`.
+-- Whether a number starts with the base prefix `0x`, `0o` or `0b`.
 unfoldable pub has_base : List ℕ → ℕ → Bool
 has_base bytes at =
     let letter = slice_index bytes (at + 1) in
     (slice_index bytes at == 48) && ((letter == 120) || (letter == 111) || (letter == 98))
 
--- A number goes on from `at` to `next`; `based` says whether it starts with a base.
+-- A number continues from `at` to `next`. `based` is whether it starts with a base prefix.
 pub data GoesOn (based : Bool) (bytes : List ℕ) (at next : ℕ) : Type 0 where
   letter : Passes is_continuing bytes at next → GoesOn based bytes at next
   point : based ≡ false → slice_index bytes at ≡ 46 → IsTrue (is_ascii_digit (slice_index bytes (at + 1))) → next ≡ at + 1 → GoesOn based bytes at next
   sign : based ≡ false → (slice_index bytes (at - 1) ≡ 101) ⊎ (slice_index bytes (at - 1) ≡ 69) → (slice_index bytes at ≡ 43) ⊎ (slice_index bytes at ≡ 45) → IsTrue (is_ascii_digit (slice_index bytes (at + 1))) → next ≡ at + 1 → GoesOn based bytes at next
 
--- One step inside quotes: over `\` and what it escapes, or over a byte that is neither `\` nor the
--- quote.
+-- One step inside quotes: over `\` and the byte after it, or over a byte that is neither `\` nor
+-- the quote.
 pub data InQuotes (quote : ℕ) (bytes : List ℕ) (at next : ℕ) : Type 0 where
   escaped : slice_index bytes at ≡ 92 → next ≡ at + 2 → InQuotes quote bytes at next
   plain : at < length bytes → slice_index bytes at ≢ 92 → slice_index bytes at ≢ quote → next ≡ at + 1 → InQuotes quote bytes at next
 
--- The next quote that is not escaped stands at the second byte offset.
+-- The next quote that is not escaped is at the second byte offset.
 abbrev pub ReachesQuote : ℕ → List ℕ → ℕ → ℕ → Type 0
 ReachesQuote quote bytes from at = Until (InQuotes quote bytes) (λ i. slice_index bytes i ≡ quote) from at
 
@@ -62,12 +62,13 @@ pub record IsQuoted (quote : ℕ) (bytes : List ℕ) (body to : ℕ) : Type 0 wh
   pub until : ReachesQuote quote bytes body quote_at
   pub after : to ≡ quote_at + 1
 
--- A quote followed by `count` `#` stands at `at`.
+-- A quote followed by `count` `#` is at `at`.
 pub record IsRawEnd (count : ℕ) (bytes : List ℕ) (at : ℕ) : Type 0 where
   pub quote : slice_index bytes at ≡ 34
   pub hashes : (i : ℕ) → i < count → slice_index bytes (at + 1 + i) ≡ 35
 
--- The contents from `body` reach to the first such quote, and `to` comes after its `#`.
+-- The contents from `body` reach to the first quote followed by `count` `#`, and `to` comes after
+-- its `#`.
 pub record IsRaw (count : ℕ) (bytes : List ℕ) (body to : ℕ) : Type 0 where
   pub quote_at : ℕ
   pub first : IsFirst (IsRawEnd count bytes) body quote_at
@@ -85,7 +86,7 @@ body_of (Raw content count) from = from + prefix_of content + 1 + count + 1
 body_of (Apostrophes content) from = from + prefix_of content + 1
 body_of _ from = from
 
--- What opens at `from` ends at `to`, without the suffix of a literal.
+-- The lexeme or gap that opens at `from` ends at `to`, without the suffix of a literal.
 abbrev pub Ends : List ℕ → ℕ → Opening → ℕ → Type 0
 Ends bytes from Space to = Run (Passes is_space bytes) (past bytes from) to
 Ends bytes from (Line kind) to = IsFirst (IsLineEnd bytes) (from + 2) to

@@ -1,4 +1,4 @@
--- What opens at a byte offset of a source text.
+-- The lexeme or gap that opens at a byte offset of a source text.
 use Rattle.std.specs.Prelude.{ℕ, ◌+◌, ◌-◌, ◌==◌, ◌&&◌, ◌||◌, Bool, not, nat_lt, nat_le, List, drop, slice_index, Option, Some, None, is_some, unwrap_or, option_map, if◌then◌else◌}
 use Rattle.std.specs.Char.{is_ascii_digit}
 use Rattle.std.specs.List.{prefix_len}
@@ -13,7 +13,7 @@ use Rattle.logos_lexeme.specs.declared.lexeme.openings.Content.TheVariants.{Text
 use Rattle.logos_lexeme.specs.declared.lexeme.openings.Opening.{Opening}
 use Rattle.logos_lexeme.specs.declared.lexeme.openings.Opening.TheVariants.{Space, Line, Block, Word, Number, Quotes, Raw, Apostrophes, Character, Single, Nothing}
 
--- How many `#` stand in a row.
+-- The number of consecutive `#` from a byte offset on.
 unfoldable pub hashes : List ℕ → ℕ → ℕ
 hashes bytes at = prefix_len (λ c. c == 35) (drop at bytes)
 
@@ -71,14 +71,15 @@ comment_opening bytes at =
     else (if slice_index bytes (at + 1) == 42 then Some (Block (block_kind bytes (at + 2)))
     else None))
 
--- Where the name of an identifier begins, if one stands there: after `r#`, or at once.
+-- The byte offset at which the name of an identifier begins, if there is one: after `r#`, or at the
+-- given offset.
 unfoldable pub name_at : List ℕ → ℕ → Option ℕ
 name_at bytes at =
     if ((slice_index bytes at == 114) && (slice_index bytes (at + 1) == 35)) && is_start (character bytes (at + 2)) then Some (at + 2)
     else (if is_start (character bytes at) then Some at
     else None)
 
--- Joint before punctuation or `'`, unless a comment begins there.
+-- Punctuation is joint before punctuation or `'`, unless a comment begins there.
 unfoldable pub spacing : List ℕ → ℕ → Spacing
 spacing bytes at =
     if (is_mark (slice_index bytes at) || (slice_index bytes at == 39)) && not (is_some (comment_opening bytes at)) then Joint else Alone
@@ -111,33 +112,33 @@ other_opening bytes at =
     else (if is_some (name_at bytes at) then Word
     else unwrap_or (option_map Single (single_kind bytes at)) Nothing)
 
--- Whether a `'` stands directly before a byte offset.
+-- Whether there is a `'` directly before a byte offset.
 unfoldable pub follows_apostrophe : List ℕ → ℕ → Bool
 follows_apostrophe bytes at = nat_lt 0 at && (slice_index bytes (at - 1) == 39)
 
--- Whether the name of a lifetime begins at a byte offset: what can begin an identifier, directly
--- after `'`. Where a lexeme begins there, that `'` is a lexeme: the `'` that closes a literal takes
--- an identifier after it as its suffix, and a comment ends with `*/`, at a line's end or at the
--- text's end.
+-- Whether the name of a lifetime begins at a byte offset: a character that can begin an identifier,
+-- directly after `'`. If a lexeme begins there, that `'` is a lexeme: the `'` that closes a literal
+-- takes an identifier after it as its suffix, and a comment ends with `*/`, at a line's end or at
+-- the text's end.
 unfoldable pub is_lifetime_name : List ℕ → ℕ → Bool
 is_lifetime_name bytes at = follows_apostrophe bytes at && is_start (character bytes at)
 
--- The literal that opens at a byte offset; none opens where the name of a lifetime begins.
+-- The literal that opens at a byte offset. No literal opens where the name of a lifetime begins.
 unfoldable pub literal_at : List ℕ → ℕ → Option Opening
 literal_at bytes at = if is_lifetime_name bytes at then None else literal_opening bytes at
 
--- What opens at a byte offset: a literal wherever one opens, else a comment, else what its
--- character can begin.
+-- The opening at a byte offset: a literal if one opens there, otherwise a comment, otherwise the
+-- lexeme that its character can begin.
 unfoldable pub opening_at : List ℕ → ℕ → Opening
 opening_at bytes at = unwrap_or (literal_at bytes at) (unwrap_or (comment_opening bytes at) (other_opening bytes at))
 
--- How many bytes stand before a literal's `r`, `'` or quote.
+-- The number of bytes before a literal's `r`, `'` or quote.
 abbrev pub prefix_of : Content → ℕ
 prefix_of Text = 0
 prefix_of Bytes = 1
 prefix_of C = 1
 
--- The kind of a lexeme that opens so.
+-- The kind of a lexeme or gap that opens in this way.
 abbrev pub kind_of : Opening → LexemeKind
 kind_of Space = Gap
 kind_of (Line kind) = kind

@@ -12,7 +12,7 @@ pub record Until (Step : ℕ → ℕ → Type 0) (Stop : ℕ → Type 0) (from t
   pub steps : Steps Step from to
   pub stop : Stop to
 
--- No step leads on from a byte offset.
+-- No step leads from a byte offset to another.
 abbrev pub IsLast : (ℕ → ℕ → Type 0) → ℕ → Type 0
 IsLast Step at = (next : ℕ) → Step at next → ⊥
 
@@ -20,7 +20,7 @@ IsLast Step at = (next : ℕ) → Step at next → ⊥
 abbrev pub Run : (ℕ → ℕ → Type 0) → ℕ → ℕ → Type 0
 Run Step from to = Until Step (IsLast Step) from to
 
--- `to` is the first byte offset from `from` on of which this holds.
+-- `to` is the first byte offset from `from` on that has the property `P`.
 pub record IsFirst (P : ℕ → Type 0) (from to : ℕ) : Type 0 where
   pub begun : from ≤ to
   pub holds : P to

@@ -6,5 +6,5 @@ pub mod LiteralBodies
 pub mod LiteralPieces
 pub mod Lexemes
 pub mod inside
-pub mod Words
+pub mod Imports
 pub mod Views

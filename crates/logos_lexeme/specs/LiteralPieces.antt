@@ -1,5 +1,4 @@
--- The pieces of strings as functions of a byte offset: the bytes that a piece stands for, and where
--- it ends.
+-- The pieces of strings as functions of a byte offset: the bytes that a piece denotes, and its end.
 use Rattle.std.specs.Prelude.{ℕ, ◌+◌, ◌==◌, ◌&&◌, ◌||◌, not, nat_lt, nat_le, Bool, true, false, if◌then◌else◌, List, [], ◌∷◌, length, drop, slice_index, slice_range, encode_utf8, Option, Some, None}
 use Rattle.std.specs.List.{prefix_len}
 use lib.Utf8.{scalar}
@@ -7,7 +6,7 @@ use Rattle.logos_lexeme.specs.LiteralBodies.{is_simple, simple_value, is_hex, he
 use Rattle.logos_lexeme.specs.declared.lexeme.openings.Content.{Content}
 use Rattle.logos_lexeme.specs.declared.lexeme.openings.Content.TheVariants.{Text, Bytes, C}
 
--- How many bytes in a row pass a test, from a byte offset on.
+-- The number of consecutive bytes that pass a test, from a byte offset on.
 abbrev pub run_length : (ℕ → Bool) → List ℕ → ℕ → ℕ
 run_length test bytes at = prefix_len test (drop at bytes)
 
@@ -46,17 +45,17 @@ escape_at content bytes at =
     else (if letter == 117 then unicode_escape content bytes at
     else None))
 
--- Whether a byte can stand for itself.
+-- Whether a byte can represent itself.
 abbrev pub is_allowed : Content → ℕ → Bool
 is_allowed Text byte = not (byte == 13)
 is_allowed Bytes byte = not (byte == 13) && nat_lt byte 128
 is_allowed C byte = not (byte == 13)
 
--- Whether CR LF stands here.
+-- Whether CR LF is here.
 abbrev pub is_return : List ℕ → ℕ → Bool
 is_return bytes at = (slice_index bytes at == 13) && (slice_index bytes (at + 1) == 10)
 
--- A piece that is not an escape: a byte that stands for itself, or CR LF, which stands for LF.
+-- A piece that is not an escape: a byte that represents itself, or CR LF, which denotes one LF.
 unfoldable pub plain_at : Content → List ℕ → ℕ → Option (List ℕ × ℕ)
 plain_at content bytes at =
     if is_allowed content (slice_index bytes at) then Some (slice_index bytes at ∷ [], at + 1)
@@ -67,7 +66,7 @@ plain_at content bytes at =
 abbrev pub breaks_line : List ℕ → ℕ → Bool
 breaks_line bytes at = (slice_index bytes at == 10) || is_return bytes at
 
--- The piece at a byte offset. A backslash before a line break stands for no bytes, and takes all
+-- The piece at a byte offset. A backslash before a line break denotes no bytes, and includes all
 -- blank bytes that follow.
 unfoldable pub piece_at : Bool → Content → List ℕ → ℕ → Option (List ℕ × ℕ)
 piece_at escapes content bytes at =

@@ -1,9 +1,9 @@
 //! Cuts a source text into lexemes: finds the kind and the end of the lexeme or gap at a byte
 //! offset.
 //!
-//! A literal is read wherever one opens, else a comment, else whatever the character there can
-//! begin. Each reader walks forward over what it reads and looks at each byte at most a few times.
-//! `logos_token` asks `lexeme_at` at each offset at which a lexeme or a gap begins.
+//! At each offset it reads a literal if one opens there, otherwise a comment, otherwise the lexeme
+//! that the character there can begin. Each reader moves forward and examines each byte at most a
+//! few times. `logos_token` calls `lexeme_at` at each offset at which a lexeme or a gap begins.
 
 ghost use Rattle.std.specs.Prelude.{◌<◌, length, IfOk, IfErr};
 ghost use Rattle.logos_lexeme.specs.Views.{IsCharBoundary, IsNext, IsStuck};
@@ -72,7 +72,7 @@ pub enum LexemeKind {
 pub enum LexicalKind {
     /// A character that begins no lexeme.
     BadCharacter,
-    /// A literal that breaks its rules. The span does not include its suffix.
+    /// A literal that is malformed. The span does not include its suffix.
     BadLiteral,
     /// A literal or a comment without an end. The span reaches to the end of the text.
     Unterminated,
@@ -88,8 +88,8 @@ pub enum LexicalKind {
 ///
 /// Returns `BadCharacter` with the span of the character if no lexeme begins with it,
 /// `Unterminated` with the span up to the end of the source if a literal or a comment does not end,
-/// and `BadLiteral` with the span of the literal without its suffix if it breaks its rules.
-/// Delimiters are not matched here, so `Unbalanced` is never returned.
+/// and `BadLiteral` with the span of the literal without its suffix if it is malformed. Delimiters
+/// are not matched here, so `Unbalanced` is never returned.
 pub fn lexeme_at(source: &str, from: usize) -> Result<(LexemeKind, usize), (LexicalKind, Span)>
     requires inside { from < length source.now }
     requires boundary { IsCharBoundary source.now from }

@@ -1,4 +1,5 @@
-//! Lexemes: what stands at a byte offset of a source text, and how far it reaches.
+//! Lexemes: the kind and the end of the lexeme or gap at a byte offset of a source text.
+//! `logos_token` calls it to read tokens.
 
 #![tactic(auto)]
 

@@ -1,2 +1,2 @@
-mod PlaceLemmas
+mod LocationLemmas
 mod LineLemmas

@@ -1,6 +1,6 @@
-pub mod Places
+pub mod Locations
 pub mod Cursors
 pub mod Starts
 pub mod inside
-pub mod Words
+pub mod Imports
 pub mod Views

@@ -1,18 +1,19 @@
 -- The offsets at which the lines of a text begin.
 use Rattle.std.specs.Prelude.{◌≡◌, ℕ, ◌+◌, ◌*◌, ◌<◌, ◌⊎◌, List, length, get_or, take, drop, IsCharBoundary}
-use Rattle.logos_lines.specs.declared.place.Position.{Position}
-use Rattle.logos_lines.specs.Places.{place_at, line_length}
+use Rattle.logos_lines.specs.declared.location.Location.{Location}
+use Rattle.logos_lines.specs.Locations.{location_at, line_length}
 
 -- A line with this number begins here.
 pub record IsStart (text : List ℕ) (line offset : ℕ) : Type 0 where
   pub boundary : IsCharBoundary text offset
-  pub place : place_at text offset ≡ record { line = line; column = 1 }
+  pub location : location_at text offset ≡ record { line = line; column = 1 }
 
--- These are the offsets up to one at which the lines of a text begin, one for each line, in order.
+-- These are the offsets, up to `to`, at which the lines of a text begin, one for each line, in
+-- order.
 pub record AreStartsTo (text : List ℕ) (starts : List ℕ) (to : ℕ) : Type 0 where
   pub some : 0 < length starts
   pub first : get_or starts 0 0 ≡ 0
-  pub every : length starts ≡ (place_at text to).line
+  pub every : length starts ≡ (location_at text to).line
   pub each : (k : ℕ) → k < length starts → IsStart text (k + 1) (get_or starts k 0)
 
 -- These are the offsets at which the lines of a text begin.
@@ -21,7 +22,7 @@ AreStarts text starts = AreStartsTo text starts (length text)
 
 -- The text has no line with this number.
 abbrev pub IsNoLine : List ℕ → ℕ → Type 0
-IsNoLine text line = (line ≡ 0) ⊎ ((place_at text (length text)).line < line)
+IsNoLine text line = (line ≡ 0) ⊎ ((location_at text (length text)).line < line)
 
 -- This is the text of a line, without its end.
 pub record IsLineOf (text : List ℕ) (line : ℕ) (shown : List ℕ) : Type 0 where
@@ -29,7 +30,13 @@ pub record IsLineOf (text : List ℕ) (line : ℕ) (shown : List ℕ) : Type 0 w
   pub start : IsStart text line from
   pub shows : shown ≡ take (line_length (drop from text)) (drop from text)
 
--- These are the positions of the offsets 0, 256, 512 .. of the text, up to its end.
-pub record AreStops (text : List ℕ) (stops : List Position) : Type 0 where
+-- The text of the line, without its end, has more than `most` bytes.
+pub record IsLongLine (text : List ℕ) (line most : ℕ) : Type 0 where
+  pub from : ℕ
+  pub start : IsStart text line from
+  pub longer : most < line_length (drop from text)
+
+-- These are the locations of the offsets 0, 256, 512 and so on of the text, up to its end.
+pub record AreStops (text : List ℕ) (stops : List Location) : Type 0 where
   pub whole : length text < length stops * 256
-  pub each : (k : ℕ) (other : Position) → k < length stops → get_or stops k other ≡ place_at text (k * 256)
+  pub each : (k : ℕ) (other : Location) → k < length stops → get_or stops k other ≡ location_at text (k * 256)

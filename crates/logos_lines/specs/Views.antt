@@ -1,5 +1,5 @@
--- Definitions that clauses cite: those of `Words`, and those that name types of this crate.
-pub use Rattle.logos_lines.specs.Words.{CursorValue}
-pub use Rattle.logos_lines.specs.Places.{after_byte, continues, ends_line, line_length, place_at}
-pub use Rattle.logos_lines.specs.Starts.{AreStarts, AreStops, IsLineOf, IsNoLine, IsStart}
+-- Definitions that contracts cite: those of `Imports`, and those that name types of this crate.
+pub use Rattle.logos_lines.specs.Imports.{CursorValue}
+pub use Rattle.logos_lines.specs.Locations.{after_byte, continues, ends_line, line_length, location_at}
+pub use Rattle.logos_lines.specs.Starts.{AreStarts, AreStops, IsLineOf, IsLongLine, IsNoLine, IsStart}
 pub use Rattle.logos_lines.specs.inside.Search.{ends_search, next_column}

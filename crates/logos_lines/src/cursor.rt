@@ -1,32 +1,32 @@
-//! A position in a text that moves forward. A table whose rows ascend moves one cursor in place of
-//! a search for each row.
+//! An offset in a text that moves forward with its line and column. Tables with ascending rows move
+//! one cursor instead of searching for each row.
 
 ghost use Rattle.std.specs.Prelude.{◌≡◌, ◌≤◌, max, min, length};
-ghost use Rattle.logos_lines.specs.Views.{place_at};
+ghost use Rattle.logos_lines.specs.Views.{location_at};
 
-use crate::place::Position;
+use crate::location::Location;
 use std::marker::Model;
 
-/// An offset in a text, in bytes, with its line and column. It only moves forward.
+/// An offset in a text, in bytes, with its line and column. It moves only forward.
 ///
-/// Walking a whole text by one cursor takes time linear in its length.
+/// Moving one cursor over a whole text takes time linear in the length of the text.
 #[derive(Drop)]
 pub struct Cursor<'t> {
     bytes: &'t [u8],
     offset: usize,
-    position: Position,
+    location: Location,
 }
 
 impl<'t> Model for Cursor<'t> {
     ghost use Rattle.std.specs.Prelude.{◌≡◌, ◌≤◌, length};
-    ghost use Rattle.logos_lines.specs.Views.{CursorValue, place_at};
+    ghost use Rattle.logos_lines.specs.Views.{CursorValue, location_at};
 
     ghost Value = { CursorValue };
 
     ghost view = { λ c. record { text = c.bytes.now; at = c.offset } };
 
     ghost invariant = { λ c. (c.offset ≤ length c.bytes.now) ×
-        (c.position ≡ place_at c.bytes.now c.offset) };
+        (c.location ≡ location_at c.bytes.now c.offset) };
 }
 
 impl<'t> Cursor<'t> {
@@ -37,28 +37,28 @@ impl<'t> Cursor<'t> {
         Cursor {
             bytes,
             offset: 0,
-            position: Position::first(),
+            location: Location::first(),
         }
     }
 
-    /// Returns a cursor at an offset of a text that has this position.
-    pub(crate) fn at(bytes: &'t [u8], offset: usize, position: Position) -> Cursor<'t>
+    /// Returns a cursor at `offset`, whose line and column are `location`.
+    pub(crate) fn at(bytes: &'t [u8], offset: usize, location: Location) -> Cursor<'t>
         requires inside { offset ≤ length bytes.now }
-        requires place { position ≡ place_at bytes.now offset }
+        requires location { location ≡ location_at bytes.now offset }
         ensures { result ≡ record { text = bytes.now; at = offset } }
     {
         Cursor {
             bytes,
             offset,
-            position,
+            location,
         }
     }
 
     /// Returns the line and the column of the cursor's offset.
-    pub fn position(&self) -> Position
-        ensures { result ≡ place_at self.now.text self.now.at }
+    pub fn location(&self) -> Location
+        ensures { result ≡ location_at self.now.text self.now.at }
     {
-        self.position
+        self.location
     }
 
     /// Moves to an offset, or to the end of the text if the offset is past it. An offset before
@@ -71,7 +71,7 @@ impl<'t> Cursor<'t> {
     {
         let end = offset.min(self.bytes.len());
         while self.offset < end {
-            self.position = self.position.after(self.bytes[self.offset]);
+            self.location = self.location.after(self.bytes[self.offset]);
             self.offset += 1;
         }
     }

@@ -1,26 +1,26 @@
-//! The lines of a text. Reports and tables make one for each file that they show.
+//! The lines of a text. Reports and tables create an index for each file that they show.
 
-ghost use Rattle.std.specs.Prelude.{◌≡◌, ◌<◌, ◌≤◌, ◌+◌, ◌^◌, ◌∷◌, [], ℕ, List, Some, None, IfOk, IfSome, MatchOption, OnOk, IsCharBoundary, ◌++◌, ◌==◌, if◌then◌else◌, length, drop};
-ghost use Rattle.logos_lines.specs.Views.{place_at, ends_line, line_length, ends_search, next_column, AreStarts, AreStops, IsLineOf, IsNoLine, IsStart};
+ghost use Rattle.std.specs.Prelude.{◌≡◌, ◌<◌, ◌≤◌, ◌+◌, ◌^◌, ◌∷◌, [], ℕ, List, Some, None, ◌⊎◌, IfOk, IfSome, MatchOption, OnOk, IsCharBoundary, ◌++◌, ◌==◌, if◌then◌else◌, length, drop};
+ghost use Rattle.logos_lines.specs.Views.{location_at, ends_line, line_length, ends_search, next_column, AreStarts, AreStops, IsLineOf, IsLongLine, IsNoLine, IsStart};
 
 use crate::cursor::Cursor;
-use crate::place::{Position, continues};
+use crate::location::{Location, continues};
 use std::alloc::{AllocError, Global};
 use std::marker::Model;
 
-/// How many bytes lie from one stop to the next.
+/// The distance between two stops, in bytes.
 const STEP: usize = 256;
 
 /// A text with the offsets at which its lines begin. A line ends in LF or CR LF.
 ///
-/// Offsets count bytes from 0, lines count from 1, and columns count characters from 1. The
-/// position of an offset is found in the same time wherever it is, also in a text of one long line.
+/// Offsets count bytes from 0, lines count from 1, and columns count characters from 1. Finding the
+/// line and column of an offset takes the same time anywhere in the text, even in one long line.
 #[derive(Drop)]
 pub struct LineIndex<'t> {
     text: &'t str,
     starts: Vec<usize>,
-    /// The positions of the offsets 0, 256, 512 .. of the text.
-    stops: Vec<Position>,
+    /// The locations of the offsets 0, 256, 512 and so on.
+    stops: Vec<Location>,
 }
 
 impl<'t> Model for LineIndex<'t> {
@@ -53,25 +53,25 @@ impl<'t> LineIndex<'t> {
         })
     }
 
-    /// Returns the line and the column of an offset. An offset past the end of the text has those
-    /// of the end, and one inside a character those after its first byte.
-    pub fn line_column(&self, offset: usize) -> Position
-        ensures { result ≡ place_at self.now offset }
+    /// Returns the line and the column of an offset. An offset past the end of the text is treated
+    /// as the end, and an offset inside a character as the offset after its first byte.
+    pub fn line_column(&self, offset: usize) -> Location
+        ensures { result ≡ location_at self.now offset }
     {
         let bytes = self.text.as_bytes();
         let stop = offset.min(bytes.len()) / STEP;
         let mut cursor = Cursor::at(bytes, stop * STEP, self.stops[stop]);
         cursor.go_to(offset);
-        cursor.position()
+        cursor.location()
     }
 
-    /// Returns the offset of a line and a column, or `None` if the text does not have them. On
-    /// boundaries between characters this is the inverse of `line_column`.
+    /// Returns the offset of a line and a column, or `None` if the text does not have them. At
+    /// character boundaries this is the inverse of `line_column`.
     pub fn offset(&self, line: usize, column: usize) -> Option<usize>
         ensures found { IfSome result (λ offset. IsCharBoundary self.now offset
-            × (place_at self.now offset ≡ record { line = line; column = column })) }
+            × (location_at self.now offset ≡ record { line = line; column = column })) }
         ensures every { (offset : ℕ) → IsCharBoundary self.now offset →
-            place_at self.now offset ≡ record { line = line; column = column } →
+            location_at self.now offset ≡ record { line = line; column = column } →
             result ≡ Some offset }
     {
         let start = self.start_of(line)?;
@@ -88,14 +88,20 @@ impl<'t> LineIndex<'t> {
         Some(&self.text[start..end])
     }
 
-    /// Returns the text of a line without LF or CR LF, if it has no more than `most` bytes. It
-    /// looks at no more than these.
+    /// Returns the text of a line without LF or CR LF, or `None` if the text has no such line, or
+    /// if the line has more than `most` bytes. Examines no more than `most` bytes and the end of
+    /// the line.
     pub fn short_line(&self, line: usize, most: usize) -> Option<&'t str>
-        ensures { IfSome result (λ text. IsLineOf self.now line text.now) }
+        ensures { MatchOption result (IsNoLine self.now line ⊎ IsLongLine self.now line most)
+            (λ text. IsLineOf self.now line text.now × (length text.now ≤ most)) }
     {
-        let start = self.start_of(line)?;
-        let end = near_end(self.text, start, most)?;
-        Some(&self.text[start..end])
+        let Some(start) = self.start_of(line) else {
+            return None;
+        };
+        match near_end(self.text, start, most) {
+            Some(end) => Some(&self.text[start..end]),
+            None => None,
+        }
     }
 
     /// Returns the offset at which a line begins, or `None` if the text has no such line.
@@ -132,15 +138,15 @@ fn push_start(starts: &mut Vec<usize>, at: usize, byte: u8) -> Result<(), AllocE
     Ok(())
 }
 
-/// Returns the positions of the offsets 0, 256, 512 .. of a text.
-fn stops_of(alloc: Global, bytes: &[u8]) -> Result<Vec<Position>, AllocError>
+/// Returns the locations of the offsets 0, 256, 512 and so on of a text.
+fn stops_of(alloc: Global, bytes: &[u8]) -> Result<Vec<Location>, AllocError>
     ensures { IfOk result (λ stops. AreStops bytes.now stops.items) }
 {
     let mut cursor = Cursor::new(bytes);
     let mut stops = Vec::new(alloc);
     for stop in 0..bytes.len() / STEP + 1 {
         cursor.go_to(stop * STEP);
-        stops.push(cursor.position())?;
+        stops.push(cursor.location())?;
     }
     Ok(stops)
 }
@@ -165,9 +171,9 @@ fn next_column(byte: u8, column: usize) -> usize
 fn offset_in_line(text: &str, start: usize, line: usize, column: usize) -> Option<usize>
     requires { IsStart text.now line start }
     ensures found { IfSome result (λ offset. IsCharBoundary text.now offset
-        × (place_at text.now offset ≡ record { line = line; column = column })) }
+        × (location_at text.now offset ≡ record { line = line; column = column })) }
     ensures every { (offset : ℕ) → IsCharBoundary text.now offset →
-        place_at text.now offset ≡ record { line = line; column = column } →
+        location_at text.now offset ≡ record { line = line; column = column } →
         result ≡ Some offset }
 {
     let bytes = text.as_bytes();
@@ -180,7 +186,7 @@ fn offset_in_line(text: &str, start: usize, line: usize, column: usize) -> Optio
     if reached == column { Some(at) } else { None }
 }
 
-/// Returns whether LF or CR LF stands at an offset.
+/// Returns whether LF or CR LF is at an offset.
 fn ends_line(bytes: &[u8], at: usize) -> bool
     requires { at < length bytes.now }
     ensures { result ≡ ends_line (drop at bytes.now) }
@@ -190,7 +196,7 @@ fn ends_line(bytes: &[u8], at: usize) -> bool
     (bytes[at] == b'\n') | is_return
 }
 
-/// Returns the offset at which the text of a line ends, by the offset at which it begins.
+/// Returns the offset at which the text of the line that begins at `start` ends.
 fn line_end(text: &str, start: usize) -> usize
     requires { start ≤ length text.now }
     ensures value { result ≡ start + line_length (drop start text.now) }
@@ -205,11 +211,13 @@ fn line_end(text: &str, start: usize) -> usize
     end
 }
 
-/// Returns the offset at which the text of a line ends, by the offset at which it begins, if it has
-/// no more than `most` bytes.
+/// Returns the offset at which the text of the line that begins at `start` ends, or `None` if the
+/// line has more than `most` bytes.
 fn near_end(text: &str, start: usize, most: usize) -> Option<usize>
     requires { start ≤ length text.now }
-    ensures value { IfSome result (λ end. end ≡ start + line_length (drop start text.now)) }
+    ensures value { MatchOption result (most < line_length (drop start text.now))
+        (λ end. end ≡ start + line_length (drop start text.now)) }
+    ensures near { IfSome result (λ end. end ≤ start + most) }
     ensures after { IfSome result (λ end. start ≤ end) }
     ensures boundary { IfSome result (λ end. IsCharBoundary text.now end) }
 {

@@ -1,11 +1,11 @@
-//! Lines and columns of a text.
+//! Lines and columns of a text, for reports of faults and for tables.
 
 #![tactic(auto)]
 
 mod cursor;
 mod index;
-mod place;
+mod location;
 
 pub use cursor::Cursor;
 pub use index::LineIndex;
-pub use place::{Position, one_place};
+pub use location::{Location, one_location};

@@ -17,7 +17,7 @@ IsBlock v = (length v ≡ 16) × Each1 (Fits w8) v
 abbrev pub down : ℕ → ℕ → ℕ
 down a b = a / 2 ^ b
 
--- halves of bytes are places of sixteen entries
+-- halves of bytes are offsets of sixteen entries
 pub high_ok : (v : List ℕ) → IsBlock v → SwzOk w8 16 16 0 (zip2 down v (replicate 16 4))
 high_ok v fits =
     let small = Each1-weaker (λ a. a < 256) (λ a. a / 16 < 16) (λ a h. omega arith) v (below_from_Fits w8 v fits.1) in
@@ -39,7 +39,7 @@ pub lanes_fit : (v : List ℕ) → ((i : ℕ) → get_or v i 0 < 256) → Each1 
 lanes_fit [] h = tt
 lanes_fit (x ∷ xs) h = (record { fits = h 0 }, lanes_fit xs (λ i. h (suc i)))
 
--- the entries of a table at places g x below 16, which are those that f tells
+-- the entries of a table at the indexes g x below 16, which are the values of f
 pub looked_up : (t : List ℕ) (f g : ℕ → ℕ) (v js : List ℕ) → IsBlock v → js ≡ map g v → ((x : ℕ) → x < 256 → g x < 16) → ((x : ℕ) → x < 256 → get_or t (g x) 0 ≡ f x) →
     swz_l w8 16 t 0 js ≡ map f v
 looked_up t f g v js fits e small says =
@@ -55,7 +55,7 @@ looked_up t f g v js fits e small says =
     get_or-swz_l_below w8 16 t 0 js i (omega (arith, lt, long)) below
     ∙ ap (λ k. get_or t k 0) (first ∙ is) ∙ says x fit ∙ sym (get_or-map f v i 0 0 within))
 
--- by lower halves, in the entries from a place on
+-- by lower halves, in the entries from an offset on
 pub by_low : (mask : List ℕ) (at : ℕ) (v : List ℕ) → at ≤ 16 → IsBlock v →
     swz_l w8 16 (chunk 0 16 (take (32 - at) (drop at mask))) 0 (zip2 bit_and v (replicate 16 15)) ≡ map (λ b. slice_index mask (at + b % 16)) v
 by_low mask at v room fits =
@@ -94,18 +94,18 @@ far_byte (suc (suc (suc (suc (suc (suc zero)))))) l = (refl, refl)
 far_byte (suc (suc (suc (suc (suc (suc (suc zero))))))) l = (refl, refl)
 far_byte (suc (suc (suc (suc (suc (suc (suc (suc k)))))))) l = absurd (omega (arith, l))
 
--- what is looked up for a byte
+-- the value that is looked up for a byte
 abbrev pub found : List ℕ → ℕ → ℕ
 found mask b = bit_or (bit_and (slice_index mask (0 + b % 16)) (slice_index NEAR (b / 16))) (bit_and (slice_index mask (16 + b % 16)) (slice_index FAR (b / 16)))
 
--- a digit that stands somewhere is 0 or not
+-- a digit at an index is 0 or not
 bare : (bit n : ℕ) → bit < 2 → 0 < n → eqb (bit * n) 0 ≡ not (bit == 1)
 bare zero n lt pos = eq-eqb (0 * n) 0 (omega arith)
 bare (suc zero) n lt pos = ne_eqb (1 * n) 0 (λ e. omega (arith, e, pos))
 bare (suc (suc bit)) n lt pos = absurd (omega (arith, lt))
 
 module _ (p : ℕ → Bool) (mask : List ℕ) (is : IsMask p mask) where
-  -- what is looked up is 0 where the byte does not pass
+  -- the value that is looked up is 0 if the byte does not pass
   pub found_says : (b : ℕ) → b < 256 → eqb (found mask b) 0 ≡ not (p b)
   found_says b lt =
       let k = b / 16 % 8 in

@@ -1,21 +1,21 @@
--- From item to item: what completes the run after the items so far completes the whole run.
+-- From item to item: the items so far, followed by the rest of a run, are a whole run.
 use Rattle.std.proofs.Common.{◌≡◌, ℕ, Bool, true, false, List, [], ◌∷◌, ◌++◌, append_assoc, append-nil, MatchBool}
 use Rattle.logos_automaton.specs.Munch.{Use}
 use Rattle.logos_code.specs.Code.{CodeValue}
-use Rattle.logos_code.specs.Items.{Callback, Search, Item, asks, MayAnswer, Lexes, over, match, fault}
+use Rattle.logos_code.specs.Items.{Callback, Search, Item, calls_back, MayAnswer, Lexes, over, match, fault}
 use Rattle.logos_code.specs.Runs.{CodeFinds, Runs}
 use Rattle.logos_code.specs.declared.action.Action.{Action}
 use Rattle.logos_code.specs.declared.action.Action.TheVariants.{Emit, Skip, Error}
 use denote.Param.Members.{Shared}
 use denote.Ref.{Bor}
 use Rattle.logos_hir.specs.declared.leaf.LeafId.{LeafId}
-use Rattle.logos_machine.specs.LexerValue.{LexerValue, Gives, Ends, answers_of}
+use Rattle.logos_machine.specs.LexerValue.{LexerValue, Yields, Ends, answers_of}
 use Rattle.logos_machine.specs.Loops.{EndIsRun, NextAddsItem}
 
--- the same items by a callback that answers no less
+-- the same items with a callback that has no fewer actions
 pub may_by : (uses : List Use) (bytes : List ℕ) (callback other : Callback) → ((leaf : ℕ) (slice : List ℕ) (answer : Action) → callback leaf slice answer → other leaf slice answer) →
     (leaf : ℕ) (slice : List ℕ) (answer : Action) → MayAnswer uses callback bytes leaf slice answer → MayAnswer uses other bytes leaf slice answer
-may_by uses bytes callback other h leaf slice answer m = go (asks uses callback bytes leaf) m
+may_by uses bytes callback other h leaf slice answer m = go (calls_back uses callback bytes leaf) m
   where
     go : (b : Bool) → MatchBool b (callback leaf slice answer) (answer ≡ Emit) → MatchBool b (other leaf slice answer) (answer ≡ Emit)
     go true m = h leaf slice answer m
@@ -30,7 +30,7 @@ lexes_by uses bytes search callback other h (match from to leaf Error rest s m l
 lexes_by uses bytes search callback other h (fault from to rest s l) = fault from to rest s (lexes_by uses bytes search callback other h l)
 
 -- one item more
-pub more_items : {C : Type 0} (callback other : Callback) (code : CodeValue) (input : List ℕ) (old new : LexerValue C) (from : ℕ) (items : List Item) (item : Item) → Gives callback old new item →
+pub more_items : {C : Type 0} (callback other : Callback) (code : CodeValue) (input : List ℕ) (old new : LexerValue C) (from : ℕ) (items : List Item) (item : Item) → Yields callback old new item →
     old.code ≡ code → old.input ≡ input → new.code ≡ code → new.input ≡ input →
     ((leaf : ℕ) (slice : List ℕ) (answer : Action) → other leaf slice answer → callback leaf slice answer) →
     ((leaf : ℕ) (slice : List ℕ) (answer : Action) → callback leaf slice answer → other leaf slice answer) →
@@ -48,7 +48,7 @@ no_items callback other code input old new from items g c i back h =
     let here : Runs code callback input old.to [] = rw (c, i) at g.over in
     rw append-nil at (h [] (lexes_by code.leaves input (CodeFinds code input) callback other back here))
 
--- ---- what a loop knows
+-- ---- the facts in a loop
 
 module _ {C : Type 0} (calls : Shared C (LeafId × (Bor (List ℕ) × Unit {0})) Action) where
   pub next_added : NextAddsItem calls

@@ -1,25 +1,25 @@
--- Runs do not depend on what is before them.
+-- Runs do not depend on the bytes before them.
 use Rattle.std.proofs.Common.{◌≡◌, ◌≢◌, ◌∙◌, ℕ, suc, ◌+◌, ◌-◌, ◌<◌, ◌≤◌, Bool, true, false, ◌&&◌, ◌==◌, IsTrue, IfSome, IsCharBoundary, List, [], ◌∷◌, ◌++◌, length, drop, take, map, Option, Some, None, option_map, slice_get, slice_range, refl, sym, ap, subst, arith, if◌then◌else◌}
 use Rattle.std.proofs.Math.Seq.{drop-append-add}
 use Rattle.std.proofs.lemmas.List.{length-append, get_or-append-add, map-append}
 use Rattle.logos_automaton.specs.Munch.{Use, Found, ended, matched, failed}
 use Rattle.logos_code.specs.Code.{CodeValue, CodeState, Mark}
 use Rattle.logos_code.specs.Headline.{IsSound}
-use Rattle.logos_code.specs.Items.{Callback, Search, Item, token, error, MayAnswer, items_of, skips, Lexes, over, match, fault, NextItem, passes, gives, fails}
-use Rattle.logos_code.specs.Runs.{Stand, Turn, enters, acts, returns, looped, marked, led, forked, target, turn, Does, EndsError, Acts, Goes, goes_on, is_over, acts_on, Tries, CodeFinds}
+use Rattle.logos_code.specs.Items.{Callback, Search, Item, token, error, MayAnswer, items_of, skips, Lexes, over, match, fault, NextItem, passes, yields, fails}
+use Rattle.logos_code.specs.Runs.{Status, Turn, enters, acts, returns, looped, marked, led, forked, target, turn, Does, EndsError, Acts, Goes, goes_on, is_over, acts_on, Attempts, CodeFinds}
 use Rattle.logos_code.specs.declared.action.Action.{Action}
 use Rattle.logos_code.specs.declared.action.Action.TheVariants.{Emit, Skip, Error}
-use Rattle.logos_machine.specs.Streams.{first_stand, stop_at, found_later, item_later, PassesOver, passes_none, passes_match, RunsGoLater}
-use Rattle.logos_machine.proofs.StandLemmas.{unmarked_root}
+use Rattle.logos_machine.specs.Streams.{first_status, stop_at, found_later, item_later, PassesOver, passes_none, passes_match, RunsGoLater}
+use Rattle.logos_machine.proofs.StatusLemmas.{unmarked_root}
 
 abbrev context_later : ℕ → Option (ℕ × ℕ) → Option (ℕ × ℕ)
 context_later far = option_map (λ c. (c.0, far + c.1))
 
-abbrev stand_later : ℕ → Stand → Stand
-stand_later far at = record { state = at.state; offset = far + at.offset; context = context_later far at.context }
+abbrev status_later : ℕ → Status → Status
+status_later far at = record { state = at.state; offset = far + at.offset; context = context_later far at.context }
 
 abbrev turn_later : ℕ → Turn → Turn
-turn_later far (enters next) = enters (stand_later far next)
+turn_later far (enters next) = enters (status_later far next)
 turn_later far (acts context offset) = acts (context_later far context) (far + offset)
 turn_later far returns = returns
 
@@ -84,17 +84,17 @@ forked_later code far state (Some b) fresh offset context = led_later far (targe
 forked_later code far state None true offset context = refl
 forked_later code far state None false offset context = led_later far state.at_end offset context
 
-enters_same : (s t : Stand) → enters s ≡ enters t → s ≡ t
+enters_same : (s t : Status) → enters s ≡ enters t → s ≡ t
 enters_same s t e = cc
 
 -- a state that is entered has a byte before it
-led_past : (to : Option ℕ) (offset : ℕ) (context : Option (ℕ × ℕ)) (next : Stand) → led to offset context ≡ enters next → 0 < next.offset
+led_past : (to : Option ℕ) (offset : ℕ) (context : Option (ℕ × ℕ)) (next : Status) → led to offset context ≡ enters next → 0 < next.offset
 led_past None offset context next e = absurd cc
 led_past (Some t) offset context next e =
-    let same : Path Stand (record { state = t; offset = offset + 1; context = context }) next = enters_same _ next e in
-    subst (λ (s : Stand). 0 < s.offset) same (omega arith)
+    let same : Path Status (record { state = t; offset = offset + 1; context = context }) next = enters_same _ next e in
+    subst (λ (s : Status). 0 < s.offset) same (omega arith)
 
-forked_past : (code : CodeValue) (state : CodeState) (byte : Option ℕ) (fresh : Bool) (offset : ℕ) (context : Option (ℕ × ℕ)) (next : Stand) →
+forked_past : (code : CodeValue) (state : CodeState) (byte : Option ℕ) (fresh : Bool) (offset : ℕ) (context : Option (ℕ × ℕ)) (next : Status) →
     forked code state byte fresh offset context ≡ enters next → 0 < next.offset
 forked_past code state (Some b) fresh offset context next e = led_past (target code state.fork b) offset context next e
 forked_past code state None true offset context next e = absurd cc
@@ -105,10 +105,10 @@ module _ (code : CodeValue) (sound : IsSound code) (front bytes : List ℕ) (sta
   far = length front
 
   -- only the first state may be entered before the first byte, and it has no mark
-  abbrev IsPast : Stand → Type 0
+  abbrev IsPast : Status → Type 0
   IsPast at = at.state ≢ code.root → 0 < at.offset
 
-  late_past : (at : Stand) (state : CodeState) (offset : ℕ) → IsPast at → at.offset ≤ offset → slice_get code.states at.state ≡ Some state → (mark : Option Mark) → state.mark ≡ mark →
+  late_past : (at : Status) (state : CodeState) (offset : ℕ) → IsPast at → at.offset ≤ offset → slice_get code.states at.state ≡ Some state → (mark : Option Mark) → state.mark ≡ mark →
       IfSome mark (λ m. IsTrue m.late → 0 < offset)
   late_past at state offset past on is None marks = tt
   late_past at state offset past on is (Some mark) marks = λ late.
@@ -118,8 +118,8 @@ module _ (code : CodeValue) (sound : IsSound code) (front bytes : List ℕ) (sta
   loop_later : (loop : Option ℕ) (offset : ℕ) → looped code loop (drop (far + offset) (front ++ bytes)) ≡ looped code loop (drop offset bytes)
   loop_later loop offset = ap (looped code loop) (drop-append-add front bytes offset)
 
-  turn_later_is : (at : Stand) (state : CodeState) → IsPast at → slice_get code.states at.state ≡ Some state →
-      turn code (front ++ bytes) (far + start) state (stand_later far at) ≡ turn_later far (turn code bytes start state at)
+  turn_later_is : (at : Status) (state : CodeState) → IsPast at → slice_get code.states at.state ≡ Some state →
+      turn code (front ++ bytes) (far + start) state (status_later far at) ≡ turn_later far (turn code bytes start state at)
   turn_later_is at state past is =
       let offset = stop_at code bytes state at.offset in
       let stops : far + at.offset + looped code state.fast_loop (drop (far + at.offset) (front ++ bytes)) ≡ far + offset = omega (arith, loop_later state.fast_loop at.offset) in
@@ -130,7 +130,7 @@ module _ (code : CodeValue) (sound : IsSound code) (front bytes : List ℕ) (sta
       ∙ ap (λ c. forked code state (slice_get bytes offset) (at.state == code.root && offset == start) (far + offset) c) (marked_later far state.mark offset at.context (late_past at state offset past (omega arith) is state.mark refl))
       ∙ forked_later code far state (slice_get bytes offset) (at.state == code.root && offset == start) offset context
 
-  does_later : (at : Stand) (what : Turn) → IsPast at → Does code bytes start at what → Does code (front ++ bytes) (far + start) (stand_later far at) (turn_later far what)
+  does_later : (at : Status) (what : Turn) → IsPast at → Does code bytes start at what → Does code (front ++ bytes) (far + start) (status_later far at) (turn_later far what)
   does_later at what past d = (d.0, d.1, turn_later_is at d.0 past d.1 ∙ ap (turn_later far) d.2)
 
   ends_later : (offset to : ℕ) → EndsError code bytes start offset to → EndsError code (front ++ bytes) (far + start) (far + offset) (far + to)
@@ -150,23 +150,23 @@ module _ (code : CodeValue) (sound : IsSound code) (front bytes : List ℕ) (sta
   acts_later None offset (matched leaf to) a = absurd a
   acts_later None offset (failed to) a = ends_later offset to a
 
-  next_past : (at next : Stand) → Does code bytes start at (enters next) → IsPast next
+  next_past : (at next : Status) → Does code bytes start at (enters next) → IsPast next
   next_past at next d = λ other. forked_past code d.0 (slice_get bytes (stop_at code bytes d.0 at.offset)) (at.state == code.root && stop_at code bytes d.0 at.offset == start)
       (stop_at code bytes d.0 at.offset) (marked d.0.mark (stop_at code bytes d.0 at.offset) at.context) next d.2
 
-  goes_later : {at : Stand} {found : Found} {n : ℕ} → IsPast at → Goes code bytes start at found n → Goes code (front ++ bytes) (far + start) (stand_later far at) (found_later far found) n
+  goes_later : {at : Status} {found : Found} {n : ℕ} → IsPast at → Goes code bytes start at found n → Goes code (front ++ bytes) (far + start) (status_later far at) (found_later far found) n
   goes_later past (goes_on at next found n d g) =
-      goes_on (stand_later far at) (stand_later far next) (found_later far found) n (does_later at (enters next) past d) (goes_later (next_past at next d) g)
-  goes_later past (is_over at d) = is_over (stand_later far at) (does_later at returns past d)
+      goes_on (status_later far at) (status_later far next) (found_later far found) n (does_later at (enters next) past d) (goes_later (next_past at next d) g)
+  goes_later past (is_over at d) = is_over (status_later far at) (does_later at returns past d)
   goes_later past (acts_on at context offset found d a) =
-      acts_on (stand_later far at) (context_later far context) (far + offset) (found_later far found) (does_later at (acts context offset) past d) (acts_later context offset found a)
+      acts_on (status_later far at) (context_later far context) (far + offset) (found_later far found) (does_later at (acts context offset) past d) (acts_later context offset found a)
 
-  pub tries_later : (found : Found) (n : ℕ) → Tries code bytes start found n → Tries code (front ++ bytes) (far + start) (found_later far found) n
-  tries_later found n t = goes_later {at = first_stand code start} (λ other. absurd (other refl)) t
+  pub attempts_later : (found : Found) (n : ℕ) → Attempts code bytes start found n → Attempts code (front ++ bytes) (far + start) (found_later far found) n
+  attempts_later found n t = goes_later {at = first_status code start} (λ other. absurd (other refl)) t
 
 pub finds_later : (code : CodeValue) → IsSound code → (front bytes : List ℕ) (from : ℕ) (found : Found) → CodeFinds code bytes from found →
     CodeFinds code (front ++ bytes) (length front + from) (found_later (length front) found)
-finds_later code sound front bytes from found t = (t.0, tries_later code sound front bytes from found t.0 t.1)
+finds_later code sound front bytes from found t = (t.0, attempts_later code sound front bytes from found t.0 t.1)
 
 -- ---- items
 
@@ -214,8 +214,8 @@ module _ (uses : List Use) (callback : Callback) (front bytes : List ℕ) (searc
   pub next_later : {from end : ℕ} {item : Item} → NextItem uses callback bytes search from item end → NextItem uses callback (front ++ bytes) later (off + from) (item_later off item) (off + end)
   next_later (passes from to leaf answer item end s m e x) =
       passes (off + from) (off + to) leaf answer (item_later off item) (off + end) (finds from (matched leaf to) s) (may_later leaf from to answer m) (none_later answer leaf from to e) (next_later x)
-  next_later (gives from to leaf answer item s m e) =
-      gives (off + from) (off + to) leaf answer (item_later off item) (finds from (matched leaf to) s) (may_later leaf from to answer m) (items_later answer leaf from to ∙ ap (map (item_later off)) e)
+  next_later (yields from to leaf answer item s m e) =
+      yields (off + from) (off + to) leaf answer (item_later off item) (finds from (matched leaf to) s) (may_later leaf from to answer m) (items_later answer leaf from to ∙ ap (map (item_later off)) e)
   next_later (fails from to s) =
       subst (λ (slice : List ℕ). NextItem uses callback (front ++ bytes) later (off + from) (error None (off + from) (off + to) slice) (off + to)) (range_later front bytes from to)
       (fails (off + from) (off + to) (finds from (failed to) s))
@@ -227,7 +227,7 @@ module _ (uses : List Use) (callback : Callback) (front bytes : List ℕ) (searc
 
 pub runs_go_later : (callback : Callback) → RunsGoLater callback
 runs_go_later callback = record {
-  tries = λ code front bytes start n found sound t. tries_later code sound front bytes start found n t;
+  attempts = λ code front bytes start n found sound t. attempts_later code sound front bytes start found n t;
   runs = λ code front bytes from items sound r. lexes_later code.leaves callback front bytes (CodeFinds code bytes) (CodeFinds code (front ++ bytes)) (finds_later code sound front bytes) r;
   next = λ code front bytes from end item sound r. next_later code.leaves callback front bytes (CodeFinds code bytes) (CodeFinds code (front ++ bytes)) (finds_later code sound front bytes) r;
   over = λ code front bytes from end sound r. over_later code.leaves callback front bytes (CodeFinds code bytes) (CodeFinds code (front ++ bytes)) (finds_later code sound front bytes) r;

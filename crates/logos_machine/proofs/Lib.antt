@@ -1,5 +1,5 @@
 pub mod BlockLemmas
-pub mod StandLemmas
+pub mod StatusLemmas
 pub mod StopLemmas
 pub mod LookLemmas
 pub mod WalkLemmas

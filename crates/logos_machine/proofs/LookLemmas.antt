@@ -1,4 +1,4 @@
--- What a state does, by the step that is seen.
+-- The turn of a state, by the step of its entry.
 use Rattle.std.proofs.Common.{◌≡◌, ◌≢◌, ℕ, ◌+◌, ◌-◌, ◌<◌, ◌≤◌, Bool, true, false, ◌&&◌, ◌==◌, List, length, drop, get_or, Option, Some, None, slice_get, refl, sym, ap, subst, ◌∙◌, arith}
 use Rattle.std.proofs.lemmas.Bool.{ne_eqb}
 use Rattle.std.proofs.lemmas.List.Folds.{length-prefix_len}
@@ -13,7 +13,7 @@ use Rattle.logos_code.specs.Runs.{acts, looped, stays, marked, turn, Does}
 use Rattle.logos_machine.specs.inside.Looks.{Sees}
 use Rattle.logos_code.specs.declared.code.rows.Step.{Step}
 use Rattle.logos_code.specs.declared.code.rows.Step.TheVariants.{Leads, Stays, Halts, Looks, Closes, Stuck, Unsaid}
-use Rattle.logos_machine.proofs.StandLemmas.{unmarked_root}
+use Rattle.logos_machine.proofs.StatusLemmas.{unmarked_root}
 
 and_false : (b : Bool) → (b && false) ≡ false
 and_false true = refl
@@ -51,7 +51,7 @@ module _ (code : CodeValue) (bytes : List ℕ) (start : ℕ) (s : ℕ) (there : 
       turns None e = rw (e, none, stale) refl
       turns (Some b) e = rw (e, none) refl
 
-  -- what is seen at a byte where the fast loop ends
+  -- the step at a byte where the fast loop ends
   pub sees_byte : (b : ℕ) (step : Step) → start ≤ offset → stop ≡ offset + looped code (state_at code s).fast_loop (drop offset bytes) → slice_get bytes stop ≡ Some b →
       Says code (state_at code s) b step → Sees code bytes start s offset stop step
   sees_byte b (Leads next) h is at says = λ context. (marked (state_at code s).mark stop context, (state_at code s, got, rw (← is, at, says.1) refl))
@@ -82,7 +82,7 @@ module _ (code : CodeValue) (bytes : List ℕ) (start : ℕ) (s : ℕ) (there : 
   sees_byte b Stuck h is at says = λ inside context. (marked (state_at code s).mark stop context, (state_at code s, got, rw (← is, at, says.1) refl))
   sees_byte b Unsaid h is at says = tt
 
-  -- what is seen at the end of the input
+  -- the step at the end of the input
   pub sees_end : IsSound code → (step : Step) → stop ≡ offset + looped code (state_at code s).fast_loop (drop offset bytes) → slice_get bytes stop ≡ None →
       SaysAtEnd code (state_at code s) step → Sees code bytes start s offset stop step
   sees_end sound (Leads next) is at says = absurd says
@@ -99,7 +99,7 @@ module _ (code : CodeValue) (bytes : List ℕ) (start : ℕ) (s : ℕ) (there : 
   sees_end sound Stuck is at says = λ inside. absurd (let e : None ≡ Some (get_or bytes stop 0) = sym at ∙ slice_get-get_or bytes stop 0 inside in cc)
   sees_end sound Unsaid is at says = tt
 
--- what the entry of a byte says, where the byte does not stay: no bytes are looped over
+-- the meaning of the entry of a byte on which the state changes: no bytes are looped over
 pub sees_entry : (code : CodeValue) (bytes : List ℕ) (start s : ℕ) → s < length code.states → (at entry : ℕ) → start ≤ at → at < length bytes →
     IsEntry code (state_at code s) (get_or bytes at 0) entry → (step : Step) → IsStepOf entry step → Sees code bytes start s at at step
 sees_entry code bytes start s there at entry h within is step f = go step (is.says step f)

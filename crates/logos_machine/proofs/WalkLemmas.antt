@@ -1,4 +1,4 @@
--- Tries by entries.
+-- Match attempts by entries.
 use Rattle.std.proofs.Common.{◌≡◌, ℕ, zero, suc, ◌+◌, ◌-◌, ◌*◌, ◌/◌, ◌%◌, ◌<◌, ◌≤◌, inl, inr, ⊎_elim, true, false, List, length, drop, get_or, Option, Some, None, refl, sym, subst, arith, length-drop}
 use Rattle.std.proofs.lemmas.Option.{slice_get-get_or, slice_get_past}
 use Rattle.logos_automaton.specs.Munch.{matched, failed}
@@ -7,16 +7,16 @@ use Rattle.logos_hir.specs.declared.leaf.LeafId.{LeafId}
 use Rattle.logos_code.specs.Code.{CodeValue, CodeState}
 use Rattle.logos_code.specs.CodeView.{state_at, no_state}
 use Rattle.logos_code.specs.Headline.{IsSound, NamesTest, NamesWhatIsThere}
-use Rattle.logos_code.specs.LastMarks.{IsLastMark, first_stand, next_stand}
+use Rattle.logos_code.specs.LastMarks.{IsLastMark, first_status, next_status}
 use Rattle.logos_code.specs.Rows.{IsEntry, IsLastEntry, IsUse, first_halting, first_closing}
-use Rattle.logos_code.specs.Runs.{Stand, goes_on, acts_on, acts, looped, stays, Does, EndsError}
+use Rattle.logos_code.specs.Runs.{Status, goes_on, acts_on, acts, looped, stays, Does, EndsError}
 use Rattle.logos_code.proofs.RowLemmas.{loop_stops, entry_moves}
 use Rattle.logos_code.proofs.TargetLemmas.{All-slice_get}
 use Rattle.logos_machine.specs.inside.Looks.{Sees, Comes, Reaches, Tried, LooksAhead, StopsAt}
 use Rattle.logos_code.specs.declared.code.last_marks.LastMark.TheVariants.{Never, Back}
 use Rattle.logos_code.specs.declared.code.rows.MatchUse.{MatchUse}
 use Rattle.logos_code.specs.declared.code.rows.Step.TheVariants.{Leads, Stays, Halts, Looks, Closes, Stuck}
-use Rattle.logos_machine.proofs.StandLemmas.{looped-fits, stands_first, stands_next, stands_match}
+use Rattle.logos_machine.proofs.StatusLemmas.{looped-fits, is_at_first, is_at_next, is_at_match}
 use Rattle.logos_machine.proofs.StopLemmas.{stop_looped, stop_within}
 use Rattle.logos_machine.proofs.LookLemmas.{loops_on, sees_byte, sees_end, sees_entry}
 
@@ -53,7 +53,7 @@ module _ (code : CodeValue) (sound : IsSound code) (bytes : List ℕ) (s : ℕ) 
     within = fits.1;
     moves = inr says.last;
     sees = λ start h step f. sees_end code bytes start s there at stop sound step loop_ends (slice_get_past bytes stop past) (says.says step f);
-    place = λ h. absurd (omega (arith, h, says.last));
+    row_start = λ h. absurd (omega (arith, h, says.last));
   }
 
   -- it ends at a byte
@@ -67,21 +67,21 @@ module _ (code : CodeValue) (sound : IsSound code) (bytes : List ℕ) (s : ℕ) 
         within = fits.1;
         moves = ⊎_elim (λ h. inl (h, inside)) (λ h. inr h) (entry_moves code (state_at code s) (get_or bytes stop 0) later says out);
         sees = λ start h step f. sees_byte code bytes start s there at stop (get_or bytes stop 0) step h e (slice_get-get_or bytes stop 0 inside) (says.says step f);
-        place = says.place;
+        row_start = says.row_start;
       }
 
 module _ (code : CodeValue) (sound : IsSound code) (bytes : List ℕ) (start : ℕ) (starts : start ≤ length bytes) where
-  -- a try begins in the root
+  -- a match attempt begins in the root
   pub comes_first : Comes code bytes start code.root start 0
   comes_first = record {
     context = None;
-    stands = stands_first code sound bytes start starts;
-    stood = first_stand;
+    is_at = is_at_first code sound bytes start starts;
+    stood = first_status;
     few = omega arith;
     goes_on = λ found n g. let e : 0 + n ≡ n = omega arith in rw e g;
   }
 
-  -- a look from a state on
+  -- an examination from a state on
   pub looks_on : (state offset before entry stop : ℕ) → Comes code bytes start state offset before → LooksAhead code bytes state offset entry stop →
       Reaches code bytes start state entry stop before
   looks_on state offset before entry stop comes looks = record {
@@ -89,22 +89,22 @@ module _ (code : CodeValue) (sound : IsSound code) (bytes : List ℕ) (start : �
     comes = comes;
     past = looks.past;
     within = looks.within;
-    sees = looks.sees start (let s = comes.stands in s.begun);
-    place = looks.place;
+    sees = looks.sees start (let s = comes.is_at in s.begun);
+    row_start = looks.row_start;
   }
 
   -- the end of the input
   pub looks_past : (state at before last : ℕ) → Comes code bytes start state at before → at ≡ length bytes → IsLastEntry code (state_at code state) last → Reaches code bytes start state last at before
   looks_past state at before last comes end says =
-      let stands = comes.stands in
+      let is_at = comes.is_at in
       let none : looped code (state_at code state).fast_loop (drop at bytes) ≡ 0 = omega (arith, looped-fits code (state_at code state).fast_loop (drop at bytes), length-drop at bytes, end) in
       record {
         offset = at;
         comes = comes;
         past = omega arith;
         within = omega (arith, end);
-        sees = λ step f. sees_end code bytes start state stands.state at at sound step (omega (arith, none)) (slice_get_past bytes at (omega (arith, end))) (says.says step f);
-        place = λ h. absurd (omega (arith, h, says.last));
+        sees = λ step f. sees_end code bytes start state is_at.state at at sound step (omega (arith, none)) (slice_get_past bytes at (omega (arith, end))) (says.says step f);
+        row_start = λ h. absurd (omega (arith, h, says.last));
       }
 
   -- the entry of the byte there
@@ -115,28 +115,28 @@ module _ (code : CodeValue) (sound : IsSound code) (bytes : List ℕ) (start : �
     comes = comes;
     past = omega arith;
     within = omega (arith, within);
-    sees = let s = comes.stands in sees_entry code bytes start state s.state at entry s.begun within is;
-    place = is.place;
+    sees = let s = comes.is_at in sees_entry code bytes start state s.state at entry s.begun within is;
+    row_start = is.row_start;
   }
 
   module _ (state entry stop before : ℕ) (r : Reaches code bytes start state entry stop before) where
-    abbrev at : Stand
+    abbrev at : Status
     at = record { state = state; offset = r.offset; context = r.comes.context }
 
     -- an entry that leads
     pub leads_on : entry < 268435456 → Comes code bytes start (entry / 272) (stop + 1) (before + 1)
     leads_on h =
-        let place = r.place h in
-        let sees : Sees code bytes start state r.offset stop (Leads (entry / 272)) = r.sees (Leads (entry / 272)) (sym place, omega (arith, h)) in
+        let row_start = r.row_start h in
+        let sees : Sees code bytes start state r.offset stop (Leads (entry / 272)) = r.sees (Leads (entry / 272)) (sym row_start, omega (arith, h)) in
         let does = sees r.comes.context in
-        let next : Stand = record { state = entry / 272; offset = stop + 1; context = does.0 } in
-        let n = stands_next code sound bytes start starts at next r.comes.stands does.1 in
+        let next : Status = record { state = entry / 272; offset = stop + 1; context = does.0 } in
+        let n = is_at_next code sound bytes start starts at next r.comes.is_at does.1 in
         let few = r.comes.few in
         let moves = n.1 in
         record {
           context = does.0;
-          stands = n.0;
-          stood = next_stand at next r.comes.stood does.1;
+          is_at = n.0;
+          stood = next_status at next r.comes.stood does.1;
           few = omega (arith, few, moves);
           goes_on = λ found m g.
               let e : before + suc m ≡ before + 1 + m = omega arith in
@@ -152,8 +152,8 @@ module _ (code : CodeValue) (sound : IsSound code) (bytes : List ℕ) (start : �
         let past = r.past in
         let within = r.within in (
           record {
-            tries = r.comes.goes_on (matched leaf stop) 1 (acts_on at (Some (leaf, stop)) stop (matched leaf stop) does refl);
-            within = stands_match code sound bytes start starts at (Some (leaf, stop)) stop r.comes.stands does;
+            attempts = r.comes.goes_on (matched leaf stop) 1 (acts_on at (Some (leaf, stop)) stop (matched leaf stop) does refl);
+            within = is_at_match code sound bytes start starts at (Some (leaf, stop)) stop r.comes.is_at does;
             few = omega (arith, few, past, within);
           },
           sees.1,
@@ -164,14 +164,14 @@ module _ (code : CodeValue) (sound : IsSound code) (bytes : List ℕ) (start : �
     looks_soon leaf used is small =
         let sees : Sees code bytes start state r.offset stop (Looks (record { 0 = leaf }) used) = r.sees (Looks (record { 0 = leaf }) used) (is, small) in
         let does = sees.0 r.comes.context in
-        let next : Stand = record { state = does.0; offset = stop + 1; context = does.1 } in
-        let n = stands_next code sound bytes start starts at next r.comes.stands does.2 in
+        let next : Status = record { state = does.0; offset = stop + 1; context = does.1 } in
+        let n = is_at_next code sound bytes start starts at next r.comes.is_at does.2 in
         let few = r.comes.few in
         let past = r.past in
-        let m = stands_match code sound bytes start starts next (Some (leaf, stop)) (stop + 1) n.0 does.3 in
+        let m = is_at_match code sound bytes start starts next (Some (leaf, stop)) (stop + 1) n.0 does.3 in
         let within = m.2 in (
           record {
-            tries = r.comes.goes_on (matched leaf stop) 2
+            attempts = r.comes.goes_on (matched leaf stop) 2
                 (goes_on at next (matched leaf stop) 1 does.2 (acts_on next (Some (leaf, stop)) (stop + 1) (matched leaf stop) does.3 refl));
             within = m;
             few = omega (arith, few, past, within);
@@ -198,14 +198,14 @@ module _ (code : CodeValue) (sound : IsSound code) (bytes : List ℕ) (start : �
     closes_soon leaf used is small =
         let sees : Sees code bytes start state r.offset stop (Closes (record { 0 = leaf }) used) = r.sees (Closes (record { 0 = leaf }) used) (is, small) in
         let does = sees.0 r.comes.context in
-        let next : Stand = record { state = does.0; offset = stop + 1; context = does.1 } in
-        let n = stands_next code sound bytes start starts at next r.comes.stands does.2 in
+        let next : Status = record { state = does.0; offset = stop + 1; context = does.1 } in
+        let n = is_at_next code sound bytes start starts at next r.comes.is_at does.2 in
         let few = r.comes.few in
         let past = r.past in
-        let m = stands_match code sound bytes start starts next (Some (leaf, stop + 1)) (stop + 1) n.0 does.3 in
+        let m = is_at_match code sound bytes start starts next (Some (leaf, stop + 1)) (stop + 1) n.0 does.3 in
         let within = m.2 in (
           record {
-            tries = r.comes.goes_on (matched leaf (stop + 1)) 2
+            attempts = r.comes.goes_on (matched leaf (stop + 1)) 2
                 (goes_on at next (matched leaf (stop + 1)) 1 does.2 (acts_on next (Some (leaf, stop + 1)) (stop + 1) (matched leaf (stop + 1)) does.3 refl));
             within = m;
             few = omega (arith, few, past, within);
@@ -218,7 +218,7 @@ module _ (code : CodeValue) (sound : IsSound code) (bytes : List ℕ) (start : �
       stuck : (passed : Option (ℕ × ℕ)) × Does code bytes start at (acts passed stop)
       stuck = let sees : Sees code bytes start state r.offset stop Stuck = r.sees Stuck (low, high) in sees inside r.comes.context
 
-      -- the last mark passed is so many bytes back
+      -- the last mark passed is this number of bytes back
       pub goes_back : (leaf : LeafId) (n : ℕ) → IsLastMark code state (Back leaf n) → Tried code bytes start (matched leaf.0 (stop - n)) (before + 1)
       goes_back leaf n last =
           let e : stuck.0 ≡ Some (leaf.0, stop - n) = last bytes start at stuck.0 stop are r.comes.stood refl stuck.1 in
@@ -227,8 +227,8 @@ module _ (code : CodeValue) (sound : IsSound code) (bytes : List ℕ) (start : �
           let past = r.past in
           let within = r.within in
           record {
-            tries = r.comes.goes_on (matched leaf.0 (stop - n)) 1 (acts_on at (Some (leaf.0, stop - n)) stop (matched leaf.0 (stop - n)) does refl);
-            within = stands_match code sound bytes start starts at (Some (leaf.0, stop - n)) stop r.comes.stands does;
+            attempts = r.comes.goes_on (matched leaf.0 (stop - n)) 1 (acts_on at (Some (leaf.0, stop - n)) stop (matched leaf.0 (stop - n)) does refl);
+            within = is_at_match code sound bytes start starts at (Some (leaf.0, stop - n)) stop r.comes.is_at does;
             few = omega (arith, few, past, within);
           }
 
@@ -242,7 +242,7 @@ module _ (code : CodeValue) (sound : IsSound code) (bytes : List ℕ) (start : �
           let within = r.within in
           let over = ends.past in
           record {
-            tries = r.comes.goes_on (failed to) 1 (acts_on at None stop (failed to) does ends);
+            attempts = r.comes.goes_on (failed to) 1 (acts_on at None stop (failed to) does ends);
             within = (omega (arith, over), fits);
             few = omega (arith, few, past, within);
           }

@@ -4,17 +4,17 @@ use Rattle.std.proofs.lemmas.List.{drop-append-le, take-append-le, length-drop}
 use Rattle.logos_automaton.specs.Munch.{Use, Found, matched, failed}
 use Rattle.logos_code.specs.declared.action.Action.{Action}
 use Rattle.logos_code.specs.declared.action.Action.TheVariants.{Emit, Skip, Error}
-use Rattle.logos_code.specs.Items.{Callback, Item, token, error, items_of, skips, MayAnswer, passes, gives, fails}
+use Rattle.logos_code.specs.Items.{Callback, Item, token, error, items_of, skips, MayAnswer, passes, yields, fails}
 use Rattle.logos_code.specs.Runs.{RunsOn, CodeFinds}
 use Rattle.logos_machine.specs.LexerValue.{LexerValue}
-use Rattle.logos_machine.specs.Streams.{first_stand, LooksPast, passes_none, passes_match, RunsOver}
-use Rattle.logos_machine.specs.Within.{GivesWithin, KeepsGiven, Waits}
+use Rattle.logos_machine.specs.Streams.{first_status, LooksPast, MayFollow, passes_none, passes_match, RunsOver}
+use Rattle.logos_machine.specs.Within.{YieldsWithin, KeepsGiven, Waits}
 use Rattle.logos_machine.specs.inside.Parts.{TriedWithin}
-use Rattle.logos_machine.specs.inside.Stands.{IsMatch}
-use Rattle.logos_machine.proofs.AgreeLemmas.{tries_whatever_follows}
+use Rattle.logos_machine.specs.inside.IsAt.{IsMatch}
+use Rattle.logos_machine.proofs.AgreeLemmas.{open_attempts, attempts_whatever_follows}
 use Rattle.logos_machine.proofs.LexerLemmas.{moved, item_span}
 
--- a span of the part holds the same bytes, whatever follows
+-- a span of the part holds the same bytes, regardless of the bytes that follow
 range_front : (part rest : List ℕ) (from to : ℕ) → from ≤ to → to ≤ length part → slice_range (part ++ rest) from to ≡ slice_range part from to
 range_front part rest from to order fits =
     ap (λ l. take (to - from) l) (drop-append-le from part rest (omega (arith, order, fits)))
@@ -34,19 +34,19 @@ module _ (uses : List Use) (callback : Callback) (part rest : List ℕ) (from to
   may_front leaf answer m = subst (λ (l : List ℕ). MayAnswer uses callback part leaf l answer) (sym (range_front part rest from to order fits)) m
 
 module _ {C : Type 0} (callback : Callback) (old : LexerValue C) where
-  -- what goes on from here, after matches without an item, goes on after the last item, whatever
-  -- follows the part
+  -- a continuation from here, after matches without an item, continues after the last item,
+  -- regardless of the bytes after the part
   pub record GoesOnWithin (from : ℕ) : Type 0 where
     pub after : old.to ≤ from
     pub within : from ≤ length old.input
-    pub over : (rest : List ℕ) (end : ℕ) → RunsOver old.code callback (old.input ++ rest) from end → RunsOver old.code callback (old.input ++ rest) old.to end
-    pub next : (rest : List ℕ) (item : Item) (end : ℕ) → RunsOn old.code callback (old.input ++ rest) from item end → RunsOn old.code callback (old.input ++ rest) old.to item end
+    pub over : (rest : List ℕ) → MayFollow old.code rest → (end : ℕ) → RunsOver old.code callback (old.input ++ rest) from end → RunsOver old.code callback (old.input ++ rest) old.to end
+    pub next : (rest : List ℕ) → MayFollow old.code rest → (item : Item) (end : ℕ) → RunsOn old.code callback (old.input ++ rest) from item end → RunsOn old.code callback (old.input ++ rest) old.to item end
 
   module _ (from to steps : ℕ) (found : Found) (t : TriedWithin old.code old.input from found steps) where
-    finds_within : (rest : List ℕ) → CodeFinds old.code (old.input ++ rest) from found
-    finds_within rest = (steps, tries_whatever_follows old.code old.input rest from steps found t.tries)
+    finds_within : (rest : List ℕ) → MayFollow old.code rest → CodeFinds old.code (old.input ++ rest) from found
+    finds_within rest follows = (steps, attempts_whatever_follows old.code old.input rest from steps found follows t.attempts)
 
-  -- past a match that gives no item
+  -- past a match without an item
   pub passes_within : (from to leaf steps : ℕ) (answer : Action) → GoesOnWithin from → TriedWithin old.code old.input from (matched leaf to) steps →
       MayAnswer old.code.leaves callback old.input leaf (slice_range old.input from to) answer → items_of old.code.leaves callback old.input answer leaf from to ≡ [] → GoesOnWithin to
   passes_within from to leaf steps answer i t may is =
@@ -56,10 +56,10 @@ module _ {C : Type 0} (callback : Callback) (old : LexerValue C) where
       record {
         after = (let f = fits.1 in omega (arith, after, f));
         within = fits.2;
-        over = λ rest end r. i.over rest end (passes_match from to leaf answer end (finds_within from to steps (matched leaf to) t rest)
+        over = λ rest f end r. i.over rest f end (passes_match from to leaf answer end (finds_within from to steps (matched leaf to) t rest f)
             (may_front old.code.leaves callback old.input rest from to order fits.2 leaf answer may)
             (items_front old.code.leaves callback old.input rest from to order fits.2 answer leaf ∙ is) r);
-        next = λ rest item end r. i.next rest item end (passes from to leaf answer item end (finds_within from to steps (matched leaf to) t rest)
+        next = λ rest f item end r. i.next rest f item end (passes from to leaf answer item end (finds_within from to steps (matched leaf to) t rest f)
             (may_front old.code.leaves callback old.input rest from to order fits.2 leaf answer may)
             (items_front old.code.leaves callback old.input rest from to order fits.2 answer leaf ∙ is) r);
       }
@@ -71,50 +71,51 @@ module _ {C : Type 0} (callback : Callback) (old : LexerValue C) where
         subst (λ (l : LexerValue C). KeepsGiven old l) (sym is_new) made
 
     -- the item of a match
-    pub gives_within : (leaf : ℕ) (answer : Action) (item : Item) → GoesOnWithin from → TriedWithin old.code old.input from (matched leaf to) steps →
+    pub yields_within : (leaf : ℕ) (answer : Action) (item : Item) → GoesOnWithin from → TriedWithin old.code old.input from (matched leaf to) steps →
         MayAnswer old.code.leaves callback old.input leaf (slice_range old.input from to) answer → items_of old.code.leaves callback old.input answer leaf from to ≡ item ∷ [] →
-        GivesWithin callback old new item
-    gives_within leaf answer item i t may is =
+        YieldsWithin callback old new item
+    yields_within leaf answer item i t may is =
         let fits : IsMatch old.code old.input from leaf to = t.within in
         let order : from ≤ to = (let f = fits.1 in omega (arith, f)) in
-        let made : GivesWithin callback old (moved old from to steps) item = record {
+        let made : YieldsWithin callback old (moved old from to steps) item = record {
           span = item_span (moved old from to steps) from to refl refl old.code.leaves callback old.input answer leaf item is;
           after = i.after;
           nonempty = fits.1;
           within = fits.2;
-          is = λ rest. i.next rest item to (gives from to leaf answer item (finds_within from to steps (matched leaf to) t rest)
+          is = λ rest f. i.next rest f item to (yields from to leaf answer item (finds_within from to steps (matched leaf to) t rest f)
               (may_front old.code.leaves callback old.input rest from to order fits.2 leaf answer may)
               (items_front old.code.leaves callback old.input rest from to order fits.2 answer leaf ∙ is));
-          tries = (matched leaf to, t.tries);
+          attempts = (matched leaf to, t.attempts);
         } in
-        subst (λ (l : LexerValue C). GivesWithin callback old l item) (sym is_new) made
+        subst (λ (l : LexerValue C). YieldsWithin callback old l item) (sym is_new) made
 
     -- an error
-    pub gives_error_within : (item : Item) → GoesOnWithin from → TriedWithin old.code old.input from (failed to) steps → item ≡ error None from to (slice_range old.input from to) → GivesWithin callback old new item
-    gives_error_within item i t is =
+    pub yields_error_within : (item : Item) → GoesOnWithin from → TriedWithin old.code old.input from (failed to) steps → item ≡ error None from to (slice_range old.input from to) → YieldsWithin callback old new item
+    yields_error_within item i t is =
         let span : (from < to) × (to ≤ length old.input) = t.within in
         let order : from ≤ to = (let f = span.0 in omega (arith, f)) in
-        let made : GivesWithin callback old (moved old from to steps) (error None from to (slice_range old.input from to)) = record {
+        let made : YieldsWithin callback old (moved old from to steps) (error None from to (slice_range old.input from to)) = record {
           span = (refl {a = from}, refl {a = to});
           after = i.after;
           nonempty = span.0;
           within = span.1;
-          is = λ rest. i.next rest (error None from to (slice_range old.input from to)) to
+          is = λ rest f. i.next rest f (error None from to (slice_range old.input from to)) to
               (subst (λ (l : List ℕ). RunsOn old.code callback (old.input ++ rest) from (error None from to l) to) (range_front old.input rest from to order span.1)
-              (fails from to (finds_within from to steps (failed to) t rest)));
-          tries = (failed to, t.tries);
+              (fails from to (finds_within from to steps (failed to) t rest f)));
+          attempts = (failed to, t.attempts);
         } in
-        subst (λ (l : LexerValue C). GivesWithin callback old l item) (sym is_new) (subst (λ i. GivesWithin callback old (moved old from to steps) i) (sym is) made)
+        subst (λ (l : LexerValue C). YieldsWithin callback old l item) (sym is_new) (subst (λ i. YieldsWithin callback old (moved old from to steps) i) (sym is) made)
 
-  -- what comes next depends on what follows
-  pub waits_within : (from : ℕ) (new : LexerValue C) → new ≡ moved old from from old.steps → GoesOnWithin from → LooksPast old.code old.input from (first_stand old.code from) → Waits callback old new
+  -- the next item depends on the bytes after the part
+  pub waits_within : (from : ℕ) (new : LexerValue C) → new ≡ moved old from from old.steps → GoesOnWithin from → LooksPast old.code old.input from (first_status old.code from) → Waits callback old new
   waits_within from new is_new i looks =
       let made : Waits callback old (moved old from from old.steps) = record {
         from = refl;
         after = i.after;
         within = i.within;
         steps = refl;
-        passed = λ rest. i.over rest from (passes_none from);
+        passed = λ rest f. i.over rest f from (passes_none from);
         looks = looks;
+        undecided = λ found n t. open_attempts old.code old.input from looks t;
       } in
       subst (λ (l : LexerValue C). Waits callback old l) (sym is_new) made

@@ -3,5 +3,5 @@ pub mod Loops
 pub mod Streams
 pub mod Within
 pub mod inside
-pub mod Words
+pub mod Imports
 pub mod Views

@@ -1,4 +1,4 @@
 pub mod Attempts
 pub mod Looks
 pub mod Parts
-pub mod Stands
+pub mod IsAt

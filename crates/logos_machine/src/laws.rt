@@ -1,22 +1,23 @@
-//! Laws of the definitions. The contract of each function is a law. To use one in a proof, call its
-//! function: the call does nothing.
+//! Laws of the definitions. The contract of each function is a law. A proof uses a law by calling
+//! its function, which does nothing.
 
-ghost use Rattle.logos_machine.specs.Views.{answers_of, EndIsRun, NextAddsItem, PartsAreOfTheWhole, RunsGoLater, RunsGoOver, TriesAgree};
+ghost use Rattle.logos_machine.specs.Views.{answers_of, EndIsRun, NextAddsItem, PartsAreOfTheWhole, RunsGoLater, RunsGoOver, AttemptsAgree};
 
 use crate::machine::Action;
 use logos_hir::leaf::LeafId;
 
-/// In a loop over `next`, each item is added to those that the lexer has given.
+/// In a loop over `next`, each item is appended to the items that the lexer has returned.
 pub fn next_adds_its_item<C: Fn(LeafId, &[u8]) -> Action>(_callback: &C)
     ensures { NextAddsItem C.Fn }
 {}
 
-/// After a loop over `next`, what the lexer has given is a run of its code.
+/// After a loop over `next`, the items that the lexer has returned are a run of its code.
 pub fn items_given_are_a_run<C: Fn(LeafId, &[u8]) -> Action>(_callback: &C)
     ensures { EndIsRun C.Fn }
 {}
 
-/// The runs by a callback are runs by each callback that may answer as much or more.
+/// The runs with a callback are runs with each callback whose possible actions include those of the
+/// first.
 pub fn runs_go_over<C: Fn(LeafId, &[u8]) -> Action, D: Fn(LeafId, &[u8]) -> Action>(
     callback: &C,
     other: &D,
@@ -24,20 +25,20 @@ pub fn runs_go_over<C: Fn(LeafId, &[u8]) -> Action, D: Fn(LeafId, &[u8]) -> Acti
     ensures { RunsGoOver (answers_of C.Fn callback.now) (answers_of D.Fn other.now) }
 {}
 
-/// A try that looks at none but the first bytes of an input finds the same in each input that has
-/// these bytes.
-pub fn tries_agree()
-    ensures { TriesAgree }
+/// An attempt that examines only the first bytes of an input has the same result in each input that
+/// begins with these bytes.
+pub fn attempts_agree()
+    ensures { AttemptsAgree }
 {}
 
-/// Runs do not depend on what is before them: with more bytes in front each gives the same items,
-/// so many bytes later.
+/// Runs do not depend on the bytes before them: with more bytes in front, each yields the same
+/// items, moved by the number of these bytes.
 pub fn runs_go_later<C: Fn(LeafId, &[u8]) -> Action>(callback: &C)
     ensures { RunsGoLater (answers_of C.Fn callback.now) }
 {}
 
-/// The items that are found in parts of an input, whatever follows them, are the items of the whole
-/// input.
+/// The items that are found in parts of an input, regardless of the bytes that follow, are the
+/// items of the whole input.
 pub fn parts_are_of_the_whole<C: Fn(LeafId, &[u8]) -> Action>(callback: &C)
     ensures { PartsAreOfTheWhole (answers_of C.Fn callback.now) }
 {}

@@ -1,4 +1,4 @@
-//! The machine that runs code values.
+//! The machine that runs code values: lexers, and the lexing of parts of an input.
 
 #![tactic(auto)]
 

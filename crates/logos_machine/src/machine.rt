@@ -1,7 +1,8 @@
-//! Lexers: runs of a code value on an input.
+//! Lexers: runs of a code value on an input. Users of the library, `logos_scan`, `logos_stream` and
+//! `logos_relex` run code with them.
 
 ghost use Rattle.std.specs.Prelude.{◌≡◌, ◌<◌, ◌≤◌, length, option_map, slice_range, MatchBool, MatchOption, IfOk, IfErr, IsTrue, IsUtf8, drop, None};
-ghost use Rattle.logos_machine.specs.Views.{IsValidUpTo, asks_for, token, error, answers_of, begun, item_of, Gives, Ends, Keeps, MatchGives, Takes};
+ghost use Rattle.logos_machine.specs.Views.{IsValidUpTo, calls_back_for, token, error, answers_of, begun, item_of, Yields, Ends, Keeps, MatchYields, Takes, TakesMatches};
 
 mod attempt;
 mod fast_loop;
@@ -37,11 +38,11 @@ pub enum Item<'i> {
 /// The error of an input that is not UTF-8, for a lexer in UTF-8 mode.
 #[derive(Clone, Copy, Debug, PartialEq, Eq)]
 pub struct NotUtf8 {
-    /// The length in bytes of the longest beginning of the input that is UTF-8.
+    /// The length in bytes of the longest prefix of the input that is UTF-8.
     pub valid_up_to: usize,
 }
 
-/// A run of a code value on an input. Items borrow the input alone, so they outlive the lexer.
+/// A run of a code value on an input. Items borrow only the input, so they can outlive the lexer.
 #[derive(Drop)]
 pub struct Lexer<'c, 's, 'i, C> {
     code: &'c Code<'s>,
@@ -77,7 +78,6 @@ impl<'c, 's, 'i, C: Fn(LeafId, &[u8]) -> Action> Lexer<'c, 's, 'i, C> {
     /// Makes a lexer at the start of a text. It calls the callback for each match of a leaf that
     /// has one.
     pub fn new_str(code: &'c Code<'s>, input: &'i str, callback: C) -> Lexer<'c, 's, 'i, C>
-        requires { C.IsAlwaysCallable callback }
         ensures { result ≡ begun code.now input.now callback }
     {
         Lexer::start(code, input.as_bytes(), callback)
@@ -93,7 +93,6 @@ impl<'c, 's, 'i, C: Fn(LeafId, &[u8]) -> Action> Lexer<'c, 's, 'i, C> {
         input: &'i [u8],
         callback: C,
     ) -> Result<Lexer<'c, 's, 'i, C>, NotUtf8>
-        requires { C.IsAlwaysCallable callback }
         ensures accepted { IfOk result (λ lexer. (lexer ≡ begun code.now input.now callback)
             × (IsTrue code.now.utf8 → IsUtf8 input.now)) }
         ensures refused { IfErr result (λ refusal. IsTrue code.now.utf8 × ¬ IsUtf8 input.now
@@ -106,16 +105,15 @@ impl<'c, 's, 'i, C: Fn(LeafId, &[u8]) -> Action> Lexer<'c, 's, 'i, C> {
     }
 
     /// Makes a lexer at the start of some bytes that are known to be UTF-8 if the code is in UTF-8
-    /// mode. `logos_stream` calls it: it tests bytes once, when it reads them.
+    /// mode. `logos_stream` calls it, since it validates bytes once, when it reads them.
     pub fn new_checked(code: &'c Code<'s>, input: &'i [u8], callback: C) -> Lexer<'c, 's, 'i, C>
-        requires callable { C.IsAlwaysCallable callback }
-        requires text { IsTrue code.now.utf8 → IsUtf8 input.now }
+        requires { IsTrue code.now.utf8 → IsUtf8 input.now }
         ensures { result ≡ begun code.now input.now callback }
     {
         Lexer::start(code, input, callback)
     }
 
-    /// Makes a lexer before the first byte, which has made no step yet.
+    /// Makes a lexer before the first byte.
     fn start(code: &'c Code<'s>, input: &'i [u8], callback: C) -> Lexer<'c, 's, 'i, C>
         ensures { result ≡ begun code.now input.now callback }
     {
@@ -129,14 +127,15 @@ impl<'c, 's, 'i, C: Fn(LeafId, &[u8]) -> Action> Lexer<'c, 's, 'i, C> {
         }
     }
 
-    /// Returns the next item, or `None` at the end of the input, and on every later call.
+    /// Returns the next item, or `None` at the end of the input, and on every later call. Calls the
+    /// callback only for matches of leaves that have one.
     #[inline(always)]
     pub fn next(&mut self) -> Option<Item<'i>>
-        requires { C.IsAlwaysCallable self.old.callback }
+        requires { TakesMatches C.Fn self.old.code self.old.callback }
         ensures keeps { Keeps self.old self.new }
         ensures item { MatchOption result
             (Ends (answers_of C.Fn self.old.callback) self.old self.new)
-            (λ i. Gives (answers_of C.Fn self.old.callback) self.old self.new (item_of i)) }
+            (λ i. Yields (answers_of C.Fn self.old.callback) self.old self.new (item_of i)) }
     {
         let code = self.code;
         let input = self.input;
@@ -145,32 +144,32 @@ impl<'c, 's, 'i, C: Fn(LeafId, &[u8]) -> Action> Lexer<'c, 's, 'i, C> {
             match attempt(code, input, from) {
                 Outcome::Skips(to) => from = to,
                 Outcome::Emits(leaf, to, steps) => {
-                    self.stand_after(from, to, steps);
+                    self.status_after(from, to, steps);
                     return Some(token(input, leaf, Span { from, to }));
                 }
-                Outcome::Asks(leaf, to, steps) => {
+                Outcome::CallsBack(leaf, to, steps) => {
                     let span = Span { from, to };
                     if let Some(item) = matched_item(code, input, &self.callback, leaf, span) {
-                        self.stand_after(from, to, steps);
+                        self.status_after(from, to, steps);
                         return Some(item);
                     }
                     from = to;
                 }
                 Outcome::Fails(to, steps) => {
-                    self.stand_after(from, to, steps);
+                    self.status_after(from, to, steps);
                     return Some(error(input, Span { from, to }));
                 }
                 Outcome::Ends(steps) => {
-                    self.stand_after(from, from, steps);
+                    self.status_after(from, from, steps);
                     return None;
                 }
             }
         }
     }
 
-    /// Moves after the item at the span, whose try entered so many states.
+    /// Moves to the point after the item at this span, whose attempt entered `steps` states.
     #[inline(always)]
-    fn stand_after(&mut self, from: usize, to: usize, steps: usize)
+    fn status_after(&mut self, from: usize, to: usize, steps: usize)
         requires order { from ≤ to }
         requires within { to ≤ length self.old.input }
         ensures { self.new ≡ record {
@@ -233,7 +232,7 @@ impl<'c, 's, 'i, C: Fn(LeafId, &[u8]) -> Action> Lexer<'c, 's, 'i, C> {
         &self.callback
     }
 
-    /// Returns how many states the last try entered, 0 before the first.
+    /// Returns the number of states that the last attempt entered, or 0 before the first attempt.
     pub fn steps(&self) -> usize
         ensures { result ≡ self.now.steps }
     {
@@ -245,7 +244,7 @@ impl<'c, 's, 'i, C: Fn(LeafId, &[u8]) -> Action> Lexer<'c, 's, 'i, C> {
 ///
 /// # Errors
 ///
-/// Returns the length of the longest beginning that is UTF-8.
+/// Returns the length of the longest prefix that is UTF-8.
 fn check_utf8(input: &[u8]) -> Result<(), NotUtf8>
     ensures accepted { IfOk result (λ _. IsUtf8 input.now) }
     ensures refused { IfErr result
@@ -297,12 +296,12 @@ pub fn matched_item<'i, C: Fn(LeafId, &[u8]) -> Action>(
     leaf: LeafId,
     span: Span,
 ) -> Option<Item<'i>>
-    requires callable { IsTrue (asks_for code.now leaf.0) → Takes C.Fn callback.now leaf
+    requires callable { IsTrue (calls_back_for code.now leaf.0) → Takes C.Fn callback.now leaf
         (slice_range input.now span.from span.to) }
     requires leaf { leaf.0 < length code.now.leaves }
     requires order { span.from ≤ span.to }
     requires within { span.to ≤ length input.now }
-    ensures { MatchGives code.now (answers_of C.Fn callback.now) input.now leaf.0 span.from span.to
+    ensures { MatchYields code.now (answers_of C.Fn callback.now) input.now leaf.0 span.from span.to
         (option_map item_of result) }
 {
     let slice = &input[span.from..span.to];
@@ -317,8 +316,8 @@ pub fn matched_item<'i, C: Fn(LeafId, &[u8]) -> Action>(
     }
 }
 
-/// Returns the answer to a match. A leaf without a callback answers `Emit`, and the callback is not
-/// called: it may be called for a leaf that has one, and for no other.
+/// Returns the action for a match. The action of a leaf without a callback is `Emit`, and the
+/// callback is called only for leaves that have one.
 #[inline(always)]
 fn answer<C: Fn(LeafId, &[u8]) -> Action>(
     code: &Code,
@@ -326,12 +325,12 @@ fn answer<C: Fn(LeafId, &[u8]) -> Action>(
     leaf: LeafId,
     slice: &[u8],
 ) -> Action
-    requires callable { IsTrue (asks_for code.now leaf.0) → Takes C.Fn callback.now leaf slice.now }
+    requires callable { IsTrue (calls_back_for code.now leaf.0) → Takes C.Fn callback.now leaf slice.now }
     requires leaf { leaf.0 < length code.now.leaves }
-    ensures { MatchBool (asks_for code.now leaf.0)
+    ensures { MatchBool (calls_back_for code.now leaf.0)
         (answers_of C.Fn callback.now leaf.0 slice.now result) (result ≡ Action.Emit) }
 {
-    if code.asks(leaf) {
+    if code.calls_back(leaf) {
         callback(leaf, slice)
     } else {
         Action::Emit

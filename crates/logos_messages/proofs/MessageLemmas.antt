@@ -9,17 +9,17 @@ use Rattle.logos_json.specs.Lines.{Ends, Finishes, LinesValue, Puts}
 use Rattle.logos_lexeme.specs.declared.lexeme.Span.{Span}
 use Rattle.logos_report.proofs.FaultLemmas.{next_front}
 use Rattle.logos_report.proofs.PartLemmas.{front_more}
-use Rattle.logos_report.specs.declared.refused.Refused.{Refused}
+use Rattle.logos_report.specs.declared.file_report.Refused.{Refused}
 use Rattle.logos_report.specs.Faults.{left_out, seen_of}
-use Rattle.logos_report.specs.Pages.{StandInOrder}
+use Rattle.logos_page.specs.Pages.{OccurInOrder}
 use Rattle.logos_report.specs.Parts.{all_faults}
-use Rattle.logos_report.specs.Places.{SourceValue}
+use Rattle.logos_report.specs.Locations.{SourceValue}
 use Rattle.logos_token.specs.declared.error.SpannedError.{SpannedError}
 use Rattle.logos_token.specs.Faults.{Fault}
 use Rattle.logos_token.specs.FaultView.{fault_of, faults_of}
-use Rattle.logos_messages.specs.Growing.{GivesMessage}
+use Rattle.logos_messages.specs.Growing.{YieldsMessage}
 use Rattle.logos_messages.specs.Messages.{AreMessages, AreRefusedMessages, CountedLines, LinesAfter, LinesFor, PartLines, PutsAfter, PutsCounted, PutsFrom}
-use Rattle.logos_messages.specs.Shown.{IsShown, Shown}
+use Rattle.logos_messages.specs.Shown.{HasLongLine, IsShown, Shown}
 use Rattle.logos_messages.specs.Tokens.{diagnostic_tokens}
 
 -- the lines for the next fault, and for those after it
@@ -68,14 +68,19 @@ of_bytes : {S : Type 0} (bytes : S → List ℕ) (P : List ℕ → Type 0) (text
 of_bytes bytes P (Some text) h = h
 of_bytes bytes P None h = tt
 
--- what was pushed with this report, and then ended, is a line
+-- only no text has no bytes
+nothing_mapped : {S : Type 0} (bytes : S → List ℕ) (text : Option S) → option_map bytes text ≡ None → text ≡ None
+nothing_mapped bytes None e = refl
+nothing_mapped bytes (Some text) e = absurd (cc)
+
+-- the text that was pushed with this report, and then ended, is a line
 pub message_put : {S : Type 0} (bytes : S → List ℕ) (source : SourceValue) (begin : ℕ) (head : List Token) (span : Span) (also : Option Span) (texts : List (List ℕ)) {old middle new : LinesValue} (rendered : Option S)
-    (text : Option (List ℕ)) → text ≡ option_map bytes rendered → IfSome rendered (λ t. StandInOrder texts (bytes t)) → GivesMessage source begin head span also text old middle → Ends middle new →
-    (shown : Shown) × IsShown source texts shown × Puts (diagnostic_tokens source begin head span also shown ∷ []) old new
-message_put bytes source begin head span also texts rendered text e h g ends =
-    let P : List ℕ → Type 0 = λ t. StandInOrder texts t in (
+    (text : Option (List ℕ)) → text ≡ option_map bytes rendered → IfSome rendered (λ t. OccurInOrder texts (bytes t)) → (rendered ≡ None → HasLongLine source begin span) → YieldsMessage source begin head span also text old middle → Ends middle new →
+    (shown : Shown) × IsShown source begin span also texts shown × Puts (diagnostic_tokens source begin head span also shown ∷ []) old new
+message_put bytes source begin head span also texts rendered text e h left g ends =
+    let P : List ℕ → Type 0 = λ t. OccurInOrder texts t in (
       g.shown,
-      record { lines = g.lines; other_lines = g.other_lines; rendered = subst (λ o. IfSome o P) (sym (g.is ∙ e)) (of_bytes bytes P rendered h) },
+      record { lines = g.lines; other_lines = g.other_lines; rendered = subst (λ o. IfSome o P) (sym (g.is ∙ e)) (of_bytes bytes P rendered h); left_out = λ none. left (nothing_mapped bytes rendered (sym (g.is ∙ e) ∙ none)) },
       one_put g.gained ends,
     )
 

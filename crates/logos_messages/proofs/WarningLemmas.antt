@@ -4,7 +4,7 @@ use Rattle.std.proofs.lemmas.List.{drop_all, drop_more}
 use Rattle.logos_json.proofs.LineLemmas.{puts_nothing, puts_then}
 use Rattle.logos_json.specs.Lines.{LinesValue}
 use Rattle.logos_report.specs.declared.warnings.Warning.{Warning}
-use Rattle.logos_report.specs.Places.{SourceValue}
+use Rattle.logos_report.specs.Locations.{SourceValue}
 use Rattle.logos_messages.specs.Warnings.{PutsWarning, PutsWarnings}
 
 -- the line of the next warning, and those of the rest

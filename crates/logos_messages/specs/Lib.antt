@@ -3,4 +3,4 @@ pub mod Tokens
 pub mod Growing
 pub mod Messages
 pub mod Warnings
-pub mod Words
+pub mod Imports

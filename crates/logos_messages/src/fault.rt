@@ -1,28 +1,25 @@
-//! The line of a fault.
+//! The line of a fault. Used by `messages` and `notes`.
 
-ghost use Rattle.std.specs.Prelude.{◌≡◌, false, IfOk, IfSome, OnOk, option_map, string_bytes};
-ghost use Rattle.logos_messages.specs.Words.{GivesMessage, PutsFault, StandInOrder, fault_head, fault_of, fault_texts};
+ghost use Rattle.std.specs.Prelude.{◌≡◌, None, false, IfOk, IfSome, OnOk, option_map, string_bytes};
+ghost use Rattle.logos_messages.specs.Imports.{HasLongLine, YieldsMessage, PutsFault, OccurInOrder, fault_head, fault_of, fault_texts};
 
 use crate::head::push_head;
 use crate::notes::{push_notes, text_of};
 use crate::spans::{has_long_line, push_spans};
 use logos_json::JsonLines;
-use logos_report::{Member, Page, Part, Start, push_fault};
-use logos_token::error::SpannedError;
+use logos_page::Page;
+use logos_report::{KnownFault, Member, Part, Start, push_fault, push_put_in, put_in};
 use std::alloc::{AllocError, Global};
 
-/// A fault, with what belongs to it.
+/// A fault, with its clues.
 #[derive(Clone, Copy)]
-pub(crate) struct FaultMessage<'f, 'p, 't> {
+pub(crate) struct FaultMessage<'f, 'c, 'p, 't> {
     pub(crate) part: Part<'p, 't>,
-    /// The faults of this part of the file.
-    pub(crate) faults: &'f [SpannedError],
-    /// The one that is shown.
-    pub(crate) fault: &'f SpannedError,
-    /// What it is in a set of ambiguous leaves of which something is known.
-    pub(crate) member: Option<Member<'f>>,
+    pub(crate) known: KnownFault<'f>,
+    /// Its position in a set of ambiguous leaves with a clue.
+    pub(crate) member: Option<Member<'c>>,
     /// The patterns that explain it.
-    pub(crate) starts: &'f [Start],
+    pub(crate) starts: &'c [Start],
 }
 
 /// Appends the line of a fault.
@@ -33,42 +30,72 @@ pub(crate) struct FaultMessage<'f, 'p, 't> {
 pub(crate) fn push_fault_line(
     lines: &mut JsonLines,
     alloc: Global,
-    message: FaultMessage<'_, '_, '_>,
+    message: FaultMessage<'_, '_, '_, '_>,
 ) -> Result<(), AllocError>
     ensures { OnOk result (PutsFault message.entry.part.source.now message.entry.part.offset
-        (fault_of message.entry.fault.now) lines.old lines.new) }
+        (fault_of message.entry.known.fault.now) lines.old lines.new) }
 {
+    let put_in = put_in_text(alloc, message)?;
     let rendered = rendered(alloc, message)?;
-    push_message(lines, message, text_of(&rendered));
+    push_message(lines, message, text_of(&rendered), &put_in);
     lines.end_line();
     Ok(())
 }
 
-/// Appends a fault, and this report of it.
-fn push_message(lines: &mut JsonLines, message: FaultMessage<'_, '_, '_>, rendered: Option<&str>)
-    ensures { GivesMessage message.entry.part.source.now message.entry.part.offset
-        (fault_head (fault_of message.entry.fault.now)) message.entry.fault.now.span
-        message.entry.fault.now.also (option_map (λ t. t.now) rendered.entry)
+/// Appends a fault, this report of it, and the text about a substituted subpattern.
+fn push_message(
+    lines: &mut JsonLines,
+    message: FaultMessage<'_, '_, '_, '_>,
+    rendered: Option<&str>,
+    put_in: &Option<String>,
+)
+    ensures { YieldsMessage message.entry.part.source.now message.entry.part.offset
+        (fault_head (fault_of message.entry.known.fault.now)) message.entry.known.fault.now.span
+        message.entry.known.fault.now.also (option_map (λ t. t.now) rendered.entry)
         lines.old lines.new }
 {
     lines.begin_object();
-    push_head(lines, message.fault);
-    push_spans(lines, message.part, message.fault.span, message.fault.also);
-    push_notes(lines, message);
+    push_head(lines, message.known.fault);
+    push_spans(
+        lines,
+        message.part,
+        message.known.fault.span,
+        message.known.fault.also,
+    );
+    push_notes(lines, message, put_in);
     lines.push_maybe_text("rendered", rendered);
     lines.end_object();
 }
 
 /// Returns the report of a fault without colors, or `None` if its lines are long.
-fn rendered(alloc: Global, message: FaultMessage<'_, '_, '_>) -> Result<Option<String>, AllocError>
-    ensures { IfOk result (λ text. IfSome text (λ text. StandInOrder (fault_texts false
+fn rendered(
+    alloc: Global,
+    message: FaultMessage<'_, '_, '_, '_>,
+) -> Result<Option<String>, AllocError>
+    ensures occur { IfOk result (λ text. IfSome text (λ text. OccurInOrder (fault_texts false
         message.entry.part.source.now message.entry.part.offset
-        (fault_of message.entry.fault.now)) (string_bytes text))) }
+        (fault_of message.entry.known.fault.now)) (string_bytes text))) }
+    ensures left_out { IfOk result (λ text. text ≡ None → HasLongLine message.entry.part.source.now
+        message.entry.part.offset message.entry.known.fault.now.span) }
 {
-    if has_long_line(message.part, message.fault.span) {
+    if has_long_line(message.part, message.known.fault.span) {
         return Ok(None);
     }
+    let mut report = Page::new(alloc, false);
+    push_fault(&mut report, message.part, message.known);
+    Ok(Some(report.finish()?))
+}
+
+/// Returns the text about the subpattern after whose substitution the byte of a fault is counted,
+/// or `None` if there is none.
+fn put_in_text(
+    alloc: Global,
+    message: FaultMessage<'_, '_, '_, '_>,
+) -> Result<Option<String>, AllocError> {
+    let Some(put) = put_in(message.part, message.known.fault) else {
+        return Ok(None);
+    };
     let mut page = Page::new(alloc, false);
-    push_fault(&mut page, message.part, message.faults, message.fault);
+    push_put_in(&mut page, message.part, put);
     Ok(Some(page.finish()?))
 }

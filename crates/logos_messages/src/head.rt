@@ -1,13 +1,13 @@
-//! What the line of a fault begins with.
+//! The beginning of the line of a fault. Used by `fault`, `rest_line` and `warnings`.
 
 ghost use Rattle.std.specs.Prelude.{◌≡◌, ◌++◌, [], ◌∷◌, codes, if◌then◌else◌};
-ghost use Rattle.logos_messages.specs.Words.{Gains, code_member, error_tokens, fault_head, fault_of, level_of, message_tokens, name_of};
+ghost use Rattle.logos_messages.specs.Imports.{Gains, code_member, error_tokens, fault_head, fault_of, level_of, message_tokens, name_of};
 
 use logos_json::JsonLines;
 use logos_report::{first_line, is_error};
 use logos_token::error::{FaultCode, SpannedError};
 
-/// Appends that a line is a diagnostic, and the message, the code and the level of its fault.
+/// Appends the marker of a diagnostic, and the message, the code and the level of its fault.
 pub(crate) fn push_head(lines: &mut JsonLines, fault: &SpannedError)
     ensures { Gains (fault_head (fault_of fault.now)) lines.old lines.new }
 {
@@ -16,7 +16,7 @@ pub(crate) fn push_head(lines: &mut JsonLines, fault: &SpannedError)
     lines.push_text("level", level_of(fault.code));
 }
 
-/// Appends that a line is a diagnostic, and its message.
+/// Appends the marker of a diagnostic, and its message.
 pub(crate) fn push_message(lines: &mut JsonLines, message: &str)
     ensures { Gains (message_tokens message.now) lines.old lines.new }
 {

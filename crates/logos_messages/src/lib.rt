@@ -1,13 +1,14 @@
-//! Faults and warnings as lines of JSON in rustc's schema of diagnostics, for editors and for CI.
+//! Writes faults and warnings as lines of JSON in rustc's schema of diagnostics, for editors and
+//! for CI. Called for `--message-format json`.
 
 #![tactic(auto)]
 
 mod fault;
 mod head;
-mod marked;
+mod marked_lines;
 mod messages;
 mod notes;
-mod rest;
+mod rest_line;
 mod spans;
 mod warnings;
 

@@ -1,26 +1,28 @@
-//! The faults of a source, one line for each, but no more than 50 of a code.
+//! The faults of a source, one line for each, but at most 50 of one code. Used by `logos_expand`
+//! and `logos_show`.
 
 ghost use Rattle.std.specs.Prelude.{◌≡◌, ◌≤◌, ◌<◌, ◌+◌, ◌++◌, List, ℕ, IfOk, OnErr, OnOk, length, take};
 ghost use Rattle.logos_json.specs.Lines.{LinesValue};
-ghost use Rattle.logos_messages.specs.Words.{AreMessages, AreRefusedMessages, PutsAfter, PutsCounted, PutsFrom, all_faults, fault_of, faults_of, listed_faults};
+ghost use Rattle.logos_messages.specs.Imports.{AreMessages, AreRefusedMessages, PutsAfter, PutsCounted, PutsFrom, all_faults, fault_of, faults_of, listed_faults};
 
 use crate::fault::{FaultMessage, push_fault_line};
-use crate::rest::push_rest_line;
+use crate::rest_line::push_rest_line;
 use logos_json::JsonLines;
 use logos_report::{
-    Clues, FaultListing, MOST, NextFaults, Part, Refused, Source, count_in, first_faults, seen_in,
+    Clues, FaultListing, KnownFault, MOST, NextFaults, Part, Refused, Source, count_in,
+    first_faults, seen_in, set_at,
 };
 use logos_token::error::{Errors, Memory};
 use std::alloc::{AllocError, Global};
 
 /// Appends a line of JSON for each fault of a part of a file, in order. A line has the members of
-/// rustc's diagnostics, of which `rendered` is what `push_faults` shows of the fault, without
-/// colors. What is known of faults beyond what they say is among its notes.
+/// rustc's diagnostics, of which `rendered` is the report by `push_faults`, without colors. The
+/// clues about a fault are among its notes.
 ///
-/// Of the faults of one code 50 have a line. In place of the next one a line of the level
-/// `failure-note` says how many are left out. Lines of the file that have more than 400 bytes are
-/// left out, and then `rendered` is null. So the lines take memory linear in the messages of the
-/// faults that have one.
+/// At most 50 faults of one code have a line. Instead of the next one, a line of the level
+/// `failure-note` has the number of those that are left out. Lines of the file that have more than
+/// 400 bytes are left out, and then `rendered` is null. Thus the lines take memory linear in the
+/// messages of the faults that have one.
 ///
 /// # Errors
 ///
@@ -41,8 +43,8 @@ pub fn push_messages(
     Ok(())
 }
 
-/// Appends the lines of the faults of these parts of a file, in order, as `push_messages` does. Of
-/// the faults of one code in all parts 50 have a line.
+/// Appends the lines of the faults of these parts of a file, in order, like `push_messages`. At
+/// most 50 faults of one code in all parts have a line.
 ///
 /// # Errors
 ///
@@ -141,7 +143,7 @@ fn push_part(
     Ok(())
 }
 
-/// Appends the lines of the faults of a part, of which these come first.
+/// Appends the lines of the faults of a part, beginning with the first one.
 fn push_all(
     lines: &mut JsonLines,
     alloc: Global,
@@ -157,10 +159,14 @@ fn push_all(
     let mut next = first;
     for number in 0..faults.len() {
         let fault = &faults[number];
+        let known = KnownFault {
+            fault,
+            set: set_at(faults, number),
+            help: next.help(),
+        };
         let message = FaultMessage {
             part,
-            faults,
-            fault,
+            known,
             member: next.member(fault),
             starts: next.starts(fault.code),
         };
@@ -170,22 +176,22 @@ fn push_all(
     Ok(())
 }
 
-/// Appends the line of a fault of a part, which has this number there. Of the faults of one code 50
-/// have a line. In place of the next one stands how many are left out.
+/// Appends the line of the fault of a part with this number. At most 50 faults of one code have a
+/// line. Instead of the next one, a line has the number of those that are left out.
 fn push_counted(
     lines: &mut JsonLines,
     alloc: Global,
     listing: FaultListing<'_>,
     number: usize,
-    message: FaultMessage<'_, '_, '_>,
+    message: FaultMessage<'_, '_, '_, '_>,
 ) -> Result<(), AllocError>
     requires { number ≤ length listing.faults.now }
     ensures { OnOk result (PutsCounted message.entry.part.source.now message.entry.part.offset
         (listed_faults listing.entry)
         (all_faults listing.entry.earlier.now ++ faults_of (take number listing.entry.faults.now))
-        (fault_of message.entry.fault.now) lines.old lines.new) }
+        (fault_of message.entry.known.fault.now) lines.old lines.new) }
 {
-    let code = message.fault.code;
+    let code = message.known.fault.code;
     let seen = seen_in(listing.earlier, &listing.faults[..number], code);
     if seen < MOST {
         return push_fault_line(lines, alloc, message);

@@ -1,52 +1,65 @@
-//! The notes and the help of a fault.
+//! The notes and the help of a fault. Used by `fault`, `rest_line` and `warnings`.
 
 ghost use Rattle.std.specs.Prelude.{◌≡◌, [], ◌∷◌, option_map, string_bytes};
-ghost use Rattle.logos_messages.specs.Words.{Gains, GivesNoteList, GivesNotes, list_member, note_tokens, nothing_tokens};
+ghost use Rattle.logos_messages.specs.Imports.{Gains, YieldsNoteList, YieldsNotes, list_member, note_tokens, nothing_tokens};
 
 use crate::fault::FaultMessage;
 use logos_json::JsonLines;
-use logos_report::{MOST, Member, Part, Start, help_of};
-use logos_token::error::SpannedError;
+use logos_report::{MOST, Member, Start};
 
 /// Appends the notes and the help of a fault, as a member.
-pub(crate) fn push_notes(lines: &mut JsonLines, message: FaultMessage<'_, '_, '_>)
-    ensures { GivesNoteList lines.old lines.new }
+pub(crate) fn push_notes(
+    lines: &mut JsonLines,
+    message: FaultMessage<'_, '_, '_, '_>,
+    put_in: &Option<String>,
+)
+    ensures { YieldsNoteList lines.old lines.new }
 {
     lines.begin_list("children");
-    push_other_lines(lines, message.fault.message.as_str());
+    push_other_lines(lines, message.known.fault.message.as_str());
+    push_put_in(lines, put_in);
     push_starts(lines, message.starts);
     push_advice(lines, message);
     lines.end_list();
 }
 
-/// Appends a note for each pattern that can look at what stands before its first byte, but no more
-/// than 50.
+/// Appends the text about the subpattern after whose substitution the byte of a fault is counted,
+/// if there is one.
+fn push_put_in(lines: &mut JsonLines, put_in: &Option<String>)
+    ensures { YieldsNotes lines.old lines.new }
+{
+    if let Some(text) = put_in {
+        push_one(lines, "note", text.as_str());
+    }
+}
+
+/// Appends a note for each pattern that can examine the bytes before its start, but at most 50.
 fn push_starts(lines: &mut JsonLines, starts: &[Start])
-    ensures { GivesNotes lines.old lines.new }
+    ensures { YieldsNotes lines.old lines.new }
 {
     for start in &starts[..starts.len().min(MOST)] {
         push_one(lines, "note", start.name.as_str());
     }
 }
 
-/// Appends what is known of a set of ambiguous leaves, and what to do about a fault.
-fn push_advice(lines: &mut JsonLines, message: FaultMessage<'_, '_, '_>)
-    ensures { GivesNotes lines.old lines.new }
+/// Appends the clue about a set of ambiguous leaves, and the help for a fault.
+fn push_advice(lines: &mut JsonLines, message: FaultMessage<'_, '_, '_, '_>)
+    ensures { YieldsNotes lines.old lines.new }
 {
     push_known(lines, message.member);
-    push_help(lines, message.part, message.fault);
+    push_help(lines, message.known.help);
 }
 
-/// Appends what is known of a set of ambiguous leaves, if this is one of its faults.
+/// Appends the clue about a set of ambiguous leaves, if this is one of its faults.
 fn push_known(lines: &mut JsonLines, member: Option<Member<'_>>)
-    ensures { GivesNotes lines.old lines.new }
+    ensures { YieldsNotes lines.old lines.new }
 {
     if let Some(member) = member {
         push_one(lines, "note", member.meeting.note.as_str());
     }
 }
 
-/// Returns a text that may be there.
+/// Returns an optional text as a `&str`.
 pub(crate) fn text_of(text: &Option<String>) -> Option<&str>
     ensures { option_map (λ t. t.now) result ≡ option_map string_bytes text.now }
 {
@@ -58,42 +71,34 @@ pub(crate) fn text_of(text: &Option<String>) -> Option<&str>
 
 /// Appends a note or a help.
 pub(crate) fn push_one(lines: &mut JsonLines, level: &str, text: &str)
-    ensures { GivesNotes lines.old lines.new }
+    ensures { YieldsNotes lines.old lines.new }
 {
     push_note(lines, level, text);
 }
 
 /// Appends a note for each line of a message after its first one.
 fn push_other_lines(lines: &mut JsonLines, message: &str)
-    ensures { GivesNotes lines.old lines.new }
+    ensures { YieldsNotes lines.old lines.new }
 {
     for text in message.split('\n').skip(1) {
         push_other_line(lines, text);
     }
 }
 
-/// Appends a note for a line of a message, unless it is empty.
+/// Appends a note for a line of a message, without its leading blanks, unless it is empty.
 fn push_other_line(lines: &mut JsonLines, text: &str)
-    ensures { GivesNotes lines.old lines.new }
+    ensures { YieldsNotes lines.old lines.new }
 {
     if !text.is_empty() {
-        push_note(lines, "note", without_margin(text));
+        push_note(lines, "note", text.trim_start());
     }
 }
 
-/// Returns a line of a message without the blanks that stand in front of the name of a pattern.
-fn without_margin(text: &str) -> &str {
-    match text.strip_prefix("  ") {
-        Some(name) => name,
-        None => text,
-    }
-}
-
-/// Appends what to do about a fault, if there is something to say.
-fn push_help(lines: &mut JsonLines, part: Part<'_, '_>, fault: &SpannedError)
-    ensures { GivesNotes lines.old lines.new }
+/// Appends the help for a fault, if there is one.
+fn push_help(lines: &mut JsonLines, help: Option<&str>)
+    ensures { YieldsNotes lines.old lines.new }
 {
-    if let Some(help) = help_of(part, fault) {
+    if let Some(help) = help {
         push_note(lines, "help", help);
     }
 }
@@ -110,7 +115,7 @@ fn push_note(lines: &mut JsonLines, level: &str, text: &str)
     lines.end_object();
 }
 
-/// Appends that a note has no spans, no notes and no report of its own.
+/// Appends the empty members of a note: its spans, notes and report.
 fn push_nothing_else(lines: &mut JsonLines)
     ensures { Gains nothing_tokens lines.old lines.new }
 {

@@ -1,25 +1,25 @@
-//! The spans of a fault or a warning.
+//! The spans of a fault or a warning. Used by `fault` and `warnings`.
 
-ghost use Rattle.std.specs.Prelude.{◌≡◌, [], ◌∷◌, List, Some, None, codes, option_map};
-ghost use Rattle.logos_messages.specs.Words.{Gains, GivesOther, GivesSpan, GivesSpanList, bytes_tokens, label_tokens, positions_tokens};
+ghost use Rattle.std.specs.Prelude.{◌≡◌, [], ◌∷◌, IsTrue, List, Some, None, codes, option_map};
+ghost use Rattle.logos_messages.specs.Imports.{Gains, HasLongLine, IsLongAt, YieldsOther, YieldsSpan, YieldsSpanList, bytes_tokens, label_tokens, locations_tokens};
 
-use crate::marked::{LONG, Reach, push_lines};
+use crate::marked_lines::{LONG, Reach, push_lines};
 use logos_json::JsonLines;
 use logos_report::Part;
 use logos_token::token::Span;
 
-/// Appends a span of a part of a file. Without a label it is the one that its fault is about.
+/// Appends a span of a part of a file. Without a label it is the primary span of its fault.
 fn push_span(lines: &mut JsonLines, part: Part<'_, '_>, span: Span, label: Option<&str>)
-    ensures { GivesSpan part.entry.source.now part.entry.offset span (option_map (λ t. t.now) label.entry)
+    ensures { YieldsSpan part.entry.source.now part.entry.offset span (option_map (λ t. t.now) label.entry)
         lines.old lines.new }
 {
     let reach = Reach {
-        first: part.position(span.from),
-        last: part.position(span.to),
+        first: part.location(span.from),
+        last: part.location(span.to),
     };
     lines.begin_object();
     push_bytes(lines, part, span);
-    push_positions(lines, reach);
+    push_locations(lines, reach);
     push_label(lines, label);
     push_lines(lines, part.source, reach);
     lines.end_object();
@@ -27,17 +27,17 @@ fn push_span(lines: &mut JsonLines, part: Part<'_, '_>, span: Span, label: Optio
 
 /// Appends the second span of a fault, if it has one.
 fn push_other(lines: &mut JsonLines, part: Part<'_, '_>, also: Option<Span>)
-    ensures { GivesOther part.entry.source.now part.entry.offset also lines.old lines.new }
+    ensures { YieldsOther part.entry.source.now part.entry.offset also lines.old lines.new }
 {
     if let Some(span) = also {
         push_span(lines, part, span, Some("see also"));
     }
 }
 
-/// Appends the spans of a fault or a warning, as a member: the one that it is about, and the second
-/// one, if it has one.
+/// Appends the spans of a fault or a warning, as a member: the primary one, and the second one, if
+/// it has one.
 pub(crate) fn push_spans(lines: &mut JsonLines, part: Part<'_, '_>, span: Span, also: Option<Span>)
-    ensures { GivesSpanList part.entry.source.now part.entry.offset span also lines.old lines.new }
+    ensures { YieldsSpanList part.entry.source.now part.entry.offset span also lines.old lines.new }
 {
     lines.begin_list("spans");
     push_span(lines, part, span, None);
@@ -55,8 +55,8 @@ fn push_bytes(lines: &mut JsonLines, part: Part<'_, '_>, span: Span)
 }
 
 /// Appends the lines and the columns of a span.
-fn push_positions(lines: &mut JsonLines, reach: Reach)
-    ensures { Gains (positions_tokens reach.first reach.last) lines.old lines.new }
+fn push_locations(lines: &mut JsonLines, reach: Reach)
+    ensures { Gains (locations_tokens reach.first reach.last) lines.old lines.new }
 {
     lines.push_number("line_start", reach.first.line);
     lines.push_number("line_end", reach.last.line);
@@ -64,7 +64,7 @@ fn push_positions(lines: &mut JsonLines, reach: Reach)
     lines.push_number("column_end", reach.last.column);
 }
 
-/// Appends whether a span is the one that its fault is about, and its label.
+/// Appends whether a span is the primary one of its fault, and its label.
 fn push_label(lines: &mut JsonLines, label: Option<&str>)
     ensures { Gains (label_tokens (option_map (λ t. t.now) label.entry)) lines.old lines.new }
 {
@@ -82,7 +82,7 @@ fn push_other_label(lines: &mut JsonLines, label: &str)
     lines.push_text("label", label);
 }
 
-/// Appends that a span is the one that its fault is about.
+/// Appends the mark of a primary span.
 fn push_primary(lines: &mut JsonLines)
     ensures { Gains (label_tokens None) lines.old lines.new }
 {
@@ -91,12 +91,21 @@ fn push_primary(lines: &mut JsonLines)
 }
 
 /// Returns whether a span begins or ends in a long line.
-pub(crate) fn has_long_line(part: Part<'_, '_>, span: Span) -> bool {
-    is_long(part, span.from) | is_long(part, span.to)
+pub(crate) fn has_long_line(part: Part<'_, '_>, span: Span) -> bool
+    ensures { IsTrue result → HasLongLine part.entry.source.now part.entry.offset span }
+{
+    if is_long(part, span.from) {
+        return true;
+    }
+    is_long(part, span.to)
 }
 
 /// Returns whether the line of an offset is long.
-fn is_long(part: Part<'_, '_>, offset: usize) -> bool {
-    let line = part.position(offset).line;
-    part.source.short_line(line, LONG).is_none()
+fn is_long(part: Part<'_, '_>, offset: usize) -> bool
+    ensures { IsTrue result → IsLongAt part.entry.source.now part.entry.offset offset }
+{
+    match part.source.short_line(part.location(offset).line, LONG) {
+        Some(_) => false,
+        None => true,
+    }
 }

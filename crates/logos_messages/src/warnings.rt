@@ -1,19 +1,20 @@
-//! The warnings of a part of a file, one line for each.
+//! The warnings of a part of a file, one line for each. Used by `logos_file_warnings`.
 
-ghost use Rattle.std.specs.Prelude.{◌≡◌, ◌++◌, ℕ, List, false, IfOk, IfSome, OnErr, OnOk, option_map, string_bytes};
-ghost use Rattle.logos_messages.specs.Words.{AreWarnings, Gains, GivesMessage, GivesNoteList, GivesNotes, PutsWarning, PutsWarnings, StandInOrder, shown_of, warning_head, warning_texts};
+ghost use Rattle.std.specs.Prelude.{◌≡◌, ◌++◌, ℕ, List, None, false, IfOk, IfSome, OnErr, OnOk, option_map, string_bytes};
+ghost use Rattle.logos_messages.specs.Imports.{AreWarnings, Gains, HasLongLine, YieldsMessage, YieldsNoteList, YieldsNotes, PutsWarning, PutsWarnings, OccurInOrder, shown_of, warning_head, warning_texts};
 
 use crate::head::push_message;
 use crate::notes::{push_one, text_of};
 use crate::spans::{has_long_line, push_spans};
 use logos_json::JsonLines;
-use logos_report::{Page, Part, Warning, first_of, push_warning};
+use logos_page::Page;
+use logos_report::{Part, Warning, first_of, push_warning};
 use logos_token::error::Memory;
 use std::alloc::{AllocError, Global};
 
-/// Appends a line of JSON for each warning of a part of a file, in order, but no more than 50. A
-/// line has the members of rustc's diagnostics, of which `rendered` is the report of the warning,
-/// without colors, or null where its lines are long.
+/// Appends a line of JSON for each warning of a part of a file, in order, but at most 50. A line
+/// has the members of rustc's diagnostics, of which `rendered` is the report of the warning,
+/// without colors, or null if its lines are long.
 ///
 /// # Errors
 ///
@@ -82,7 +83,7 @@ fn push_line(
 
 /// Appends a warning, and this report of it.
 fn push_object(lines: &mut JsonLines, part: Part<'_, '_>, warning: &Warning, rendered: Option<&str>)
-    ensures { GivesMessage part.entry.source.now part.entry.offset
+    ensures { YieldsMessage part.entry.source.now part.entry.offset
         (warning_head (string_bytes warning.now.message)) warning.now.span warning.now.also
         (option_map (λ t. t.now) rendered.entry) lines.old lines.new }
 {
@@ -94,7 +95,7 @@ fn push_object(lines: &mut JsonLines, part: Part<'_, '_>, warning: &Warning, ren
     lines.end_object();
 }
 
-/// Appends that a line is a diagnostic, and the message and the level of its warning.
+/// Appends the marker of a diagnostic, and the message and the level of its warning.
 fn push_head(lines: &mut JsonLines, message: &str)
     ensures { Gains (warning_head message.now) lines.old lines.new }
 {
@@ -105,7 +106,7 @@ fn push_head(lines: &mut JsonLines, message: &str)
 
 /// Appends the note and the help of a warning, as a member.
 fn push_notes(lines: &mut JsonLines, warning: &Warning)
-    ensures { GivesNoteList lines.old lines.new }
+    ensures { YieldsNoteList lines.old lines.new }
 {
     lines.begin_list("children");
     push_text(lines, "note", text_of(&warning.note));
@@ -115,7 +116,7 @@ fn push_notes(lines: &mut JsonLines, warning: &Warning)
 
 /// Appends a note or a help, if there is one.
 fn push_text(lines: &mut JsonLines, level: &str, text: Option<&str>)
-    ensures { GivesNotes lines.old lines.new }
+    ensures { YieldsNotes lines.old lines.new }
 {
     if let Some(text) = text {
         push_one(lines, level, text);
@@ -128,8 +129,10 @@ fn rendered(
     part: Part<'_, '_>,
     warning: &Warning,
 ) -> Result<Option<String>, AllocError>
-    ensures { IfOk result (λ text. IfSome text (λ text. StandInOrder (warning_texts false
+    ensures occur { IfOk result (λ text. IfSome text (λ text. OccurInOrder (warning_texts false
         part.entry.source.now part.entry.offset warning.now) (string_bytes text))) }
+    ensures left_out { IfOk result (λ text. text ≡ None →
+        HasLongLine part.entry.source.now part.entry.offset warning.now.span) }
 {
     if has_long_line(part, warning.span) {
         return Ok(None);

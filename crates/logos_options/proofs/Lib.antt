@@ -1,2 +1,4 @@
+mod OrderLemmas
+mod SettingLemmas
 mod SplitLemmas
 mod WordLemmas

@@ -1,7 +1,7 @@
--- Cutting a word at its first `=`.
+-- Cutting an argument at its first `=`.
 use Rattle.std.proofs.Common.{◌≡◌, ◌≢◌, ◌<◌, ℕ, List, length, Some, None, refl, arith, eq-eqb, ne_eqb}
 use Rattle.std.specs.List.{after_first, before_first, position_or_len}
-use Rattle.logos_options.specs.WordSteps.{is_equals, split_at_equals}
+use Rattle.logos_options.specs.ArgumentSteps.{is_equals, split_at_equals}
 
 pub no_split : (word : List ℕ) → position_or_len is_equals word ≡ length word → None ≡ split_at_equals word
 no_split word e = rw (eq-eqb _ _ e) refl

@@ -1,7 +1,9 @@
+pub mod ArgumentSteps
+pub mod Arguments
 pub mod Commits
-pub mod Given
 pub mod Options
 pub mod Paths
 pub mod Programs
-pub mod WordSteps
-pub mod Words
+pub mod Styles
+pub mod WholeOptions
+pub mod Imports

@@ -1,19 +1,24 @@
-//! The options of `logos_cli` and `logos_show`, and what the words of their command lines give.
+//! The table of the options of `logos_cli` and `logos_show`, and the reading of their arguments.
 
 #![tactic(auto)]
 
-mod commit;
-mod given;
-mod nearest;
+mod argument_steps;
+mod arguments;
+mod help;
+pub mod laws;
+mod message_style;
+mod nearest_option;
 mod options;
 mod paths;
 mod program;
-mod word_steps;
+mod version;
 
-pub use commit::{PROGRAM, commit_line};
-pub use given::{Answer, Asking, Given, Switches, Values, given_by, given_twice, misuse};
-pub use nearest::with_nearest;
-pub use options::OptionName;
-pub use paths::{STANDARD_INPUT, paths_of};
+pub use argument_steps::{ArgumentProgress, ArgumentStep, GivenOption, Use, next_step};
+pub use arguments::{Arguments, Settings, arguments_of, misuse};
+pub use help::{HelpText, print_help};
+pub use message_style::{MessageStyle, style_given};
+pub use nearest_option::with_nearest;
+pub use options::{OptionName, OptionRole};
+pub use paths::{STANDARD_INPUT, path_by_word, paths_of};
 pub use program::Program;
-pub use word_steps::{Use, WordProgress, WordStep, next_step};
+pub use version::print_version;

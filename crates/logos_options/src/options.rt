@@ -1,180 +1,344 @@
-//! The options of command lines. A program takes some of them.
+//! The table of options: the name of each, whether it has a value, its effect, and the programs
+//! that take it with its lines in their help. Every reader of arguments looks options up here.
 
-ghost use Rattle.std.specs.Prelude.{◌≡◌, Some};
-ghost use Rattle.logos_options.specs.Options.{later_named, letter_named, long_named, question_named, option_named, takes_value};
+ghost use Rattle.std.specs.Prelude.{◌≡◌, ◌<◌, Some, is_some, map};
+ghost use Rattle.logos_options.specs.Imports.{is_named, named_in, number, option_named, role_of, row_value, takes_value, word_of};
 
-/// An option, by its name.
+/// An option. The rows of the table are in this order.
 #[derive(Clone, Copy, Debug, PartialEq, Eq)]
 pub enum OptionName {
-    At,
+    Output,
     Check,
-    Color,
-    Compare,
-    DenyWarnings,
+    Shape,
     Enum,
+    At,
     Examples,
-    Expect,
-    Help,
     Inputs,
     Json,
+    Expect,
+    Compare,
+    Html,
+    Color,
+    DenyWarnings,
     MessageFormat,
-    Output,
-    Shape,
+    Help,
     Version,
 }
 
-/// All options.
-pub(crate) const OPTIONS: [OptionName; 15] = [
-    OptionName::At,
-    OptionName::Check,
-    OptionName::Color,
-    OptionName::Compare,
-    OptionName::DenyWarnings,
-    OptionName::Enum,
-    OptionName::Examples,
-    OptionName::Expect,
-    OptionName::Help,
-    OptionName::Inputs,
-    OptionName::Json,
-    OptionName::MessageFormat,
-    OptionName::Output,
-    OptionName::Shape,
-    OptionName::Version,
+/// The number of options.
+pub(crate) const OPTIONS: usize = 16;
+
+/// The effect of an option.
+#[derive(Clone, Copy, Debug, PartialEq, Eq)]
+pub enum OptionRole {
+    /// Sets something. It is given at most once.
+    Setting,
+    /// Requests an answer about the input, such as `--explain`. At most one is given.
+    Question,
+    /// Requests a text. No argument after it is read.
+    Text,
+}
+
+/// A row of the table.
+#[derive(Clone, Copy)]
+pub(crate) struct OptionRow {
+    pub(crate) option: OptionName,
+    /// The name, such as `--output`.
+    pub(crate) word: &'static str,
+    /// The short name, such as `-o`, if the option has one.
+    pub(crate) letter: Option<&'static str>,
+    pub(crate) has_value: bool,
+    pub(crate) role: OptionRole,
+    /// The lines in the help of `logos_cli`, if that program takes the option.
+    pub(crate) cli: Option<&'static str>,
+    /// The lines in the help of `logos_show`, if that program takes the option.
+    pub(crate) show: Option<&'static str>,
+}
+
+/// The table of options.
+pub(crate) const ROWS: [OptionRow; OPTIONS] = [
+    OptionRow {
+        option: OptionName::Output,
+        word: "--output",
+        letter: Some("-o"),
+        has_value: true,
+        role: OptionRole::Setting,
+        cli: Some(
+            "  -o, --output FILE  write to FILE, if its content is another
+               FOLDER/
+                     write the result of each INPUT to FOLDER, under its name
+",
+        ),
+        show: None,
+    },
+    OptionRow {
+        option: OptionName::Check,
+        word: "--check",
+        letter: Some("-c"),
+        has_value: false,
+        role: OptionRole::Setting,
+        cli: Some(
+            "  -c, --check        write nothing; status 1 if a file is missing or differs
+",
+        ),
+        show: None,
+    },
+    OptionRow {
+        option: OptionName::Shape,
+        word: "--shape",
+        letter: None,
+        has_value: true,
+        role: OptionRole::Setting,
+        cli: Some(
+            "      --shape SHAPE  tables: tables, and one loop over them (the default)
+                     tailcall: a function for each state
+                     state_machine: one loop over a state
+",
+        ),
+        show: None,
+    },
+    OptionRow {
+        option: OptionName::Enum,
+        word: "--enum",
+        letter: None,
+        has_value: true,
+        role: OptionRole::Setting,
+        cli: None,
+        show: Some(
+            "      --enum NAME   show, or lex by, the enum NAME alone, or `module::NAME`
+",
+        ),
+    },
+    OptionRow {
+        option: OptionName::At,
+        word: "--at",
+        letter: None,
+        has_value: true,
+        role: OptionRole::Question,
+        cli: None,
+        show: Some(
+            "      --at L:C      print what matches from line L, column C of INPUT
+",
+        ),
+    },
+    OptionRow {
+        option: OptionName::Examples,
+        word: "--examples",
+        letter: None,
+        has_value: false,
+        role: OptionRole::Question,
+        cli: None,
+        show: Some(
+            "      --examples    print for each leaf a shortest text that it finds, and one
+                    where another leaf is found in its place
+",
+        ),
+    },
+    OptionRow {
+        option: OptionName::Inputs,
+        word: "--inputs",
+        letter: None,
+        has_value: true,
+        role: OptionRole::Question,
+        cli: None,
+        show: Some(
+            "      --inputs N    print at most N inputs that together pass every edge of the
+                    lexer's graph, a literal of Rust on each line
+",
+        ),
+    },
+    OptionRow {
+        option: OptionName::Json,
+        word: "--json",
+        letter: None,
+        has_value: false,
+        role: OptionRole::Setting,
+        cli: None,
+        show: Some(
+            "      --json        print an object of JSON on each line
+",
+        ),
+    },
+    OptionRow {
+        option: OptionName::Expect,
+        word: "--expect",
+        letter: None,
+        has_value: true,
+        role: OptionRole::Setting,
+        cli: None,
+        show: Some(
+            "      --expect LIST compare what would be printed with the file LIST; status 1
+                    if they differ in more than the time that was taken
+",
+        ),
+    },
+    OptionRow {
+        option: OptionName::Compare,
+        word: "--compare",
+        letter: None,
+        has_value: false,
+        role: OptionRole::Question,
+        cli: None,
+        show: Some(
+            "      --compare     print whether the lexers of two files find the same, or a
+                    shortest text on which they do not; status 1 if they differ
+",
+        ),
+    },
+    OptionRow {
+        option: OptionName::Html,
+        word: "--html",
+        letter: None,
+        has_value: true,
+        role: OptionRole::Question,
+        cli: None,
+        show: Some(
+            "      --html PAGE   write a page about the lexer to the file PAGE: its leaves, its
+                    states, and INPUT with its items marked; `-` prints it
+",
+        ),
+    },
+    OptionRow {
+        option: OptionName::Color,
+        word: "--color",
+        letter: None,
+        has_value: true,
+        role: OptionRole::Setting,
+        cli: Some(
+            "      --color WHEN   always, never or auto (on a terminal; the default)
+",
+        ),
+        show: Some(
+            "      --color WHEN  always, never or auto (on a terminal; the default)
+",
+        ),
+    },
+    OptionRow {
+        option: OptionName::DenyWarnings,
+        word: "--deny-warnings",
+        letter: None,
+        has_value: false,
+        role: OptionRole::Setting,
+        cli: Some(
+            "      --deny-warnings
+                     write nothing, with status 1, if there are warnings
+",
+        ),
+        show: Some(
+            "      --deny-warnings
+                    without INPUT: print nothing, with status 1, if there are
+                    warnings
+",
+        ),
+    },
+    OptionRow {
+        option: OptionName::MessageFormat,
+        word: "--message-format",
+        letter: None,
+        has_value: true,
+        role: OptionRole::Setting,
+        cli: Some(
+            "      --message-format FORMAT
+                     human: a report (the default)
+                     json: a line of JSON for each message
+",
+        ),
+        show: Some(
+            "      --message-format FORMAT
+                    human: faults and warnings as a report (the default)
+                    json: a line of JSON for each
+",
+        ),
+    },
+    OptionRow {
+        option: OptionName::Help,
+        word: "--help",
+        letter: Some("-h"),
+        has_value: false,
+        role: OptionRole::Text,
+        cli: Some(
+            "  -h, --help         print this text
+",
+        ),
+        show: Some(
+            "  -h, --help        print this text
+",
+        ),
+    },
+    OptionRow {
+        option: OptionName::Version,
+        word: "--version",
+        letter: Some("-V"),
+        has_value: false,
+        role: OptionRole::Text,
+        cli: Some(
+            "  -V, --version      print the version
+",
+        ),
+        show: Some(
+            "  -V, --version     print the version
+",
+        ),
+    },
 ];
 
 impl OptionName {
-    /// Returns the option with this word, as `--output` or `-o`.
+    /// Returns the option with this name, such as `--output` or `-o`.
     pub fn by_word(word: &str) -> Option<OptionName>
         ensures { result ≡ option_named word.now }
     {
-        match by_letter(word) {
-            Some(option) => Some(option),
-            None => by_long(word),
-        }
+        named_in(&ROWS, word)
     }
 
-    /// Returns the word of the option, as `--output`.
+    /// Returns the name of the option, such as `--output`.
     pub fn word(self) -> &'static str
-        ensures { option_named result.now ≡ Some self }
+        ensures word { result.now ≡ word_of self }
+        ensures named { option_named result.now ≡ Some self }
     {
-        match self {
-            OptionName::At => "--at",
-            OptionName::Check => "--check",
-            OptionName::Color => "--color",
-            OptionName::Compare => "--compare",
-            OptionName::DenyWarnings => "--deny-warnings",
-            OptionName::Enum => "--enum",
-            OptionName::Examples => "--examples",
-            OptionName::Expect => "--expect",
-            OptionName::Help => "--help",
-            OptionName::Inputs => "--inputs",
-            OptionName::Json => "--json",
-            OptionName::MessageFormat => "--message-format",
-            OptionName::Output => "--output",
-            OptionName::Shape => "--shape",
-            OptionName::Version => "--version",
-        }
+        ROWS[self as usize].word
     }
 
     /// Returns whether the option has a value.
     pub fn takes_value(self) -> bool
         ensures { result ≡ takes_value self }
     {
-        matches!(
-            self,
-            OptionName::At
-                | OptionName::Color
-                | OptionName::Enum
-                | OptionName::Expect
-                | OptionName::Inputs
-                | OptionName::MessageFormat
-                | OptionName::Output
-                | OptionName::Shape
-        )
+        ROWS[self as usize].has_value
+    }
+
+    /// Returns the effect of the option.
+    pub(crate) fn role(self) -> OptionRole
+        ensures { result ≡ role_of self }
+    {
+        ROWS[self as usize].role
+    }
+
+    /// Returns the index of the option in the table.
+    pub(crate) fn number(self) -> usize
+        ensures number { result ≡ number self }
+        ensures few { result < OPTIONS }
+    {
+        self as usize
     }
 }
 
-/// Returns the option with this word of one letter, as `-o`.
-fn by_letter(word: &str) -> Option<OptionName>
-    ensures { result ≡ letter_named word.now }
+/// Returns the option of the first of these rows that has the name `word`.
+fn named_in(rows: &[OptionRow], word: &str) -> Option<OptionName>
+    ensures { result ≡ named_in (map row_value rows.now) word.now }
 {
-    if word == "-c" {
-        return Some(OptionName::Check);
-    }
-    if word == "-h" {
-        return Some(OptionName::Help);
-    }
-    if word == "-o" {
-        return Some(OptionName::Output);
-    }
-    if word == "-V" {
-        return Some(OptionName::Version);
+    for row in rows {
+        if is_named(row, word) {
+            return Some(row.option);
+        }
     }
     None
 }
 
-/// Returns the option with this word, as `--output`.
-fn by_long(word: &str) -> Option<OptionName>
-    ensures { result ≡ long_named word.now }
+/// Returns whether `word` is the name or the short name of a row.
+fn is_named(row: &OptionRow, word: &str) -> bool
+    ensures { result ≡ is_named (row_value row.now) word.now }
 {
-    if word == "--check" {
-        return Some(OptionName::Check);
+    match row.letter {
+        Some(letter) => (word == letter) | (word == row.word),
+        None => word == row.word,
     }
-    if word == "--color" {
-        return Some(OptionName::Color);
-    }
-    if word == "--deny-warnings" {
-        return Some(OptionName::DenyWarnings);
-    }
-    if word == "--enum" {
-        return Some(OptionName::Enum);
-    }
-    if word == "--help" {
-        return Some(OptionName::Help);
-    }
-    if word == "--message-format" {
-        return Some(OptionName::MessageFormat);
-    }
-    by_later_long(word)
-}
-
-/// Returns the option with this word, if it is one of the last in the alphabet.
-fn by_later_long(word: &str) -> Option<OptionName>
-    ensures { result ≡ later_named word.now }
-{
-    if word == "--output" {
-        return Some(OptionName::Output);
-    }
-    if word == "--shape" {
-        return Some(OptionName::Shape);
-    }
-    if word == "--version" {
-        return Some(OptionName::Version);
-    }
-    by_question(word)
-}
-
-/// Returns the option with this word, if it is one that asks something of a lexer.
-fn by_question(word: &str) -> Option<OptionName>
-    ensures { result ≡ question_named word.now }
-{
-    if word == "--at" {
-        return Some(OptionName::At);
-    }
-    if word == "--compare" {
-        return Some(OptionName::Compare);
-    }
-    if word == "--examples" {
-        return Some(OptionName::Examples);
-    }
-    if word == "--expect" {
-        return Some(OptionName::Expect);
-    }
-    if word == "--inputs" {
-        return Some(OptionName::Inputs);
-    }
-    if word == "--json" {
-        return Some(OptionName::Json);
-    }
-    None
 }

@@ -1,41 +1,42 @@
-//! The paths of a command line.
+//! The paths of a command line. Used by `logos_cli`, `logos_items` and `logos_show`.
 
 ghost use Rattle.std.specs.Prelude.{◌≡◌, ◌++◌, IfOk, OnOk, map, option_map, string_bytes};
-ghost use Rattle.logos_options.specs.Words.{found_path, next_paths, next_progress, path_named, paths_of, step, texts_of, use_value};
+ghost use Rattle.logos_options.specs.Imports.{found_path, next_paths, next_progress, path_named, paths_of, step, texts_of, use_value};
 
-use crate::word_steps::{Use, WordProgress, next_step};
+use crate::argument_steps::{ArgumentProgress, Use, next_step};
 use logos_token::error::Memory;
 use std::alloc::Global;
 
 /// The path of standard input.
 pub const STANDARD_INPUT: &str = "/dev/stdin";
 
-/// Returns all paths of words that are a command, in order.
+/// Returns all paths of a valid command line, in order.
 ///
 /// # Errors
 ///
 /// Returns `Memory` if memory runs out.
-pub fn paths_of<'w>(alloc: Global, words: &'w [String]) -> Result<Vec<&'w str>, Memory>
+pub fn paths_of<'w>(alloc: Global, arguments: &'w [String]) -> Result<Vec<&'w str>, Memory>
     ensures { IfOk result (λ paths.
-        texts_of paths.items ≡ paths_of (map string_bytes words.now)) }
+        texts_of paths.items ≡ paths_of (map string_bytes arguments.now)) }
 {
     let mut paths = Vec::new(alloc);
-    let mut progress = WordProgress {
+    let mut progress = ArgumentProgress {
         pending: None,
         is_over: false,
     };
-    for word in words {
+    for word in arguments {
         progress = push_path(&mut paths, progress, word.as_str())?;
     }
     Ok(paths)
 }
 
-/// Appends the path that one more word is, if it is one. Returns how far the words are read.
+/// Appends the path that one more argument names, if it is a path. Returns the state of reading
+/// after it.
 fn push_path<'w>(
     paths: &mut Vec<&'w str>,
-    progress: WordProgress,
+    progress: ArgumentProgress,
     word: &'w str,
-) -> Result<WordProgress, Memory>
+) -> Result<ArgumentProgress, Memory>
     ensures read { IfOk result (λ next. next ≡ next_progress progress (step progress word.now)) }
     ensures pushed { IfOk result (λ next. texts_of paths.new.items
         ≡ texts_of paths.old.items ++ next_paths (step progress word.now)) }
@@ -60,8 +61,8 @@ fn push_found<'w>(paths: &mut Vec<&'w str>, found: Option<Use<'w>>) -> Result<()
     Ok(())
 }
 
-/// Returns the path that a word is: `-` is standard input.
-pub(crate) fn path_by_word(word: &str) -> &str
+/// Returns the path that an argument names: `-` is standard input.
+pub fn path_by_word(word: &str) -> &str
     ensures { result.now ≡ path_named word.now }
 {
     if word == "-" {

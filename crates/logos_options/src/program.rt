@@ -1,11 +1,11 @@
-//! Which options a program takes.
+//! The programs that have options. Used by `logos_cli`, `logos_questions` and `logos_show`.
 
 ghost use Rattle.std.specs.Prelude.{◌≡◌};
-ghost use Rattle.logos_options.specs.Programs.{cli_takes, show_takes};
+ghost use Rattle.logos_options.specs.Imports.{cli_takes, show_takes};
 
-use crate::options::OptionName;
+use crate::options::{OptionName, OptionRow, ROWS};
 
-/// A program with options.
+/// The programs that take options.
 #[derive(Clone, Copy, Debug, PartialEq, Eq)]
 pub enum Program {
     /// `logos_cli`.
@@ -27,42 +27,31 @@ impl Program {
             Program::Show => show_takes(option),
         }
     }
+
+    /// Returns the lines for a row in the help of the program, which are empty if the program does
+    /// not take the option.
+    pub(crate) fn help_of(self, row: &OptionRow) -> &'static str {
+        let lines = match self {
+            Program::Cli => row.cli,
+            Program::Show => row.show,
+        };
+        match lines {
+            Some(lines) => lines,
+            None => "",
+        }
+    }
 }
 
 /// Returns whether `logos_cli` takes an option.
 fn cli_takes(option: OptionName) -> bool
     ensures { result ≡ cli_takes option }
 {
-    matches!(
-        option,
-        OptionName::Check
-            | OptionName::Color
-            | OptionName::DenyWarnings
-            | OptionName::Help
-            | OptionName::MessageFormat
-            | OptionName::Output
-            | OptionName::Shape
-            | OptionName::Version
-    )
+    ROWS[option as usize].cli.is_some()
 }
 
 /// Returns whether `logos_show` takes an option.
 fn show_takes(option: OptionName) -> bool
     ensures { result ≡ show_takes option }
 {
-    matches!(
-        option,
-        OptionName::At
-            | OptionName::Color
-            | OptionName::Compare
-            | OptionName::DenyWarnings
-            | OptionName::Enum
-            | OptionName::Examples
-            | OptionName::Expect
-            | OptionName::Help
-            | OptionName::Inputs
-            | OptionName::Json
-            | OptionName::MessageFormat
-            | OptionName::Version
-    )
+    ROWS[option as usize].show.is_some()
 }

@@ -19,7 +19,7 @@ kind_names (UnitVariant name) = refl
 kind_names (Value name type) = refl
 kind_names Skip = refl
 
--- the text of the fault of a leaf with this source, whose matches give what prints so
+-- the text of the fault of a leaf with this source and a kind that prints in this way
 abbrev pub text_by : List ℕ → List ℕ → List ℕ
 text_by source kind =
     codes "UTF-8 mode is requested, but the pattern " ++ source ++ codes " of variant `" ++ kind

@@ -11,7 +11,7 @@ use Rattle.logos_type_params.specs.Generics.{generics, missing_types}
 use Rattle.logos_definition.specs.Options.{OptionsView, utf8_mode}
 use Rattle.logos_leaf.specs.Leaves.{LeafView}
 use Rattle.logos_leaf.specs.Sources.{IsSourceRead}
-use Rattle.logos_parser.specs.Endings.{GivesEnum}
+use Rattle.logos_parser.specs.Endings.{YieldsEnum}
 use Rattle.logos_parser.specs.EnumTypes.{enum_type}
 use Rattle.logos_parser.specs.Utf8Faults.{utf8_faults}
 
@@ -27,18 +27,18 @@ pub record ReadsEnum (enum : EnumValue) (leaves : List LeafView) (options : Opti
   pub read : IsSourceRead enum leaves options of_parts
   pub all : faults ≡ (of_parts ++ utf8_faults (utf8_mode options) leaves) ++ type_faults options
 
--- An analysis as contracts see it.
+-- An analysis in contracts.
 pub record AnalysisView : Type 0 where
   pub name : Slice
   pub span : Span
   pub leaves : List LeafView
   pub options : OptionsView
-  -- The type that the enum is.
+  -- The type of the enum.
   pub this : Tree
   pub faults : List Fault
 
 -- This is the type of the enum with this name and these options: its name, followed by the generic
--- arguments that the options give.
+-- arguments from the options.
 abbrev pub HasItsType : Slice → OptionsView → Tree → Type 0
 HasItsType name options this = this ≡ enum_type name.text (generics options.types)
 
@@ -58,7 +58,7 @@ pub record IsTokenAnalysis (tokens : TokenList) (analysis : AnalysisView) : Type
 -- This is the analysis of a source that is read as an enum.
 pub record IsAnalysis (source : List ℕ) (analysis : AnalysisView) : Type 0 where
   pub enum : EnumValue
-  pub says : GivesEnum source enum analysis.span
+  pub says : YieldsEnum source enum analysis.span
   pub is_name : enum.name ≡ analysis.name
   pub enum_says : ReadsEnum enum analysis.leaves analysis.options analysis.faults
   pub is_type : HasItsType analysis.name analysis.options analysis.this

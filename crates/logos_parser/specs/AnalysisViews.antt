@@ -1,4 +1,4 @@
--- What contracts see of an analysis.
+-- The views of an analysis in contracts.
 use Rattle.std.specs.Prelude.{map}
 use Rattle.logos_type.specs.TypeTrees.{type_tree}
 use Rattle.logos_enum.specs.Values.{ident_slice}

@@ -1,4 +1,4 @@
--- The type that an enum is: its name, and the generic arguments that follow it.
+-- The type of an enum: its name, and the generic arguments that follow it.
 use Rattle.std.specs.Prelude.{ℕ, Bool, true, false, not, List, [], ◌∷◌, ◌++◌, codes, Option, Some, None}
 use Rattle.logos_type.specs.Parts.{Tree, sign, name, whole, trees, word, mark, lifetime}
 use Rattle.logos_type_params.specs.Generics.{GenericsValue}

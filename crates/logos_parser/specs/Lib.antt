@@ -4,5 +4,5 @@ pub mod Refusals
 pub mod Analyses
 pub mod AnalysisViews
 pub mod Utf8Faults
-pub mod Words
+pub mod Imports
 pub mod Views

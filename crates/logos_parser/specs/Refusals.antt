@@ -4,7 +4,7 @@ use Rattle.logos_token.specs.Faults.{Fault}
 use Rattle.logos_parser.specs.declared.refusal.Refusal.{Refusal}
 use Rattle.logos_parser.specs.declared.refusal.Refusal.TheVariants as refusals
 
--- The refusal has faults for which `Hold` holds, or memory ran out.
+-- The refusal has faults that satisfy `Hold`, or memory ran out.
 abbrev pub Refuses : (List Fault → Type 0) → Refusal → Type 0
 Refuses Hold (refusals.Errors faults) = Hold faults
 Refuses Hold refusals.Memory = Unit {0}

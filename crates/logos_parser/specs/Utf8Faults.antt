@@ -7,7 +7,7 @@ use Rattle.logos_pattern.specs.Leaf.{KindValue, plain, holding, skipped}
 use Rattle.logos_attribute.specs.Reports.{fault, only}
 use Rattle.logos_leaf.specs.Leaves.{LeafView}
 
--- The variant of a leaf, as messages name it.
+-- The variant of a leaf, as named in messages.
 abbrev pub kind_name : KindValue → List ℕ
 kind_name (plain name) = codes "::" ++ name.text.now
 kind_name (holding name type) = codes "::" ++ name.text.now ++ codes "(_)"

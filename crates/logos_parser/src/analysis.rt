@@ -3,9 +3,9 @@
 ghost use Rattle.std.specs.Prelude.{◌≡◌, ◌<◌, ◌≤◌, ◌∷◌, ◌++◌, [], length, map, option_map, IfOk, IfErr, IsErrAnd, OnOk};
 ghost use Rattle.logos_parser.specs.Views.{source_limit, Fault, run_span, stream_tokens, tokens_of, enum_value, generics_of, generics, parser_view, leaf_view, utf8_mode, IsShallow, too_long, EndsReading, EndsTokens, type_faults, HasItsType, IsEnumAnalysis, IsTokenAnalysis, IsAnalysis, ReadsEnum, no_options, type_tree, utf8_faults, Refuses, analysis_view};
 
+use crate::ending_faults::{misread, unreadable};
 use crate::enum_type::enum_type;
 use crate::mode::report_not_utf8;
-use crate::reading::{misread, unreadable};
 use crate::refusal::Refusal;
 use logos_definition::parser::Parser;
 use logos_enum::{ItemEnum, read_enum};
@@ -25,7 +25,7 @@ pub struct Analysis<'s> {
     pub name: Ident<'s>,
     /// The span of the enum, from its first token to its last.
     pub span: Span,
-    /// The type that the enum is: its name, and the generic arguments that follow it.
+    /// The type of the enum: its name, and the generic arguments that follow it.
     pub this: TypeExpr<'s>,
     /// The leaves: those of the skips first, then those of the variants, in source order.
     pub leaves: Vec<Leaf<'s>>,
@@ -33,7 +33,7 @@ pub struct Analysis<'s> {
     pub parser: Parser<'s>,
 }
 
-/// Reports each leaf that can match invalid UTF-8 when inputs are UTF-8, and each type parameter
+/// Reports each leaf that can match invalid UTF-8 if inputs are UTF-8, and each type parameter
 /// without a type. Returns the generic arguments that follow the enum's name.
 fn check_leaves<'s>(
     leaves: &[Leaf<'s>],
@@ -51,8 +51,8 @@ fn check_leaves<'s>(
     parser.types.generics(&mut parser.errors)
 }
 
-/// Reads the leaves of an enum into a new parser, and checks them. Returns them, and the type that
-/// the enum is.
+/// Reads the leaves of an enum into a new parser, and checks them. Returns the leaves and the type
+/// of the enum.
 fn read_typed<'s>(
     alloc: Global,
     item: &ItemEnum<'_, 's>,
@@ -71,7 +71,7 @@ fn read_typed<'s>(
     Ok((leaves, this))
 }
 
-/// Analyzes an enum whose tokens have this span. Faults do not stop it.
+/// Analyzes an enum whose tokens have this span. Faults do not stop the analysis.
 ///
 /// # Errors
 ///
@@ -115,14 +115,14 @@ fn analyze_tokens<'s>(alloc: Global, stream: &TokenStream<'s>) -> Result<Analysi
 }
 
 /// Analyzes a source: reads its enum, and finds its leaves, its options, and all faults but those
-/// of its graph. Faults do not stop it.
+/// of its graph. Faults do not stop the analysis.
 ///
 /// # Errors
 ///
-/// Returns `Errors` with the one fault that ends the reading: `LimitSource` when the source is
-/// longer than 16 MiB; `Lexical` or `LimitTokenNesting` when it has no tokens; `NotAnEnum`,
-/// `Grammar`, `TypeUnsupported` or `LimitTypeNesting` when its tokens are not an enum. Returns
-/// `Memory` if memory runs out.
+/// Returns `Errors` with the one fault that ends the reading: `LimitSource` if the source is longer
+/// than 16 MiB; `Lexical` or `LimitTokenNesting` if it has no tokens; `NotAnEnum`, `Grammar`,
+/// `TypeUnsupported` or `LimitTypeNesting` if its tokens are not an enum. Returns `Memory` if
+/// memory runs out.
 pub fn analyze<'s>(alloc: Global, src: &'s str) -> Result<Analysis<'s>, Refusal>
     ensures ok { IfOk result (λ analysis. IsAnalysis src.now (analysis_view analysis)) }
     ensures short { IfOk result (λ analysis. length src.now ≤ source_limit) }

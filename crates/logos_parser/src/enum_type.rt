@@ -1,13 +1,13 @@
-//! The type that an enum is. `analyze` calls it last.
+//! Builds the type of an enum. `analyze` calls it last.
 
 ghost use Rattle.std.specs.Prelude.{◌≡◌, ◌∷◌, ◌++◌, [], IfOk, OnOk, map, option_map};
-ghost use Rattle.logos_parser.specs.Words.{tree_of, type_tree, generics_of, argument, arguments, lifetime_argument, bracketed, enum_type};
+ghost use Rattle.logos_parser.specs.Imports.{tree_of, type_tree, generics_of, argument, arguments, lifetime_argument, bracketed, enum_type};
 
 use logos_type::{TypeExpr, TypePart, TypeToken};
 use logos_type_params::Generics;
 use std::alloc::{AllocError, Global};
 
-/// Appends a part at the end.
+/// Appends a part of a type.
 fn push_part<'s>(parts: &mut Vec<TypePart<'s>>, part: TypePart<'s>) -> Result<(), AllocError>
     ensures { OnOk result (map tree_of parts.new.items
         ≡ map tree_of parts.old.items ++ tree_of part.entry ∷ []) }
@@ -32,7 +32,7 @@ fn push_argument<'s>(
     Ok(())
 }
 
-/// Appends types as arguments, with a comma before each unless it is the first one.
+/// Appends types as arguments, with a comma before each unless it is the first argument.
 fn push_arguments<'s>(
     parts: &mut Vec<TypePart<'s>>,
     is_first: bool,
@@ -80,11 +80,11 @@ fn bracketed<'s>(
     Ok(TypeExpr { part })
 }
 
-/// Returns the type that an enum is: its name, and the generic arguments that follow it.
+/// Returns the type of an enum: its name, and the generic arguments that follow it.
 ///
 /// # Errors
 ///
-/// Returns an error if memory runs out.
+/// Returns `AllocError` if memory runs out.
 pub fn enum_type<'s>(
     alloc: Global,
     name: &'s str,

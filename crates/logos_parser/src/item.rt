@@ -1,4 +1,4 @@
-//! Enums as they are written: attributes as runs of tokens, generic parameters, and variants with
+//! Re-exports enums as written: attributes as runs of tokens, generic parameters, and variants with
 //! their fields and types.
 
 pub use logos_enum::{

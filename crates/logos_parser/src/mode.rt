@@ -1,7 +1,7 @@
-//! Leaves that can match invalid UTF-8. `analyze` calls it where the inputs are UTF-8.
+//! Reports leaves that can match invalid UTF-8. `analyze` calls it if inputs are UTF-8.
 
 ghost use Rattle.std.specs.Prelude.{◌≡◌, ◌++◌, map, IfOk, OnOk, string_bytes};
-ghost use Rattle.logos_parser.specs.Words.{AddsFault, leaf_view, utf8_text, utf8_fault, leaf_faults, utf8_faults};
+ghost use Rattle.logos_parser.specs.Imports.{AddsFault, leaf_view, utf8_text, utf8_fault, leaf_faults, utf8_faults};
 
 use logos_pattern::leaf::Leaf;
 use logos_token::error::{Errors, FaultCode, Memory};

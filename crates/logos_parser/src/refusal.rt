@@ -1,4 +1,4 @@
-//! The refusal of a source.
+//! The refusal of a source. All calls that read a whole source return it.
 
 ghost use Rattle.std.specs.Prelude.{◌≡◌};
 ghost use Rattle.logos_parser.specs.Views.{Memory as OutOfMemory};
@@ -6,10 +6,10 @@ ghost use Rattle.logos_parser.specs.Views.{Memory as OutOfMemory};
 use logos_token::error::{Errors, Memory};
 use std::alloc::{AllocError, AllocFailed};
 
-/// Why a source gives no lexer.
+/// The reasons why a source has no lexer.
 #[derive(Debug, Drop)]
 pub enum Refusal {
-    /// The source has these faults, or passes a limit.
+    /// The source has these faults, or exceeds a limit.
     Errors(Errors),
     /// Memory ran out.
     Memory,

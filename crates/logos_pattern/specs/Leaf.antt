@@ -20,11 +20,11 @@ use Rattle.logos_type.specs.TypeTrees.{type_tree}
 abbrev pub pattern_tree : Pattern → Tree
 pattern_tree pattern = tree_of pattern.hir
 
--- The text that a pattern was read from.
+-- The text from which a pattern was read.
 abbrev pub source_of : Pattern → List ℕ
 source_of pattern = pattern.source.now
 
--- The pattern is that of a `token`.
+-- The pattern belongs to a `token`.
 abbrev pub is_token : Pattern → Bool
 is_token pattern = pattern.is_literal
 
@@ -34,8 +34,8 @@ is_skip (UnitVariant name) = false
 is_skip (Value name type) = false
 is_skip Skip = true
 
--- What the lexer returns for a match: a variant without a field, one with a field of this type, or
--- nothing.
+-- The result of the lexer for a match: a variant without a field, a variant with a field of this
+-- type, or nothing.
 pub data KindValue : Type 0 where
   plain : (name : Ident) → KindValue
   holding : (name : Ident) (type : TypeTree) → KindValue
@@ -47,7 +47,7 @@ kind_value (UnitVariant name) = plain name
 kind_value (Value name type) = holding name (type_tree type)
 kind_value Skip = skipped
 
--- The name of the variant of this kind; a skip has none.
+-- The name of the variant of this kind. A skip has none.
 abbrev pub variant_name : KindValue → Option Ident
 variant_name (plain name) = Some name
 variant_name (holding name type) = Some name
@@ -58,7 +58,7 @@ abbrev pub callback_span : Callback → Span
 callback_span (Label tokens) = run_span (stream_tokens tokens)
 callback_span (Inline inline) = inline.span
 
--- A callback by its tokens: those of a function's name, or a parameter and those of a body.
+-- A callback as its tokens: those of a function's name, or a parameter and those of a body.
 pub data CallbackValue : Type 0 where
   named : (tokens : TokenList) → CallbackValue
   written : (arg : Ident) (body : TokenList) (span : Span) → CallbackValue
@@ -71,19 +71,19 @@ callback_value (Label tokens) = named (stream_tokens tokens)
 callback_value (Inline inline) = inline_value inline
 
 -- The leaf has a callback.
-abbrev pub asks : Leaf → Bool
-asks leaf = is_some leaf.callback
+abbrev pub calls_back : Leaf → Bool
+calls_back leaf = is_some leaf.callback
 
--- How a pattern prints.
+-- The printed text of a pattern.
 abbrev pub pattern_text : Pattern → List ℕ
 pattern_text pattern = codes "#[" ++ (if is_token pattern then codes "token" else codes "regex") ++ codes "(" ++ source_of pattern ++ codes ")]"
 
--- How the kind of a leaf prints.
+-- The printed text of the kind of a leaf.
 abbrev pub kind_text : VariantKind → List ℕ
 kind_text (UnitVariant name) = codes "::" ++ name.text.now
 kind_text (Value name type) = codes "::" ++ name.text.now ++ codes "(_)"
 kind_text Skip = codes "::<skip>"
 
--- How a leaf prints.
+-- The printed text of a leaf.
 abbrev pub leaf_text : Leaf → List ℕ
 leaf_text leaf = pattern_text leaf.pattern ++ codes " " ++ kind_text leaf.kind

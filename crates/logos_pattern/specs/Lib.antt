@@ -1,5 +1,5 @@
 pub mod Leaf
 pub mod Escaping
 pub mod Literals
-pub mod Words
+pub mod Imports
 pub mod Views

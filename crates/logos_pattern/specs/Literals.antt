@@ -12,17 +12,17 @@ abbrev pub is_unicode : Literal → Bool
 is_unicode (Utf8 string) = true
 is_unicode (Bytes bytes) = false
 
--- The token that it was read from.
+-- The token from which the literal was read.
 abbrev pub token_of : Literal → LiteralToken
 token_of (Utf8 string) = string.token
 token_of (Bytes bytes) = bytes.token
 
--- Its value.
+-- The value of the literal.
 abbrev pub held_value : Literal → LiteralValue
 held_value (Utf8 string) = TextValue string.value
 held_value (Bytes bytes) = BytesValue bytes.value
 
--- The bytes of its value.
+-- The bytes of the literal's value.
 abbrev pub held_bytes : Literal → List ℕ
 held_bytes (Utf8 string) = string_bytes string.value
 held_bytes (Bytes bytes) = bytes.value.items
@@ -31,7 +31,7 @@ held_bytes (Bytes bytes) = bytes.value.items
 abbrev pub literal_value : Literal → ℕ
 literal_value literal = 2 * length (held_bytes literal)
 
--- Its value as the text of a pattern.
+-- The literal's value as the text of a pattern.
 abbrev pub escaped : Literal → Bool → List ℕ
 escaped (Utf8 string) literal = escaped_text literal (string_bytes string.value)
 escaped (Bytes bytes) literal = escaped_bytes literal bytes.value.items

@@ -1,7 +1,7 @@
 //! The leaves of a lexer: each is a pattern with its priority, its kind and its callback.
-//! `logos_leaf` makes leaves; graphs and codes keep them.
+//! `logos_leaf` makes leaves, and graphs and codes store them.
 
-ghost use Rattle.std.specs.Prelude.{◌≡◌, Some};
+ghost use Rattle.std.specs.Prelude.{◌≡◌, Some, false};
 ghost use Rattle.logos_pattern.specs.Views.{kind_text, leaf_text, kind_value, callback_span, callback_value, inline_value, variant_name};
 ghost use Rattle.logos_pattern.specs.declared.leaf.Callback.TheVariants as callbacks;
 
@@ -12,7 +12,7 @@ pub use logos_type::TypeExpr;
 use std::alloc::AllocError;
 use std::fmt;
 
-/// What the lexer returns for a match of a leaf.
+/// The result of the lexer for a match of a leaf.
 #[derive(Drop)]
 pub enum VariantKind<'s> {
     /// A variant without a field.
@@ -28,11 +28,11 @@ pub enum VariantKind<'s> {
 pub enum Callback<'s> {
     /// The tokens of a function's name.
     Label(TokenStream<'s>),
-    /// A closure that is written out.
+    /// A closure.
     Inline(InlineCallback<'s>),
 }
 
-/// A callback that is written out as `|lex| body`.
+/// A callback that is written as a closure, `|lex| body`.
 #[derive(Drop)]
 pub struct InlineCallback<'s> {
     /// The parameter.
@@ -43,7 +43,7 @@ pub struct InlineCallback<'s> {
 }
 
 impl<'s> VariantKind<'s> {
-    /// Returns the name of the variant; `None` for a skip.
+    /// Returns the name of the variant, or `None` for a skip.
     pub fn name(&self) -> Option<Ident<'s>>
         ensures { result ≡ variant_name (kind_value self.now) }
     {
@@ -56,8 +56,8 @@ impl<'s> VariantKind<'s> {
 }
 
 impl<'s> Callback<'s> {
-    /// Returns the callback's span in the source, in bytes: that of a label reaches from its first
-    /// token to its last, and is 0..0 if it has no token.
+    /// Returns the span of the callback in the source, in bytes. The span of a label reaches from
+    /// its first token to its last, and is `0..0` if the label has no token.
     pub fn span(&self) -> Span
         ensures { result ≡ callback_span self.now }
     {
@@ -114,7 +114,16 @@ impl Clone for InlineCallback<'_> {
     }
 }
 
-/// A pattern with its priority, and what the lexer does with its matches.
+/// The options of a leaf's definition, besides its priority and its callback.
+#[derive(Clone, Copy, Debug, PartialEq, Eq)]
+pub struct LeafOptions {
+    /// Whether letters match in either case: `ignore(case)`.
+    pub ignores_case: bool,
+    /// Whether a greedy repetition of a dot is allowed: `allow_greedy = true`.
+    pub allows_greedy: bool,
+}
+
+/// A pattern with its priority, and the use of its matches.
 #[derive(Drop)]
 pub struct Leaf<'s> {
     pub pattern: Pattern<'s>,
@@ -124,10 +133,13 @@ pub struct Leaf<'s> {
     pub kind: VariantKind<'s>,
     /// The function that the lexer calls on a match, if there is one.
     pub callback: Option<Callback<'s>>,
+    /// The options of the leaf's definition.
+    pub options: LeafOptions,
 }
 
 impl<'s> Leaf<'s> {
-    /// Returns a leaf that skips its matches, of priority 0 and without a callback.
+    /// Returns a leaf that skips its matches, of priority 0, without a callback and without
+    /// options.
     pub fn new(span: Span, pattern: Pattern<'s>) -> Leaf<'s>
         ensures { result ≡ record {
           pattern = pattern.entry;
@@ -135,6 +147,7 @@ impl<'s> Leaf<'s> {
           priority = 0;
           kind = VariantKind.Skip;
           callback = None;
+          options = record { ignores_case = false; allows_greedy = false };
         } }
     {
         Leaf {
@@ -143,6 +156,10 @@ impl<'s> Leaf<'s> {
             priority: 0,
             kind: VariantKind::Skip,
             callback: None,
+            options: LeafOptions {
+                ignores_case: false,
+                allows_greedy: false,
+            },
         }
     }
 
@@ -162,11 +179,19 @@ impl<'s> Leaf<'s> {
         self
     }
 
-    /// Returns the leaf with this callback, or with none.
+    /// Returns the leaf with this callback, or without one if it is `None`.
     pub fn callback(mut self, callback: Option<Callback<'s>>) -> Leaf<'s>
         ensures { result ≡ record self.entry { callback = callback.entry } }
     {
         self.callback = callback;
+        self
+    }
+
+    /// Returns the leaf with these options.
+    pub fn options(mut self, options: LeafOptions) -> Leaf<'s>
+        ensures { result ≡ record self.entry { options = options } }
+    {
+        self.options = options;
         self
     }
 }

@@ -1,4 +1,5 @@
-//! The patterns and the leaves of a lexer.
+//! The patterns and the leaves of a lexer. The readers of definitions make them, and the later
+//! stages read them.
 
 #![tactic(auto)]
 

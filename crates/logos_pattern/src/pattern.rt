@@ -1,5 +1,5 @@
-//! Patterns, which are read from the text of a literal. `logos_leaf` makes one for each leaf, and
-//! `logos_subpattern` one for each subpattern.
+//! Patterns, read from the text of a literal. `logos_leaf` makes one for each leaf and for each
+//! subpattern.
 
 ghost use Rattle.std.specs.Prelude.{◌≡◌, ◌≤◌, ◌++◌, ℕ, chars, IfOk, IfErr, IsTrue, Some};
 ghost use Rattle.logos_pattern.specs.Views.{tree_of, literal_tree, value, fitted, is_text, has_greedy_dot, IsTooDeep, IsSpelled, IsFound, Refuses, first_flags, pattern_tree, source_of, is_token, pattern_text, token_of, held_bytes, literal_value};
@@ -13,7 +13,7 @@ pub use error::{Kind, PatternError};
 pub use hir::{Class, Hir, Look, Range};
 pub use literal::Literal;
 pub use logos_hir::laws::{lazy_and_greedy, looks_hold_at_the_end};
-use logos_hir::measure;
+use logos_hir::measures;
 use logos_pattern_tokens::token::Flags;
 pub use logos_syntax::parser::one_tree;
 use logos_syntax::parser::parse;
@@ -21,10 +21,10 @@ use logos_token::error::Memory;
 use std::alloc::{AllocError, Global};
 use std::fmt;
 
-/// How deep groups, brackets and operators may nest in a pattern.
+/// The greatest depth to which groups, brackets and operators can be nested in a pattern.
 pub const MAX_NESTING: usize = 250;
 
-/// A pattern: its tree, and the literal that it was read from.
+/// A pattern: its tree, and the literal from which it was read.
 #[derive(Drop)]
 pub struct Pattern<'s> {
     is_literal: bool,
@@ -33,15 +33,16 @@ pub struct Pattern<'s> {
 }
 
 impl<'s> Pattern<'s> {
-    /// Reads the pattern that `regex` spells. At its start the flag `u` is on if `unicode` holds,
-    /// the flag `i` is on if `ignore_case` holds, and all others are off. `source` is the literal
-    /// that the pattern was written as, and `is_literal` whether that is the literal of a `token`.
+    /// Reads the pattern that `regex` spells. At the start of the pattern the flag `u` is on if
+    /// `unicode` is `true`, the flag `i` is on if `ignore_case` is `true`, and all other flags are
+    /// off. `source` is the literal in the source, and `is_literal` is whether it is the literal of
+    /// a `token`.
     ///
     /// # Errors
     ///
     /// Returns `Syntax` if the text breaks the grammar, with the kind and the byte offset of the
-    /// fault; `LimitPatternNesting` if groups, brackets and operators nest more than 250 deep; and
-    /// `Memory` if memory runs out.
+    /// fault; `LimitPatternNesting` if groups, brackets and operators are nested more than 250
+    /// deep; and `Memory` if memory runs out.
     pub fn compile(
         alloc: Global,
         is_literal: bool,
@@ -57,8 +58,8 @@ impl<'s> Pattern<'s> {
         // out.
         ensures refused { IfErr result (Refuses (first_flags unicode ignore_case)
             (chars regex.now)) }
-        // After some beginning of a text that is refused as too deep, more than 250 groups,
-        // brackets and operators are around one point.
+        // In some prefix of a text that is refused as too deep, more than 250 groups, brackets and
+        // operators are around one point.
         ensures deep { IfErr result (λ e. e ≡ errors.LimitPatternNesting →
             IsTooDeep (first_flags unicode ignore_case) (chars regex.now)) }
         // A text that has a tree within the limit is read.
@@ -87,8 +88,7 @@ impl<'s> Pattern<'s> {
         })
     }
 
-    /// Returns the pattern of a `token`, which matches the bytes of the literal's value and nothing
-    /// else.
+    /// Returns the pattern of a `token`, which matches exactly the bytes of the literal's value.
     ///
     /// # Errors
     ///
@@ -108,28 +108,29 @@ impl<'s> Pattern<'s> {
         })
     }
 
-    /// Returns the default priority of a `regex` or `skip`, which its tree decides, or `None` if it
-    /// does not fit `usize`. A `token` has `token_priority` instead.
+    /// Returns the default priority of a `regex` or `skip`, computed from its tree, or `None` if it
+    /// does not fit `usize`. The default priority of a `token` is `token_priority`.
     pub fn priority(&self) -> Option<usize>
         ensures { result ≡ fitted (value (pattern_tree self.now)) }
     {
-        measure::priority(&self.hir)
+        measures::priority(&self.hir)
     }
 
     /// Returns whether a greedy repetition without an upper bound repeats a dot: a class of all
-    /// characters or of all bytes, of all but LF, or of all but CR and LF. Looks through captures,
-    /// concatenations and alternations, and not into the body of a repetition.
+    /// characters or of all bytes, of all but LF, or of all but CR and LF. Searches captures,
+    /// concatenations and alternations, but not the body of a repetition.
     pub fn check_for_greedy_all(&self) -> bool
         ensures { result ≡ has_greedy_dot (pattern_tree self.now) }
     {
-        measure::check_for_greedy_all(&self.hir)
+        measures::check_for_greedy_all(&self.hir)
     }
 
-    /// Returns whether each literal of the tree is UTF-8, and each class of bytes holds ASCII only.
+    /// Returns whether each literal of the tree is UTF-8, and each class of bytes contains only
+    /// ASCII.
     pub fn is_utf8(&self) -> bool
         ensures { result ≡ is_text (pattern_tree self.now) }
     {
-        measure::is_utf8(&self.hir)
+        measures::is_utf8(&self.hir)
     }
 
     /// Returns the pattern's tree.
@@ -139,14 +140,14 @@ impl<'s> Pattern<'s> {
         &self.hir
     }
 
-    /// Returns the literal that the pattern was read from, with its quotes.
+    /// Returns the literal from which the pattern was read, with its quotes.
     pub fn source(&self) -> &'s str
         ensures { result.now ≡ source_of self.now }
     {
         self.source
     }
 
-    /// Returns whether the pattern is that of a `token`.
+    /// Returns whether the pattern belongs to a `token`.
     pub fn is_literal(&self) -> bool
         ensures { result ≡ is_token self.now }
     {
@@ -164,7 +165,7 @@ impl fmt::Display for Pattern<'_> {
     }
 }
 
-/// Returns the tree that matches these bytes alone.
+/// Returns the tree that matches exactly these bytes.
 fn literal_hir(alloc: Global, bytes: &[u8]) -> Result<Hir, AllocError>
     ensures { IfOk result (λ hir. tree_of hir ≡ literal_tree bytes.now) }
 {

@@ -1,4 +1,5 @@
--- Tokens inside brackets: what is read is written there, and what is written is read.
+-- Tokens inside brackets: tokens that are read are written there, and tokens that are written are
+-- read.
 use Rattle.std.proofs.Common.{◌≡◌, ◌≢◌, ℕ, zero, suc, ◌+◌, ◌≤◌, Bool, true, false, not, ◌&&◌, ◌||◌, cond, eqb, leb, [], ◌∷◌, ◌++◌, drop, replicate, Option, Some, None, option_map, unwrap_or, refl, sym, ap, subst, ◌∙◌, arith, append_assoc, leb-true, le-leb, ne_eqb}
 use Rattle.std.proofs.lemmas.Bool.{eqb-true, eqb-false, cond-false}
 use Rattle.unicode.specs.declared.sets.Set.{Set}
@@ -119,7 +120,7 @@ pub open_is : (negated : Bool) (lead : Lead) (text rest : Text) → Opens negate
 open_is negated lead text rest (positive l t r none k) = plain_open t none ∙ ap (λ (x : Lead × Text). (false, x.0, x.1)) (lead_is l t r k)
 open_is negated lead text rest (negative l t r k) = turned_open t ∙ ap (λ (x : Lead × Text). (true, x.0, x.1)) (lead_is l t r k)
 
--- ---- items: what is read is written there
+-- ---- items: each value that is read is written there
 
 abbrev Item_at : BracketToken → Text → Text → Type 0
 Item_at = BracketTakes
@@ -215,7 +216,7 @@ name_front : (t : Text) (kind : AsciiKind) → ascii_named t ≡ Some kind → (
 name_front [] kind e tail = absurd cc
 name_front (c ∷ t) kind e tail = (c, t ++ tail, refl, apart (λ k. ascii_named (k ∷ t)) c 94 kind e refl)
 
--- the text, which stands behind a bracket, makes it the front of a class
+-- the text after a bracket makes it the front of a class
 record ClassAt (token : BracketToken) (text rest : Text) : Type 0 where
   name : Text
   kind : AsciiKind
@@ -286,7 +287,7 @@ class_none t none = from (class_at t) (class_taken t)
     from None h = refl
     from (Some x) h = absurd (none h.name h.kind h.negated x.1 h.is_class h.is_text)
 
--- ---- tokens: what is read is written there
+-- ---- tokens: each value that is read is written there
 
 inner_taken : (t : Text) → BracketTakes (inner_at t).0 (91 ∷ t) (inner_at t).1
 unfolding inner_at
@@ -338,7 +339,7 @@ bracket_token_taken (c ∷ rest) =
     (λ e. operator_taken c rest e)
     (λ d. item_taken (c ∷ rest) (rw (b, a, d) refl))))
 
--- ---- tokens: what is written is read
+-- ---- tokens: each value that is written is read
 
 plain_last : (c : ℕ) (rest : Text) → c ≢ 92 → last_at (c ∷ rest) ≡ Some (Character c, rest)
 unfolding last_at
@@ -400,7 +401,7 @@ lone_is : (item : BracketItem) (rest : Text) → begins_range rest ≡ false →
 unfolding lone_at
 lone_is item rest e = rw e refl
 
--- what begins an item is read as one
+-- text that begins an item is read as one
 to_item : (t : Text) → begins_item t ≡ true → bracket_token_at t ≡ item_at t
 unfolding bracket_token_at
 to_item [] e = absurd cc

@@ -34,10 +34,10 @@ position_cuts end (c ∷ rest) = from (position_cuts end rest) (eqb c end) refl
     from h true e = let z : ltb 0 (suc (length rest)) ≡ true = lt-ltb _ _ (omega arith) in rw (e, z) refl
     from h false e = rw e (ap (λ b. parts_at (c ∷ rest) (cond b (Some (1 + position_or_len (λ d. eqb d end) rest)) None)) (ltb_suc (position_or_len (λ d. eqb d end) rest) (length rest)) ∙ one_later c rest (position_or_len (λ d. eqb d end) rest) (ltb (position_or_len (λ d. eqb d end) rest) (length rest)) ∙ ap (with_front c) h)
 
-pub found_place : (end i : ℕ) (text : Text) → Some i ≡ position (λ c. eqb c end) text →
+pub found_slot : (end i : ℕ) (text : Text) → Some i ≡ position (λ c. eqb c end) text →
     ◌≡◌ {A = Option Parts} (Some (take i text, take (length text - (i + 1)) (drop (i + 1) text))) (cut_at end text)
-found_place end i text e =
+found_slot end i text e =
     ap (λ (x : Text). Some (take i text, x)) (take_all (length text - (i + 1)) (drop (i + 1) text) (omega (arith, length-drop (i + 1) text))) ∙ ap (parts_at text) e ∙ position_cuts end text
 
-pub no_place : (end : ℕ) (text : Text) → None ≡ position (λ c. eqb c end) text → None ≡ cut_at end text
-no_place end text e = ap (parts_at text) e ∙ position_cuts end text
+pub no_slot : (end : ℕ) (text : Text) → None ≡ position (λ c. eqb c end) text → None ≡ cut_at end text
+no_slot end text e = ap (parts_at text) e ∙ position_cuts end text

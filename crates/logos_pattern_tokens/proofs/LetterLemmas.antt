@@ -1,4 +1,4 @@
--- Flag settings: what is read is written there, and what is written is read.
+-- Flag settings: settings that are read are written there, and settings that are written are read.
 use Rattle.std.proofs.Common.{◌≡◌, ℕ, ◌<◌, ◌⊎◌, inl, inr, Bool, true, false, cond, eqb, [], ◌∷◌, ◌++◌, length, Option, Some, None, option_map, refl, sym, ap, subst, ◌∙◌, arith, append-nil}
 use Rattle.std.proofs.lemmas.Bool.{eqb-true}
 use Rattle.logos_pattern_tokens.specs.declared.token.Change.{Change}
@@ -52,7 +52,7 @@ letters_taken s (c ∷ rest) =
     from more None is = tt
     from more (Some t) is = one_more s t c rest (letters_from t rest) is (more t)
 
--- ---- what is written is read
+-- ---- each value that is written is read
 
 pub not_end : (s t : Letters) (c d : ℕ) → next_letter s c ≡ Some t → next_letter s d ≡ None → eqb c d ≡ false
 not_end s t c d some none = from (eqb c d) refl
@@ -108,7 +108,7 @@ letter_next s c next is = let other : eqb c 45 ≡ false = from (eqb c 45) refl 
     from true e = let h : with_letter s.change s.on c ≡ with_letter s.change s.on 45 = ap (with_letter s.change s.on) (eqb-true c 45 e) in absurd cc
     from false e = refl
 
--- what a step was
+-- the cases of a step
 pub data Step (s t : Letters) (c : ℕ) : Type 0 where
   by_dash : c ≡ 45 → s.on ≡ true → t ≡ record s { on = false; pending = true } → Step s t c
   by_letter : (next : Change) → with_letter s.change s.on c ≡ Some next → t ≡ record s { change = next; pending = false } → Step s t c
@@ -129,7 +129,7 @@ step_of s t c is = from (eqb c 45) refl is
     from true e h = at_dash (eqb-true c 45 e) s.on refl h
     from false e h = at_letter (with_letter s.change s.on c) refl h
 
--- letters behind the dash
+-- letters after the dash
 record Off (s : Letters) (letters : Text) (change : Change) : Type 0 where
   turns : Turns s.change false letters change
   some : s.pending ≡ true → 0 < length letters
@@ -175,7 +175,7 @@ settings_of letters change k = from (on_state no_letters letters change refl k)
     from (all_on turns some) = only_on letters change (some refl) turns
     from (then_off front off half e turns offs some) = subst (λ x. Settings x change) (sym e) (some_off front off half change some turns offs)
 
--- the letters are read, and what follows them
+-- the letters are read, and the text after them
 letters_turn : (change last : Change) (on : Bool) (letters : Text) → Turns change on letters last → (pending : Bool) (tail : Text) (final : Change) →
     ((p : Bool) → ((0 < length letters) ⊎ (pending ≡ false) → p ≡ false) → Completes (record { change = last; on = on; pending = p }) tail final) →
     Completes (record { change = change; on = on; pending = pending }) (letters ++ tail) final

@@ -5,7 +5,7 @@ use Rattle.std.proofs.lemmas.Bool.Decides.{nat_tests}
 use Rattle.logos_pattern_tokens.specs.Token.{Text, ◌>>=◌, cut_at}
 use Rattle.logos_pattern_tokens.specs.Spelling.{Lacks}
 
--- what is read at the text, and what follows it, are as P says
+-- the result of reading the text, and the text after it, satisfy `P`
 abbrev pub IsTaken : {K : Type 0} → (K → Text → Text → Type 0) → Text → Option (K × Text) → Type 0
 IsTaken P text None = Unit {0}
 IsTaken P text (Some found) = P found.0 text found.1

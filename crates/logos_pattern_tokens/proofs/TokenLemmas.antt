@@ -1,4 +1,4 @@
--- Tokens: what is read is written there, and what is written is read.
+-- Tokens: tokens that are read are written there, and tokens that are written are read.
 use Rattle.std.proofs.Common.{◌≡◌, ℕ, Bool, true, false, cond, eqb, [], ◌∷◌, ◌++◌, Option, Some, None, option_map, refl, sym, ap, subst, ◌∙◌, ne_eqb}
 use Rattle.std.proofs.lemmas.Bool.{eqb-true, eqb-false, cond-false}
 use Rattle.logos_pattern_tokens.specs.declared.token.Atom.{Atom}
@@ -15,9 +15,9 @@ use Rattle.logos_pattern_tokens.proofs.Counted.{lazy_taken, count_taken, lazy_no
 use Rattle.logos_pattern_tokens.proofs.EscapeLemmas.{escape_taken, escape_is}
 use Rattle.logos_pattern_tokens.proofs.LetterLemmas.{Spelled, Completes, stops, goes, Ends, closes_setting, opens_group, letters_taken, completed, settings_of, completes_of, no_letter_at, not_end}
 
--- ---- what is read is written there
+-- ---- each value that is read is written there
 
--- a name behind these characters
+-- a name after these characters
 name_taken : (front : Text → Text) → ((name rest : Text) → Lacks 62 name → is_name name ≡ true → Takes (opens (named name)) (front (name ++ 62 ∷ rest)) rest) → (t : Text) → IsTaken Takes (front t) (name_at t)
 unfolding name_at
 name_taken front rule t =
@@ -66,7 +66,7 @@ escaped_taken t = from (escape_at t) (escape_taken t)
     from None h = tt
     from (Some x) h = escaped x.0 t x.1 h
 
--- a character that is none of the bare ones
+-- a character that is not among the bare ones
 other_char : (c : ℕ) → eqb c 124 ≡ false → eqb c 40 ≡ false → eqb c 41 ≡ false → eqb c 42 ≡ false → eqb c 43 ≡ false → eqb c 63 ≡ false → eqb c 123 ≡ false → eqb c 92 ≡ false → eqb c 46 ≡ false → eqb c 94 ≡ false → eqb c 36 ≡ false → eqb c 91 ≡ false → is_meta c ≡ false
 other_char c a b d e f g h i j k l m =
     rw (sym_false c 92 i, sym_false c 46 j, sym_false c 43 f, sym_false c 42 e, sym_false c 63 g, sym_false c 40 b, sym_false c 41 d, sym_false c 124 a, sym_false c 91 m, sym_false c 123 h, sym_false c 94 k, sym_false c 36 l) refl
@@ -95,7 +95,7 @@ is_taken (c ∷ rest) =
     step : (d : ℕ) (x y : Option (Token × Text)) → IsTaken Takes (d ∷ rest) x → (eqb c d ≡ false → IsTaken Takes (c ∷ rest) y) → IsTaken Takes (c ∷ rest) (cond (eqb c d) x y)
     step d x y p q = pick Takes (c ∷ rest) (eqb c d) x y (λ e. subst (λ k. IsTaken Takes (k ∷ rest) x) (sym (eqb-true c d e)) p) q
 
--- ---- what is written is read
+-- ---- each value that is written is read
 
 name_is : (name rest : Text) → Lacks 62 name → is_name name ≡ true → name_at (name ++ 62 ∷ rest) ≡ Some (opens (named name), rest)
 unfolding name_at

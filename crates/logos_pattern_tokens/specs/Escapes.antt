@@ -1,4 +1,4 @@
--- What comes after a backslash, read from the front.
+-- The text after a backslash, read from the front.
 use Rattle.std.specs.Prelude.{ℕ, Bool, true, false, not, ◌||◌, ◌&&◌, nat_le, nat_lt, ◌==◌, [], ◌∷◌, length, take, drop, Option, Some, None, option_map, if◌then◌else◌}
 use Rattle.std.specs.Char.{is_ascii_alphanumeric}
 use Rattle.unicode.specs.declared.sets.Set.{Set}
@@ -12,8 +12,8 @@ use Rattle.logos_pattern_tokens.specs.Token.{Text, ◌>>=◌, is_among, hex_from
 abbrev pub is_escapable : ℕ → Bool
 is_escapable c = nat_lt c 128 && not (is_ascii_alphanumeric c || is_among c (60 ∷ 62 ∷ []))
 
--- The escapes of one character: it is itself, or one of `\a \f \t \n \r \v`, `\d \s \w \D \S \W`,
--- `\A \z \B`.
+-- The escapes of one character: the character itself, or one of `\a \f \t \n \r \v`, `\d \s \w \D
+-- \S \W`, `\A \z \B`.
 abbrev pub single_of : ℕ → Option Atom
 single_of c =
     if is_escapable c then Some (Character c)
@@ -79,15 +79,15 @@ hex_at letter (c ∷ rest) =
     else if letter == 117 then fixed_at 4 (c ∷ rest)
     else fixed_at 8 (c ∷ rest)
 
--- A word boundary; a fault if a brace follows.
+-- A word boundary. A brace after it is a fault.
 unfoldable pub boundary_at : Text → Option (Atom × Text)
 boundary_at text = if begins 123 text then None else Some (Boundary false, text)
 
--- An escape by one character.
+-- An escape of one character.
 unfoldable pub single_at : ℕ → Text → Option (Atom × Text)
 single_at c rest = option_map (λ a. (a, rest)) (single_of c)
 
--- After a backslash.
+-- The text after a backslash.
 unfoldable pub escape_at : Text → Option (Atom × Text)
 escape_at [] = None
 escape_at (c ∷ rest) =

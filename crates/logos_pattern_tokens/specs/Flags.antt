@@ -7,12 +7,13 @@ use Rattle.logos_pattern_tokens.specs.declared.token.Change.{Change}
 abbrev pub no_change : Change
 no_change = record { unicode = None; ignore_case = None; multi_line = None; dot_all = None; swap_greed = None; crlf = None }
 
--- A flag is set once.
+-- A flag can be set once.
 abbrev pub set_once : Option Bool → Bool → Option (Option Bool)
 set_once None on = Some (Some on)
 set_once (Some was) on = None
 
--- The setting with one more letter; a fault if it is not one of `i m s U u R`, or came before.
+-- The setting with one more letter. It is a fault if the letter is not one of `i m s U u R`, or was
+-- read before.
 abbrev pub with_letter : Change → Bool → ℕ → Option Change
 with_letter change on letter =
     if letter == 105 then option_map (λ f. record change { ignore_case = f }) (set_once change.ignore_case on)
@@ -23,7 +24,7 @@ with_letter change on letter =
     else if letter == 82 then option_map (λ f. record change { crlf = f }) (set_once change.crlf on)
     else None
 
--- The letters turn their flags on, or off, in addition to what was changed before.
+-- The letters turn their flags on, or off, in addition to the changes before.
 pub data Letters : Change → Bool → List ℕ → Change → Type 0 where
   no_letter : (change : Change) (on : Bool) → Letters change on [] change
   a_letter : (change next last : Change) (on : Bool) (letter : ℕ) (letters : List ℕ) →

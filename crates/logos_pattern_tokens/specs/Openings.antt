@@ -1,4 +1,4 @@
--- What comes after an opening parenthesis, read from the front.
+-- The text after an opening parenthesis, read from the front.
 use Rattle.std.specs.Prelude.{ℕ, Bool, true, false, ◌||◌, ◌&&◌, ◌==◌, [], ◌∷◌, Option, Some, None, option_map, if◌then◌else◌}
 use Rattle.std.specs.List.{list_all}
 use Rattle.unicode.specs.Binary.{is_alphabetic}
@@ -13,7 +13,7 @@ use Rattle.logos_pattern_tokens.specs.Token.{Text, Token, opens, sets, capturing
 abbrev pub is_name_start : ℕ → Bool
 is_name_start c = c == 95 || is_alphabetic c
 
--- These, numbers, and `.`, `[`, `]`.
+-- A character with which a name can start, a number, `.`, `[` or `]`.
 abbrev pub is_name_part : ℕ → Bool
 is_name_part c = is_name_start c || in_group Number (general_category c) || is_among c (46 ∷ 91 ∷ 93 ∷ [])
 
@@ -25,11 +25,11 @@ abbrev pub is_name : Text → Bool
 is_name [] = false
 is_name (c ∷ rest) = is_name_start c && are_name_parts rest
 
--- After `(?<`.
+-- The text after `(?<`.
 unfoldable pub name_at : Text → Option (Token × Text)
 name_at text = cut_at 62 text >>= λ x. if is_name x.0 then Some (opens (named x.0), x.1) else None
 
--- After `(?P`.
+-- The text after `(?P`.
 unfoldable pub python_at : Text → Option (Token × Text)
 python_at [] = None
 python_at (c ∷ rest) = if c == 60 then name_at rest else None
@@ -43,7 +43,7 @@ next_letter s c =
     if c == 45 then dash s
     else option_map (λ change. record s { change = change; pending = false }) (with_letter s.change s.on c)
 
--- The token at the end of the letters, if no letter is missing.
+-- The token at the end of the letters, unless a letter is missing.
 unfoldable pub setting_end : Letters → Token → Text → Option (Token × Text)
 setting_end s token rest = if s.pending then None else Some (token, rest)
 
@@ -55,11 +55,11 @@ letters_from s (c ∷ rest) =
     else if c == 58 then setting_end s (opens (plain s.change)) rest
     else next_letter s c >>= λ t. letters_from t rest
 
--- Before the first letter.
+-- The state before the first letter.
 abbrev pub no_letters : Letters
 no_letters = record { change = no_change; on = true; pending = true }
 
--- After `(?`.
+-- The text after `(?`.
 unfoldable pub option_at : Text → Option (Token × Text)
 option_at [] = None
 option_at (c ∷ rest) =
@@ -68,7 +68,7 @@ option_at (c ∷ rest) =
     else if c == 80 then python_at rest
     else letters_from no_letters (c ∷ rest)
 
--- After `(`.
+-- The text after `(`.
 unfoldable pub group_at : Text → Option (Token × Text)
 group_at [] = Some (opens capturing, [])
 group_at (c ∷ rest) = if c == 63 then option_at rest else Some (opens capturing, c ∷ rest)

@@ -1,4 +1,4 @@
--- How a token outside brackets is written.
+-- The spelling of tokens outside brackets.
 use Rattle.std.specs.Prelude.{◌≡◌, ℕ, ◌+◌, ◌*◌, ◌-◌, ◌^◌, ◌<◌, ◌≤◌, ◌≢◌, Bool, true, false, [], ◌∷◌, ◌++◌, length, Option, Some, None, if◌then◌else◌}
 use Rattle.unicode.specs.declared.sets.Set.{Set}
 use Rattle.logos_pattern_tokens.specs.declared.token.Change.{Change}
@@ -25,12 +25,12 @@ abbrev pub AreDigits : Text → Type 0
 AreDigits [] = Unit {0}
 AreDigits (c ∷ rest) = (is_digit c ≡ true) × AreDigits rest
 
--- The number that the digits write, as a continuation of the number before them.
+-- The number that the digits spell, as a continuation of the number before them.
 abbrev pub value_from : ℕ → Text → ℕ
 value_from n [] = n
 value_from n (c ∷ rest) = value_from (n * 10 + (c - 48)) rest
 
--- The digits write the number.
+-- The digits spell the number.
 pub record Writes (digits : Text) (n : ℕ) : Type 0 where
   pub some_digit : 0 < length digits
   pub digits_only : AreDigits digits

@@ -1,4 +1,4 @@
--- The tokens of a pattern outside brackets, and how they are read from the front.
+-- The tokens of a pattern outside brackets, and reading them from the front.
 use Rattle.std.specs.Prelude.{◌≡◌, ℕ, ◌+◌, ◌*◌, ◌-◌, ◌^◌, Bool, true, false, ◌&&◌, nat_lt, nat_le, ◌==◌, List, [], ◌∷◌, Option, Some, None, Result, Ok, Err, option_map, option_and_then, if◌then◌else◌}
 use Rattle.std.specs.List.{list_any}
 use Rattle.std.specs.Char.{digit_value}
@@ -14,11 +14,11 @@ use Rattle.logos_pattern_tokens.specs.declared.token.Token.{Token as TokenValue}
 use Rattle.logos_pattern_tokens.specs.declared.token.Token.TheVariants as values
 use Rattle.logos_pattern_tokens.specs.bracket.Form.{Bracket}
 
--- The characters that are still to read.
+-- The characters that have not been read.
 abbrev pub Text : Type 0
 Text = List ℕ
 
--- How a group opens.
+-- The forms of a group's opening.
 pub data Opening : Type 0 where
   -- `(`
   capturing : Opening
@@ -43,7 +43,7 @@ opening_view Capture = capturing
 opening_view (Named name) = named name.now
 opening_view (Plain change) = plain change
 
--- A token as definitions see it.
+-- A token as the definitions use it.
 abbrev pub token_view : TokenValue → Token
 token_view (values.Atom a) = atom a
 token_view values.Bar = bar
@@ -52,11 +52,12 @@ token_view values.Close = closes
 token_view (values.Setting change) = sets change
 token_view (values.Repeat op) = repeats op
 
--- What a function returned is, by its view, what reading gives, unless memory ran out.
-abbrev pub Gives : {X Y : Type 0} → (X → Y) → Result X Fault → Option Y → Type 0
-Gives view (Ok x) read = read ≡ Some (view x)
-Gives view (Err (faults.Syntax kind)) read = read ≡ None
-Gives view (Err faults.Memory) read = Unit {0}
+-- Unless memory ran out, the view of the result of a function is the value of the reading
+-- definition.
+abbrev pub Yields : {X Y : Type 0} → (X → Y) → Result X Fault → Option Y → Type 0
+Yields view (Ok x) read = read ≡ Some (view x)
+Yields view (Err (faults.Syntax kind)) read = read ≡ None
+Yields view (Err faults.Memory) read = Unit {0}
 
 infixl 10 ◌>>=◌
 abbrev pub ◌>>=◌ : {A B : Type 0} → Option A → (A → Option B) → Option B
@@ -81,7 +82,7 @@ is_digit c = nat_le 48 c && nat_le c 57
 abbrev pub hex_digit : ℕ → Option ℕ
 hex_digit c = if nat_lt (digit_value c) 16 then Some (digit_value c) else None
 
--- The number that the hexadecimal digits write, as a continuation of the number before them.
+-- The number that the hexadecimal digits spell, as a continuation of the number before them.
 abbrev pub hex_from : ℕ → Text → Option ℕ
 hex_from n [] = Some n
 hex_from n (c ∷ rest) = hex_digit c >>= λ d. hex_from (n * 16 + d) rest
@@ -89,12 +90,12 @@ hex_from n (c ∷ rest) = hex_digit c >>= λ d. hex_from (n * 16 + d) rest
 abbrev pub only_scalar : ℕ → Option ℕ
 only_scalar n = if scalar n then Some n else None
 
--- The Unicode scalar value whose number the hexadecimal digits write.
+-- The Unicode scalar value with the number that the hexadecimal digits spell.
 unfoldable pub scalar_of : Text → Option ℕ
 scalar_of digits = hex_from 0 digits >>= only_scalar
 
--- The number that the digits at the front write, as a continuation of the number before them, and
--- the rest.
+-- The number that the digits at the front spell, as a continuation of the number before them, and
+-- the rest of the text.
 abbrev pub number_from : ℕ → Text → ℕ × Text
 number_from n [] = (n, [])
 number_from n (c ∷ rest) = if is_digit c then number_from (n * 10 + (c - 48)) rest else (n, c ∷ rest)
@@ -107,7 +108,7 @@ unfoldable pub number_at : Text → Option (ℕ × Text)
 number_at [] = None
 number_at (c ∷ rest) = if is_digit c then fits (number_from 0 (c ∷ rest)) else None
 
--- What comes before the first such character, and what comes after it.
+-- The text before the first such character, and the text after it.
 abbrev pub cut_at : ℕ → Text → Option (Text × Text)
 cut_at end [] = None
 cut_at end (c ∷ rest) = if c == end then Some ([], rest) else option_map (λ x. (c ∷ x.0, x.1)) (cut_at end rest)
@@ -129,18 +130,18 @@ count_end least most (c ∷ rest) = if c == 125 then Some (lazy_at least most re
 unfoldable pub order_at : ℕ → ℕ × Text → Option (Token × Text)
 order_at least x = if nat_le least x.0 then count_end least (Some x.0) x.1 else None
 
--- After `{n,`.
+-- The text after `{n,`.
 unfoldable pub most_at : ℕ → Text → Option (Token × Text)
 most_at least [] = None
 most_at least (c ∷ rest) =
     if c == 125 then Some (lazy_at least None rest)
     else number_at (c ∷ rest) >>= order_at least
 
--- After `{n`.
+-- The text after `{n`.
 unfoldable pub bounds_at : ℕ → Text → Option (Token × Text)
 bounds_at least [] = None
 bounds_at least (c ∷ rest) = if c == 44 then most_at least rest else count_end least (Some least) (c ∷ rest)
 
--- After `{`.
+-- The text after `{`.
 unfoldable pub count_at : Text → Option (Token × Text)
 count_at text = number_at text >>= λ x. bounds_at x.0 x.1

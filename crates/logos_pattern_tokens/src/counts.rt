@@ -2,26 +2,27 @@
 //! an atom and in escapes.
 
 ghost use Rattle.std.specs.Prelude.{◌≡◌, ◌==◌, option_map, position};
-ghost use Rattle.logos_pattern_tokens.specs.Views.{Gives, token_view, is_digit, hex_digit, hex_from, scalar_of, cut_at, number_from, fits, number_at, lazy_at, count_end, order_at, most_at, bounds_at, count_at};
+ghost use Rattle.logos_pattern_tokens.specs.Views.{Yields, token_view, is_digit, hex_digit, hex_from, scalar_of, cut_at, number_from, fits, number_at, lazy_at, count_end, order_at, most_at, bounds_at, count_at};
 
 use crate::error::{Fault, Kind};
 use crate::token::{Operator, Token};
 
-/// Returns the value of a hexadecimal digit, or `None` for any other character.
+/// Returns the value of a hexadecimal digit, or `None` if `c` is not one.
 pub fn hex_digit(c: char) -> Option<u32>
     ensures { result ≡ hex_digit c }
 {
     c.to_digit(16)
 }
 
-/// Returns the Unicode scalar value whose number the hexadecimal digits write.
+/// Returns the Unicode scalar value with the number that the hexadecimal digits spell.
 ///
 /// # Errors
 ///
-/// From the left, `HexSyntax` at a character that is not a hexadecimal digit, and `HexNotScalar`
-/// where the number passes 10FFFF. `HexNotScalar` also if the number is that of a surrogate.
+/// Returns `HexSyntax` or `HexNotScalar` for the first fault from the left: `HexSyntax` at a
+/// character that is not a hexadecimal digit, and `HexNotScalar` where the number exceeds 10FFFF.
+/// Also returns `HexNotScalar` if the number is that of a surrogate.
 pub fn scalar_of(digits: &[char]) -> Result<char, Fault>
-    ensures { Gives (λ n. n) result (scalar_of digits.now) }
+    ensures { Yields (λ n. n) result (scalar_of digits.now) }
 {
     let mut number = 0;
     for c in digits {
@@ -39,19 +40,19 @@ pub fn scalar_of(digits: &[char]) -> Result<char, Fault>
     }
 }
 
-/// Splits the text at the first `end`: returns what is before it and what is after it, or `None` if
-/// the text has no `end`.
+/// Splits the text at the first `end`: returns the text before it and the text after it, or `None`
+/// if the text has no `end`.
 pub fn cut_at(end: char, text: &[char]) -> Option<(&[char], &[char])>
     ensures { option_map (λ x. (x.0.now, x.1.now)) result ≡ cut_at end text.now }
 {
-    match place_of(end, text) {
+    match slot_of(end, text) {
         Some(at) => Some((&text[..at], &text[at + 1..])),
         None => None,
     }
 }
 
 /// Returns the index of the first `end` in the text.
-fn place_of(end: char, text: &[char]) -> Option<usize>
+fn slot_of(end: char, text: &[char]) -> Option<usize>
     ensures { result ≡ position (λ c. c == end) text.now }
 {
     text.iter().position(|c| *c == end)
@@ -97,7 +98,7 @@ fn number_from(start: u32, text: &[char]) -> Option<(u32, &[char])>
 /// `CountTooLarge` if the number is 2^32 or more.
 #[tactic(auto, unfolding(crate::specs::Token::number_at))]
 fn number_at(text: &[char]) -> Result<(u32, &[char]), Fault>
-    ensures { Gives (λ x. (x.0, x.1.now)) result (number_at text.now) }
+    ensures { Yields (λ x. (x.0, x.1.now)) result (number_at text.now) }
 {
     match text {
         [c, ..] if is_digit(*c) => {
@@ -108,7 +109,7 @@ fn number_at(text: &[char]) -> Result<(u32, &[char]), Fault>
     }
 }
 
-/// Returns the operator with these counts, which is lazy if a `?` comes next, and the rest of the
+/// Returns the operator with these counts, which is lazy if a `?` follows, and the rest of the
 /// text.
 #[tactic(auto, unfolding(crate::specs::Token::lazy_at))]
 pub fn lazy_at<'t>(least: u32, most: Option<u32>, text: &'t [char]) -> (Token<'t>, &'t [char])
@@ -146,7 +147,7 @@ fn count_end<'t>(
     most: Option<u32>,
     text: &'t [char],
 ) -> Result<(Token<'t>, &'t [char]), Fault>
-    ensures { Gives (λ x. (token_view x.0, x.1.now)) result (count_end least most text.now) }
+    ensures { Yields (λ x. (token_view x.0, x.1.now)) result (count_end least most text.now) }
 {
     match text {
         ['}', rest @ ..] => Ok(lazy_at(least, most, rest)),
@@ -155,15 +156,15 @@ fn count_end<'t>(
     }
 }
 
-/// Reads what comes after `{n,`.
+/// Reads the text after `{n,`.
 ///
 /// # Errors
 ///
-/// Those of `number_at` and `count_end`, and `CountOrder` if the second count is less than the
-/// first.
+/// Returns the errors of `number_at` and `count_end`, and `CountOrder` if the second count is less
+/// than the first.
 #[tactic(auto, unfolding(crate::specs::Token::most_at, crate::specs::Token::order_at))]
 fn most_at(least: u32, text: &[char]) -> Result<(Token<'_>, &[char]), Fault>
-    ensures { Gives (λ x. (token_view x.0, x.1.now)) result (most_at least text.now) }
+    ensures { Yields (λ x. (token_view x.0, x.1.now)) result (most_at least text.now) }
 {
     match text {
         [] => Err(Fault::Syntax(Kind::Unclosed)),
@@ -178,14 +179,14 @@ fn most_at(least: u32, text: &[char]) -> Result<(Token<'_>, &[char]), Fault>
     }
 }
 
-/// Reads what comes after `{n`.
+/// Reads the text after `{n`.
 ///
 /// # Errors
 ///
-/// Returns `Unclosed` if the text is empty, and else those of `most_at` or `count_end`.
+/// Returns `Unclosed` if the text is empty, and otherwise the errors of `most_at` or `count_end`.
 #[tactic(auto, unfolding(crate::specs::Token::bounds_at))]
 fn bounds_at(least: u32, text: &[char]) -> Result<(Token<'_>, &[char]), Fault>
-    ensures { Gives (λ x. (token_view x.0, x.1.now)) result (bounds_at least text.now) }
+    ensures { Yields (λ x. (token_view x.0, x.1.now)) result (bounds_at least text.now) }
 {
     match text {
         [] => Err(Fault::Syntax(Kind::Unclosed)),
@@ -194,16 +195,17 @@ fn bounds_at(least: u32, text: &[char]) -> Result<(Token<'_>, &[char]), Fault>
     }
 }
 
-/// Reads an operator with counts, from after its `{`: returns its token and the rest of the text.
+/// Reads an operator with counts from the text after its `{`. Returns its token and the rest of the
+/// text.
 ///
 /// # Errors
 ///
-/// Returns `Unclosed` if the text ends before `}`, `CountSyntax` if no counts come next,
-/// `CountTooLarge` if a count is 2^32 or more, and `CountOrder` if the second one is less than the
-/// first.
+/// Returns `Unclosed` if the text ends before `}`, `CountSyntax` if no counts follow,
+/// `CountTooLarge` if a count is 2^32 or more, and `CountOrder` if the second count is less than
+/// the first.
 #[tactic(auto, unfolding(crate::specs::Token::count_at))]
 pub fn count_at(text: &[char]) -> Result<(Token<'_>, &[char]), Fault>
-    ensures { Gives (λ x. (token_view x.0, x.1.now)) result (count_at text.now) }
+    ensures { Yields (λ x. (token_view x.0, x.1.now)) result (count_at text.now) }
 {
     let (least, rest) = number_at(text)?;
     bounds_at(least, rest)

@@ -1,4 +1,5 @@
-//! The faults of a pattern.
+//! The errors of reading a pattern, and the reasons why its readers stop. All readers of this crate
+//! and of `logos_syntax` return them.
 
 ghost use Rattle.std.specs.Prelude.{◌≡◌};
 ghost use Rattle.logos_pattern_tokens.specs.declared.error.Fault.TheVariants as faults;
@@ -7,7 +8,7 @@ ghost use Rattle.logos_pattern_tokens.specs.declared.error.PatternError.TheVaria
 
 use std::alloc::{AllocError, AllocFailed};
 
-/// What is wrong with a pattern.
+/// The kinds of faults in a pattern.
 #[derive(Clone, Copy, Debug, PartialEq, Eq)]
 pub enum Kind {
     /// A group, a bracket or a brace is still open at the end.
@@ -24,15 +25,15 @@ pub enum Kind {
     CountTooLarge,
     /// The flag `x` is not supported.
     FlagUnsupported,
-    /// What comes after `(?` is not a flag setting.
+    /// The text after `(?` is not a flag setting.
     FlagSyntax,
-    /// Look-around, or a group whose name is malformed or was given before.
+    /// Look-around, or a group whose name is malformed or occurs earlier.
     GroupSyntax,
-    /// A backslash comes before something that it cannot escape.
+    /// A backslash comes before a character that it cannot escape.
     EscapeUnknown,
     /// An escape by number has no digits, too few, or characters that are not digits.
     HexSyntax,
-    /// The number of an escape is not that of a Unicode scalar value.
+    /// The number of an escape is not the number of a Unicode scalar value.
     HexNotScalar,
     /// A range begins after its end, or a class is one of its ends.
     ClassRange,
@@ -40,33 +41,34 @@ pub enum Kind {
     UnknownProperty,
     /// A property has a value, or is negated by `^`.
     PropertyForm,
-    /// A property, or a character outside ASCII in a bracket, where the pattern matches bytes.
+    /// A property, or a character outside ASCII in a bracket, in a pattern that matches bytes.
     NotInBytes,
-    /// A word boundary where the pattern matches characters.
+    /// A word boundary in a pattern that matches characters.
     UnicodeWordBoundary,
     /// A word boundary is written as `\b{..}`, `\<` or `\>`.
     WordBoundaryForm,
 }
 
-/// Why a pattern was refused.
+/// The reasons why a text is not read as a pattern.
 #[derive(Debug, Drop)]
 pub enum PatternError {
     /// The text breaks the grammar. `at` is the byte offset of the fault in the text.
     Syntax { kind: Kind, at: usize },
-    /// Groups, brackets and operators nest too deeply.
+    /// Groups, brackets and operators are nested too deeply.
     LimitPatternNesting,
     /// Memory ran out.
     Memory,
 }
 
-/// Why no token could be read at the front of a text.
+/// The reasons why no token can be read at the front of a text.
 #[derive(Drop)]
 pub enum Fault {
     Syntax(Kind),
     Memory,
 }
 
-/// Why reading stopped. `left` is the number of characters from the fault to the end of the text.
+/// The reasons why reading stops. `left` is the number of characters from the fault to the end of
+/// the text.
 #[derive(Drop)]
 pub enum Stop {
     Syntax { kind: Kind, left: usize },

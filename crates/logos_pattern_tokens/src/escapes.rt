@@ -1,7 +1,7 @@
-//! Reads what comes after a backslash. Both readers of tokens call it at a backslash.
+//! Reads the text after a backslash. Both readers of tokens call it at a backslash.
 
 ghost use Rattle.std.specs.Prelude.{◌≡◌, MatchResult};
-ghost use Rattle.logos_pattern_tokens.specs.Views.{Gives, is_among, is_escapable, single_of, begins, is_form, plain_property, property_of, property_at, braces_at, fixed_at, byte_at, hex_at, boundary_at, single_at, escape_at};
+ghost use Rattle.logos_pattern_tokens.specs.Views.{Yields, is_among, is_escapable, single_of, begins, is_form, plain_property, property_of, property_at, braces_at, fixed_at, byte_at, hex_at, boundary_at, single_at, escape_at};
 
 use crate::counts::{cut_at, hex_digit, scalar_of};
 use crate::error::{Fault, Kind};
@@ -18,8 +18,8 @@ fn is_escapable(c: char) -> bool
     c.is_ascii() && !(c.is_ascii_alphanumeric() || c == '<' || c == '>')
 }
 
-/// Returns what an escape by this one character is: the character itself, another one, a class or a
-/// look; `None` if there is no such escape.
+/// Returns the atom of the escape of this one character: the character itself, another character, a
+/// class or a look-around assertion. Returns `None` if there is no such escape.
 fn single_of(c: char) -> Option<Atom>
     ensures { result ≡ single_of c }
 {
@@ -65,10 +65,10 @@ fn is_form(name: &[char]) -> bool
 /// # Errors
 ///
 /// Returns `PropertyForm` if the name has a value or is negated, `UnknownProperty` if no property
-/// has it, and `Memory`.
+/// has the name, and `Memory` if memory runs out.
 #[tactic(auto, unfolding(crate::specs::Escapes::plain_property))]
 fn plain_property(alloc: Global, name: &[char]) -> Result<Set, Fault>
-    ensures { Gives (λ set. set) result (plain_property name.now) }
+    ensures { Yields (λ set. set) result (plain_property name.now) }
 {
     if is_form(name) {
         return Err(Fault::Syntax(Kind::PropertyForm));
@@ -83,7 +83,7 @@ fn plain_property(alloc: Global, name: &[char]) -> Result<Set, Fault>
 ///
 /// # Errors
 ///
-/// Those of `plain_property`.
+/// Returns the errors of `plain_property`.
 #[tactic(auto, unfolding(crate::specs::Escapes::property_of))]
 fn property_of<'t>(
     alloc: Global,
@@ -91,7 +91,7 @@ fn property_of<'t>(
     name: &[char],
     rest: &'t [char],
 ) -> Result<(Atom, &'t [char]), Fault>
-    ensures { Gives (λ x. (x.0, x.1.now)) result (property_of negated name.now rest.now) }
+    ensures { Yields (λ x. (x.0, x.1.now)) result (property_of negated name.now rest.now) }
 {
     let set = plain_property(alloc, name)?;
     Ok((Atom::Property(set, negated), rest))
@@ -101,11 +101,11 @@ fn property_of<'t>(
 ///
 /// # Errors
 ///
-/// Returns `Unclosed` if a brace is not closed; of a name of one character, and without one,
-/// `UnknownProperty`; else those of `plain_property`.
+/// Returns `Unclosed` if a brace is not closed, `UnknownProperty` if the text is empty, and
+/// otherwise the errors of `plain_property`.
 #[tactic(auto, unfolding(crate::specs::Escapes::property_at))]
 fn property_at(alloc: Global, negated: bool, text: &[char]) -> Result<(Atom, &[char]), Fault>
-    ensures { Gives (λ x. (x.0, x.1.now)) result (property_at negated text.now) }
+    ensures { Yields (λ x. (x.0, x.1.now)) result (property_at negated text.now) }
 {
     match text {
         [] => Err(Fault::Syntax(Kind::UnknownProperty)),
@@ -123,15 +123,15 @@ fn property_at(alloc: Global, negated: bool, text: &[char]) -> Result<(Atom, &[c
     }
 }
 
-/// Reads hexadecimal digits up to a closing brace.
+/// Reads hexadecimal digits up to a closing brace, from the text after the opening one.
 ///
 /// # Errors
 ///
-/// Returns `Unclosed` if no brace closes and only digits come, `HexSyntax` if there is no digit or
-/// another character, and `HexNotScalar`.
+/// Returns `Unclosed` if only digits follow and no brace closes, `HexSyntax` if there is no digit
+/// or another character, and `HexNotScalar` if the number is not the number of a scalar value.
 #[tactic(auto, unfolding(crate::specs::Escapes::braces_at))]
 fn braces_at(text: &[char]) -> Result<(Atom, &[char]), Fault>
-    ensures { Gives (λ x. (x.0, x.1.now)) result (braces_at text.now) }
+    ensures { Yields (λ x. (x.0, x.1.now)) result (braces_at text.now) }
 {
     let Some((digits, rest)) = cut_at('}', text) else {
         return Err(Fault::Syntax(digits_fault(text)));
@@ -156,10 +156,11 @@ fn digits_fault(digits: &[char]) -> Kind {
 ///
 /// # Errors
 ///
-/// Returns `HexSyntax` if there are fewer digits, and `HexNotScalar`.
+/// Returns `HexSyntax` if there are fewer digits, and `HexNotScalar` if the number is not the
+/// number of a scalar value.
 #[tactic(auto, unfolding(crate::specs::Escapes::fixed_at))]
 fn fixed_at(width: usize, text: &[char]) -> Result<(Atom, &[char]), Fault>
-    ensures { Gives (λ x. (x.0, x.1.now)) result (fixed_at width text.now) }
+    ensures { Yields (λ x. (x.0, x.1.now)) result (fixed_at width text.now) }
 {
     if text.len() < width {
         return Err(Fault::Syntax(Kind::HexSyntax));
@@ -169,14 +170,14 @@ fn fixed_at(width: usize, text: &[char]) -> Result<(Atom, &[char]), Fault>
     Ok((Atom::Character(c), rest))
 }
 
-/// Reads two hexadecimal digits, which give a byte.
+/// Reads two hexadecimal digits as the value of a byte.
 ///
 /// # Errors
 ///
 /// Returns `HexSyntax` if there are fewer digits.
 #[tactic(auto, unfolding(crate::specs::Escapes::byte_at))]
 fn byte_at(text: &[char]) -> Result<(Atom, &[char]), Fault>
-    ensures { Gives (λ x. (x.0, x.1.now)) result (byte_at text.now) }
+    ensures { Yields (λ x. (x.0, x.1.now)) result (byte_at text.now) }
 {
     match text {
         [a, b, rest @ ..] => match (hex_digit(*a), hex_digit(*b)) {
@@ -187,14 +188,15 @@ fn byte_at(text: &[char]) -> Result<(Atom, &[char]), Fault>
     }
 }
 
-/// Reads what comes after `\x`, `\u` or `\U`; `letter` is which of them.
+/// Reads the text after `\x`, `\u` or `\U`, where `letter` is the letter of the escape.
 ///
 /// # Errors
 ///
-/// Returns `HexSyntax` if the text is empty; else those of `braces_at`, `byte_at` or `fixed_at`.
+/// Returns `HexSyntax` if the text is empty; otherwise the errors of `braces_at`, `byte_at` or
+/// `fixed_at`.
 #[tactic(auto, unfolding(crate::specs::Escapes::hex_at))]
 fn hex_at(letter: char, text: &[char]) -> Result<(Atom, &[char]), Fault>
-    ensures { Gives (λ x. (x.0, x.1.now)) result (hex_at letter text.now) }
+    ensures { Yields (λ x. (x.0, x.1.now)) result (hex_at letter text.now) }
 {
     match text {
         [] => Err(Fault::Syntax(Kind::HexSyntax)),
@@ -207,14 +209,14 @@ fn hex_at(letter: char, text: &[char]) -> Result<(Atom, &[char]), Fault>
     }
 }
 
-/// Reads what comes after `\b`: nothing, as this is a word boundary.
+/// Reads the text after `\b`. No characters are consumed, since `\b` alone is a word boundary.
 ///
 /// # Errors
 ///
 /// Returns `WordBoundaryForm` if a brace follows.
 #[tactic(auto, unfolding(crate::specs::Escapes::boundary_at))]
 fn boundary_at(text: &[char]) -> Result<(Atom, &[char]), Fault>
-    ensures { Gives (λ x. (x.0, x.1.now)) result (boundary_at text.now) }
+    ensures { Yields (λ x. (x.0, x.1.now)) result (boundary_at text.now) }
 {
     match text {
         ['{', ..] => Err(Fault::Syntax(Kind::WordBoundaryForm)),
@@ -230,14 +232,14 @@ fn no_escape(c: char) -> Kind {
     }
 }
 
-/// Returns what the escape by the character `c` is, and the rest of the text.
+/// Returns the atom of the escape of the character `c`, and the rest of the text.
 ///
 /// # Errors
 ///
 /// Returns `WordBoundaryForm` for `<` and `>`, and `EscapeUnknown` if there is no such escape.
 #[tactic(auto, unfolding(crate::specs::Escapes::single_at))]
 fn single_at(c: char, rest: &[char]) -> Result<(Atom, &[char]), Fault>
-    ensures { Gives (λ x. (x.0, x.1.now)) result (single_at c rest.now) }
+    ensures { Yields (λ x. (x.0, x.1.now)) result (single_at c rest.now) }
 {
     match single_of(c) {
         Some(atom) => Ok((atom, rest)),
@@ -245,15 +247,15 @@ fn single_at(c: char, rest: &[char]) -> Result<(Atom, &[char]), Fault>
     }
 }
 
-/// Reads an escape, from after its backslash: returns the atom and the rest of the text.
+/// Reads an escape from the text after its backslash. Returns the atom and the rest of the text.
 ///
 /// # Errors
 ///
-/// Returns `EscapeUnknown` if the text is empty or begins with a character that cannot be escaped;
-/// else the fault of the escape; and `Memory`.
+/// Returns `EscapeUnknown` if the text is empty or begins with a character that cannot be escaped,
+/// otherwise the fault of the escape, and `Memory` if memory runs out.
 #[tactic(auto, unfolding(crate::specs::Escapes::escape_at))]
 pub fn escape_at(alloc: Global, text: &[char]) -> Result<(Atom, &[char]), Fault>
-    ensures { Gives (λ x. (x.0, x.1.now)) result (escape_at text.now) }
+    ensures { Yields (λ x. (x.0, x.1.now)) result (escape_at text.now) }
 {
     let [c, rest @ ..] = text else {
         return Err(Fault::Syntax(Kind::EscapeUnknown));

@@ -1,4 +1,5 @@
-//! The tokens of a pattern's text: what each is, and the reader that takes one from the front.
+//! The tokens of a pattern's text, and the readers that take one token from the front.
+//! `logos_syntax` calls them.
 
 #![tactic(auto)]
 

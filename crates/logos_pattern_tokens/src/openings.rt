@@ -1,21 +1,21 @@
-//! Reads what comes after an opening parenthesis. The reader of tokens calls it at `(`.
+//! Reads the text after an opening parenthesis. The reader of tokens calls it at `(`.
 
 ghost use Rattle.std.specs.Prelude.{◌≡◌};
-ghost use Rattle.logos_pattern_tokens.specs.Views.{no_change, set_once, with_letter, Gives, token_view, sets, opens, plain, is_name_start, is_name_part, are_name_parts, is_name, name_at, python_at, dash, next_letter, setting_end, letters_from, no_letters, option_at, group_at};
+ghost use Rattle.logos_pattern_tokens.specs.Views.{no_change, set_once, with_letter, Yields, token_view, sets, opens, plain, is_name_start, is_name_part, are_name_parts, is_name, name_at, python_at, dash, next_letter, setting_end, letters_from, no_letters, option_at, group_at};
 
 use crate::counts::cut_at;
 use crate::error::{Fault, Kind};
 use crate::token::{Change, GroupOpening, Token};
 use unicode::properties::{GeneralCategory, GeneralCategoryGroup, is_alphabetic};
 
-/// Returns whether a group's name may start with the character.
+/// Returns whether a group's name can start with the character.
 fn is_name_start(c: char) -> bool
     ensures { result ≡ is_name_start c }
 {
     c == '_' || is_alphabetic(c)
 }
 
-/// Returns whether a group's name may have the character after its first one.
+/// Returns whether a group's name can have the character after its first one.
 fn is_name_part(c: char) -> bool
     ensures { result ≡ is_name_part c }
 {
@@ -24,7 +24,7 @@ fn is_name_part(c: char) -> bool
         || matches!(c, '.' | '[' | ']')
 }
 
-/// Returns whether a group's name may have each of the characters after its first one.
+/// Returns whether a group's name can have each of the characters after its first one.
 fn are_name_parts(text: &[char]) -> bool
     ensures { result ≡ are_name_parts text.now }
 {
@@ -50,15 +50,15 @@ fn name_fault(text: &[char]) -> Kind {
     }
 }
 
-/// Reads what comes after `(?<` or `(?P<`.
+/// Reads the text after `(?<` or `(?P<`.
 ///
 /// # Errors
 ///
-/// Returns `Unclosed` if the text is a name, or empty, and has no `>`; else `GroupSyntax` if no
-/// name comes before the `>`.
+/// Returns `Unclosed` if the text is a name, or empty, and has no `>`; otherwise `GroupSyntax` if
+/// no name comes before the `>`.
 #[tactic(auto, unfolding(crate::specs::Openings::name_at))]
 fn name_at(text: &[char]) -> Result<(Token<'_>, &[char]), Fault>
-    ensures { Gives (λ x. (token_view x.0, x.1.now)) result (name_at text.now) }
+    ensures { Yields (λ x. (token_view x.0, x.1.now)) result (name_at text.now) }
 {
     let Some((name, rest)) = cut_at('>', text) else {
         return Err(Fault::Syntax(name_fault(text)));
@@ -69,15 +69,15 @@ fn name_at(text: &[char]) -> Result<(Token<'_>, &[char]), Fault>
     Ok((Token::Open(GroupOpening::Named(name)), rest))
 }
 
-/// Reads what comes after `(?P`.
+/// Reads the text after `(?P`.
 ///
 /// # Errors
 ///
-/// Returns `Unclosed` if the text is empty, `FlagSyntax` if it does not begin with `<`, and else
-/// those of `name_at`.
+/// Returns `Unclosed` if the text is empty, `FlagSyntax` if it does not begin with `<`, and
+/// otherwise the errors of `name_at`.
 #[tactic(auto, unfolding(crate::specs::Openings::python_at))]
 fn python_at(text: &[char]) -> Result<(Token<'_>, &[char]), Fault>
-    ensures { Gives (λ x. (token_view x.0, x.1.now)) result (python_at text.now) }
+    ensures { Yields (λ x. (token_view x.0, x.1.now)) result (python_at text.now) }
 {
     match text {
         [] => Err(Fault::Syntax(Kind::Unclosed)),
@@ -86,13 +86,13 @@ fn python_at(text: &[char]) -> Result<(Token<'_>, &[char]), Fault>
     }
 }
 
-/// The letters of a flag setting that were read so far.
+/// The letters of a flag setting that have been read.
 #[derive(Clone, Copy)]
 pub struct Letters {
     change: Change,
-    /// Whether no dash was read yet, so that the letters turn flags on.
+    /// Whether no dash has been read yet, so that the letters turn flags on.
     on: bool,
-    /// Whether a letter has to come next.
+    /// Whether a letter must follow.
     pending: bool,
 }
 
@@ -114,9 +114,9 @@ fn no_change() -> Change
 ///
 /// # Errors
 ///
-/// Returns `FlagSyntax` if it was set before.
+/// Returns `FlagSyntax` if the flag was set before.
 fn set_once(flag: Option<bool>, on: bool) -> Result<Option<bool>, Fault>
-    ensures { Gives (λ x. x) result (set_once flag on) }
+    ensures { Yields (λ x. x) result (set_once flag on) }
 {
     match flag {
         None => Ok(Some(on)),
@@ -128,10 +128,10 @@ fn set_once(flag: Option<bool>, on: bool) -> Result<Option<bool>, Fault>
 ///
 /// # Errors
 ///
-/// Returns `FlagUnsupported` for `x`, and `FlagSyntax` if the letter is that of no flag or came
-/// before.
+/// Returns `FlagUnsupported` for `x`, and `FlagSyntax` if the letter is not the letter of a flag or
+/// was read before.
 fn with_letter(change: Change, on: bool, letter: char) -> Result<Change, Fault>
-    ensures { Gives (λ x. x) result (with_letter change on letter) }
+    ensures { Yields (λ x. x) result (with_letter change on letter) }
 {
     let mut next = change;
     match letter {
@@ -147,15 +147,15 @@ fn with_letter(change: Change, on: bool, letter: char) -> Result<Change, Fault>
     Ok(next)
 }
 
-/// Returns the letters with a dash after them: it turns off the flags of the letters that come
-/// next.
+/// Returns the letters with a dash after them. The dash turns off the flags of the letters that
+/// follow.
 ///
 /// # Errors
 ///
 /// Returns `FlagSyntax` if there was a dash before.
 #[tactic(auto, unfolding(crate::specs::Openings::dash))]
 fn dash(letters: Letters) -> Result<Letters, Fault>
-    ensures { Gives (λ x. x) result (dash letters) }
+    ensures { Yields (λ x. x) result (dash letters) }
 {
     if letters.on {
         Ok(Letters {
@@ -172,10 +172,10 @@ fn dash(letters: Letters) -> Result<Letters, Fault>
 ///
 /// # Errors
 ///
-/// Those of `dash` and `with_letter`.
+/// Returns the errors of `dash` and `with_letter`.
 #[tactic(auto, unfolding(crate::specs::Openings::next_letter))]
 fn next_letter(letters: Letters, c: char) -> Result<Letters, Fault>
-    ensures { Gives (λ x. x) result (next_letter letters c) }
+    ensures { Yields (λ x. x) result (next_letter letters c) }
 {
     if c == '-' {
         return dash(letters);
@@ -188,18 +188,18 @@ fn next_letter(letters: Letters, c: char) -> Result<Letters, Fault>
     })
 }
 
-/// Returns the token that a flag setting ends with, and the rest of the text.
+/// Returns the token at the end of a flag setting, and the rest of the text.
 ///
 /// # Errors
 ///
-/// Returns `FlagSyntax` if a letter has to come next.
+/// Returns `FlagSyntax` if a letter must follow.
 #[tactic(auto, unfolding(crate::specs::Openings::setting_end))]
 fn setting_end<'t>(
     letters: Letters,
     token: Token<'t>,
     rest: &'t [char],
 ) -> Result<(Token<'t>, &'t [char]), Fault>
-    ensures { Gives (λ x. (token_view x.0, x.1.now)) result
+    ensures { Yields (λ x. (token_view x.0, x.1.now)) result
         (setting_end letters (token_view token.entry) rest.now) }
 {
     if letters.pending {
@@ -213,10 +213,10 @@ fn setting_end<'t>(
 ///
 /// # Errors
 ///
-/// Returns `Unclosed` if the text ends before; else those of `next_letter` and `setting_end`, from
-/// the left.
+/// Returns `Unclosed` if the text ends before `)` or `:`, and otherwise the first error of
+/// `next_letter` or `setting_end` from the left.
 fn letters_from(start: Letters, text: &[char]) -> Result<(Token<'_>, &[char]), Fault>
-    ensures { Gives (λ x. (token_view x.0, x.1.now)) result (letters_from start text.now) }
+    ensures { Yields (λ x. (token_view x.0, x.1.now)) result (letters_from start text.now) }
 {
     let mut letters = start;
     let mut rest = text;
@@ -237,14 +237,15 @@ fn letters_from(start: Letters, text: &[char]) -> Result<(Token<'_>, &[char]), F
     Err(Fault::Syntax(Kind::Unclosed))
 }
 
-/// Reads what comes after `(?`.
+/// Reads the text after `(?`.
 ///
 /// # Errors
 ///
-/// Returns `Unclosed` if the text is empty; else those of `name_at`, `python_at` or `letters_from`.
+/// Returns `Unclosed` if the text is empty; otherwise the errors of `name_at`, `python_at` or
+/// `letters_from`.
 #[tactic(auto, unfolding(crate::specs::Openings::option_at))]
 fn option_at(text: &[char]) -> Result<(Token<'_>, &[char]), Fault>
-    ensures { Gives (λ x. (token_view x.0, x.1.now)) result (option_at text.now) }
+    ensures { Yields (λ x. (token_view x.0, x.1.now)) result (option_at text.now) }
 {
     match text {
         [] => Err(Fault::Syntax(Kind::Unclosed)),
@@ -266,7 +267,7 @@ fn no_letters() -> Letters
     }
 }
 
-/// Reads what comes after an opening parenthesis: returns the token of the group or of the flag
+/// Reads the text after an opening parenthesis. Returns the token of the group or of the flag
 /// setting, and the rest of the text.
 ///
 /// # Errors
@@ -275,7 +276,7 @@ fn no_letters() -> Letters
 /// left.
 #[tactic(auto, unfolding(crate::specs::Openings::group_at))]
 pub fn group_at(text: &[char]) -> Result<(Token<'_>, &[char]), Fault>
-    ensures { Gives (λ x. (token_view x.0, x.1.now)) result (group_at text.now) }
+    ensures { Yields (λ x. (token_view x.0, x.1.now)) result (group_at text.now) }
 {
     match text {
         ['?', rest @ ..] => option_at(rest),

@@ -2,7 +2,7 @@
 //! once for each token.
 
 ghost use Rattle.std.specs.Prelude.{◌≡◌};
-ghost use Rattle.logos_pattern_tokens.specs.Views.{Gives, token_view, escape_token_at, token_at};
+ghost use Rattle.logos_pattern_tokens.specs.Views.{Yields, token_view, escape_token_at, token_at};
 
 use crate::counts::{count_at, lazy_at};
 use crate::error::{Fault, Kind};
@@ -11,28 +11,30 @@ use crate::openings::group_at;
 use crate::token::{Atom, Token};
 use std::alloc::Global;
 
-/// Reads an escape, from after its backslash, as a token.
+/// Reads an escape from the text after its backslash, as a token.
 ///
 /// # Errors
 ///
-/// Those of `escape_at`.
+/// Returns the errors of `escape_at`.
 #[tactic(auto, unfolding(crate::specs::Reader::escape_token_at))]
 fn escape_token_at(alloc: Global, text: &[char]) -> Result<(Token<'_>, &[char]), Fault>
-    ensures { Gives (λ x. (token_view x.0, x.1.now)) result (escape_token_at text.now) }
+    ensures { Yields (λ x. (token_view x.0, x.1.now)) result (escape_token_at text.now) }
 {
     let (atom, rest) = escape_at(alloc, text)?;
     Ok((Token::Atom(atom), rest))
 }
 
 /// Reads the token at the front of the text, and returns it with the rest of the text. The text
-/// must not begin with `[`: brackets have a reader of their own, and here a `[` is `Unclosed`.
+/// must not begin with `[`: brackets have their own reader, and this one returns `Unclosed` at a
+/// `[`.
 ///
 /// # Errors
 ///
-/// Returns `Unclosed` if the text is empty; else the fault of the token, and `Memory`.
+/// Returns `Unclosed` if the text is empty, otherwise the fault of the token, and `Memory` if
+/// memory runs out.
 #[tactic(auto, unfolding(crate::specs::Reader::token_at))]
 pub fn token_at(alloc: Global, text: &[char]) -> Result<(Token<'_>, &[char]), Fault>
-    ensures { Gives (λ x. (token_view x.0, x.1.now)) result (token_at text.now) }
+    ensures { Yields (λ x. (token_view x.0, x.1.now)) result (token_at text.now) }
 {
     let [c, rest @ ..] = text else {
         return Err(Fault::Syntax(Kind::Unclosed));

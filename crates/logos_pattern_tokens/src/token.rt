@@ -1,12 +1,12 @@
-//! The tokens of a pattern outside brackets.
+//! The tokens of a pattern outside brackets. `reader` returns them.
 
 use logos_hir::property::PerlKind;
 use unicode::sets::Set;
 
-/// The flags that are on at a point of a pattern.
+/// The flags that are on at a position of a pattern.
 #[derive(Clone, Copy)]
 pub struct Flags {
-    /// `u`: the pattern matches characters; else it matches bytes.
+    /// `u`: the pattern matches characters. Without it, the pattern matches bytes.
     pub unicode: bool,
     /// `i`: letters match in both cases.
     pub ignore_case: bool,
@@ -20,7 +20,8 @@ pub struct Flags {
     pub crlf: bool,
 }
 
-/// What a flag setting does to each flag: it turns the flag on or off, or leaves it (`None`).
+/// The effect of a flag setting on each flag: it turns the flag on or off, or leaves it unchanged
+/// (`None`).
 #[derive(Clone, Copy)]
 pub struct Change {
     pub unicode: Option<bool>,
@@ -31,7 +32,7 @@ pub struct Change {
     pub crlf: Option<bool>,
 }
 
-/// An operator that repeats: the least and the greatest count, where `most` is `None` if there is
+/// A repetition operator: the least count, the greatest count, where `most` is `None` if there is
 /// no upper bound, and whether a `?` makes it lazy.
 #[derive(Clone, Copy)]
 pub struct Operator {
@@ -40,13 +41,13 @@ pub struct Operator {
     pub lazy: bool,
 }
 
-/// A part of a pattern that can be repeated and has no parts itself. A `bool` is whether it is
-/// negated.
+/// A part of a pattern that can be repeated and has no parts itself. A `bool` is whether the atom
+/// is negated.
 #[derive(Clone, Copy)]
 pub enum Atom {
     /// A character, or an escape of one other than `\xNN`.
     Character(char),
-    /// `\xNN`: a byte where the pattern matches bytes, else the character with this number.
+    /// `\xNN`: a byte if the pattern matches bytes, and the character with this number otherwise.
     Byte(u8),
     /// `.`
     Dot,
@@ -60,13 +61,13 @@ pub enum Atom {
     TextEnd,
     /// `\b`, `\B`
     Boundary(bool),
-    /// `\d`, `\D` and so on.
+    /// `\d`, `\D`, `\s`, `\S`, `\w`, `\W`.
     Perl(PerlKind, bool),
     /// `\p{..}`, `\P{..}`
     Property(Set, bool),
 }
 
-/// How a group opens.
+/// The forms of a group's opening.
 #[derive(Clone, Copy)]
 pub enum GroupOpening<'t> {
     /// `(`

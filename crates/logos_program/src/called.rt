@@ -1,8 +1,8 @@
-//! The name by which the program was called.
+//! Selects the program by the name under which it was invoked. Called by `main`.
 
 use std::env::Env;
 
-/// What a name asks for.
+/// The program that a name selects.
 #[derive(Clone, Copy)]
 pub(crate) enum Called {
     /// The commands of `logos`.
@@ -13,10 +13,11 @@ pub(crate) enum Called {
     LogosShow,
 }
 
-/// The most bytes of a path by which a program is called: what Linux takes.
+/// The maximum length in bytes of a path by which a program is invoked, which is the limit of
+/// Linux.
 const LONGEST_PATH: usize = 4096;
 
-/// Returns the name of the file to which a path leads: what follows its last slash.
+/// Returns the name of the file to which a path leads: the part after its last slash.
 fn name_in(path: &[u8]) -> &[u8] {
     match path.iter().rposition(|byte| *byte == b'/') {
         Some(at) => &path[at + 1..],
@@ -24,9 +25,9 @@ fn name_in(path: &[u8]) -> &[u8] {
     }
 }
 
-/// Returns what the name of a program's file asks for. Names may go on, as `logos_cli-0.1.0` does.
-/// Any other name asks for `logos`.
-fn asked_by(name: &[u8]) -> Called {
+/// Returns the program for the name of an executable. Names may have a suffix, such as
+/// `logos_cli-0.1.0`. Any other name selects `logos`.
+fn requested_by(name: &[u8]) -> Called {
     if name.starts_with(b"logos_cli") {
         return Called::LogosCli;
     }
@@ -36,12 +37,12 @@ fn asked_by(name: &[u8]) -> Called {
     Called::Logos
 }
 
-/// Returns what the name asks for by which the program was called. It asks for no memory, so each
-/// of the three asks for what it needs alone.
-pub(crate) fn asked_by_name<R: Env>(rt: &R) -> Called {
+/// Returns the program for the name under which the process was invoked. It allocates no memory, so
+/// that an allocation of any of the three programs is its own.
+pub(crate) fn requested_by_name<R: Env>(rt: &R) -> Called {
     let mut path = [0; LONGEST_PATH];
     match rt.arg(0, &mut path) {
-        Ok(length) => asked_by(name_in(&path[..length])),
+        Ok(length) => requested_by(name_in(&path[..length])),
         Err(_) => Called::Logos,
     }
 }

@@ -1,127 +1,131 @@
--- What the words of a command line ask for.
-use Rattle.std.specs.Prelude.{◌≡◌, ◌⊎◌, ℕ, List, Bool, Option, Some, None, option_map}
-use Rattle.logos_answers.specs.Places.{number_named, place_named}
-use Rattle.logos_host.specs.Failures.{status_of}
-use Rattle.logos_host.specs.declared.color.Color.{Color}
-use Rattle.logos_host.specs.declared.color.Color.TheVariants.{Auto}
-use Rattle.logos_host.specs.declared.failure.Failure.{Failure}
-use Rattle.logos_host.specs.declared.message_format.MessageFormat.{MessageFormat}
-use Rattle.logos_host.specs.declared.message_format.MessageFormat.TheVariants as formats
-use Rattle.logos_lines.specs.declared.place.Position.{Position}
-use Rattle.logos_options.specs.Given.{AskingValue, asks_comparison, asks_examples, asks_inputs, asks_matches, GivenValue, given_of, given_or}
-use Rattle.logos_options.specs.declared.given.Answer.{Answer}
-use Rattle.logos_options.specs.declared.given.Answer.TheVariants as answers
+-- The request of `logos_show`, read from its arguments.
+use Rattle.std.specs.Prelude.{ℕ, List, Option, Some, None, option_map}
+use Rattle.logos_answers.specs.Locations.{number_named, location_named}
+use Rattle.logos_lines.specs.declared.location.Location.{Location}
+use Rattle.logos_options.specs.ArgumentSteps.{OptionValue}
+use Rattle.logos_options.specs.Arguments.{ArgumentsValue, arguments_of, settings_value}
+use Rattle.logos_options.specs.Styles.{style_given}
+use Rattle.logos_options.specs.declared.message_style.MessageStyle.{MessageStyle}
+use Rattle.logos_options.specs.declared.options.OptionName.{OptionName}
+use Rattle.logos_options.specs.declared.options.OptionName.TheVariants as options
 use Rattle.logos_options.specs.declared.program.Program.TheVariants as programs
 use Rattle.logos_questions.specs.declared.questions.ShowOrder.{ShowOrder}
 use Rattle.logos_questions.specs.declared.questions.Question.{Question}
 use Rattle.logos_questions.specs.declared.questions.Question.TheVariants as questions
+use Rattle.logos_questions.specs.declared.questions.RequestKind.{RequestKind}
+use Rattle.logos_questions.specs.declared.questions.RequestKind.TheVariants.{Help, Version, Show}
 use Rattle.logos_questions.specs.declared.questions.ShowRequest.{ShowRequest}
-use Rattle.logos_questions.specs.declared.questions.ShowRequest.TheVariants.{Help, Version, Show}
 
--- What is asked of the lexers of a file: their leaves; the items of an input, by its path; what
--- matches from a position of an input; examples of what leaves find; at most so many inputs that
--- together pass all edges; or whether the lexer of another file, by its path, is the same.
+-- A question about the lexers of a file: their leaves; the items of an input, given by its path;
+-- the matches from a location of an input; examples for each leaf; at most a number of inputs that
+-- together take all edges; whether the lexer of another file, given by its path, is equivalent; or
+-- a page, written to an argument, with an optional input.
 pub data QuestionValue : Type 0 where
   leaves : QuestionValue
   items : (input : List ℕ) → QuestionValue
-  matches : (input : List ℕ) → (place : Position) → QuestionValue
+  matches : (input : List ℕ) → (location : Location) → QuestionValue
   examples : QuestionValue
   inputs : (most : ℕ) → QuestionValue
   comparison : (other : List ℕ) → QuestionValue
+  page : (to : List ℕ) → (input : Option (List ℕ)) → QuestionValue
 
--- A file: its path, what is asked of its lexers, whether the answer is JSON, perhaps the path of a
--- stored answer, perhaps the name of the enum, how messages are written, whether warnings are
--- denied, and when messages have colors.
+-- A file: its path, the question about its lexers, the given settings, and the style of messages.
 pub record OrderValue : Type 0 where
   pub file : List ℕ
   pub question : QuestionValue
-  pub is_json : Bool
-  pub expected : Option (List ℕ)
-  pub name : Option (List ℕ)
-  pub format : MessageFormat
-  pub denies : Bool
-  pub color : Color
+  pub settings : List (Option (List ℕ))
+  pub style : MessageStyle
 
--- What is asked for.
-pub data Asked : Type 0 where
-  asks_help : Asked
-  asks_version : Asked
-  asks_showing : (order : OrderValue) → Asked
+-- A request.
+pub data Requested : Type 0 where
+  requests_help : Requested
+  requests_version : Requested
+  requests_showing : (order : OrderValue) → Requested
 
--- At most so many inputs, of a file alone.
+-- At most this many inputs. There is no second path.
 abbrev pub inputs_given : Option ℕ → Option (List ℕ) → Option QuestionValue
 inputs_given None input = None
 inputs_given (Some most) None = Some (inputs most)
 inputs_given (Some most) (Some input) = None
 
--- What matches from a position of an input.
-abbrev pub matches_given : Option Position → Option (List ℕ) → Option QuestionValue
+-- The matches from a location of an input.
+abbrev pub matches_given : Option Location → Option (List ℕ) → Option QuestionValue
 matches_given None input = None
-matches_given (Some place) None = None
-matches_given (Some place) (Some input) = Some (matches input place)
+matches_given (Some location) None = None
+matches_given (Some location) (Some input) = Some (matches input location)
 
--- What is asked of a file, by what an option asks and by a second path. Matches and comparisons
--- have one, and examples and inputs have none.
-abbrev pub question_given : Option AskingValue → Option (List ℕ) → Option QuestionValue
+-- Examples. There is no second path.
+abbrev pub examples_given : Option (List ℕ) → Option QuestionValue
+examples_given None = Some examples
+examples_given (Some input) = None
+
+-- A comparison with another file.
+abbrev pub comparison_given : Option (List ℕ) → Option QuestionValue
+comparison_given None = None
+comparison_given (Some other) = Some (comparison other)
+
+-- The question of an option, with its value and an optional second path.
+abbrev pub question_named : OptionName → List ℕ → Option (List ℕ) → Option QuestionValue
+question_named options.Compare word input = comparison_given input
+question_named options.Inputs word input = inputs_given (number_named word) input
+question_named options.At word input = matches_given (location_named word) input
+question_named options.Html word input = Some (page word input)
+question_named option word input = examples_given input
+
+-- The question about a file. Without an option a second path requests its items.
+abbrev pub question_given : Option OptionValue → Option (List ℕ) → Option QuestionValue
 question_given None None = Some leaves
 question_given None (Some input) = Some (items input)
-question_given (Some asks_comparison) None = None
-question_given (Some asks_comparison) (Some other) = Some (comparison other)
-question_given (Some asks_examples) None = Some examples
-question_given (Some asks_examples) (Some input) = None
-question_given (Some (asks_inputs word)) input = inputs_given (number_named word) input
-question_given (Some (asks_matches word)) input = matches_given (place_named word) input
+question_given (Some one) input = question_named one.option one.value input
 
-abbrev pub order_asked : GivenValue → List ℕ → Option QuestionValue → Option Asked
-order_asked given file None = None
-order_asked given file (Some question) = Some (asks_showing (record { file = file; question = question; is_json = given.switches.is_json; expected = given.values.expected; name = given.values.name; format = given_or formats.Human given.values.format; denies = given.switches.denies; color = given_or Auto given.values.color }))
+abbrev pub order_requested : ArgumentsValue → List ℕ → MessageStyle → Option QuestionValue → Option Requested
+order_requested arguments file style None = None
+order_requested arguments file style (Some question) = Some (requests_showing (record { file = file; question = question; settings = arguments.settings; style = style }))
+
+abbrev pub style_requested : ArgumentsValue → List ℕ → Option MessageStyle → Option Requested
+style_requested arguments file None = None
+style_requested arguments file (Some style) = order_requested arguments file style (question_given arguments.question arguments.second)
 
 -- A file to show, if there is one.
-abbrev pub order_given : GivenValue → Option (List ℕ) → Option Asked
-order_given given None = None
-order_given given (Some file) = order_asked given file (question_given given.asking given.second)
+abbrev pub order_given : ArgumentsValue → Option (List ℕ) → Option Requested
+order_given arguments None = None
+order_given arguments (Some file) = style_requested arguments file (style_given arguments.settings)
 
-abbrev pub answer_given : GivenValue → Option Answer → Option Asked
-answer_given given (Some answers.Help) = Some asks_help
-answer_given given (Some answers.Version) = Some asks_version
-answer_given given None = order_given given given.first
+-- A text, or a file to show.
+abbrev pub request_given : ArgumentsValue → Option OptionName → Option Requested
+request_given arguments (Some options.Version) = Some requests_version
+request_given arguments (Some option) = Some requests_help
+request_given arguments None = order_given arguments arguments.first
 
--- What the words ask for.
-abbrev pub asked_given : Option GivenValue → Option Asked
-asked_given None = None
-asked_given (Some given) = answer_given given given.answer
+-- The request of these arguments.
+abbrev pub requested_given : Option ArgumentsValue → Option Requested
+requested_given None = None
+requested_given (Some arguments) = request_given arguments arguments.text
 
--- What these words ask for, if they are a command.
-abbrev pub asked : List (List ℕ) → Option Asked
-asked words = asked_given (given_of programs.Show words)
+-- The request of a command line, if its arguments are valid.
+abbrev pub requested : List (List ℕ) → Option Requested
+requested arguments = requested_given (arguments_of programs.Show arguments)
 
--- The same of what the program keeps.
+-- The views of the program's types.
 abbrev pub question_value : Question → QuestionValue
 question_value questions.Leaves = leaves
 question_value (questions.Items input) = items input.now
-question_value (questions.Matches input place) = matches input.now place
+question_value (questions.Matches input location) = matches input.now location
 question_value questions.Examples = examples
 question_value (questions.Inputs most) = inputs most
 question_value (questions.Comparison other) = comparison other.now
+question_value (questions.Page to input) = page to.now (option_map (λ path. path.now) input)
 
+-- The view of an order.
 abbrev pub order_value : ShowOrder → OrderValue
-order_value order = record {
-  file = order.file.now;
-  question = question_value order.question;
-  is_json = order.is_json;
-  expected = option_map (λ path. path.now) order.expected;
-  name = option_map (λ path. path.now) order.name;
-  format = order.format;
-  denies = order.denies;
-  color = order.color;
-}
+order_value order = record { file = order.file.now; question = question_value order.question; settings = settings_value order.settings; style = order.style }
 
--- What is asked for, as a value.
-abbrev pub request_value : ShowRequest → Asked
-request_value Help = asks_help
-request_value Version = asks_version
-request_value (Show order) = asks_showing (order_value order)
+-- The view of a kind of request, with these settings.
+abbrev pub kind_value : RequestKind → List (Option (List ℕ)) → Requested
+kind_value Help settings = requests_help
+kind_value Version settings = requests_version
+kind_value (Show asked) settings = requests_showing (record { file = asked.file.now; question = question_value asked.question; settings = settings; style = asked.style })
 
--- What was asked for is refused, or a file, an output or memory fails.
-abbrev pub IsNoMisuse : Failure → Type 0
-IsNoMisuse failure = (status_of failure ≡ 1) ⊎ (status_of failure ≡ 3)
+-- The view of a request.
+abbrev pub request_value : ShowRequest → Requested
+request_value request = kind_value request.kind (settings_value request.settings)

@@ -1,146 +1,190 @@
-//! What the words of the command line of `logos_show` ask for.
+//! The request of `logos_show`, read from its arguments.
 
 ghost use Rattle.std.specs.Prelude.{◌≡◌, IfErr, IfOk, Some, map, option_map, string_bytes};
-ghost use Rattle.logos_questions.specs.Words.{asked, asked_given, asking_value, given_value, inputs_given, matches_given, number_named, order_given, place_named, question_given, question_value, request_value, status_of};
+ghost use Rattle.logos_questions.specs.Imports.{arguments_value, requested, inputs_given, kind_value, matches_given, number_named, option_value, order_given, location_named, question_given, question_named, question_value, request_given, request_value, status_of};
 
-use logos_answers::{number_by_text, place_by_word};
-use logos_host::{Color, Failure, MessageFormat};
-use logos_lines::Position;
-use logos_options::{Answer, Asking, Given, OptionName, Program, given_by, misuse};
+use logos_answers::{location_by_word, number_by_text};
+use logos_host::Failure;
+use logos_lines::Location;
+use logos_options::{
+    Arguments, GivenOption, MessageStyle, OptionName, Program, Settings, arguments_of, misuse,
+    style_given,
+};
 
-/// What is asked for.
+/// A request, with the given settings.
 #[derive(Clone, Copy)]
-pub enum ShowRequest<'w> {
-    Help,
-    Version,
-    Show(ShowOrder<'w>),
+pub struct ShowRequest<'w> {
+    pub kind: RequestKind<'w>,
+    /// The given settings. They are not in a variant of the kind, since the borrow checker does not
+    /// cover a variant that holds their array.
+    pub settings: Settings<'w>,
 }
 
-/// A file, and what is asked of its lexers.
+/// The kind of a request.
+#[derive(Clone, Copy)]
+pub enum RequestKind<'w> {
+    Help,
+    Version,
+    Show(FileQuestion<'w>),
+}
+
+/// A question about the lexers of a file.
+#[derive(Clone, Copy)]
+pub struct FileQuestion<'w> {
+    /// The path of the file.
+    pub file: &'w str,
+    pub question: Question<'w>,
+    /// The style of messages.
+    pub style: MessageStyle,
+}
+
+/// A file, and the question about its lexers, with the given settings.
 #[derive(Clone, Copy)]
 pub struct ShowOrder<'w> {
     /// The path of the file.
     pub file: &'w str,
     pub question: Question<'w>,
-    /// Whether the answer is JSON.
-    pub is_json: bool,
-    /// The path of a stored answer, if the answer is to be compared with one.
-    pub expected: Option<&'w str>,
-    /// The name of the enum that is meant. If none is given all are shown, and the first one lexes.
-    pub name: Option<&'w str>,
-    /// How messages are written.
-    pub format: MessageFormat,
-    /// Whether a file with warnings is refused.
-    pub denies: bool,
-    /// When messages have colors.
-    pub color: Color,
+    /// The given settings: whether the answer is JSON, the path of a stored answer to compare it
+    /// with, the name of an enum, and whether a file with warnings is refused.
+    pub settings: Settings<'w>,
+    /// The style of messages.
+    pub style: MessageStyle,
 }
 
-/// What is asked of the lexers of a file.
+/// A question about the lexers of a file.
 #[derive(Clone, Copy)]
 pub enum Question<'w> {
     /// Their leaves.
     Leaves,
     /// The items of the file at this path.
     Items(&'w str),
-    /// What matches from a position of the file at this path.
-    Matches(&'w str, Position),
-    /// For each leaf a text that it finds, and one where it loses.
+    /// The matches from a location of the file at this path.
+    Matches(&'w str, Location),
+    /// For each leaf an input that it finds, and one that it loses.
     Examples,
-    /// Inputs that together pass all edges of a lexer's graph, at most so many.
+    /// At most this many inputs that together take all edges of a lexer's graph.
     Inputs(usize),
-    /// Whether the lexer of the file at this path is the same.
+    /// Whether the lexer of the file at this path is equivalent.
     Comparison(&'w str),
+    /// A page, written to this argument, about a lexer and about the input at a path, if one is
+    /// given.
+    Page(&'w str, Option<&'w str>),
 }
 
-/// Returns what the words ask for.
+/// Reads the arguments of `logos_show`.
 ///
 /// # Errors
 ///
-/// Returns `Misuse` or `UnknownOption` if they are not a command.
-pub fn request_of(words: &[String]) -> Result<ShowRequest<'_>, Failure<'_>>
-    ensures asked { IfOk result (λ request.
-        asked (map string_bytes words.now) ≡ Some (request_value request)) }
+/// Returns `Misuse` or `UnknownOption` if they are invalid.
+pub fn request_of(arguments: &[String]) -> Result<ShowRequest<'_>, Failure<'_>>
+    ensures requested { IfOk result (λ request.
+        requested (map string_bytes arguments.now) ≡ Some (request_value request)) }
     ensures misuse { IfErr result (λ failure.
-        (asked (map string_bytes words.now) ≡ None) × (status_of failure ≡ 2)) }
+        (requested (map string_bytes arguments.now) ≡ None) × (status_of failure ≡ 2)) }
 {
-    match given_by(Program::Show, words) {
-        Ok(given) => request_given(given),
+    match arguments_of(Program::Show, arguments) {
+        Ok(arguments) => request_given(arguments),
         Err(failure) => Err(failure),
     }
 }
 
-/// Returns what the words ask for, by what they give.
-fn request_given(given: Given<'_>) -> Result<ShowRequest<'_>, Failure<'_>>
-    ensures asked { IfOk result (λ request.
-        asked_given (Some (given_value given.entry)) ≡ Some (request_value request)) }
-    ensures misuse { IfErr result (λ failure.
-        (asked_given (Some (given_value given.entry)) ≡ None) × (status_of failure ≡ 2)) }
+/// Returns the request of arguments.
+fn request_given(arguments: Arguments<'_>) -> Result<ShowRequest<'_>, Failure<'_>>
+    ensures requested { IfOk result (λ request. request_given (arguments_value arguments.entry)
+        (arguments_value arguments.entry).text ≡ Some (request_value request)) }
+    ensures misuse { IfErr result (λ failure. (request_given (arguments_value arguments.entry)
+        (arguments_value arguments.entry).text ≡ None) × (status_of failure ≡ 2)) }
 {
-    match given.answer {
-        Some(Answer::Help) => Ok(ShowRequest::Help),
-        Some(Answer::Version) => Ok(ShowRequest::Version),
-        None => order_given(given),
+    let settings = arguments.settings;
+    match kind_given(arguments) {
+        Ok(kind) => Ok(ShowRequest { kind, settings }),
+        Err(failure) => Err(failure),
     }
 }
 
-/// Returns the file to show.
-fn order_given(given: Given<'_>) -> Result<ShowRequest<'_>, Failure<'_>>
-    ensures asked { IfOk result (λ request. order_given (given_value given.entry)
-        (given_value given.entry).first ≡ Some (request_value request)) }
-    ensures misuse { IfErr result (λ failure. (order_given (given_value given.entry)
-        (given_value given.entry).first ≡ None) × (status_of failure ≡ 2)) }
+/// Returns the kind of the request of arguments.
+fn kind_given(arguments: Arguments<'_>) -> Result<RequestKind<'_>, Failure<'_>>
+    ensures requested { IfOk result (λ kind. request_given (arguments_value arguments.entry)
+        (arguments_value arguments.entry).text
+        ≡ Some (kind_value kind (arguments_value arguments.entry).settings)) }
+    ensures misuse { IfErr result (λ failure. (request_given (arguments_value arguments.entry)
+        (arguments_value arguments.entry).text ≡ None) × (status_of failure ≡ 2)) }
 {
-    let Some(file) = given.first else {
+    match arguments.text {
+        Some(OptionName::Version) => Ok(RequestKind::Version),
+        Some(_) => Ok(RequestKind::Help),
+        None => order_given(arguments),
+    }
+}
+
+/// Returns the file to show, with a question.
+fn order_given(arguments: Arguments<'_>) -> Result<RequestKind<'_>, Failure<'_>>
+    ensures requested { IfOk result (λ kind. order_given (arguments_value arguments.entry)
+        (arguments_value arguments.entry).first
+        ≡ Some (kind_value kind (arguments_value arguments.entry).settings)) }
+    ensures misuse { IfErr result (λ failure. (order_given (arguments_value arguments.entry)
+        (arguments_value arguments.entry).first ≡ None) × (status_of failure ≡ 2)) }
+{
+    let Some(file) = arguments.first else {
         return Err(misuse("no file", ""));
     };
-    match question_given(given.asking, given.second) {
-        Ok(question) => Ok(ShowRequest::Show(ShowOrder {
+    let style = match style_given(&arguments.settings) {
+        Ok(style) => style,
+        Err(failure) => return Err(failure),
+    };
+    match question_given(arguments.question, arguments.second) {
+        Ok(question) => Ok(RequestKind::Show(FileQuestion {
             file,
             question,
-            is_json: given.switches.is_json,
-            expected: given.values.expected,
-            name: given.values.name,
-            format: given.values.format_or_human(),
-            denies: given.switches.denies,
-            color: given.values.color_or_auto(),
+            style,
         })),
         Err(failure) => Err(failure),
     }
 }
 
-/// Returns what is asked of a file, by what an option asks and by the second path.
+/// Returns the question about a file, from the given option and the second path.
 fn question_given<'w>(
-    asking: Option<Asking<'w>>,
+    requested: Option<GivenOption<'w>>,
     input: Option<&'w str>,
 ) -> Result<Question<'w>, Failure<'w>>
-    ensures asked { IfOk result (λ question. question_given
-        (option_map asking_value asking.entry) (option_map (λ path. path.now) input.entry)
+    ensures requested { IfOk result (λ question. question_given
+        (option_map option_value requested.entry) (option_map (λ path. path.now) input.entry)
         ≡ Some (question_value question)) }
     ensures misuse { IfErr result (λ failure. (question_given
-        (option_map asking_value asking.entry) (option_map (λ path. path.now) input.entry)
+        (option_map option_value requested.entry) (option_map (λ path. path.now) input.entry)
         ≡ None) × (status_of failure ≡ 2)) }
 {
-    match (asking, input) {
+    match (requested, input) {
         (None, None) => Ok(Question::Leaves),
         (None, Some(input)) => Ok(Question::Items(input)),
-        (Some(Asking::Comparison), None) => {
-            Err(misuse("no second file for", OptionName::Compare.word()))
-        }
-        (Some(Asking::Comparison), Some(other)) => Ok(Question::Comparison(other)),
-        (Some(Asking::Examples), None) => Ok(Question::Examples),
-        (Some(Asking::Examples), Some(input)) => Err(misuse(
-            "`--examples` takes no input, not",
-            input,
-        )),
-        (Some(Asking::Inputs(word)), input) => inputs_given(word, input),
-        (Some(Asking::Matches(word)), input) => matches_given(word, input),
+        (Some(one), input) => question_named(one, input),
     }
 }
 
-/// Returns how many inputs are asked for, of a file alone.
+/// Returns the question of an option, with an optional second path.
+fn question_named<'w>(
+    one: GivenOption<'w>,
+    input: Option<&'w str>,
+) -> Result<Question<'w>, Failure<'w>>
+    ensures requested { IfOk result (λ question. question_named one.entry.option one.entry.value.now
+        (option_map (λ path. path.now) input.entry) ≡ Some (question_value question)) }
+    ensures misuse { IfErr result (λ failure. (question_named one.entry.option one.entry.value.now
+        (option_map (λ path. path.now) input.entry) ≡ None) × (status_of failure ≡ 2)) }
+{
+    match (one.option, input) {
+        (OptionName::Compare, None) => Err(misuse("no second file for", one.option.word())),
+        (OptionName::Compare, Some(other)) => Ok(Question::Comparison(other)),
+        (OptionName::Inputs, input) => inputs_given(one.value, input),
+        (OptionName::At, input) => matches_given(one.value, input),
+        (OptionName::Html, input) => Ok(Question::Page(one.value, input)),
+        (_, None) => Ok(Question::Examples),
+        (_, Some(input)) => Err(misuse("`--examples` takes no input, not", input)),
+    }
+}
+
+/// Returns the question for inputs, whose maximum number is `word`. It takes no second path.
 fn inputs_given<'w>(word: &'w str, input: Option<&'w str>) -> Result<Question<'w>, Failure<'w>>
-    ensures asked { IfOk result (λ question. inputs_given (number_named word.now)
+    ensures requested { IfOk result (λ question. inputs_given (number_named word.now)
         (option_map (λ path. path.now) input.entry) ≡ Some (question_value question)) }
     ensures misuse { IfErr result (λ failure. (inputs_given (number_named word.now)
         (option_map (λ path. path.now) input.entry) ≡ None) × (status_of failure ≡ 2)) }
@@ -152,16 +196,16 @@ fn inputs_given<'w>(word: &'w str, input: Option<&'w str>) -> Result<Question<'w
     }
 }
 
-/// Returns the position of an input from which matches are asked for.
+/// Returns the question for the matches from the line and column of an input that `word` names.
 fn matches_given<'w>(word: &'w str, input: Option<&'w str>) -> Result<Question<'w>, Failure<'w>>
-    ensures asked { IfOk result (λ question. matches_given (place_named word.now)
+    ensures requested { IfOk result (λ question. matches_given (location_named word.now)
         (option_map (λ path. path.now) input.entry) ≡ Some (question_value question)) }
-    ensures misuse { IfErr result (λ failure. (matches_given (place_named word.now)
+    ensures misuse { IfErr result (λ failure. (matches_given (location_named word.now)
         (option_map (λ path. path.now) input.entry) ≡ None) × (status_of failure ≡ 2)) }
 {
-    match (place_by_word(word), input) {
+    match (location_by_word(word), input) {
         (None, _) => Err(misuse("`--at` is LINE:COLUMN, not", word)),
         (Some(_), None) => Err(misuse("no input for", OptionName::At.word())),
-        (Some(place), Some(input)) => Ok(Question::Matches(input, place)),
+        (Some(location), Some(input)) => Ok(Question::Matches(input, location)),
     }
 }

@@ -2,7 +2,7 @@
 use Rattle.std.proofs.Common.{◌≡◌, ◌⊎◌, ℕ, List, [], Option, length, inl, inr, ap, ◌∙◌, subst}
 use Rattle.std.specs.List.{flat_map}
 use Rattle.logos_answers.specs.Matches.{longest_from}
-use Rattle.logos_evidence.specs.declared.matching.Match.{Match}
+use Rattle.logos_evidence.specs.declared.matches.Match.{Match}
 use Rattle.logos_evidence.specs.Matching.{AreMatches, IsWinner}
 use Rattle.logos_graph.specs.View.{rules_of}
 use Rattle.logos_json.proofs.LineLemmas.{put_text}

@@ -1,4 +1,4 @@
--- The objects of inputs that together pass all edges of a graph.
+-- The JSON objects for inputs that together take all edges of a graph.
 use Rattle.std.specs.Prelude.{◌≡◌, ℕ, Bool, List, [], ◌∷◌, codes, length, take}
 use Rattle.std.specs.List.{flat_map}
 use Rattle.json.specs.Token.{Token}
@@ -11,16 +11,16 @@ use Rattle.logos_json.specs.Members.{bytes_member, object}
 abbrev pub input_lines : List ℕ → List (List Token)
 input_lines input = object (bytes_member (codes "input") input) ∷ []
 
--- Of inputs that together pass all edges of a graph, which are so many, the lines of the first ones
--- were pushed, at most so many.
+-- The lines of the first `most` of `count` inputs that together take all edges of a graph were
+-- appended.
 pub record PutsInputs (graph : List GraphState) (utf8 : Bool) (most count : ℕ) (old new : LinesValue) : Type 0 where
   pub inputs : List (List ℕ)
   pub covering : AreCoveringInputs graph utf8 inputs
   pub all : count ≡ length inputs
   pub put : Puts (flat_map input_lines (take most inputs)) old new
 
--- Of inputs that together pass all edges of a graph, which are so many, these bytes are the lines
--- of the first ones, at most so many.
+-- These bytes are the lines of the first `most` of `count` inputs that together take all edges of a
+-- graph.
 pub record AreInputRecords (graph : List GraphState) (utf8 : Bool) (most count : ℕ) (text : List ℕ) : Type 0 where
   pub inputs : List (List ℕ)
   pub covering : AreCoveringInputs graph utf8 inputs

@@ -1,4 +1,4 @@
--- The objects of leaves, and of what a lexer costs.
+-- The JSON objects for leaves, and for the cost of a lexer.
 use Rattle.std.specs.Prelude.{ℕ, suc, List, [], ◌∷◌, ◌++◌, if◌then◌else◌, codes, option_map}
 use Rattle.json.specs.Token.{Token}
 use Rattle.logos_inspect.specs.declared.costs.Costs.{Costs}
@@ -11,7 +11,7 @@ name_members name number row =
     text_member (codes "enum") name ++ (number_member (codes "leaf") number ++ (maybe_text (codes "variant") (option_map (λ text. text.now) row.variant)
     ++ text_member (codes "kind") (if row.is_token then codes "token" else codes "regex")))
 
--- What is shown of a leaf beside its names.
+-- The members of a leaf other than its names.
 abbrev pub shape_members : LeafRow → List Token
 shape_members row =
     text_member (codes "pattern") row.pattern.now ++ (number_member (codes "priority") row.priority ++ (bool_member (codes "default") row.is_default
@@ -20,12 +20,12 @@ shape_members row =
 abbrev pub leaf_members : List ℕ → ℕ → LeafRow → List Token
 leaf_members name number row = name_members name number row ++ shape_members row
 
--- The objects of leaves, which are numbered from a number on.
+-- The objects of leaves, numbered from a number on.
 abbrev pub leaf_objects : List ℕ → ℕ → List LeafRow → List (List Token)
 leaf_objects name number [] = []
 leaf_objects name number (row ∷ rows) = object (leaf_members name number row) ∷ leaf_objects name (suc number) rows
 
--- What a lexer costs.
+-- The cost of a lexer.
 abbrev pub cost_members : List ℕ → Costs → List Token
 cost_members name costs =
     text_member (codes "enum") name ++ (number_member (codes "states") costs.states ++ (number_member (codes "bit_tables") costs.bit_tables

@@ -4,5 +4,5 @@ pub mod Inputs
 pub mod Items
 pub mod Leaves
 pub mod Matches
-pub mod Words
+pub mod Imports
 pub mod Views

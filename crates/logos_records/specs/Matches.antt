@@ -1,21 +1,21 @@
--- The objects of what matches from an offset.
+-- The JSON objects for the matches from an offset.
 use Rattle.std.specs.Prelude.{◌≡◌, ◌⊎◌, ℕ, ◌==◌, List, [], ◌∷◌, ◌++◌, Option, Some, None, codes, length}
 use Rattle.std.specs.List.{flat_map}
 use Rattle.json.specs.Token.{Token}
 use Rattle.logos_answers.specs.Matches.{bytes_between, longest_from}
 use Rattle.logos_answers.specs.Names.{variant_text}
-use Rattle.logos_evidence.specs.declared.matching.Match.{Match}
+use Rattle.logos_evidence.specs.declared.matches.Match.{Match}
 use Rattle.logos_evidence.specs.Matching.{AreMatches, IsWinner}
 use Rattle.logos_graph.specs.View.{rules_of}
 use Rattle.logos_json.specs.Lines.{AreLines, LinesValue, Puts}
 use Rattle.logos_json.specs.Members.{bool_member, bytes_member, maybe_text, number_member, object}
 use Rattle.logos_pattern.specs.declared.leaf.Leaf.{Leaf}
 
--- A leaf, by its number and its variant.
+-- A leaf, as its number and its variant.
 abbrev pub named_leaf : List Leaf → ℕ → List Token
 named_leaf leaves leaf = number_member (codes "leaf") leaf ++ maybe_text (codes "variant") (variant_text leaves leaf)
 
--- How far a match from an offset goes, its text, and whether its leaf is the one that wins.
+-- The length of a match from an offset, its text, and whether its leaf is the winner.
 abbrev pub end_members : List ℕ → ℕ → ℕ → Match → List Token
 end_members input from winner m =
     number_member (codes "from") from ++ (number_member (codes "to") m.end ++ (bytes_member (codes "text") (bytes_between input from m.end)
@@ -27,7 +27,8 @@ match_lines leaves input from winner None = []
 match_lines leaves input from winner (Some m) =
     object (named_leaf leaves m.leaf ++ (number_member (codes "priority") m.priority ++ end_members input from winner m)) ∷ []
 
--- The lines of the longest match of each leaf that matches from an offset of an input were pushed.
+-- The lines of the longest match of each leaf that matches from an offset of an input were
+-- appended.
 pub record PutsMatches (leaves : List Leaf) (input : List ℕ) (from : ℕ) (old new : LinesValue) : Type 0 where
   pub matches : List Match
   pub all : AreMatches (rules_of leaves) input from matches

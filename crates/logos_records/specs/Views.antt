@@ -1,3 +1,3 @@
--- Definitions that clauses cite: those of `Words`, and those that name types of this crate.
-pub use Rattle.logos_records.specs.Words.{Gains, Puts, object}
-pub use Rattle.logos_records.specs.Items.{item_members, kind_members, place_members}
+-- Definitions that contracts cite: those of `Imports`, and those that name types of this crate.
+pub use Rattle.logos_records.specs.Imports.{Gains, Puts, object}
+pub use Rattle.logos_records.specs.Items.{item_members, kind_members, location_members}

@@ -1,12 +1,12 @@
-//! The object of a comparison of two lexers.
+//! The JSON object for a comparison of two lexers. Used by `logos_show`.
 
 ghost use Rattle.std.specs.Prelude.{◌≡◌, ◌++◌, ◌∷◌, [], codes, false, true};
-ghost use Rattle.logos_records.specs.Words.{Gains, Puts, bool_member, bytes_member, object, finding_member, mode_member};
+ghost use Rattle.logos_records.specs.Imports.{Gains, Puts, bool_member, bytes_member, object, finding_member, mode_member};
 
 use logos_answers::Finding;
 use logos_json::JsonLines;
 
-/// Appends that two lexers are the same.
+/// Appends the object for two equivalent lexers.
 pub fn push_same_record(lines: &mut JsonLines)
     ensures { Puts (object (bool_member (codes "same") true) ∷ []) lines.old lines.new }
 {
@@ -16,7 +16,7 @@ pub fn push_same_record(lines: &mut JsonLines)
     lines.end_line();
 }
 
-/// Appends an input on which two lexers differ, and what each of them finds there.
+/// Appends an input on which two lexers differ, and the finding of each of them.
 pub fn push_difference_record(
     lines: &mut JsonLines,
     input: &[u8],
@@ -36,7 +36,7 @@ pub fn push_difference_record(
     lines.end_line();
 }
 
-/// Appends what a lexer finds, as a member.
+/// Appends the finding of a lexer, as a member.
 fn push_finding(lines: &mut JsonLines, name: &str, finding: Finding<'_>)
     ensures { Gains (finding_member name.now finding.entry) lines.old lines.new }
 {
@@ -48,7 +48,7 @@ fn push_finding(lines: &mut JsonLines, name: &str, finding: Finding<'_>)
     lines.end_object();
 }
 
-/// Appends that two lexers differ in whether they read UTF-8.
+/// Appends the object for two lexers of which only one reads UTF-8.
 pub fn push_modes_record(lines: &mut JsonLines, one: bool, other: bool)
     ensures { Puts (object (bool_member (codes "same") false ++ (mode_member (codes "old") one
         ++ mode_member (codes "new") other)) ∷ []) lines.old lines.new }

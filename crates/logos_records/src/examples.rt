@@ -1,7 +1,7 @@
-//! The objects of what leaves find, and of where they lose.
+//! The JSON objects with the inputs that leaves find and lose. Used by `logos_show`.
 
 ghost use Rattle.std.specs.Prelude.{◌≡◌, ◌++◌, ◌∷◌, [], OnOk, codes, length, option_map};
-ghost use Rattle.logos_records.specs.Words.{loss_value, Gains, IsGraphOf, Puts, PutsExample, PutsExamples, bytes_member, example_members, loss_members, maybe_bytes, null_member, number_member, object};
+ghost use Rattle.logos_records.specs.Imports.{loss_value, Gains, IsGraphOf, Puts, PutsExample, PutsExamples, bytes_member, example_members, loss_members, maybe_bytes, null_member, number_member, object};
 
 use crate::matches::push_leaf_members;
 use logos_answers::{Evidence, Loss, evidence_of};
@@ -23,7 +23,7 @@ pub struct NamedGraph<'g, 's> {
 ///
 /// # Errors
 ///
-/// Returns `AllocError` if memory runs out. Some objects may be pushed then.
+/// Returns `AllocError` if memory runs out. Then some objects may have been appended.
 pub fn push_example_records(
     alloc: Global,
     lines: &mut JsonLines,
@@ -60,7 +60,7 @@ fn push_example_record(
     Ok(())
 }
 
-/// Appends what a leaf finds, and where it loses.
+/// Appends the inputs that a leaf finds and loses.
 fn push_evidence(lines: &mut JsonLines, evidence: &Evidence)
     ensures { Gains (example_members (option_map (λ input. input.items) evidence.now.found)
         (option_map loss_value evidence.now.loss)) lines.old lines.new }
@@ -69,7 +69,7 @@ fn push_evidence(lines: &mut JsonLines, evidence: &Evidence)
     push_loss(lines, &evidence.loss);
 }
 
-/// Appends what a leaf finds.
+/// Appends the input that a leaf finds.
 fn push_found(lines: &mut JsonLines, found: &Option<Vec<u8>>)
     ensures { Gains (maybe_bytes (codes "finds") (option_map (λ input. input.items) found.now))
         lines.old lines.new }
@@ -80,7 +80,7 @@ fn push_found(lines: &mut JsonLines, found: &Option<Vec<u8>>)
     }
 }
 
-/// Appends where a leaf loses, and to which leaf.
+/// Appends the input that a leaf loses, and the leaf that wins it.
 fn push_loss(lines: &mut JsonLines, loss: &Option<Loss>)
     ensures { Gains (loss_members (option_map loss_value loss.now)) lines.old lines.new }
 {
@@ -90,7 +90,7 @@ fn push_loss(lines: &mut JsonLines, loss: &Option<Loss>)
     }
 }
 
-/// Appends an input on which a leaf loses, and the leaf that takes it.
+/// Appends an input that a leaf loses, and the leaf that wins it.
 fn push_lost(lines: &mut JsonLines, input: &[u8], winner: usize)
     ensures { Gains (bytes_member (codes "loses") input.now ++ number_member (codes "taker") winner)
         lines.old lines.new }
@@ -99,7 +99,7 @@ fn push_lost(lines: &mut JsonLines, input: &[u8], winner: usize)
     lines.push_number("taker", winner);
 }
 
-/// Appends that a leaf never loses.
+/// Appends that a leaf never loses an input.
 fn push_no_loss(lines: &mut JsonLines)
     ensures { Gains (null_member (codes "loses") ++ null_member (codes "taker")) lines.old lines.new }
 {

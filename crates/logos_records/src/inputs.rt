@@ -1,7 +1,7 @@
-//! The objects of inputs that together pass all edges of a graph.
+//! The JSON objects for inputs that together take all edges of a graph. Used by `logos_show`.
 
 ghost use Rattle.std.specs.Prelude.{◌≡◌, ◌∷◌, [], IfOk, map};
-ghost use Rattle.logos_records.specs.Words.{flat_map, AreInputRecords, Puts, PutsInputs, input_lines, object};
+ghost use Rattle.logos_records.specs.Imports.{flat_map, AreInputRecords, Puts, PutsInputs, input_lines, object};
 
 use logos_answers::first_of;
 use logos_evidence::covering_inputs;
@@ -9,15 +9,15 @@ use logos_graph::graph::Graph;
 use logos_json::JsonLines;
 use std::alloc::{AllocError, Global};
 
-/// Lines about inputs, and how many inputs there are in all.
+/// Lines about inputs, and the number of all inputs.
 #[derive(Drop)]
 pub struct InputRecords {
     pub bytes: Vec<u8>,
     pub count: usize,
 }
 
-/// Returns the lines of the first inputs of those that together pass all edges of a graph, an
-/// object for each, at most `most` lines, and how many inputs there are in all.
+/// Returns one line with an object for each of the first `most` inputs that together take all edges
+/// of a graph, and the number of all these inputs.
 ///
 /// # Errors
 ///
@@ -36,8 +36,8 @@ pub fn input_records(
     Ok(InputRecords { bytes, count })
 }
 
-/// Appends an object for each of the first inputs of those that together pass all edges of a graph,
-/// at most `most` objects, and returns how many inputs there are in all.
+/// Appends an object for each of the first `most` inputs that together take all edges of a graph,
+/// and returns the number of all these inputs.
 fn push_input_records(
     alloc: Global,
     lines: &mut JsonLines,

@@ -1,16 +1,16 @@
-//! The object of an item.
+//! The JSON object for an item. Used by `logos_items`.
 
 ghost use Rattle.std.specs.Prelude.{◌≡◌, ◌∷◌, []};
-ghost use Rattle.logos_records.specs.Views.{Gains, Puts, object, item_members, kind_members, place_members};
+ghost use Rattle.logos_records.specs.Views.{Gains, Puts, object, item_members, kind_members, location_members};
 
 use logos_json::JsonLines;
-use logos_lines::Position;
+use logos_lines::Location;
 
-/// An item of an input, as its object shows it.
+/// An item of an input, with the values of its object.
 #[derive(Clone, Copy)]
 pub struct ItemRecord<'i> {
     /// The line and the column at which it begins.
-    pub position: Position,
+    pub location: Location,
     /// The offset at which it begins, in bytes.
     pub from: usize,
     /// The leaf of a match, or `None` for an error.
@@ -25,22 +25,22 @@ pub fn push_item_record(lines: &mut JsonLines, item: ItemRecord<'_>)
     ensures { Puts (object (item_members item.entry) ∷ []) lines.old lines.new }
 {
     lines.begin_object();
-    push_place_members(lines, item);
+    push_location_members(lines, item);
     push_kind_members(lines, item);
     lines.end_object();
     lines.end_line();
 }
 
-/// Appends where an item begins.
-fn push_place_members(lines: &mut JsonLines, item: ItemRecord<'_>)
-    ensures { Gains (place_members item.entry) lines.old lines.new }
+/// Appends the location of an item.
+fn push_location_members(lines: &mut JsonLines, item: ItemRecord<'_>)
+    ensures { Gains (location_members item.entry) lines.old lines.new }
 {
-    lines.push_number("line", item.position.line);
-    lines.push_number("column", item.position.column);
+    lines.push_number("line", item.location.line);
+    lines.push_number("column", item.location.column);
     lines.push_number("from", item.from);
 }
 
-/// Appends what an item is.
+/// Appends the leaf, the variant and the text of an item.
 fn push_kind_members(lines: &mut JsonLines, item: ItemRecord<'_>)
     ensures { Gains (kind_members item.entry) lines.old lines.new }
 {

@@ -1,7 +1,7 @@
-//! The objects of leaves, and of what a lexer costs.
+//! The JSON objects for leaves, and for the cost of a lexer. Used by `logos_show`.
 
 ghost use Rattle.std.specs.Prelude.{◌≡◌, ◌∷◌, []};
-ghost use Rattle.logos_records.specs.Words.{Gains, Puts, object, cost_members, leaf_members, leaf_objects, name_members, shape_members};
+ghost use Rattle.logos_records.specs.Imports.{Gains, Puts, object, cost_members, leaf_members, leaf_objects, name_members, shape_members};
 
 use logos_inspect::{Costs, LeafRow};
 use logos_json::JsonLines;
@@ -36,7 +36,7 @@ fn push_name_members(lines: &mut JsonLines, name: &str, number: usize, row: Leaf
     lines.push_text("kind", if row.is_token { "token" } else { "regex" });
 }
 
-/// Appends what is shown of a leaf beside its names.
+/// Appends the members of a leaf other than its names.
 fn push_shape_members(lines: &mut JsonLines, row: LeafRow<'_>)
     ensures { Gains (shape_members row.entry) lines.old lines.new }
 {
@@ -47,7 +47,7 @@ fn push_shape_members(lines: &mut JsonLines, row: LeafRow<'_>)
     lines.push_number("line", row.line);
 }
 
-/// Appends the object of what the lexer of an enum costs.
+/// Appends the object for the cost of the lexer of an enum.
 pub fn push_cost_record(lines: &mut JsonLines, name: &str, costs: Costs)
     ensures { Puts (object (cost_members name.now costs) ∷ []) lines.old lines.new }
 {

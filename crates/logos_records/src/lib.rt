@@ -1,5 +1,6 @@
-//! Answers about a lexer, as lines of JSON: its leaves, its items, what matches from a point, what
-//! a leaf finds, inputs that pass all of its edges, and whether two lexers are the same.
+//! Answers about a lexer, as lines of JSON: its leaves, its items, the matches from a point,
+//! examples for a leaf, inputs that take all of its edges, and whether two lexers are equivalent.
+//! Called by `logos_show` and `logos_items` for `--json`.
 
 #![tactic(auto)]
 

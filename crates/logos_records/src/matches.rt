@@ -1,7 +1,8 @@
-//! The objects of what matches from an offset of an input.
+//! The JSON objects for the matches from an offset of an input. Used by `examples` and
+//! `logos_show`.
 
 ghost use Rattle.std.specs.Prelude.{◌≡◌, ◌≤◌, IfOk, OnOk, Some, length};
-ghost use Rattle.logos_records.specs.Words.{flat_map, AllStart, AreMatchRecords, Gains, IsBytes, IsGraphOf, Puts, PutsMatches, rules_of, end_members, match_lines, named_leaf};
+ghost use Rattle.logos_records.specs.Imports.{flat_map, AllStart, AreMatchRecords, Gains, IsBytes, IsGraphOf, Puts, PutsMatches, rules_of, end_members, match_lines, named_leaf};
 
 use logos_answers::{bytes_between, longest_of, variant_at};
 use logos_evidence::{Match, matches_from, winner};
@@ -10,7 +11,8 @@ use logos_json::JsonLines;
 use logos_pattern::leaf::Leaf;
 use std::alloc::{AllocError, Global};
 
-/// An offset of an input, from which leaves match, and the leaf whose match a lexer takes.
+/// An offset of an input, with the leaves that may match from it, and the leaf whose match a lexer
+/// takes.
 #[derive(Clone, Copy)]
 struct StartRecord<'a, 's> {
     leaves: &'a [Leaf<'s>],
@@ -19,7 +21,7 @@ struct StartRecord<'a, 's> {
     winner: usize,
 }
 
-/// Returns the lines about what matches from an offset of an input: an object for each leaf that
+/// Returns the lines about the matches from an offset of an input: an object for each leaf that
 /// matches from there, with its longest match, and whether a lexer takes that match.
 ///
 /// # Errors
@@ -113,7 +115,7 @@ pub(crate) fn push_leaf_members(lines: &mut JsonLines, leaves: &[Leaf<'_>], leaf
     lines.push_maybe_text("variant", variant_at(leaves, leaf));
 }
 
-/// Appends how far a match goes, its text, and whether a lexer takes it.
+/// Appends the length of a match, its text, and whether a lexer takes it.
 fn push_end(lines: &mut JsonLines, start: StartRecord<'_, '_>, found: Match)
     ensures { Gains (end_members start.entry.input.now start.entry.from start.entry.winner found)
         lines.old lines.new }

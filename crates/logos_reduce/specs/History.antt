@@ -1,16 +1,16 @@
--- The history of the blocks of a reduced table, which gives evidence that its states differ.
+-- The history of the blocks of a reduced table, which yields evidence that its states differ.
 use Rattle.std.specs.Prelude.{◌≡◌, ◌≢◌, ◌<◌, ℕ, None, Some, length, vec_len, slice_index}
 use Rattle.logos_reduce.specs.Merge.{IsHistory}
 use Rattle.logos_reduce.specs.Table.{size, to}
 use Rattle.logos_reduce.specs.declared.reduction.Reduction.{Reduction}
 
--- How the blocks that the states stand for were made.
+-- The history of the blocks of the states.
 abbrev pub HistoryOf : Reduction → Type 0
 HistoryOf r = IsHistory r.table r.splits.items (slice_index r.blocks.items)
 
--- Different states stand for blocks that were parted, and a state that is entered by the end leads
+-- The blocks of different states were separated, and a state that is entered on the end leads
 -- nowhere.
-pub record GivesEvidence (r : Reduction) : Type 0 where
+pub record YieldsEvidence (r : Reduction) : Type 0 where
   pub history : HistoryOf r
   pub some : 0 < length r.splits.items
   pub states : vec_len r.blocks ≡ size r.table

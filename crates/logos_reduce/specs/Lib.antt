@@ -14,5 +14,5 @@ pub mod Reduction
 pub mod History
 pub mod Evidence
 pub mod inside
-pub mod Words
+pub mod Imports
 pub mod Views

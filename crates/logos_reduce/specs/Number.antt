@@ -6,31 +6,33 @@ use Rattle.logos_reduce.specs.Rows.{target_of}
 use Rattle.logos_reduce.specs.Table.{size, to, mark}
 use Rattle.logos_reduce.specs.declared.table.Table.{Table}
 
--- Symbol l at index r comes before symbol k at index i: the index decides, then the symbol.
+-- Symbol `l` at index `r` comes before symbol `k` at index `i`: the indexes are compared first,
+-- then the symbols.
 abbrev pub ComesBefore : ℕ → ℕ → ℕ → ℕ → Type 0
 ComesBefore r l i k = (r < i) ⊎ ((r ≡ i) × (l < k))
 
 module _ (edge : ℕ → ℕ → Option ℕ) where
-  -- The first edge into the block at index j is by symbol l from the one at index r, which is
-  -- lower.
+  -- The first edge into the block at index `j` is on the symbol `l` from the block at index `r`,
+  -- which is lower.
   pub record IsFirstInto (states : List ℕ) (j r l : ℕ) : Type 0 where
     pub lower : r < j
     pub enters : edge (slice_index states r) l ≡ Some (slice_index states j)
     pub none : (s k : ℕ) → ComesBefore s k r l →
         edge (slice_index states s) k ≡ Some (slice_index states j) → ⊥
 
-  -- All blocks to which edges before symbol k at index i lead are met, each in its turn.
+  -- All blocks to which edges before symbol `k` at index `i` lead are in the order, each in its
+  -- turn.
   pub record IsInTurn (numbers states : List ℕ) (i k : ℕ) : Type 0 where
     pub met : (r l b : ℕ) → r < length states → ComesBefore r l i k →
         edge (slice_index states r) l ≡ Some b → IsMet numbers b
-    pub place : ℕ → ℕ
+    pub slot : ℕ → ℕ
     pub symbol : ℕ → ℕ
-    pub first : (j : ℕ) → 0 < j → j < length states → IsFirstInto states j (place j) (symbol j)
-    pub passed : (j : ℕ) → 0 < j → j < length states → ComesBefore (place j) (symbol j) i k
+    pub first : (j : ℕ) → 0 < j → j < length states → IsFirstInto states j (slot j) (symbol j)
+    pub passed : (j : ℕ) → 0 < j → j < length states → ComesBefore (slot j) (symbol j) i k
     pub rises : (j h : ℕ) → 0 < j → j < h → h < length states →
-        ComesBefore (place j) (symbol j) (place h) (symbol h)
+        ComesBefore (slot j) (symbol j) (slot h) (symbol h)
 
--- Each block is that of a state.
+-- Each block is the block of a state.
 abbrev pub AreUsed : ℕ → (ℕ → ℕ) → List ℕ → Type 0
 AreUsed n block states = (i : ℕ) → i < length states →
     (s : ℕ) × (s < n) × (block s ≡ slice_index states i)

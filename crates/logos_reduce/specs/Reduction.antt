@@ -1,4 +1,4 @@
--- What a table is reduced to.
+-- The result of reducing a table.
 use Rattle.std.specs.Prelude.{◌≡◌, ◌≢◌, ◌<◌, ◌≤◌, ◌⊎◌, ℕ, List, Some, length}
 use Rattle.logos_reduce.specs.Merge.{IsMerged}
 use Rattle.logos_reduce.specs.Number.{IsNumbered}
@@ -12,21 +12,21 @@ use Rattle.logos_reduce.specs.declared.table.Table.{Table}
 -- The old table, with its marks settled, without its useless edges, and with its states merged, is
 -- numbered from the root on.
 pub record IsReductionOf (old : Table) (root : ℕ) (r : Reduction) : Type 0 where
-  -- The table with early marks, and without needless late ones.
+  -- The table with early marks, and without redundant late marks.
   pub marked : Table
   pub settled : IsSettled old marked
-  -- The same without the edges to states that have no mark and lead to none.
+  -- That table without the edges to states that have no mark and do not lead to one.
   pub useful : Table
   pub pruned : IsPrunedTable marked useful
   -- The block of each state, and a state of each block.
   pub block : ℕ → ℕ
   pub leader : ℕ → ℕ
   pub merged : IsMerged useful r.splits.items block leader
-  -- The blocks that the root leads to, as states.
+  -- The blocks to which the root leads, as states.
   pub numbered : IsNumbered useful block leader root r.blocks.items r.table
 
 module _ (table : Table) where
-  -- A word of fewer symbols than there are states distinguishes any two different states.
+  -- A word with fewer symbols than there are states distinguishes any two different states.
   abbrev pub IsLeast : Type 0
   IsLeast = (s t : ℕ) → s < size table → t < size table → s ≢ t →
       (word : List ℕ) × (length word < size table) × WordDistinguishes table s t word
@@ -36,13 +36,13 @@ module _ (table : Table) where
     pub edge : to table s k ≡ Some t
     pub first : (r l : ℕ) → to table r l ≡ Some t → (s < r) ⊎ ((s ≡ r) × (k ≤ l))
 
-  -- The first edges into 1, 2, 3 and on come in this order, each from a lower number.
+  -- The first edges into 1, 2, 3 and so on come in this order, each from a lower number.
   pub record IsInOrder : Type 0 where
     pub entered : (t : ℕ) → 0 < t → t < size table → (s k : ℕ) × (s < t) × IsFirstEdge t s k
     pub rises : (t u s k r l : ℕ) → 0 < t → t < u → IsFirstEdge t s k → IsFirstEdge u r l →
         (s < r) ⊎ ((s ≡ r) × (k < l))
 
-  -- Each state but the first has a mark or leads to one, and each late mark is needed at some edge.
+  -- Each state but the first has a mark or leads to one, and each late mark is needed on some edge.
   pub record IsSpareless : Type 0 where
     pub of_use : (s : ℕ) → 0 < s → s < size table → IsOfUse table s
     pub needed : (t leaf : ℕ) → (mark table t).accept ≡ Some leaf →

@@ -11,11 +11,11 @@ module _ (table : Table) where
   state_after (Some s) [] = Some s
   state_after (Some s) (k ∷ word) = state_after (to table s k) word
 
-  -- The mark of that state.
+  -- The mark of the state to which a word leads.
   abbrev pub outcome : ℕ → List ℕ → Option StateMarks
   outcome s word = option_map (mark table) (state_after (Some s) word)
 
   -- The word leads from the two states to different marks, or can be followed from exactly one of
-  -- them.
+  -- the two states.
   abbrev pub WordDistinguishes : ℕ → ℕ → List ℕ → Type 0
   WordDistinguishes s t word = outcome s word ≢ outcome t word

@@ -1,4 +1,4 @@
--- What a table says of the graph that it stands for.
+-- A table as the graph that it represents.
 use Rattle.std.specs.Prelude.{ℕ, List, Option, None, slice_index_or, vec_len}
 use Rattle.logos_reduce.specs.Edges.{StateType, Edges}
 use Rattle.logos_reduce.specs.Rows.{target_in}
@@ -10,11 +10,11 @@ use Rattle.logos_reduce.specs.declared.table.Table.{Table}
 abbrev pub mark_in : List StateMarks → ℕ → StateMarks
 mark_in marks s = slice_index_or marks s (record { accept = None; early = None })
 
--- How many states it has.
+-- The number of states of a table.
 abbrev pub size : Table → ℕ
 size table = vec_len table.marks
 
--- Where a state leads by a symbol.
+-- The target of a state on a symbol.
 abbrev pub to : Table → ℕ → ℕ → Option ℕ
 to table = target_in (rows_of table.rows)
 
@@ -25,7 +25,7 @@ mark table = mark_in table.marks.items
 abbrev pub type_of : StateMarks → StateType
 type_of m = record { accept = m.accept; early = m.early }
 
--- The graph that it stands for.
+-- The graph that a table represents.
 abbrev pub edges : Table → Edges ℕ
 edges table = record {
   type_of = λ s. type_of (mark table s);

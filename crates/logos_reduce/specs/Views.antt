@@ -1,7 +1,7 @@
--- Definitions that clauses cite: those of `Words`, and those that name types of this crate.
-pub use Rattle.logos_reduce.specs.Words.{AreFiled, AreHits, ArePredecessors, AreRising, AreSources, Grows, IsMarked, IsMet, Rises, has, has_in, target_by, target_in, target_of}
+-- Definitions that contracts cite: those of `Imports`, and those that name types of this crate.
+pub use Rattle.logos_reduce.specs.Imports.{AreFiled, AreHits, ArePredecessors, AreRising, AreSources, Grows, IsMarked, IsMet, Rises, has, has_in, target_by, target_in, target_of}
 pub use Rattle.logos_reduce.specs.Evidence.{Distinguishes, IsEvidence, mark_after, mark_with_end}
-pub use Rattle.logos_reduce.specs.History.{GivesEvidence}
+pub use Rattle.logos_reduce.specs.History.{YieldsEvidence}
 pub use Rattle.logos_reduce.specs.Merge.{AreLeaders, IsMerged, IsSound, target_block}
 pub use Rattle.logos_reduce.specs.Number.{AreUsed, IsInTurn, IsNumbered}
 pub use Rattle.logos_reduce.specs.Prune.{IsPrunedTable}

@@ -1,9 +1,8 @@
 //! Reduces a table of targets and marks to the least one, with its states numbered by first visit,
-//! and gives evidence that any two of them differ.
+//! and records how these were separated. `logos_graph` calls it for each graph.
 
 #![tactic(auto)]
 
-mod evidence;
 pub mod lists;
 pub mod merge;
 mod number;

@@ -1,4 +1,4 @@
-//! A list of states for each state or block. Merging and pruning go through them.
+//! For each state or block, a list of states. Merging and pruning use them.
 
 ghost use Rattle.std.specs.Prelude.{true, ◌≡◌, ◌≢◌, ℕ, ◌+◌, ◌-◌, ◌<◌, ◌≤◌, ◌⊎◌, Some, OnOk, IfOk, IsTrue, IsFalse, length, slice_get, vec_len, slice_index};
 ghost use Rattle.logos_reduce.specs.Views.{has, has_in, Rises, AreRising, ArePredecessors, target_by, size, to};
@@ -7,7 +7,7 @@ use crate::rows::{Row, WIDTH, run_end, target_at};
 use crate::table::Table;
 use std::alloc::{AllocError, Global};
 
-/// Returns so many empty lists.
+/// Returns `len` empty lists.
 pub fn empty_lists(alloc: Global, len: usize) -> Result<Vec<Vec<usize>>, AllocError>
     ensures len { IfOk result (λ v. vec_len v ≡ len) }
     ensures empty { IfOk result (λ v. (b s : ℕ) → has_in v.items b s ≡ true → ⊥) }
@@ -20,7 +20,7 @@ pub fn empty_lists(alloc: Global, len: usize) -> Result<Vec<Vec<usize>>, AllocEr
     Ok(lists)
 }
 
-/// Returns whether the last number of a list is this one.
+/// Returns whether the last number of a list is `s`.
 fn ends_with(list: &Vec<usize>, s: usize) -> bool
     ensures hit { IsTrue result → has list.now.items s ≡ true }
     ensures miss { IsFalse result → slice_get list.now.items (vec_len list.now - 1) ≢ Some s }
@@ -31,7 +31,7 @@ fn ends_with(list: &Vec<usize>, s: usize) -> bool
     }
 }
 
-/// Adds a number to a list, unless it is the last one there.
+/// Appends a number to a list, unless it is already the last one.
 pub fn add(list: &mut Vec<usize>, s: usize) -> Result<(), AllocError>
     ensures has { OnOk result (has list.new.items s ≡ true) }
     ensures stays { (t : ℕ) → has list.old.items t ≡ true → has list.new.items t ≡ true }
@@ -44,7 +44,7 @@ pub fn add(list: &mut Vec<usize>, s: usize) -> Result<(), AllocError>
     Ok(())
 }
 
-/// Adds a state to the list at an index, unless it is the last one there.
+/// Appends a state to the list at an index, unless it is already the last one.
 pub fn file(lists: &mut Vec<Vec<usize>>, b: usize, s: usize) -> Result<(), AllocError>
     requires { b < vec_len lists.old }
     ensures len { vec_len lists.new ≡ vec_len lists.old }
@@ -59,7 +59,7 @@ pub fn file(lists: &mut Vec<Vec<usize>>, b: usize, s: usize) -> Result<(), Alloc
     Ok(())
 }
 
-/// Adds a state to the list of a target, if there is one.
+/// Appends a state to the list of a target, if there is one.
 fn file_target(
     lists: &mut Vec<Vec<usize>>,
     target: Option<usize>,
@@ -80,7 +80,7 @@ fn file_target(
     Ok(())
 }
 
-/// Adds a state to the list of each of its targets by the first `width` symbols.
+/// Appends a state to the list of each of its targets on the first `width` symbols.
 fn file_row(
     lists: &mut Vec<Vec<usize>>,
     row: &Row,
@@ -107,8 +107,8 @@ fn file_row(
     Ok(())
 }
 
-/// Returns for each state the states that lead to it by one of the first `width` symbols, ascending
-/// and each once.
+/// Returns for each state the states that lead to it on one of the first `width` symbols, ascending
+/// and without duplicates.
 pub fn predecessors(
     alloc: Global,
     table: &Table,
@@ -127,7 +127,7 @@ pub fn predecessors(
     Ok(lists)
 }
 
-/// Returns for each of the numbers what the table has there.
+/// Returns the entries of the table at these numbers.
 pub fn looked_up(
     alloc: Global,
     table: &Vec<usize>,

@@ -18,7 +18,7 @@ use crate::rows::{Row, WIDTH, same_until, target_at};
 use crate::table::Table;
 use std::alloc::{AllocError, Global};
 
-/// Returns the first symbol by which two rows do not lead to one block.
+/// Returns the first symbol on which two rows lead to different blocks.
 fn first_difference(row: &Row, other: &Row, blocks: &Vec<usize>) -> Option<usize>
     requires row { (k t : ℕ) → target_by row.now k ≡ Some t → t < vec_len blocks.now }
     requires other { (k t : ℕ) → target_by other.now k ≡ Some t → t < vec_len blocks.now }
@@ -39,8 +39,7 @@ fn first_difference(row: &Row, other: &Row, blocks: &Vec<usize>) -> Option<usize
     None
 }
 
-/// A state and a symbol by which it does not lead to the block to which the leader of its block
-/// does.
+/// A state, and a symbol on which it leads to another block than the leader of its own block does.
 #[derive(Clone, Copy, Drop)]
 struct Difference {
     leader: usize,
@@ -48,7 +47,8 @@ struct Difference {
     symbol: usize,
 }
 
-/// Returns a state that does not lead where the leader of its block does, if there is one.
+/// Returns a state that leads to another block than the leader of its own block does, if there is
+/// one.
 fn find_difference(table: &Table, blocks: &Vec<usize>, leaders: &Vec<usize>) -> Option<Difference>
     requires len { vec_len blocks.now ≡ size table.now }
     requires within { (s : ℕ) → s < size table.now →
@@ -78,16 +78,16 @@ fn find_difference(table: &Table, blocks: &Vec<usize>, leaders: &Vec<usize>) -> 
     None
 }
 
-/// A cut of a block: its states that lead to one block by a symbol, or nowhere, go into a new
+/// A cut of a block: its states that lead to one block on a symbol, or to none, go into a new
 /// block.
 #[derive(Clone, Copy, Drop)]
 struct Cut {
     /// The block that is cut.
     home: usize,
     symbol: usize,
-    /// The block to which the states lead that leave it.
+    /// The block to which the states that leave `home` lead, or `None` if they lead to none.
     to: Option<usize>,
-    /// The number of their new block.
+    /// The number of the new block.
     fresh: usize,
 }
 
@@ -130,7 +130,8 @@ fn parts(
     Ok(parts)
 }
 
-/// Moves a state, and those of its block that lead where it leads by the symbol, into a new block.
+/// Moves a state, and the states of its block that lead to the same block on the symbol, into a new
+/// block.
 fn split_off(
     alloc: Global,
     table: &Table,
@@ -175,8 +176,8 @@ pub struct Partition {
     pub leaders: Vec<usize>,
 }
 
-/// Returns the blocks of the states that no word distinguishes. States with one mark and one row
-/// are one state here.
+/// Returns the blocks of the states that no word distinguishes. If many states have equal marks and
+/// equal rows, these are first grouped into classes.
 pub fn merge(alloc: Global, table: &Table) -> Result<Partition, AllocError>
     ensures len { IfOk result (λ m. vec_len m.blocks.of ≡ size table.now) }
     ensures leaders_len { IfOk result (λ m. vec_len m.leaders ≡ vec_len m.blocks.splits) }

@@ -10,7 +10,7 @@ use crate::rows::{Row, Rows, WIDTH, fill_run, run_end, target_at};
 use crate::table::{StateMarks, Table};
 use std::alloc::{AllocError, Global};
 
-/// Adds a block to the order, if there is one and it is not there yet.
+/// Appends a block to the order, if there is one and it is not in the order yet.
 fn meet_target(order: &mut Order, target: Option<usize>) -> Result<(), AllocError>
     requires { (b : ℕ) → target ≡ Some b → b < vec_len order.old.numbers }
     ensures len { vec_len order.new.numbers ≡ vec_len order.old.numbers }
@@ -26,14 +26,14 @@ fn meet_target(order: &mut Order, target: Option<usize>) -> Result<(), AllocErro
     Ok(())
 }
 
-/// Adds the blocks to which the block at index `i` leads.
+/// Appends the blocks to which the block at index `i` leads.
 fn meet_targets(
     order: &mut Order,
     table: &Table,
     merged: &Partition,
     i: usize,
 ) -> Result<(), AllocError>
-    requires place { i < vec_len order.old.states }
+    requires slot { i < vec_len order.old.states }
     requires len { vec_len merged.now.blocks.of ≡ size table.now }
     requires room { vec_len merged.now.leaders ≡ vec_len order.old.numbers }
     requires within { (s : ℕ) → s < size table.now →
@@ -123,7 +123,7 @@ fn numbered_row(row: &Row, blocks: &Vec<usize>, numbers: &Vec<usize>) -> Row
     numbered
 }
 
-/// Returns the entry for the number of the block of a target, or 0 where there is no target.
+/// Returns the entry for the number of the block of a target, or 0 if there is no target.
 fn numbered_entry(target: Option<usize>, blocks: &Vec<usize>, numbers: &Vec<usize>) -> u32
     requires inside { (t : ℕ) → target ≡ Some t → t < vec_len blocks.now }
     requires within { (s : ℕ) → s < vec_len blocks.now →
@@ -196,11 +196,11 @@ fn numbered_marks(
     Ok(marks)
 }
 
-/// A table with the blocks of another one as its states, and the block that each of them is.
+/// A table with the blocks of another one as its states, and the mapping between them.
 #[derive(Drop)]
 pub struct Numbering {
     pub table: Table,
-    /// For each state of the table its block.
+    /// For each state of the table, its block.
     pub states: Vec<usize>,
 }
 

@@ -1,23 +1,23 @@
-//! States in the order in which they are met. Pruning collects the states to keep in one, and
-//! numbering those that it meets.
+//! States in the order in which they are visited. Pruning collects the states that remain in an
+//! `Order`, and numbering the states that it visits.
 
 ghost use Rattle.std.specs.Prelude.{true, ◌≡◌, ℕ, ◌+◌, ◌<◌, ◌++◌, ◌∷◌, ◌⊎◌, [], OnOk, IfOk, length, vec_len, slice_index};
-ghost use Rattle.logos_reduce.specs.Words.{IsOrder, IsMet, Grows};
+ghost use Rattle.logos_reduce.specs.Imports.{IsOrder, IsMet, Grows};
 
 use std::alloc::{AllocError, Global};
 
-/// States, each once, in the order in which they were met.
+/// States without duplicates, in the order in which they were visited.
 #[derive(Drop)]
 pub struct Order {
-    /// For each state one more than its index, or 0 where it was not met.
+    /// For each state one more than its index, or 0 if it was not visited.
     pub numbers: Vec<usize>,
-    /// The states that were met, in their order.
+    /// The states that were visited, in order.
     pub states: Vec<usize>,
     ghost in_order: { IsOrder numbers.items states.items },
 }
 
 impl Order {
-    /// Returns an order without states, of so many that can be met.
+    /// Returns an empty order for `len` states.
     pub fn new(alloc: Global, len: usize) -> Result<Order, AllocError>
         ensures len { IfOk result (λ o. vec_len o.numbers ≡ len) }
         ensures empty { IfOk result (λ o. o.states.items ≡ []) }
@@ -30,7 +30,7 @@ impl Order {
         })
     }
 
-    /// Returns one more than the index of a state, or 0 where it was not met.
+    /// Returns one more than the index of a state, or 0 if it was not visited.
     pub fn number_of(&self, s: usize) -> usize
         ensures { result ≡ slice_index self.now.numbers.items s }
     {
@@ -40,7 +40,7 @@ impl Order {
         0
     }
 
-    /// Adds a state at the end of the order, if it is not there yet.
+    /// Appends a state to the order, if it is not in the order yet.
     pub fn meet(&mut self, s: usize) -> Result<(), AllocError>
         requires { s < vec_len self.old.numbers }
         ensures len { vec_len self.new.numbers ≡ vec_len self.old.numbers }
@@ -60,7 +60,7 @@ impl Order {
         Ok(())
     }
 
-    /// Adds a state at the end of the order, if it is wanted and not there yet.
+    /// Appends a state to the order, if `wanted` is `true` and the state is not in the order yet.
     pub fn meet_if(&mut self, s: usize, wanted: bool) -> Result<(), AllocError>
         requires { s < vec_len self.old.numbers }
         ensures len { vec_len self.new.numbers ≡ vec_len self.old.numbers }

@@ -1,5 +1,5 @@
-//! Leaves out the edges to states that have no mark and lead to none. It is the second step of the
-//! reduction, once marks are settled.
+//! Removes the edges to states that have no mark and do not lead to one. It is the second step of
+//! the reduction, after marks are settled.
 
 ghost use Rattle.std.specs.Prelude.{true, ◌≡◌, ℕ, ◌+◌, ◌<◌, ◌≤◌, ◌↔◌, ◌⊎◌, Some, OnOk, IfOk, IsTrue, IsSome, length, vec_len, slice_index};
 ghost use Rattle.logos_reduce.specs.Views.{has, IsMet, Grows, IsMarked, target_by, target_of, target_in, size, to, mark, type_of, IsSeed, AreUseful, met_target, IsPrunedTable, rows_of};
@@ -11,14 +11,14 @@ use crate::rows::{END, Row, Rows, WIDTH, run_end, set_run, target_at};
 use crate::table::{StateMarks, Table};
 use std::alloc::{AllocError, Global};
 
-/// Returns whether there is a mark.
+/// Returns whether a state with this mark accepts a leaf, early or late.
 fn is_marked(mark: StateMarks) -> bool
     ensures { IsTrue result ↔ IsMarked (type_of mark) }
 {
     mark.early.is_some() || mark.accept.is_some()
 }
 
-/// Returns whether a state has a mark, or leads to one by the end.
+/// Returns whether a state has a mark, or leads to one on the end.
 fn is_seed(table: &Table, s: usize) -> bool
     requires { s < size table.now }
     ensures { IsTrue result ↔ IsSeed table.now s }
@@ -32,7 +32,7 @@ fn is_seed(table: &Table, s: usize) -> bool
     }
 }
 
-/// Returns the states that have a mark, or lead to one by the end.
+/// Returns the states that have a mark, or lead to one on the end.
 fn seeds(alloc: Global, table: &Table) -> Result<Order, AllocError>
     ensures len { IfOk result (λ o. vec_len o.numbers ≡ size table.now) }
     ensures only { IfOk result (λ o. (s : ℕ) → IsMet o.numbers.items s → IsSeed table.now s) }
@@ -46,7 +46,7 @@ fn seeds(alloc: Global, table: &Table) -> Result<Order, AllocError>
     Ok(order)
 }
 
-/// Meets all states of a list.
+/// Visits all states of a list.
 fn meet_all(order: &mut Order, list: &Vec<usize>) -> Result<(), AllocError>
     requires { (s : ℕ) → has list.now.items s ≡ true → s < vec_len order.old.numbers }
     ensures len { vec_len order.new.numbers ≡ vec_len order.old.numbers }
@@ -78,7 +78,7 @@ fn useful_states(alloc: Global, table: &Table) -> Result<Order, AllocError>
     Ok(order)
 }
 
-/// Drops the targets of a row that are not in the order.
+/// Removes the targets of a row that are not in the order.
 fn prune_row(row: &mut Row, order: &Order)
     ensures len { length row.new ≡ WIDTH }
     ensures pruned { (k : ℕ) → target_by row.new k
@@ -93,7 +93,7 @@ fn prune_row(row: &mut Row, order: &Order)
     }
 }
 
-/// Returns the entry of the row, or 0 where its target is not in the order.
+/// Returns the entry of the row, or 0 if its target is not in the order.
 fn pruned_entry(row: &Row, k: usize, order: &Order) -> u32
     requires { k < WIDTH }
     ensures { target_of result ≡ met_target order.now.numbers.items (target_by row.now k) }
@@ -104,7 +104,7 @@ fn pruned_entry(row: &Row, k: usize, order: &Order) -> u32
     }
 }
 
-/// Drops the targets of rows that are not in the order.
+/// Removes the targets of rows that are not in the order.
 fn prune_all(rows: &mut Vec<Row>, order: &Order)
     ensures len { vec_len rows.new ≡ vec_len rows.old }
     ensures wide { AreWide rows.old.items → AreWide rows.new.items }
@@ -123,14 +123,14 @@ fn pruned_rows(rows: Rows, order: &Order) -> Rows
         ≡ met_target order.now.numbers.items (target_in (rows_of rows) s k) }
 {
     let Rows {
-        places,
+        slots,
         mut distinct,
     } = rows;
     prune_all(&mut distinct.keys, order);
-    Rows { places, distinct }
+    Rows { slots, distinct }
 }
 
-/// Returns the table without the edges to states that have no mark and lead to none.
+/// Returns the table without the edges to states that have no mark and do not lead to one.
 pub fn prune(alloc: Global, table: Table) -> Result<Table, AllocError>
     ensures { IfOk result (IsPrunedTable table) }
 {

@@ -1,7 +1,7 @@
 //! Reduces a table. `logos_graph` calls it with the table of an automaton.
 
 ghost use Rattle.std.specs.Prelude.{◌<◌, IfOk};
-ghost use Rattle.logos_reduce.specs.Views.{IsRaw, IsReductionOf, IsLeast, IsInOrder, IsSpareless, size, GivesEvidence};
+ghost use Rattle.logos_reduce.specs.Views.{IsRaw, IsReductionOf, IsLeast, IsInOrder, IsSpareless, size, YieldsEvidence};
 
 use crate::merge::blocks::{Blocks, Split};
 use crate::merge::{Partition, merge};
@@ -11,35 +11,35 @@ use crate::settle::settle;
 use crate::table::Table;
 use std::alloc::{AllocError, Global};
 
-/// A reduced table, and how its states were parted.
+/// A reduced table, and the history of the blocks that are its states.
 #[derive(Drop)]
 pub struct Reduction {
     /// The states, numbered by first visit from the root, which is 0.
     pub table: Table,
-    /// For each state the block that it stands for.
-    pub(crate) blocks: Vec<usize>,
-    /// How each block was parted from one with a lower number.
-    pub(crate) splits: Vec<Split>,
+    /// For each state, its block.
+    pub blocks: Vec<usize>,
+    /// For each block, how it was separated from one with a lower number.
+    pub splits: Vec<Split>,
 }
 
-/// Returns the least table that has the marks of this one, from the root on.
+/// Returns the least table that has the same marks after the same bytes from the root on.
 ///
-/// Early marks are set, and late marks that they make needless are dropped; edges to states that
-/// have no mark and lead to none are left out; states that no word distinguishes are merged; and
-/// the states that the root leads to are numbered by first visit. Where each state can be reached,
-/// and there are only late marks, and none after the end, each state is of use, and `evidence`
-/// finds bytes that distinguish two of them.
+/// Early marks are set, and late marks that they make redundant are removed; edges to states that
+/// have no mark and do not lead to one are removed; states that no word distinguishes are merged;
+/// and the states to which the root leads are numbered by first visit. If each state can be
+/// reached, and there are only late marks, and none after the end, then each state is needed, and
+/// `splits` yields bytes that distinguish any two of them.
 ///
 /// # Errors
 ///
-/// `AllocError` where memory runs out.
+/// Returns `AllocError` if memory runs out.
 pub fn reduce(alloc: Global, table: Table, root: usize) -> Result<Reduction, AllocError>
     requires { root < size table }
     ensures made { IfOk result (IsReductionOf table root) }
     ensures least { IfOk result (λ r. IsLeast r.table) }
     ensures in_order { IfOk result (λ r. IsInOrder r.table) }
     ensures spareless { IfOk result (λ r. IsRaw table root → IsSpareless r.table) }
-    ensures evidence { IfOk result (λ r. IsRaw table root → GivesEvidence r) }
+    ensures evidence { IfOk result (λ r. IsRaw table root → YieldsEvidence r) }
 {
     let settled = settle(alloc, table)?;
     let pruned = prune(alloc, settled)?;

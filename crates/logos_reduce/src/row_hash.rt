@@ -1,14 +1,14 @@
-//! A hash of a row of targets, by which rows are found again: no proof about rows depends on it.
+//! A hash of a row of targets, with which equal rows are found. No proof about rows depends on it.
 //!
-//! Each entry is mixed with a key of its own, and what this gives is summed up. So the entries of a
-//! row do not wait for each other, and some are mixed at once.
+//! Each entry is mixed with its own key, and the results are summed. The entries of a row are
+//! therefore independent of each other, and several are mixed at once.
 
 use crate::rows::{Row, WIDTH};
 
 /// An odd number whose bits look random.
 const MULTIPLIER: u32 = 0x9e37_79b1;
 
-/// What the key of an entry is more than that of the one before.
+/// The difference between the keys of two neighboring entries.
 const STEP: u32 = 0x85eb_ca77;
 
 /// An odd number of 64 bits that look random.

@@ -1,5 +1,5 @@
-//! A list of rows of targets, which keeps equal rows once where it can. The table of an automaton
-//! has one, and so has each table that the reduction makes of it.
+//! A list of rows of targets, which stores equal rows once if it finds them. The table of an
+//! automaton has such a list, and so does each table that the reduction makes from it.
 
 ghost use Rattle.std.specs.Prelude.{◌≡◌, ◌≢◌, ℕ, ◌<◌, ◌≤◌, ◌+◌, ◌++◌, ◌∷◌, [], IfOk, IfSome, IsTrue, OnOk, length, vec_len, slice_index, slice_index_or};
 ghost use Rattle.logos_reduce.specs.Rows.{AreSame, AreWide, HasOnly, target_by};
@@ -11,32 +11,32 @@ use std::collections::HashMap;
 /// The number of symbols: the bytes, and the end.
 pub const WIDTH: usize = 257;
 
-/// The symbol that stands for the end.
+/// The symbol for the end.
 pub const END: usize = 256;
 
-/// For each symbol its target: 0 where there is none, and else one more than the number of the
+/// The target for each symbol: 0 if there is none, and otherwise one more than the number of the
 /// state. The symbols are the bytes, and then the end.
 pub type Row = [u32; WIDTH];
 
-/// Rows that differ from each other, but where two of them have one hash.
+/// Rows without duplicates, unless two different rows have the same hash.
 #[derive(Drop)]
 pub struct DistinctRows {
-    /// The rows, each once where it was found again.
+    /// The rows.
     pub(crate) keys: Vec<Row>,
-    /// For the hash that a row had when it was added its index.
+    /// The index of a row for the hash that the row had when it was added.
     found: HashMap<u64, usize>,
 }
 
 /// A list of rows.
 #[derive(Drop)]
 pub struct Rows {
-    /// For each row of the list its index among the distinct ones.
-    pub(crate) places: Vec<usize>,
-    /// The rows of the list, with few of them twice.
+    /// For each row of the list, its index among the distinct rows.
+    pub(crate) slots: Vec<usize>,
+    /// The distinct rows of the list.
     pub(crate) distinct: DistinctRows,
     ghost wide: { AreWide distinct.keys.items },
-    ghost placed: { (i : ℕ) → i < vec_len places →
-        slice_index places.items i < length distinct.keys.items },
+    ghost placed: { (i : ℕ) → i < vec_len slots →
+        slice_index slots.items i < length distinct.keys.items },
 }
 
 impl Rows {
@@ -47,7 +47,7 @@ impl Rows {
         ensures { rows_of result ≡ [] }
     {
         Rows {
-            places: Vec::new(alloc),
+            slots: Vec::new(alloc),
             distinct: DistinctRows {
                 keys: Vec::new(alloc),
                 found: HashMap::new(alloc),
@@ -55,11 +55,11 @@ impl Rows {
         }
     }
 
-    /// Returns how many rows the list has.
+    /// Returns the number of rows of the list.
     pub fn len(&self) -> usize
         ensures { result ≡ length (rows_of self.now) }
     {
-        self.places.len()
+        self.slots.len()
     }
 
     /// Returns the row at an index.
@@ -67,18 +67,18 @@ impl Rows {
         requires { i < length (rows_of self.now) }
         ensures { result.now ≡ slice_index_or (rows_of self.now) i [] }
     {
-        &self.distinct.keys[self.places[i]]
+        &self.distinct.keys[self.slots[i]]
     }
 
     /// Returns the index of row `i` among the distinct rows.
-    pub fn place(&self, i: usize) -> usize
+    pub fn slot(&self, i: usize) -> usize
         requires { i < length (rows_of self.now) }
-        ensures { result ≡ slice_index self.now.places.items i }
+        ensures { result ≡ slice_index self.now.slots.items i }
     {
-        self.places[i]
+        self.slots[i]
     }
 
-    /// Returns how many distinct rows the list has.
+    /// Returns the number of distinct rows.
     pub(crate) fn count(&self) -> usize
         ensures { result ≡ length self.now.distinct.keys.items }
     {
@@ -86,70 +86,70 @@ impl Rows {
     }
 
     /// Returns the distinct row at an index.
-    pub(crate) fn distinct(&self, place: usize) -> &Row
-        requires { place < length self.now.distinct.keys.items }
-        ensures { result.now ≡ slice_index_or self.now.distinct.keys.items place [] }
+    pub(crate) fn distinct(&self, slot: usize) -> &Row
+        requires { slot < length self.now.distinct.keys.items }
+        ensures { result.now ≡ slice_index_or self.now.distinct.keys.items slot [] }
     {
-        &self.distinct.keys[place]
+        &self.distinct.keys[slot]
     }
 
-    /// Returns the index of a row among the distinct ones, if it is found by its hash.
+    /// Returns the index of a row among the distinct rows, if it is found by its hash.
     fn find(&self, row: &Row, hash: u64) -> Option<usize>
-        ensures { IfSome result (λ place. (place < vec_len self.now.distinct.keys)
-            × (slice_index_or self.now.distinct.keys.items place [] ≡ row.now)) }
+        ensures { IfSome result (λ slot. (slot < vec_len self.now.distinct.keys)
+            × (slice_index_or self.now.distinct.keys.items slot [] ≡ row.now)) }
     {
-        let place = *self.distinct.found.get(&hash)?;
-        if place < self.distinct.keys.len() && self.distinct.keys[place] == *row {
-            return Some(place);
+        let slot = *self.distinct.found.get(&hash)?;
+        if slot < self.distinct.keys.len() && self.distinct.keys[slot] == *row {
+            return Some(slot);
         }
         None
     }
 
-    /// Adds a row to the distinct ones.
+    /// Appends a row to the distinct rows.
     fn add(&mut self, row: &Row, hash: u64) -> Result<usize, AllocError>
-        ensures places { self.new.places ≡ self.old.places }
-        ensures place { IfOk result (λ place. place ≡ vec_len self.old.distinct.keys) }
+        ensures slots { self.new.slots ≡ self.old.slots }
+        ensures slot { IfOk result (λ slot. slot ≡ vec_len self.old.distinct.keys) }
         ensures rows { OnOk result
             (self.new.distinct.keys.items ≡ self.old.distinct.keys.items ++ row.now ∷ []) }
     {
-        let place = self.distinct.keys.len();
+        let slot = self.distinct.keys.len();
         self.distinct.keys.push(*row)?;
-        self.distinct.found.insert(hash, place)?;
-        Ok(place)
+        self.distinct.found.insert(hash, slot)?;
+        Ok(slot)
     }
 
-    /// Returns the index of a row among the distinct ones, to which it is added if need be.
-    fn place_of(&mut self, row: &Row) -> Result<usize, AllocError>
-        ensures places { self.new.places ≡ self.old.places }
-        ensures place { IfOk result (λ place. (place < vec_len self.new.distinct.keys)
-            × (slice_index_or self.new.distinct.keys.items place [] ≡ row.now)) }
+    /// Returns the index of a row among the distinct rows. The row is added if it is not found.
+    fn slot_of(&mut self, row: &Row) -> Result<usize, AllocError>
+        ensures slots { self.new.slots ≡ self.old.slots }
+        ensures slot { IfOk result (λ slot. (slot < vec_len self.new.distinct.keys)
+            × (slice_index_or self.new.distinct.keys.items slot [] ≡ row.now)) }
         ensures rows { OnOk result ((i : ℕ) → i < vec_len self.old.distinct.keys →
             slice_index_or self.new.distinct.keys.items i []
             ≡ slice_index_or self.old.distinct.keys.items i []) }
         ensures len { OnOk result (vec_len self.old.distinct.keys ≤ vec_len self.new.distinct.keys) }
     {
         let hash = row_hash(row);
-        if let Some(place) = self.find(row, hash) {
-            return Ok(place);
+        if let Some(slot) = self.find(row, hash) {
+            return Ok(slot);
         }
         self.add(row, hash)
     }
 
-    /// Adds a row at the end.
+    /// Appends a row.
     ///
     /// # Errors
     ///
-    /// `AllocError` where there is no memory for the row.
+    /// Returns `AllocError` if memory runs out.
     pub fn push(&mut self, row: &Row) -> Result<(), AllocError>
         ensures { OnOk result (rows_of self.new ≡ rows_of self.old ++ row.now ∷ []) }
     {
-        let place = self.place_of(row)?;
-        self.places.push(place)?;
+        let slot = self.slot_of(row)?;
+        self.slots.push(slot)?;
         Ok(())
     }
 }
 
-/// Returns the target of a row by a symbol.
+/// Returns the target of a row on the symbol `k`.
 pub fn target_at(row: &Row, k: usize) -> Option<usize>
     requires { k < WIDTH }
     ensures { result ≡ target_by row.now k }
@@ -158,10 +158,10 @@ pub fn target_at(row: &Row, k: usize) -> Option<usize>
     if entry == 0 { None } else { Some(entry - 1) }
 }
 
-/// How many entries are looked at together.
+/// The number of entries that are compared together.
 const GROUP: usize = 16;
 
-/// Returns whether a group of entries, from an index on, has only this entry.
+/// Returns whether all entries of the group from the index `from` on equal `entry`.
 #[inline(always)]
 fn is_filled(row: &Row, from: usize, entry: u32) -> bool
     requires { from + GROUP ≤ WIDTH }
@@ -174,8 +174,8 @@ fn is_filled(row: &Row, from: usize, entry: u32) -> bool
     !differs
 }
 
-/// Returns an index up to which the row has only the entry that it has at `start`. It goes past
-/// whole groups.
+/// Returns an index up to which all entries of the row equal the entry at `start`. Only whole
+/// groups are compared.
 fn past_groups(row: &Row, start: usize) -> usize
     requires { start < WIDTH }
     ensures after { (start < result) × (result ≤ WIDTH) }
@@ -205,7 +205,7 @@ pub(crate) fn run_end(row: &Row, start: usize) -> usize
     end
 }
 
-/// Sets the entries from an index on, up to another.
+/// Sets the entries from an index on, up to another one.
 pub(crate) fn fill_run(row: &mut Row, from: usize, to: usize, entry: u32)
     requires { (from ≤ to) × (to ≤ WIDTH) }
     ensures len { length row.new ≡ WIDTH }
@@ -218,7 +218,7 @@ pub(crate) fn fill_run(row: &mut Row, from: usize, to: usize, entry: u32)
     }
 }
 
-/// Sets the entries of a run of equal ones, if they are to change.
+/// Sets the entries of a run of equal entries, if they change.
 pub(crate) fn set_run(row: &mut Row, from: usize, to: usize, entry: u32)
     requires within { (from < to) × (to ≤ WIDTH) }
     requires run { HasOnly row.old from to (slice_index row.old from) }
@@ -232,7 +232,7 @@ pub(crate) fn set_run(row: &mut Row, from: usize, to: usize, entry: u32)
     }
 }
 
-/// Returns whether two rows have the same entries in a group, from an index on.
+/// Returns whether two rows have equal entries in the group from the index `from` on.
 #[inline(always)]
 fn are_same(row: &Row, other: &Row, from: usize) -> bool
     requires { from + GROUP ≤ WIDTH }
@@ -245,8 +245,8 @@ fn are_same(row: &Row, other: &Row, from: usize) -> bool
     !differ
 }
 
-/// Returns an index up to which two rows have the same entries, from `start` on. It goes past
-/// whole groups.
+/// Returns an index up to which two rows have equal entries, from `start` on. Only whole groups are
+/// compared.
 fn past_same_groups(row: &Row, other: &Row, start: usize) -> usize
     requires { start ≤ WIDTH }
     ensures after { (start ≤ result) × (result ≤ WIDTH) }

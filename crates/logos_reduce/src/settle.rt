@@ -1,5 +1,5 @@
-//! Sets early marks, and drops the late marks that they make needless. It is the first step of the
-//! reduction.
+//! Sets early marks, and removes the late marks that they make redundant. It is the first step of
+//! the reduction.
 
 ghost use Rattle.std.specs.Prelude.{◌≡◌, ◌≢◌, ℕ, ◌+◌, ◌<◌, ◌↔◌, ◌⊎◌, None, Some, IfOk, length, vec_len, slice_index_or, if◌then◌else◌};
 ghost use Rattle.logos_reduce.specs.Views.{size, to, mark, mark_in, IsNeeded, IsSpare, IsSettled, accepted_in, IsCommonIn, AreCommonIn, AreCommon, IsSet, AreNeeded, IsMarkedBy};
@@ -8,7 +8,7 @@ use crate::rows::{END, Row, WIDTH, run_end, target_at};
 use crate::table::{StateMarks, Table};
 use std::alloc::{AllocError, Global};
 
-/// Returns the leaf that is accepted where a row leads by a symbol.
+/// Returns the leaf that is accepted by the target of a row on the symbol `k`.
 fn accepted_by(table: &Table, row: &Row, k: usize) -> Option<usize>
     requires { k < WIDTH }
     ensures { result ≡ accepted_in table.now row.now k }
@@ -16,8 +16,8 @@ fn accepted_by(table: &Table, row: &Row, k: usize) -> Option<usize>
     table.accept(target_at(row, k)?)
 }
 
-/// Returns the leaf that is accepted wherever a row leads, if every byte and the end lead
-/// somewhere.
+/// Returns the leaf that is accepted by all targets of a row, if every byte and the end have a
+/// target.
 fn common_leaf(table: &Table, row: &Row) -> Option<usize>
     ensures { IsCommonIn table.now row.now result }
 {
@@ -30,7 +30,7 @@ fn common_leaf(table: &Table, row: &Row) -> Option<usize>
     Some(leaf)
 }
 
-/// Returns for each distinct row the leaf that is accepted wherever it leads.
+/// Returns for each distinct row the leaf that is accepted by all its targets.
 fn common_leaves(alloc: Global, table: &Table) -> Result<Vec<Option<usize>>, AllocError>
     ensures len { IfOk result (λ v. vec_len v ≡ length table.now.rows.distinct.keys.items) }
     ensures leaves { IfOk result (λ v.
@@ -38,8 +38,8 @@ fn common_leaves(alloc: Global, table: &Table) -> Result<Vec<Option<usize>>, All
         (length table.now.rows.distinct.keys.items) v.items) }
 {
     let mut leaves = Vec::new(alloc);
-    for place in 0..table.rows.count() {
-        leaves.push(common_leaf(table, table.rows.distinct(place)))?;
+    for slot in 0..table.rows.count() {
+        leaves.push(common_leaf(table, table.rows.distinct(slot)))?;
     }
     Ok(leaves)
 }
@@ -52,12 +52,12 @@ fn early_marks(alloc: Global, table: &Table) -> Result<Vec<Option<usize>>, Alloc
     let leaves = common_leaves(alloc, table)?;
     let mut early = Vec::new(alloc);
     for s in 0..table.len() {
-        early.push(leaves[table.rows.place(s)])?;
+        early.push(leaves[table.rows.slot(s)])?;
     }
     Ok(early)
 }
 
-/// Sets the flag of a target, if its late mark is needed after this early mark.
+/// Sets the flag of the target `t`, if its late mark is needed after this early mark.
 fn note_target(table: &Table, t: usize, early: Option<usize>, needed: &mut Vec<bool>)
     requires inside { t < size table.now }
     requires len { vec_len needed.old ≡ size table.now }
@@ -125,7 +125,7 @@ fn needed_marks(
     Ok(needed)
 }
 
-/// Returns the mark of a state, once its early mark is known.
+/// Returns the mark of a state, given its early mark and whether its late mark is needed.
 fn settled_mark(mark: StateMarks, early: Option<usize>, needed: bool) -> StateMarks
     ensures early { result.early ≡ early }
     ensures accept { result.accept ≡ (if needed then mark.accept else None) }
@@ -136,7 +136,8 @@ fn settled_mark(mark: StateMarks, early: Option<usize>, needed: bool) -> StateMa
     }
 }
 
-/// Returns the marks of all states, once their early marks are known.
+/// Returns the marks of all states, given their early marks and whether their late marks are
+/// needed.
 fn settled_marks(
     alloc: Global,
     table: &Table,
@@ -156,7 +157,7 @@ fn settled_marks(
     Ok(marks)
 }
 
-/// Returns the table with its early marks, and without the late marks that are then needless.
+/// Returns the table with its early marks, and without the late marks that they make redundant.
 pub fn settle(alloc: Global, table: Table) -> Result<Table, AllocError>
     ensures { IfOk result (IsSettled table) }
 {

@@ -1,5 +1,5 @@
 //! Tables: states with their marks, and rows of targets. Each step of the reduction makes a table
-//! from one.
+//! from another one.
 
 ghost use Rattle.std.specs.Prelude.{◌≡◌, ℕ, ◌+◌, ◌<◌, ◌^◌, Some, length, vec_len};
 ghost use Rattle.logos_reduce.specs.Rows.{IsClosed, target_by};
@@ -7,12 +7,12 @@ ghost use Rattle.logos_reduce.specs.RowsView.{rows_of};
 
 use crate::rows::{Row, Rows, WIDTH, target_at};
 
-/// The leaves whose matches end where a state is, or one byte before.
+/// The leaves whose matches end at a state, or one byte before it.
 #[derive(Clone, Copy, PartialEq, Eq, Drop)]
 pub struct StateMarks {
     /// The leaf whose match ends one byte before.
     pub accept: Option<usize>,
-    /// The leaf whose match ends there.
+    /// The leaf whose match ends at the state.
     pub early: Option<usize>,
 }
 
@@ -31,9 +31,9 @@ impl Table {
 
     /// Returns the table with these marks and rows: state `s` has mark `s` and row `s`.
     ///
-    /// There is a mark for each row, each target is the number of a state, and there are fewer than
-    /// 4,294,967,295 states. The rows are added one by one with `Rows::push`, in the order of the
-    /// states.
+    /// The caller must ensure that there is a mark for each row, that each target is the number of
+    /// a state, and that there are fewer than 4,294,967,295 states. The rows are added one by one
+    /// with `Rows::push`, in the order of the states.
     pub fn new(marks: Vec<StateMarks>, rows: Rows) -> Table
         requires same_len { length (rows_of rows) ≡ vec_len marks }
         requires closed { IsClosed (vec_len marks) (rows_of rows) }
@@ -44,7 +44,7 @@ impl Table {
         Table { marks, rows }
     }
 
-    /// Returns how many states there are.
+    /// Returns the number of states.
     pub fn len(&self) -> usize
         ensures { result ≡ size self.now }
     {
@@ -59,7 +59,7 @@ impl Table {
         self.marks[s]
     }
 
-    /// Returns the leaf whose match ends one byte before a state, or none where there is no such
+    /// Returns the leaf whose match ends one byte before a state, or `None` if there is no such
     /// state.
     pub(crate) fn accept(&self, s: usize) -> Option<usize>
         ensures { result ≡ (mark self.now s).accept }
@@ -70,7 +70,7 @@ impl Table {
         None
     }
 
-    /// Returns the row of a state: its targets.
+    /// Returns the row of a state, which contains its targets.
     pub fn row(&self, s: usize) -> &Row
         requires { s < size self.now }
         ensures row { (k : ℕ) → target_by result.now k ≡ to self.now s k }
@@ -79,7 +79,7 @@ impl Table {
         self.rows.get(s)
     }
 
-    /// Returns the state to which a state leads by a symbol.
+    /// Returns the state to which a state leads on the symbol `k`.
     pub fn target(&self, s: usize, k: usize) -> Option<usize>
         requires state { s < size self.now }
         requires symbol { k < WIDTH }

@@ -1,4 +1,4 @@
--- What stays and what was made anew are the items of the edited input.
+-- The items that stay and the new ones are the items of the edited input.
 use Rattle.std.proofs.Common.{◌≡◌, ◌∙◌, ℕ, ◌+◌, ◌-◌, ◌≤◌, List, ◌++◌, length, map, take, drop, sym, ap, subst, arith}
 use Rattle.std.proofs.Math.Seq.{drop-append-add, drop-drop}
 use Rattle.std.proofs.lemmas.List.{append_assoc, take-append-drop, length-take-le, length-drop, length-append}
@@ -32,7 +32,7 @@ module _ (code : CodeValue) (callback : Callback) (old new : Lexed) (former inpu
   front_long : length front ≡ replaced.from
   front_long = let order = edited.order in let within = edited.within in length-take-le replaced.from former (omega (arith, order, within))
 
-  -- what is before the edit
+  -- the items before the edit
   stays_before : (k : ℕ) → LookBelow replaced.from (take k old.chunks.items) → AreChunks code callback input (take k old.chunks.items) (drop (bytes_of (take k old.chunks.items)) input)
   stays_before k below =
       let made = lexed.made in
@@ -44,7 +44,7 @@ module _ (code : CodeValue) (callback : Callback) (old new : Lexed) (former inpu
       let now = chunks_front code callback front (drop replaced.from former) rest (drop (bytes_of chunks) former) chunks (subst (λ (n : ℕ). LookBelow n chunks) (sym front_long) below) was in
       subst (λ (l : List ℕ). AreChunks code callback l chunks (drop (bytes_of chunks) l)) (sym is) now
 
-  -- what is after it
+  -- the items after it
   stays_after : (k start : ℕ) (pre left : List ℕ) → input ≡ pre ++ left → IsMet old replaced.to left start k → left ≡ drop (bytes_of (take k old.chunks.items)) former
   stays_after k start pre left is met =
       let p = bytes_of (take k old.chunks.items) in
@@ -78,6 +78,7 @@ module _ (code : CodeValue) (callback : Callback) (old new : Lexed) (former inpu
         rest = lexed_made.rest;
         chunks_are = subst (λ (l : List Chunk). AreChunks code callback input l lexed_made.rest) (sym ends.0) all;
         last_are = subst (λ (l : List ItemAt). Runs code callback lexed_made.rest 0 (map (item_at lexed_made.rest) l)) (ap (λ v. v.items) (sym ends.1)) lexed_made.last_are;
+        text = lexed_made.text;
       }
   put_together start made (Last last) left border below rest chunks runs ends =
       let before = stays_before start.index below in
@@ -88,7 +89,8 @@ module _ (code : CodeValue) (callback : Callback) (old new : Lexed) (former inpu
       record {
         rest = left;
         chunks_are = subst (λ (l : List Chunk). AreChunks code callback input l left) (sym ends.0) all;
-        last_are = subst (λ (l : List ItemAt). Runs code callback left 0 (map (item_at left) l)) (ap (λ v. v.items) (sym ends.1)) runs;
+        last_are = subst (λ (l : List ItemAt). Runs code callback left 0 (map (item_at left) l)) (ap (λ v. v.items) (sym ends.1)) runs.0;
+        text = runs.1;
       }
 
 pub relexed : (code : CodeValue) (callback : Callback) (old new : Lexed) (input : List ℕ) (replaced : Span) (start : Border) (made : Anew) → WasLexed code callback replaced input old →
@@ -99,7 +101,7 @@ relexed code callback old new input replaced start made was border below anew pu
   length_is = puts.length_is;
 }
 
--- what the former input says of the numbers
+-- the facts about the numbers from the former input
 pub known : (code : CodeValue) (callback : Callback) (old : Lexed) (input : List ℕ) (replaced : Span) → WasLexed code callback replaced input old →
     (replaced.to ≤ old.length) × (bytes_of old.chunks.items ≤ old.length) × (replaced.from ≤ length input)
 known code callback old input replaced was =

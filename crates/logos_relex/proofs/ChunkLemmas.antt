@@ -1,5 +1,5 @@
 -- Chunks, one after another.
-use Rattle.std.proofs.Common.{◌≡◌, ◌∙◌, ℕ, zero, suc, ◌+◌, ◌-◌, ◌<◌, ◌≤◌, List, [], ◌∷◌, ◌++◌, length, map, take, drop, get_or, refl, sym, ap, subst, arith}
+use Rattle.std.proofs.Common.{◌≡◌, ◌∙◌, ℕ, zero, suc, ◌+◌, ◌-◌, ◌<◌, ◌≤◌, List, [], ◌∷◌, ◌++◌, length, map, take, drop, get_or, IsTrue, IsUtf8, refl, sym, ap, subst, arith}
 use Rattle.std.proofs.Math.Seq.{drop-drop, take-length, take-take}
 use Rattle.std.proofs.lemmas.List.{append_assoc, take_more, take-append-drop, take-append-le, drop-append-le, length-drop, length-append, length-take-le}
 use Rattle.logos_code.specs.Code.{CodeValue}
@@ -21,6 +21,7 @@ module _ (code : CodeValue) (callback : Callback) where
     within = fits;
     spans = c.spans;
     begun = subst (λ (window : List ℕ). AreBegun code callback window (map (item_at window) chunk.items.items) chunk.length) same c.begun;
+    text = λ utf8. subst IsUtf8 same (c.text utf8);
   }
 
   -- one of the first bytes is one of all
@@ -31,9 +32,10 @@ module _ (code : CodeValue) (callback : Callback) where
       let less : chunk.window ≤ size = omega (arith, within, long) in
       chunk_front (take size bytes) bytes chunk c (omega (arith, less, fits)) (take-take chunk.window size bytes less)
 
-  -- what a lexer found in a part up to a point is a chunk
-  pub settled_chunk : (part : List ℕ) (chunk : Chunk) → SettlesUpTo code callback (take chunk.window part) chunk.items.items chunk.length → chunk.window ≤ length part → 0 < chunk.length → IsChunk code callback part chunk
-  settled_chunk part chunk s fits some =
+  -- the items that a lexer found in a part up to a point are a chunk
+  pub settled_chunk : (part : List ℕ) (chunk : Chunk) → SettlesUpTo code callback (take chunk.window part) chunk.items.items chunk.length → chunk.window ≤ length part → 0 < chunk.length →
+      (IsTrue code.utf8 → IsUtf8 (take chunk.window part)) → IsChunk code callback part chunk
+  settled_chunk part chunk s fits some text =
       let within = s.within in
       let long = length-take-le chunk.window part fits in
       record {
@@ -42,6 +44,7 @@ module _ (code : CodeValue) (callback : Callback) where
         within = fits;
         spans = s.spans;
         begun = s.begun;
+        text = text;
       }
 
   pub chunks_append : (bytes middle rest : List ℕ) (xs ys : List Chunk) → AreChunks code callback bytes xs middle → AreChunks code callback middle ys rest → AreChunks code callback bytes (xs ++ ys) rest
@@ -93,6 +96,7 @@ chunk_by code callback other bytes chunk there back c = record {
   within = c.within;
   spans = c.spans;
   begun = begun_by code callback other (take chunk.window bytes) (map (item_at (take chunk.window bytes)) chunk.items.items) chunk.length there back c.begun;
+  text = c.text;
 }
 
 -- ---- lists of chunks

@@ -1,47 +1,48 @@
--- Items that are found in a part whatever follows it, as they are stored.
+-- Items that are found in a part regardless of the bytes after it, as they are stored.
 use Rattle.std.proofs.Common.{◌≡◌, ◌∙◌, ℕ, ◌<◌, ◌≤◌, Bool, true, false, if◌then◌else◌, List, [], ◌∷◌, ◌++◌, length, map, Some, slice_range, option_map, refl, sym, ap, subst, arith}
 use Rattle.std.proofs.lemmas.List.{append_assoc, append-nil, map-append}
+use Rattle.std.proofs.lemmas.Str.{IsUtf8-nil}
 use Rattle.logos_automaton.specs.Munch.{Use}
 use Rattle.logos_code.specs.Code.{CodeValue}
-use Rattle.logos_code.specs.Items.{Callback, Search, Item, token, error, items_of, skips, NextItem, passes, gives, fails, Lexes, over, match, fault}
+use Rattle.logos_code.specs.Items.{Callback, Search, Item, token, error, items_of, skips, NextItem, passes, yields, fails, Lexes, over, match, fault}
 use Rattle.logos_code.specs.Runs.{CodeFinds, Runs, RunsOn}
 use Rattle.logos_code.specs.declared.action.Action.{Action}
 use Rattle.logos_code.specs.declared.action.Action.TheVariants.{Emit, Skip, Error as Refuse}
 use Rattle.logos_machine.specs.LexerValue.{LexerValue, HasSpan, item_of}
 use Rattle.logos_machine.specs.Loops.{AnswersAmong}
-use Rattle.logos_machine.specs.Streams.{AreBegun, RunsOver}
-use Rattle.logos_machine.specs.Within.{DoesWithin, GivesWithin}
+use Rattle.logos_machine.specs.Streams.{AreBegun, MayFollow, RunsOver}
+use Rattle.logos_machine.specs.Within.{DoesWithin, YieldsWithin}
 use Rattle.logos_machine.specs.declared.machine.Item.{Item as TheItem}
 use Rattle.logos_machine.specs.declared.machine.Item.TheVariants as found
 use Rattle.logos_machine.specs.declared.machine.part.Within.{Within}
 use Rattle.logos_machine.specs.declared.machine.part.Within.TheVariants.{Item as Given, More, End}
 use Rattle.logos_machine.proofs.ItemsLemmas.{lexes_by}
 use Rattle.logos_machine.proofs.PartLemmas.{next_first, over_first}
-use Rattle.logos_relex.specs.Chunks.{EndBy, item_at, place_of, from_of, to_of}
+use Rattle.logos_relex.specs.Chunks.{EndBy, item_at, offset_of, from_of, to_of}
 use Rattle.logos_relex.specs.declared.chunk.ItemAt.{ItemAt}
 
--- ---- what completes the rest completes the whole
+-- ---- a result for the rest completes to a result for the whole
 
 module _ (code : CodeValue) (callback : Callback) (part : List ℕ) where
-  pub begun_item : (items : List Item) (from to : ℕ) (item : Item) → AreBegun code callback part items from → ((rest : List ℕ) → RunsOn code callback (part ++ rest) from item to) →
+  pub begun_item : (items : List Item) (from to : ℕ) (item : Item) → AreBegun code callback part items from → ((rest : List ℕ) → MayFollow code rest → RunsOn code callback (part ++ rest) from item to) →
       AreBegun code callback part (items ++ item ∷ []) to
-  begun_item items from to item h next rest later r =
+  begun_item items from to item h next rest follows later r =
       let whole : List ℕ = part ++ rest in
       subst (λ (all : List Item). Runs code callback whole 0 all) (sym (append_assoc items (item ∷ []) later))
-      (h rest (item ∷ later) (next_first code.leaves callback whole (CodeFinds code whole) (next rest) later r))
+      (h rest follows (item ∷ later) (next_first code.leaves callback whole (CodeFinds code whole) (next rest follows) later r))
 
-  pub begun_over : (items : List Item) (from to : ℕ) → AreBegun code callback part items from → ((rest : List ℕ) → RunsOver code callback (part ++ rest) from to) →
+  pub begun_over : (items : List Item) (from to : ℕ) → AreBegun code callback part items from → ((rest : List ℕ) → MayFollow code rest → RunsOver code callback (part ++ rest) from to) →
       AreBegun code callback part items to
-  begun_over items from to h passed rest later r =
+  begun_over items from to h passed rest follows later r =
       let whole : List ℕ = part ++ rest in
-      h rest later (over_first code.leaves callback whole (CodeFinds code whole) (passed rest) later r)
+      h rest follows later (over_first code.leaves callback whole (CodeFinds code whole) (passed rest follows) later r)
 
 -- by a callback with the same answers
 pub begun_by : (code : CodeValue) (callback other : Callback) (part : List ℕ) (items : List Item) (to : ℕ) → AnswersAmong callback other → AnswersAmong other callback →
     AreBegun code callback part items to → AreBegun code other part items to
-begun_by code callback other part items to there back h rest later r =
+begun_by code callback other part items to there back h rest follows later r =
     let whole : List ℕ = part ++ rest in
-    lexes_by code.leaves whole (CodeFinds code whole) callback other there (h rest later (lexes_by code.leaves whole (CodeFinds code whole) other callback back r))
+    lexes_by code.leaves whole (CodeFinds code whole) callback other there (h rest follows later (lexes_by code.leaves whole (CodeFinds code whole) other callback back r))
 
 -- ---- an item has the bytes of its span
 
@@ -67,7 +68,7 @@ module _ (uses : List Use) (callback : Callback) (bytes : List ℕ) where
 
   pub next_slice : {search : Search} {from end : ℕ} {item : Item} → NextItem uses callback bytes search from item end → HasSlice bytes item
   next_slice (passes from to leaf answer item end s m e x) = next_slice x
-  next_slice (gives from to leaf answer item s m e) = match_slice answer leaf from to item e
+  next_slice (yields from to leaf answer item s m e) = match_slice answer leaf from to item e
   next_slice (fails from to s) = refl
 
   -- and so have all items of a run
@@ -89,21 +90,21 @@ module _ (uses : List Use) (callback : Callback) (bytes : List ℕ) where
   run_slices (match from to leaf answer rest s m l) = match_slices answer leaf from to rest (run_slices l)
   run_slices (fault from to rest s l) = (refl, run_slices l)
 
--- what is stored of an item gives it again
-pub stored : (bytes : List ℕ) (item : TheItem) → HasSlice bytes (item_of item) → item_at bytes (place_of item) ≡ item_of item
+-- the stored form of an item determines the item
+pub stored : (bytes : List ℕ) (item : TheItem) → HasSlice bytes (item_of item) → item_at bytes (offset_of item) ≡ item_of item
 stored bytes (found.Token leaf span slice) h = ap (λ s. token leaf.0 span.from span.to s) (sym h)
 stored bytes (found.Error leaf span slice) h = ap (λ s. error (option_map (λ l. l.0) leaf) span.from span.to s) (sym h)
 
 pub all_stored : (uses : List Use) (callback : Callback) (bytes : List ℕ) (items : List TheItem) → HaveSlices uses callback bytes (map item_of items) →
-    map (item_at bytes) (map place_of items) ≡ map item_of items
+    map (item_at bytes) (map offset_of items) ≡ map item_of items
 all_stored uses callback bytes [] h = refl
 all_stored uses callback bytes (item ∷ items) h = λ i. stored bytes item h.0 i ∷ all_stored uses callback bytes items h.1 i
 
 -- ---- spans
 
-place_from : {C : Type 0} (lexer : LexerValue C) (item : TheItem) → HasSpan lexer (item_of item) → (lexer.from ≡ from_of (place_of item)) × (lexer.to ≡ to_of (place_of item))
-place_from lexer (found.Token leaf span slice) h = h
-place_from lexer (found.Error leaf span slice) h = h
+offset_from : {C : Type 0} (lexer : LexerValue C) (item : TheItem) → HasSpan lexer (item_of item) → (lexer.from ≡ from_of (offset_of item)) × (lexer.to ≡ to_of (offset_of item))
+offset_from lexer (found.Token leaf span slice) h = h
+offset_from lexer (found.Error leaf span slice) h = h
 
 pub end_later : (items : List ItemAt) (end later : ℕ) → end ≤ later → EndBy end items → EndBy later items
 end_later [] end later le h = tt
@@ -115,29 +116,29 @@ end_with (first ∷ items) item end h some within = (h.0, h.1, end_with items it
 
 -- ---- a lexer on a part
 
--- its items so far were found whatever follows the part
+-- its items so far were found regardless of the bytes after the part
 pub record Settling (code : CodeValue) (callback : Callback) (part : List ℕ) (items : List ItemAt) (to : ℕ) : Type 0 where
   pub within : to ≤ length part
   pub spans : EndBy to items
   pub begun : AreBegun code callback part (map (item_at part) items) to
 
 module _ {C : Type 0} (code : CodeValue) (callback : Callback) (input : List ℕ) (old new : LexerValue C) (same_code : old.code ≡ code) (same_input : old.input ≡ input) (new_input : new.input ≡ input) where
-  pub settling_with : (items : List ItemAt) (item : TheItem) → Settling code callback input items old.to → GivesWithin callback old new (item_of item) →
-      Settling code callback input (items ++ place_of item ∷ []) new.to
+  pub settling_with : (items : List ItemAt) (item : TheItem) → Settling code callback input items old.to → YieldsWithin callback old new (item_of item) →
+      Settling code callback input (items ++ offset_of item ∷ []) new.to
   settling_with items item s g =
-      let span = place_from new item g.span in
+      let span = offset_from new item g.span in
       let after = g.after in
       let some = g.nonempty in
       let fits : new.to ≤ length input = subst (λ (l : List ℕ). new.to ≤ length l) new_input g.within in
-      let next : (rest : List ℕ) → RunsOn code callback (input ++ rest) old.to (item_of item) new.to = λ rest. rw (same_code, same_input) at (g.is rest) in
-      let first : RunsOn code callback input old.to (item_of item) new.to = subst (λ (l : List ℕ). RunsOn code callback l old.to (item_of item) new.to) (append-nil input) (next []) in
+      let next : (rest : List ℕ) → MayFollow code rest → RunsOn code callback (input ++ rest) old.to (item_of item) new.to = rw (same_code, same_input) at g.is in
+      let first : RunsOn code callback input old.to (item_of item) new.to = subst (λ (l : List ℕ). RunsOn code callback l old.to (item_of item) new.to) (append-nil input) (next [] (λ _. IsUtf8-nil)) in
       let is = stored input item (next_slice code.leaves callback input first) in
       let more = begun_item code callback input (map (item_at input) items) old.to new.to (item_of item) s.begun next in
       record {
         within = fits;
-        spans = end_with items (place_of item) new.to (end_later items old.to new.to (omega (arith, after, some)) s.spans) (omega (arith, some, span.0, span.1)) (omega (arith, span.1));
+        spans = end_with items (offset_of item) new.to (end_later items old.to new.to (omega (arith, after, some)) s.spans) (omega (arith, some, span.0, span.1)) (omega (arith, span.1));
         begun = subst (λ (all : List Item). AreBegun code callback input all new.to)
-            (ap (λ x. map (item_at input) items ++ x ∷ []) (sym is) ∙ sym (map-append (item_at input) items (place_of item ∷ []))) more;
+            (ap (λ x. map (item_at input) items ++ x ∷ []) (sym is) ∙ sym (map-append (item_at input) items (offset_of item ∷ []))) more;
       }
 
   -- at the end of a loop over `next_within` it waits
@@ -149,6 +150,6 @@ module _ {C : Type 0} (code : CodeValue) (callback : Callback) (input : List ℕ
       record {
         within = subst (λ (l : List ℕ). new.to ≤ length l) new_input w.within;
         spans = end_later items old.to new.to (omega (arith, after)) s.spans;
-        begun = begun_over code callback input (map (item_at input) items) old.to new.to s.begun (λ rest. rw (same_code, same_input) at (w.passed rest));
+        begun = begun_over code callback input (map (item_at input) items) old.to new.to s.begun (rw (same_code, same_input) at w.passed);
       }
   settling_over items End s d other = absurd d

@@ -4,3 +4,4 @@ pub mod RunLemmas
 pub mod MakingLemmas
 pub mod AnewLemmas
 pub mod PutLemmas
+pub mod TextLemmas

@@ -10,7 +10,7 @@ use Rattle.logos_relex.specs.declared.borders.Border.{Border}
 use Rattle.logos_relex.specs.declared.chunk.Chunk.{Chunk}
 use Rattle.logos_relex.proofs.ChunkLemmas.{chunk_taken, passed_taken}
 
--- The chunks so far stand after the start, and the rest is after them.
+-- The chunks so far follow the start, and the rest follows them.
 pub record Making (code : CodeValue) (callback : Callback) (former : List Chunk) (input : List ℕ) (start border : Border) (chunks : List Chunk) (rest : List ℕ) : Type 0 where
   pub chunks_are : AreChunks code callback (drop start.at input) chunks rest
   pub is_rest : (passed : List ℕ) × (drop start.at input ≡ passed ++ rest)

@@ -1,15 +1,16 @@
 -- The items of chunks are those of a run.
-use Rattle.std.proofs.Common.{◌≡◌, ◌∙◌, ℕ, ◌+◌, ◌-◌, ◌<◌, ◌≤◌, List, [], ◌∷◌, ◌++◌, length, map, take, drop, slice_range, option_map, refl, sym, ap, subst, arith}
+use Rattle.std.proofs.Common.{◌≡◌, ◌∙◌, ℕ, ◌+◌, ◌-◌, ◌<◌, ◌≤◌, List, [], ◌∷◌, ◌++◌, length, map, take, drop, slice_range, option_map, IsTrue, IsUtf8, refl, sym, ap, subst, arith}
 use Rattle.std.proofs.Math.Seq.{drop-drop, take-take}
 use Rattle.std.proofs.lemmas.List.{drop-take, map-append, take-append-drop, length-take-le}
 use Rattle.logos_code.specs.Code.{CodeValue}
 use Rattle.logos_code.specs.Headline.{IsSound}
 use Rattle.logos_code.specs.Items.{Callback, Item, token, error}
 use Rattle.logos_code.specs.Runs.{CodeFinds, Runs}
-use Rattle.logos_machine.specs.Streams.{item_later}
+use Rattle.logos_machine.specs.Streams.{MayFollow, item_later}
 use Rattle.logos_machine.proofs.LaterLemmas.{finds_later, lexes_later}
 use Rattle.logos_relex.specs.Chunks.{AreChunks, EndBy, IsChunk, all_items, item_at, moved, from_of, to_of}
 use Rattle.logos_relex.specs.Lexed.{LexedIsRun}
+use Rattle.logos_relex.proofs.TextLemmas.{chunks_text, window_rest}
 use Rattle.logos_relex.specs.declared.chunk.Chunk.{Chunk}
 use Rattle.logos_relex.specs.declared.chunk.ItemAt.{ItemAt}
 use Rattle.logos_relex.specs.declared.chunk.ItemAt.TheVariants.{Token, Error}
@@ -62,29 +63,29 @@ module _ (code : CodeValue) (callback : Callback) (sound : IsSound code) where
       subst (λ (n : ℕ). Runs code callback bytes n (map (item_later (length front)) (map (item_at rest) items))) at whole in
       subst (λ (l : List Item). Runs code callback bytes far l) (ap (λ n. map (item_later n) (map (item_at rest) items)) long ∙ all_later bytes far items) here
 
-  chunk_first : (bytes : List ℕ) (chunk : Chunk) (later : List Item) → IsChunk code callback bytes chunk → Runs code callback bytes chunk.length later →
+  chunk_first : (bytes : List ℕ) (chunk : Chunk) (later : List Item) → MayFollow code (drop chunk.window bytes) → IsChunk code callback bytes chunk → Runs code callback bytes chunk.length later →
       Runs code callback bytes 0 (map (item_at bytes) chunk.items.items ++ later)
-  chunk_first bytes chunk later c r =
+  chunk_first bytes chunk later follows c r =
       let window = take chunk.window bytes in
       let rest = drop chunk.window bytes in
       let is : window ++ rest ≡ bytes = take-append-drop chunk.window bytes in
-      let there = c.begun rest later (subst (λ (l : List ℕ). Runs code callback l chunk.length later) (sym is) r) in
+      let there = c.begun rest follows later (subst (λ (l : List ℕ). Runs code callback l chunk.length later) (sym is) r) in
       let here : Runs code callback bytes 0 (map (item_at window) chunk.items.items ++ later) =
       subst (λ (l : List ℕ). Runs code callback l 0 (map (item_at window) chunk.items.items ++ later)) is there in
       subst (λ (l : List Item). Runs code callback bytes 0 (l ++ later)) (all_front bytes chunk.window chunk.length chunk.items.items c.fits c.spans) here
 
-  made_is_run : (bytes rest : List ℕ) (chunks : List Chunk) (last : List ItemAt) → AreChunks code callback bytes chunks rest → Runs code callback rest 0 (map (item_at rest) last) →
+  made_is_run : (bytes rest : List ℕ) (chunks : List Chunk) (last : List ItemAt) → AreChunks code callback bytes chunks rest → (IsTrue code.utf8 → IsUtf8 rest) → Runs code callback rest 0 (map (item_at rest) last) →
       Runs code callback bytes 0 (map (item_at bytes) (all_items chunks last))
-  made_is_run bytes rest [] last e r = subst (λ (l : List ℕ). Runs code callback l 0 (map (item_at l) last)) (sym e) r
-  made_is_run bytes rest (x ∷ xs) last c r =
-      let more = made_is_run (drop x.length bytes) rest xs last c.1 r in
+  made_is_run bytes rest [] last e text r = subst (λ (l : List ℕ). Runs code callback l 0 (map (item_at l) last)) (sym e) r
+  made_is_run bytes rest (x ∷ xs) last c text r =
+      let more = made_is_run (drop x.length bytes) rest xs last c.1 text r in
       let fits = c.0.fits in
       let within = c.0.within in
       let later = runs_after bytes x.length (all_items xs last) (omega (arith, fits, within)) more in
       subst (λ (l : List Item). Runs code callback bytes 0 l) (sym (map-append (item_at bytes) x.items.items (map (moved x.length) (all_items xs last))))
-      (chunk_first bytes x (map (item_at bytes) (map (moved x.length) (all_items xs last))) c.0 later)
+      (chunk_first bytes x (map (item_at bytes) (map (moved x.length) (all_items xs last))) (λ utf8. window_rest bytes x.window within (chunks_text code callback utf8 bytes rest (x ∷ xs) c (text utf8)) (c.0.text utf8)) c.0 later)
 
 pub lexed_is_run : (code : CodeValue) (callback : Callback) → LexedIsRun code callback
 lexed_is_run code callback sound input lexed is =
     let made = is.made in
-    made_is_run code callback sound input made.rest lexed.chunks.items lexed.last.items made.chunks_are made.last_are
+    made_is_run code callback sound input made.rest lexed.chunks.items lexed.last.items made.chunks_are made.text made.last_are

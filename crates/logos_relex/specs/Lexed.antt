@@ -14,44 +14,49 @@ use Rattle.logos_relex.specs.declared.lexed.RelexError.{RelexError}
 use Rattle.logos_relex.specs.declared.lexed.RelexError.TheVariants as errors
 
 module _ (code : CodeValue) (callback : Callback) where
-  -- Chunks and last items were made of an input: each chunk was found in its window, and the last
-  -- items up to the input's end.
+  -- Chunks and last items were made from an input: each chunk was found in its window, and the last
+  -- items reach the input's end.
   pub record IsMade (input : List ℕ) (chunks : List Chunk) (last : List ItemAt) : Type 0 where
     pub rest : List ℕ
     pub chunks_are : AreChunks code callback input chunks rest
     pub last_are : Runs code callback rest 0 (map (item_at rest) last)
+    pub text : IsTrue code.utf8 → IsUtf8 rest
 
-  -- They are those of an input.
+  -- The chunks and the last items of `lexed` were made from the input.
   pub record IsLexed (input : List ℕ) (lexed : Lexed) : Type 0 where
     pub made : IsMade input lexed.chunks.items lexed.last.items
     pub length_is : lexed.length ≡ length input
 
-  -- Then their items are those of a run of the code on it.
+  -- The items of a lexed input are those of a run of the code on it.
   abbrev pub LexedIsRun : Type 0
   LexedIsRun = IsSound code → (input : List ℕ) (lexed : Lexed) → IsLexed input lexed →
       Runs code callback input 0 (map (item_at input) (all_items lexed.chunks.items lexed.last.items))
 
--- The items are as they were.
+-- In UTF-8 mode the input is UTF-8.
+abbrev pub IsInput : CodeValue → List ℕ → Type 0
+IsInput code input = IsTrue code.utf8 → IsUtf8 input
+
+-- The items are unchanged.
 pub record Stays (old new : Lexed) : Type 0 where
   pub chunks : new.chunks.items ≡ old.chunks.items
   pub last : new.last.items ≡ old.last.items
   pub length_is : new.length ≡ old.length
 
--- The input has other bytes in place of a span of the former one.
+-- In the input, other bytes replace a span of the former one.
 pub record IsEdited (former : List ℕ) (replaced : Span) (input : List ℕ) : Type 0 where
   pub order : replaced.from ≤ replaced.to
   pub within : replaced.to ≤ length former
   pub inserted : List ℕ
   pub is : input ≡ take replaced.from former ++ inserted ++ drop replaced.to former
 
--- The items are those of a former input, from which the edit made this one.
+-- The items are those of a former input, and the edit made this one from it.
 pub record WasLexed (code : CodeValue) (callback : Callback) (replaced : Span) (input : List ℕ) (lexed : Lexed) : Type 0 where
   pub former : List ℕ
   pub lexed_of : IsLexed code callback former lexed
   pub edited : IsEdited former replaced input
 
--- The code is in UTF-8 mode and the input is not UTF-8, with the length of its longest beginning
--- that is; or memory ran out.
+-- The code is in UTF-8 mode and the input is not UTF-8, with the length of its longest prefix that
+-- is; or memory ran out.
 abbrev pub IsRefused : CodeValue → List ℕ → RelexError → Type 0
 IsRefused code input (errors.NotUtf8 valid_up_to) = IsTrue code.utf8 × (¬ IsUtf8 input) × IsValidUpTo input valid_up_to
 IsRefused code input errors.Memory = Unit {0}

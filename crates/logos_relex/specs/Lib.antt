@@ -1,5 +1,5 @@
 pub mod Chunks
 pub mod Lexed
 pub mod inside
-pub mod Words
+pub mod Imports
 pub mod Views

@@ -1,7 +1,7 @@
-//! Lexing from a point on until a former border is met, or the input ends.
+//! Lexes from a border on until a former border is met, or the input ends. Called by `Lexed`.
 
 ghost use Rattle.std.specs.Prelude.{◌≤◌, ◌<◌, ◌^◌, IfOk, drop, length};
-ghost use Rattle.logos_relex.specs.Views.{answers_of, bytes_of, IsAnew, IsBorder, IsMade};
+ghost use Rattle.logos_relex.specs.Views.{answers_of, bytes_of, IsAnew, IsBorder, IsMade, TakesMatches};
 
 use crate::borders::{Border, border_from};
 use crate::chunk::{Chunk, ItemAt, last_items, next_chunk};
@@ -11,10 +11,10 @@ use logos_hir::leaf::LeafId;
 use logos_machine::machine::Action;
 use std::alloc::Global;
 
-/// How many bytes the window of a chunk has, if nothing else decides.
+/// The length of the window of a chunk, unless a former chunk determines it.
 const WINDOW: usize = 4096;
 
-/// What follows the chunks that were made.
+/// The chunks or the items after the new chunks.
 #[derive(Drop)]
 pub(crate) enum After {
     /// The former chunks from this one on, with the items after them.
@@ -23,7 +23,7 @@ pub(crate) enum After {
     Last(Vec<ItemAt>),
 }
 
-/// Chunks that were made, and what follows them.
+/// New chunks, and the chunks or the items after them.
 #[derive(Drop)]
 pub(crate) struct Anew {
     pub chunks: Vec<Chunk>,
@@ -42,7 +42,7 @@ pub(crate) fn make<C: Fn(LeafId, &[u8]) -> Action>(
     input: &[u8],
     callback: &C,
 ) -> Result<(Vec<Chunk>, Vec<ItemAt>), RelexError>
-    requires { C.IsAlwaysCallable callback.now }
+    requires { TakesMatches C.Fn code.now callback.now }
     ensures { IfOk result (λ made. IsMade code.now (answers_of C.Fn callback.now) input.now
         made.0.items made.1.items) }
 {
@@ -56,8 +56,8 @@ pub(crate) fn make<C: Fn(LeafId, &[u8]) -> Action>(
     Ok((chunks, last))
 }
 
-/// Returns how many bytes to look at, with so many bytes left of the input: up to where a former
-/// chunk looked whose end is the border, so that its border is met if the items are the same again.
+/// Returns how many of the `left` remaining bytes to examine: up to where the former chunk that
+/// ends at the border looked, so that its border is met if the items stay unchanged.
 fn window(former: &Lexed, border: Border, left: usize) -> usize
     ensures { 0 < result }
 {
@@ -79,7 +79,7 @@ fn window(former: &Lexed, border: Border, left: usize) -> usize
 ///
 /// # Errors
 ///
-/// Returns `NotUtf8` if the code is in UTF-8 mode and a rest of the input is not UTF-8, and
+/// Returns `NotUtf8` if the code is in UTF-8 mode and the remaining input is not UTF-8, and
 /// `Memory` if memory runs out.
 pub(crate) fn make_anew<C: Fn(LeafId, &[u8]) -> Action>(
     former: &Lexed,
@@ -88,7 +88,7 @@ pub(crate) fn make_anew<C: Fn(LeafId, &[u8]) -> Action>(
     edit: Edit<'_>,
     start: Border,
 ) -> Result<Anew, RelexError>
-    requires callable { C.IsAlwaysCallable callback.now }
+    requires callable { TakesMatches C.Fn code.now callback.now }
     requires border { IsBorder former.now.chunks.items start }
     requires within { start.at ≤ length edit.input.now }
     requires edit { edit.replaced.to ≤ former.now.length }
@@ -101,7 +101,8 @@ pub(crate) fn make_anew<C: Fn(LeafId, &[u8]) -> Action>(
     let mut rest = &edit.input[start.at..];
     let mut border = start;
     loop {
-        // The same point in the former input, or the end of what was replaced if it is before that.
+        // The same point in the former input, or the end of the replaced span if the point is
+        // before it.
         let left = rest.len();
         let target = former.length().saturating_sub(left).max(edit.replaced.to);
         border = border_from(former.chunks(), border, target);

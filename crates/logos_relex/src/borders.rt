@@ -1,18 +1,18 @@
-//! Borders between chunks.
+//! Borders between chunks. Used by `anew` and `lexed`.
 
 ghost use Rattle.std.specs.Prelude.{◌<◌, ◌≤◌, ◌^◌, take};
 ghost use Rattle.logos_relex.specs.Views.{bytes_of, IsBorder, LookBelow};
 
 use crate::chunk::Chunk;
 
-/// A border between chunks: how many chunks are before it, and how many bytes.
+/// A border between chunks: the number of chunks before it, and their number of bytes.
 #[derive(Clone, Copy)]
 pub(crate) struct Border {
     pub index: usize,
     pub at: usize,
 }
 
-/// Returns the border after the first chunks that look at none but the bytes before the limit.
+/// Returns the border after the leading chunks that examined only bytes before `limit`.
 pub(crate) fn untouched(chunks: &[Chunk], limit: usize) -> Border
     ensures border { IsBorder chunks.now result }
     ensures below { LookBelow limit (take result.index chunks.now) }
@@ -29,7 +29,7 @@ pub(crate) fn untouched(chunks: &[Chunk], limit: usize) -> Border
     border
 }
 
-/// Returns the first border from one on that is not before the offset, or the last one.
+/// Returns the first border at or after `from` that is not before `offset`, or the last one.
 pub(crate) fn border_from(chunks: &[Chunk], from: Border, offset: usize) -> Border
     requires border { IsBorder chunks.now from }
     requires bytes { bytes_of chunks.now < 2 ^ 64 }

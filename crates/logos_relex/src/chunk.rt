@@ -1,7 +1,8 @@
-//! Chunks: the items of a few thousand bytes, which were found in the bytes of a window alone.
+//! Chunks: the items of a few thousand bytes, determined by the bytes of a window alone. Used by
+//! `anew`, `borders` and `lexed`.
 
 ghost use Rattle.std.specs.Prelude.{◌≡◌, ◌<◌, ◌≤◌, length, map, take, IfOk, IfErr, IfSome};
-ghost use Rattle.logos_relex.specs.Views.{Runs, answers_of, place_of, item_at, IsChunk, IsRefused, SettlesUpTo};
+ghost use Rattle.logos_relex.specs.Views.{Runs, answers_of, offset_of, item_at, IsChunk, IsInput, IsRefused, SettlesUpTo, TakesMatches};
 
 use crate::lexed::RelexError;
 use logos_code::code::Code;
@@ -10,19 +11,19 @@ use logos_machine::machine::{Action, Item, Lexer, Within};
 use logos_token::token::Span;
 use std::alloc::{AllocError, Global};
 
-/// An item without its bytes: what it is, and where it stands.
+/// An item without its bytes: its kind, its leaf and its span.
 #[derive(Clone, Copy, Debug, PartialEq, Eq)]
 pub enum ItemAt {
     /// A match.
     Token { leaf: LeafId, span: Span },
-    /// Bytes that no leaf matches, if `leaf` is `None`, or a match that the callback of its leaf
+    /// Bytes that no leaf matches, if `leaf` is `None`, or a match that the callback of `leaf`
     /// refused.
     Error { leaf: Option<LeafId>, span: Span },
 }
 
 /// Neighboring items, and the bytes from the first of them to the next chunk.
 ///
-/// Spans count from the chunk's first byte, so a chunk stays as it is where bytes before it change.
+/// Spans count from the chunk's first byte, so an edit before a chunk leaves it unchanged.
 #[derive(Debug, Drop)]
 pub struct Chunk {
     items: Vec<ItemAt>,
@@ -38,14 +39,15 @@ impl Chunk {
         self.items.as_slice()
     }
 
-    /// Returns how many bytes the chunk has.
+    /// Returns the length of the chunk in bytes.
     pub fn length(&self) -> usize
         ensures { result ≡ self.now.length }
     {
         self.length
     }
 
-    /// Returns how many bytes from the chunk's first one on were looked at to find its items.
+    /// Returns the number of bytes, counted from the chunk's first one, that were examined to find
+    /// its items.
     pub fn window(&self) -> usize
         ensures { result ≡ self.now.window }
     {
@@ -54,8 +56,8 @@ impl Chunk {
 }
 
 /// Returns an item without its bytes.
-fn place_of(item: Item<'_>) -> ItemAt
-    ensures { result ≡ place_of item.entry }
+fn offset_of(item: Item<'_>) -> ItemAt
+    ensures { result ≡ offset_of item.entry }
 {
     match item {
         Item::Token { leaf, span, .. } => ItemAt::Token { leaf, span },
@@ -63,8 +65,8 @@ fn place_of(item: Item<'_>) -> ItemAt
     }
 }
 
-/// Returns the items that are found at the front of a lexer's part whatever follows it, and the
-/// offset up to which they are.
+/// Returns the first items of a lexer's part that are found whatever follows it, and the offset at
+/// which they end.
 ///
 /// # Errors
 ///
@@ -73,7 +75,7 @@ fn settled<C: Fn(LeafId, &[u8]) -> Action + Drop>(
     alloc: Global,
     lexer: Lexer<'_, '_, '_, C>,
 ) -> Result<(Vec<ItemAt>, usize), AllocError>
-    requires callable { C.IsAlwaysCallable lexer.callback }
+    requires callable { TakesMatches C.Fn lexer.code lexer.callback }
     requires start { lexer.to ≡ 0 }
     ensures { IfOk result (λ found. SettlesUpTo lexer.entry.code
         (answers_of C.Fn lexer.entry.callback) lexer.entry.input found.0.items found.1) }
@@ -81,13 +83,13 @@ fn settled<C: Fn(LeafId, &[u8]) -> Action + Drop>(
     let mut lexer = lexer;
     let mut items = Vec::new(alloc);
     while let Within::Item(item) = lexer.next_within(false) {
-        items.push(place_of(item))?;
+        items.push(offset_of(item))?;
     }
     Ok((items, lexer.span().to))
 }
 
-/// Returns the longest beginning of a part that a lexer of the code takes: in UTF-8 mode, without
-/// the character that the part's end cuts.
+/// Returns the longest prefix of a part that a lexer of the code takes: in UTF-8 mode, without an
+/// incomplete character at the end.
 fn characters<'p>(code: &Code, part: &'p [u8]) -> &'p [u8]
     ensures front { result.now ≡ take (length result.now) part.now }
     ensures within { length result.now ≤ length part.now }
@@ -101,7 +103,7 @@ fn characters<'p>(code: &Code, part: &'p [u8]) -> &'p [u8]
     }
 }
 
-/// Returns a chunk that is found in a part alone, if there is one.
+/// Returns a chunk that is determined by a part alone, if there is one.
 ///
 /// # Errors
 ///
@@ -112,7 +114,7 @@ fn chunk_of<C: Fn(LeafId, &[u8]) -> Action + Drop>(
     part: &[u8],
     callback: C,
 ) -> Result<Option<Chunk>, AllocError>
-    requires { C.IsAlwaysCallable callback }
+    requires { TakesMatches C.Fn code.now callback }
     ensures { IfOk result (λ found.
         IfSome found (IsChunk code.now (answers_of C.Fn callback) part.now)) }
 {
@@ -131,8 +133,8 @@ fn chunk_of<C: Fn(LeafId, &[u8]) -> Action + Drop>(
     }))
 }
 
-/// Returns the first chunk of some bytes, found in a window of at least this size. Returns `None`
-/// if what is found first depends on the end of the bytes.
+/// Returns the first chunk of `bytes`, found in a window of at least this size. Returns `None` if
+/// the first item depends on the end of the bytes.
 ///
 /// # Errors
 ///
@@ -144,7 +146,7 @@ pub(crate) fn next_chunk<C: Fn(LeafId, &[u8]) -> Action>(
     callback: &C,
     size: usize,
 ) -> Result<Option<Chunk>, AllocError>
-    requires callable { C.IsAlwaysCallable callback.now }
+    requires callable { TakesMatches C.Fn code.now callback.now }
     requires size { 0 < size }
     ensures { IfOk result (λ found.
         IfSome found (IsChunk code.now (answers_of C.Fn callback.now) bytes.now)) }
@@ -174,14 +176,15 @@ pub(crate) fn last_items<C: Fn(LeafId, &[u8]) -> Action>(
     bytes: &[u8],
     callback: &C,
 ) -> Result<Vec<ItemAt>, RelexError>
-    requires { C.IsAlwaysCallable callback.now }
+    requires { TakesMatches C.Fn code.now callback.now }
     ensures items { IfOk result (λ items. Runs code.now (answers_of C.Fn callback.now) bytes.now 0
         (map (item_at bytes.now) items.items)) }
+    ensures accepted { IfOk result (λ _. IsInput code.now bytes.now) }
     ensures refused { IfErr result (IsRefused code.now bytes.now) }
 {
     let lexer = Lexer::new_bytes(code, bytes, callback)?;
     let found = lexer.items(alloc)?;
-    Ok(places(alloc, &found)?)
+    Ok(offsets(alloc, &found)?)
 }
 
 /// Returns items without their bytes.
@@ -189,12 +192,12 @@ pub(crate) fn last_items<C: Fn(LeafId, &[u8]) -> Action>(
 /// # Errors
 ///
 /// Returns `AllocError` if memory runs out.
-fn places(alloc: Global, found: &[Item<'_>]) -> Result<Vec<ItemAt>, AllocError>
-    ensures { IfOk result (λ items. items.items ≡ map place_of found.now) }
+fn offsets(alloc: Global, found: &[Item<'_>]) -> Result<Vec<ItemAt>, AllocError>
+    ensures { IfOk result (λ items. items.items ≡ map offset_of found.now) }
 {
     let mut items = Vec::with_capacity(alloc, found.len())?;
     for item in found {
-        items.push(place_of(*item))?;
+        items.push(offset_of(*item))?;
     }
     Ok(items)
 }

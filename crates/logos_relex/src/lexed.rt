@@ -1,7 +1,7 @@
-//! Items of an input that changes.
+//! The items of an input that changes. Called by users' code.
 
 ghost use Rattle.std.specs.Prelude.{◌≡◌, ◌≤◌, IfOk, IfErr, OnErr, OnOk, length};
-ghost use Rattle.logos_relex.specs.Views.{answers_of, ComesAfter, IsLexed, IsRefused, PutsAnew, Stays, WasLexed, Memory as OutOfMemory, NotUtf8 as NoUtf8};
+ghost use Rattle.logos_relex.specs.Views.{answers_of, ComesAfter, IsInput, IsLexed, IsRefused, PutsAnew, Stays, TakesMatches, WasLexed, Memory as OutOfMemory, NotUtf8 as NoUtf8};
 
 use crate::anew::{After, Anew, make, make_anew};
 use crate::borders::{Border, untouched};
@@ -12,11 +12,11 @@ use logos_machine::machine::{Action, NotUtf8};
 use logos_token::token::Span;
 use std::alloc::{AllocError, AllocFailed, Global};
 
-/// Why an input was not lexed.
+/// The reasons why an input cannot be lexed.
 #[derive(Clone, Copy, Debug, PartialEq, Eq)]
 pub enum RelexError {
     /// The input is not UTF-8, and the code is in UTF-8 mode. `valid_up_to` is the length in bytes
-    /// of the input's longest beginning that is.
+    /// of its longest prefix that is.
     NotUtf8 { valid_up_to: usize },
     /// Memory ran out.
     Memory,
@@ -48,7 +48,7 @@ impl From<NotUtf8> for RelexError {
     }
 }
 
-/// An edit of an input: other bytes, perhaps none, are put in place of a span.
+/// An edit of an input: other bytes, possibly none, replace a span.
 #[derive(Clone, Copy, Debug)]
 pub struct Edit<'i> {
     /// The bytes that were replaced, as a span of the former input.
@@ -57,7 +57,8 @@ pub struct Edit<'i> {
     pub input: &'i [u8],
 }
 
-/// The items of an input, in chunks. After an edit, only chunks that looked at it are made anew.
+/// The items of an input, in chunks. After an edit, only chunks that examined the edited bytes are
+/// lexed again.
 #[derive(Debug, Drop)]
 pub struct Lexed {
     alloc: Global,
@@ -67,7 +68,7 @@ pub struct Lexed {
 }
 
 impl Lexed {
-    /// Lexes an input. For a match of a leaf with a callback, the callback decides by the leaf and
+    /// Lexes an input. For a match of a leaf with a callback, `callback` decides by the leaf and
     /// the slice.
     ///
     /// # Errors
@@ -80,9 +81,10 @@ impl Lexed {
         callback: &C,
         input: &[u8],
     ) -> Result<Lexed, RelexError>
-        requires { C.IsAlwaysCallable callback.now }
+        requires { TakesMatches C.Fn code.now callback.now }
         ensures lexed { IfOk result (λ lexed.
             IsLexed code.now (answers_of C.Fn callback.now) input.now lexed) }
+        ensures accepted { IfOk result (λ _. IsInput code.now input.now) }
         ensures refused { IfErr result (IsRefused code.now input.now) }
     {
         match make(alloc, code, input, callback) {
@@ -109,9 +111,10 @@ impl Lexed {
         callback: &C,
         input: &[u8],
     ) -> Result<Lexed, RelexError>
-        requires { C.IsAlwaysCallable callback.now }
+        requires { TakesMatches C.Fn code.now callback.now }
         ensures lexed { IfOk result (λ lexed.
             IsLexed code.now (answers_of C.Fn callback.now) input.now lexed) }
+        ensures accepted { IfOk result (λ _. IsInput code.now input.now) }
         ensures refused { IfErr result (IsRefused code.now input.now) }
     {
         let last = last_items(alloc, code, input, callback)?;
@@ -124,9 +127,9 @@ impl Lexed {
         })
     }
 
-    /// Lexes an edited input. The items that did not look at the edit stay: those before it, and
-    /// those from the first border after it on that is met again. The callback is asked again only
-    /// for what is lexed anew, so it has to answer by the leaf and the slice alone.
+    /// Lexes an edited input. Items that do not depend on the edit stay: those before it, and those
+    /// from the first border after it that the new items also reach. The callback is called only
+    /// for bytes that are lexed again, so its answer must depend on the leaf and the slice alone.
     ///
     /// # Errors
     ///
@@ -138,11 +141,12 @@ impl Lexed {
         callback: &C,
         edit: Edit<'_>,
     ) -> Result<(), RelexError>
-        requires callable { C.IsAlwaysCallable callback.now }
+        requires callable { TakesMatches C.Fn code.now callback.now }
         requires former { WasLexed code.now (answers_of C.Fn callback.now) edit.replaced
             edit.input.now self.old }
         ensures lexed { IfOk result (λ _.
             IsLexed code.now (answers_of C.Fn callback.now) edit.entry.input.now self.new) }
+        ensures accepted { IfOk result (λ _. IsInput code.now edit.entry.input.now) }
         ensures refused { IfErr result (IsRefused code.now edit.entry.input.now) }
         ensures stays { OnErr result (Stays self.old self.new) }
     {
@@ -166,9 +170,10 @@ impl Lexed {
         callback: &C,
         input: &[u8],
     ) -> Result<(), RelexError>
-        requires { C.IsAlwaysCallable callback.now }
+        requires { TakesMatches C.Fn code.now callback.now }
         ensures lexed { IfOk result (λ _.
             IsLexed code.now (answers_of C.Fn callback.now) input.now self.new) }
+        ensures accepted { IfOk result (λ _. IsInput code.now input.now) }
         ensures refused { IfErr result (IsRefused code.now input.now) }
         ensures stays { OnErr result (Stays self.old self.new) }
     {
@@ -179,7 +184,7 @@ impl Lexed {
         Ok(())
     }
 
-    /// Puts what was made in place of the former chunks from one on.
+    /// Replaces the former chunks from index `from` on with the new ones.
     ///
     /// # Errors
     ///
@@ -204,29 +209,29 @@ impl Lexed {
         Ok(())
     }
 
-    /// Returns the allocator of all that is made.
+    /// Returns the allocator of the chunks and items.
     pub(crate) fn alloc(&self) -> Global
         ensures { result ≡ self.now.alloc }
     {
         self.alloc
     }
 
-    /// Returns how many bytes the input has.
+    /// Returns the length of the input in bytes.
     pub fn length(&self) -> usize
         ensures { result ≡ self.now.length }
     {
         self.length
     }
 
-    /// Returns the chunks, in order. The first begins at the input's first byte, and each other one
-    /// where the one before it ends.
+    /// Returns the chunks, in order. The first begins at the input's first byte, and every other
+    /// one where its predecessor ends.
     pub fn chunks(&self) -> &[Chunk]
         ensures { result.now ≡ self.now.chunks.items }
     {
         self.chunks.as_slice()
     }
 
-    /// Returns the items after all chunks. Their spans count from where the last chunk ends.
+    /// Returns the items after all chunks. Their spans count from the end of the last chunk.
     pub fn last(&self) -> &[ItemAt]
         ensures { result.now ≡ self.now.last.items }
     {

@@ -1,4 +1,5 @@
-//! Items of an input that changes: after an edit, only what looked at it is lexed anew.
+//! The items of an input that changes: after an edit, only the chunks that examined the edited
+//! bytes are lexed again.
 
 #![tactic(auto)]
 

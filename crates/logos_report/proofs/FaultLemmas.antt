@@ -7,19 +7,19 @@ use Rattle.logos_token.specs.declared.error.SpannedError.{SpannedError}
 use Rattle.logos_token.specs.Faults.{Fault}
 use Rattle.logos_token.specs.FaultView.{fault_of, faults_of}
 use Rattle.logos_report.specs.Faults.{counted_texts, texts_after}
-use Rattle.logos_report.specs.Pages.{PageValue, Shows}
+use Rattle.logos_page.specs.Pages.{PageValue, Shows}
 use Rattle.logos_report.specs.Sets.{NextValue, begins_error, errors_after, next_after}
 use Rattle.std.specs.Prelude.{cond, true, false}
 use mir.Val.{bool_byte}
-use Rattle.logos_report.specs.Places.{SourceValue}
-use Rattle.logos_report.proofs.PageLemmas.{shows_nothing, shows_then}
+use Rattle.logos_report.specs.Locations.{SourceValue}
+use Rattle.logos_page.proofs.PageLemmas.{shows_nothing, shows_then}
 
 pub next_left : (faults : List SpannedError) (i : ℕ) (d : SpannedError) → i < length faults → drop i faults ≡ get_or faults i d ∷ drop (i + 1) faults
 next_left faults i d l =
     let k : suc i ≡ i + 1 = omega arith in
     drop-cons faults i d l ∙ ap (λ n. get_or faults i d ∷ drop n faults) k
 
--- those in front with the next one, where `earlier` stand before all of them
+-- those in front with the next one, where `earlier` come before all of them
 pub next_front : (earlier : List Fault) (faults : List SpannedError) (i : ℕ) (d : SpannedError) → i < length faults →
     earlier ++ faults_of (take (i + 1) faults) ≡ (earlier ++ faults_of (take i faults)) ++ fault_of (get_or faults i d) ∷ []
 next_front earlier faults i d l = ap (λ list. earlier ++ list) (map_more fault_of faults i d l) ∙ sym (append_assoc earlier (faults_of (take i faults)) (fault_of (get_or faults i d) ∷ []))

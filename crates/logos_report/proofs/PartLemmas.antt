@@ -7,11 +7,11 @@ use Rattle.std.proofs.lemmas.List.Sums.{sum_by-append}
 use Rattle.std.specs.List.{count_by}
 use Rattle.std.specs.Prelude.{cond}
 use Rattle.logos_token.specs.Faults.{Fault}
-use Rattle.logos_report.specs.declared.refused.Refused.{Refused}
-use Rattle.logos_report.specs.Pages.{PageValue, Shows}
+use Rattle.logos_report.specs.declared.file_report.Refused.{Refused}
+use Rattle.logos_page.specs.Pages.{PageValue, Shows}
 use Rattle.logos_report.specs.Parts.{all_faults, part_texts, parts_texts, texts_from}
-use Rattle.logos_report.specs.Places.{SourceValue}
-use Rattle.logos_report.proofs.PageLemmas.{shows_nothing, shows_then}
+use Rattle.logos_report.specs.Locations.{SourceValue}
+use Rattle.logos_page.proofs.PageLemmas.{shows_nothing, shows_then}
 
 next_left : (parts : List Refused) (i : ℕ) (d : Refused) → i < length parts → drop i parts ≡ get_or parts i d ∷ drop (i + 1) parts
 next_left parts i d l =
@@ -83,7 +83,7 @@ seen_all p parts front (suc left) count is past =
     let most = past (omega arith) in
     omega (arith, is, below, some, all, most)
 
--- what is shown of the next part, and of those after it
+-- the shown faults of the next part, and of those after it
 pub part_then : (is_colored : Bool) (source : SourceValue) (parts : List Refused) (number : ℕ) (one : Refused) {old middle : PageValue} → number < length parts → one ≡ get_or parts number one →
     Shows (part_texts is_colored source (all_faults parts) (all_faults (take number parts)) one) old middle → (new : PageValue) → Shows (texts_from is_colored source parts (number + 1)) middle new → Shows (texts_from is_colored source parts number) old new
 part_then is_colored source parts number one {old} {middle} l e s new t =

@@ -3,10 +3,10 @@ use Rattle.std.proofs.Common.{◌≡◌, Bool, ◌≤◌, ◌<◌, ◌+◌, ℕ,
 use Rattle.std.proofs.Math.Seq.{drop-cons}
 use Rattle.std.proofs.Math.ListN.{drop_of_length-le}
 use Rattle.logos_report.specs.declared.warnings.Warning.{Warning}
-use Rattle.logos_report.specs.Pages.{PageValue, Shows}
-use Rattle.logos_report.specs.Places.{SourceValue}
+use Rattle.logos_page.specs.Pages.{PageValue, Shows}
+use Rattle.logos_report.specs.Locations.{SourceValue}
 use Rattle.logos_report.specs.Warnings.{all_texts, warning_texts}
-use Rattle.logos_report.proofs.PageLemmas.{shows_nothing, shows_then}
+use Rattle.logos_page.proofs.PageLemmas.{shows_nothing, shows_then}
 
 -- the next warning, and those after it
 pub next_warning : (warnings : List Warning) (i : ℕ) (d : Warning) → i < length warnings → drop i warnings ≡ get_or warnings i d ∷ drop (i + 1) warnings
@@ -14,7 +14,7 @@ next_warning warnings i d l =
     let k : suc i ≡ i + 1 = omega arith in
     drop-cons warnings i d l ∙ ap (λ n. get_or warnings i d ∷ drop n warnings) k
 
--- what is shown of the next warning, and of those after it
+-- the shown text of the next warning, and of those after it
 pub next_warned : (is_colored : Bool) (source : SourceValue) (begin : ℕ) (warnings : List Warning) (i : ℕ) (d : Warning) (old middle new : PageValue) → i < length warnings → d ≡ get_or warnings i d →
     Shows (warning_texts is_colored source begin d) old middle → Shows (all_texts is_colored source begin (drop (i + 1) warnings)) middle new → Shows (all_texts is_colored source begin (drop i warnings)) old new
 next_warned is_colored source begin warnings i d old middle new l same s t =

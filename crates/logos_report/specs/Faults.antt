@@ -1,4 +1,4 @@
--- What is shown of faults.
+-- The text of faults in a report.
 use Rattle.std.specs.Prelude.{ℕ, ◌-◌, ◌^◌, min, ◌==◌, nat_lt, Bool, List, [], ◌∷◌, ◌++◌, if◌then◌else◌, codes, decimal}
 use Rattle.std.specs.List.{before_first, count_by}
 use Rattle.std.specs.Str.{bytes_eq}
@@ -7,78 +7,81 @@ use Rattle.logos_token.specs.FaultNames.{name_of}
 use Rattle.logos_report.specs.Codes.{is_error}
 use Rattle.logos_report.specs.Sets.{NextValue, first_faults, follows, next_after}
 use Rattle.logos_token.specs.declared.error.fault_code.FaultCode.{FaultCode}
-use Rattle.logos_report.specs.declared.page.Style.TheVariants.{Error, Frame, Strong}
-use Rattle.logos_report.specs.Pages.{painted}
-use Rattle.logos_report.specs.Places.{SourceValue, place_line}
-use Rattle.logos_report.specs.Shown.{shown_text}
+use Rattle.logos_page.specs.declared.page.Style.TheVariants.{Error, Frame, Strong}
+use Rattle.logos_page.specs.Pages.{painted}
+use Rattle.logos_report.specs.Locations.{SourceValue, location_line}
+use Rattle.logos_page.specs.Shown.{shown_text}
 
 -- A text up to its first LF.
 abbrev pub first_line : List ℕ → List ℕ
 first_line text = before_first (λ byte. byte == 10) text
 
--- How the line of a fault begins: with the name of its code, if it is an error.
+-- The beginning of the line of a fault: the name of its code, if it is an error.
 abbrev pub code_text : Bool → FaultCode → List ℕ
 code_text is_colored code =
     if is_error code then painted is_colored Error (codes "error[" ++ (name_of code ++ codes "]"))
     else painted is_colored Frame (codes "note")
 
--- The line of a fault: its code, and the first line of its message, as it is shown.
+-- The line of a fault: its code, and the first line of its message in the form in which it is
+-- shown.
 abbrev pub head_line : Bool → Fault → List ℕ
 head_line is_colored fault =
     code_text is_colored fault.code ++ (painted is_colored Strong (codes ": " ++ shown_text (first_line fault.message)) ++ codes "\n")
 
 -- The line of a fault, and the one that names its position in the file.
 abbrev pub fault_texts : Bool → SourceValue → ℕ → Fault → List (List ℕ)
-fault_texts is_colored source begin fault = head_line is_colored fault ∷ place_line is_colored source begin fault.span.from ∷ []
+fault_texts is_colored source begin fault = head_line is_colored fault ∷ location_line is_colored source begin fault.span.from ∷ []
 
 -- Whether a fault has the code of this name.
 abbrev pub has_name : List ℕ → Fault → Bool
 has_name name fault = bytes_eq (name_of fault.code) name
 
--- How many of these faults have a code, but no more than one above the number that is shown.
+-- How many of these faults have this code, but at most one more than the number that is shown.
 abbrev pub seen_of : FaultCode → List Fault → ℕ
 seen_of code faults = min (count_by (has_name (name_of code)) faults) 51
 
--- How many faults of a code are left out, as the line says it that stands in their place.
+-- The number of faults of a code that are left out, in the words of the report.
 abbrev pub rest_text : ℕ → List ℕ
 rest_text count = codes ": " ++ (decimal count ++ codes " more are not shown")
 
--- The line that says how many faults of a code are left out.
+-- The line with the number of faults of a code that are left out.
 abbrev pub rest_line : Bool → FaultCode → ℕ → List ℕ
 rest_line is_colored code count = code_text is_colored code ++ (painted is_colored Strong (rest_text count) ++ codes "\n")
 
--- The same of a fault that comes next: one that belongs to an earlier report is a position of that.
+-- The lines of the next fault of a list. One that belongs to an earlier report is only a position
+-- of it.
 abbrev pub listed_texts : Bool → SourceValue → ℕ → NextValue → Fault → List (List ℕ)
 listed_texts is_colored source begin next fault =
-    if follows next fault then place_line is_colored source begin fault.span.from ∷ [] else fault_texts is_colored source begin fault
+    if follows next fault then location_line is_colored source begin fault.span.from ∷ [] else fault_texts is_colored source begin fault
 
--- How many of all faults are left out, or the largest number without those that are shown.
+-- How many of all faults are left out: their number, saturating at the greatest one, less those
+-- that are shown.
 abbrev pub left_out : FaultCode → List Fault → ℕ
 left_out code all = min (count_by (has_name (name_of code)) all) (2 ^ 64 - 1) - 50
 
--- What is shown of a fault of a list, after those in front of it: its lines, if fewer than 50 in
--- front have its code; and in place of the next one how many of all are left out.
+-- The text of a fault of a list, after those before it: its lines, if fewer than 50 earlier ones
+-- have its code; instead of the next one, how many of all are left out.
 abbrev pub counted_texts : Bool → SourceValue → ℕ → List Fault → List Fault → NextValue → Fault → List (List ℕ)
 counted_texts is_colored source begin all front next fault =
     if nat_lt (seen_of fault.code front) 50 then listed_texts is_colored source begin next fault
     else if seen_of fault.code front == 50 then rest_line is_colored fault.code (left_out fault.code all) ∷ []
     else []
 
--- The same for the faults after some in front, in order.
+-- The texts of the faults after some earlier ones, in order.
 abbrev pub texts_after : Bool → SourceValue → ℕ → List Fault → List Fault → NextValue → List Fault → List (List ℕ)
 texts_after is_colored source begin all front next [] = []
 texts_after is_colored source begin all front next (fault ∷ faults) =
     counted_texts is_colored source begin all front next fault ++ texts_after is_colored source begin all (front ++ fault ∷ []) (next_after next fault) faults
 
--- The same for all faults of a part of a file; the sets of ambiguous leaves have these sizes, in
--- order, and each set one report.
+-- The texts of all faults of a part of a file. The sets of ambiguous leaves have these sizes, in
+-- order, and each set has one report.
 abbrev pub faults_texts : Bool → SourceValue → ℕ → List ℕ → List Fault → List (List ℕ)
 faults_texts is_colored source begin sizes faults = texts_after is_colored source begin faults [] (first_faults sizes) faults
 
--- The line that says how many errors there are.
+-- The number of errors, in the words of the report.
 abbrev pub count_text : ℕ → List ℕ
 count_text count = codes ": aborting due to " ++ (decimal count ++ (if count == 1 then codes " previous error" else codes " previous errors"))
 
--- The same as a whole line.
+-- The line with the number of errors.
 abbrev pub summary_line : Bool → ℕ → List ℕ
 summary_line is_colored count = painted is_colored Error (codes "error") ++ (painted is_colored Strong (count_text count) ++ codes "\n")

@@ -1,10 +1,8 @@
 pub mod Codes
 pub mod Sets
-pub mod Shown
-pub mod Pages
-pub mod Places
+pub mod Locations
 pub mod Faults
 pub mod Parts
 pub mod Warnings
-pub mod Words
+pub mod Imports
 pub mod Views

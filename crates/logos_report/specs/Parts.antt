@@ -1,37 +1,37 @@
--- What is shown of the faults of a whole file, part by part.
+-- The text of the faults of a whole file, part by part.
 use Rattle.std.specs.Prelude.{ℕ, Bool, List, [], ◌∷◌, ◌++◌, drop, take}
 use Rattle.std.specs.List.{flat_map}
 use Rattle.logos_token.specs.Faults.{Fault}
 use Rattle.logos_token.specs.FaultView.{faults_of}
-use Rattle.logos_report.specs.declared.refused.FaultListing.{FaultListing}
-use Rattle.logos_report.specs.declared.refused.Refused.{Refused}
+use Rattle.logos_report.specs.declared.file_report.FaultListing.{FaultListing}
+use Rattle.logos_report.specs.declared.file_report.Refused.{Refused}
 use Rattle.logos_report.specs.Faults.{texts_after}
-use Rattle.logos_report.specs.Places.{SourceValue}
+use Rattle.logos_report.specs.Locations.{SourceValue}
 use Rattle.logos_report.specs.Sets.{first_faults, sizes_of}
 
 -- All faults of these parts of a file, in order.
 abbrev pub all_faults : List Refused → List Fault
 all_faults parts = flat_map (λ part. part.errors) parts
 
--- The same of a part and of those around it.
+-- All faults of a part and of those around it, in order.
 abbrev pub listed_faults : FaultListing → List Fault
 listed_faults listing = all_faults listing.earlier.now ++ (faults_of listing.faults.now ++ all_faults listing.later.now)
 
--- What is shown of the faults of a part, where the first ones are those of all parts, and the
--- others those of the parts in front.
+-- The texts of the faults of a part. The first list has the faults of all parts, and the second one
+-- those of the parts before it.
 abbrev pub part_texts : Bool → SourceValue → List Fault → List Fault → Refused → List (List ℕ)
 part_texts is_colored source all front part = texts_after is_colored source part.offset all front (first_faults (sizes_of part.clues)) part.errors
 
--- The same of parts one after another.
+-- The texts of the faults of several parts, one after another.
 abbrev pub parts_texts : Bool → SourceValue → List Fault → List Fault → List Refused → List (List ℕ)
 parts_texts is_colored source all front [] = []
 parts_texts is_colored source all front (part ∷ rest) = part_texts is_colored source all front part ++ parts_texts is_colored source all (front ++ part.errors) rest
 
--- What is shown of the faults of all parts of a file, in order: of those of one code 50, and how
--- many more there are.
+-- The texts of the faults of all parts of a file, in order: at most 50 of one code, and how many
+-- more there are.
 abbrev pub refused_texts : Bool → SourceValue → List Refused → List (List ℕ)
 refused_texts is_colored source parts = parts_texts is_colored source (all_faults parts) [] parts
 
--- The same of the parts from one with this number on.
+-- The texts of the faults of the parts from the one with this number on.
 abbrev pub texts_from : Bool → SourceValue → List Refused → ℕ → List (List ℕ)
 texts_from is_colored source parts number = parts_texts is_colored source (all_faults parts) (all_faults (take number parts)) (drop number parts)

@@ -6,44 +6,43 @@ use Rattle.logos_report.specs.declared.clues.Clues.{Clues}
 use Rattle.logos_report.specs.declared.clues.Meeting.{Meeting}
 use Rattle.logos_report.specs.declared.clues.NextFaults.{NextFaults}
 
--- Which faults come next: how many leaves the sets have of which not all faults are passed, and how
--- many faults of the first set are passed.
+-- The next faults of a list: the numbers of leaves of the sets that have faults left, and how many
+-- faults of the first set were passed.
 pub record NextValue : Type 0 where
   pub sizes : List ℕ
   pub passed : ℕ
 
--- How many leaves a set has, and each of all sets.
+-- The number of leaves of a set.
 abbrev pub size_of : Meeting → ℕ
 size_of meeting = length meeting.names.items
 
--- How many leaves each set has of which something is known.
+-- The number of leaves of each set with a clue.
 abbrev pub sizes_of : Clues → List ℕ
 sizes_of clues = map size_of clues.meetings.items
 
--- What comes next, as a value.
+-- The view of the next faults.
 abbrev pub next_value : NextFaults → NextValue
 next_value next = record { sizes = map size_of next.meetings.now; passed = next.passed }
 
--- No fault is passed.
+-- The state before the first fault.
 abbrev pub first_faults : List ℕ → NextValue
 first_faults sizes = record { sizes = sizes; passed = 0 }
 
--- What comes next after a fault of the first of these sets: its next fault, or the next set.
+-- The state after a fault of the first of these sets: at its next fault, or at the next set.
 abbrev pub stepped : NextValue → List ℕ → NextValue
 stepped next [] = next
 stepped next (size ∷ rest) = if nat_lt next.passed (size - 1) then record { sizes = next.sizes; passed = next.passed + 1 } else record { sizes = rest; passed = 0 }
 
--- What comes next after one more fault.
+-- The state after one more fault.
 abbrev pub next_after : NextValue → Fault → NextValue
 next_after next fault = if is_ambiguity fault.code then stepped next next.sizes else next
 
--- Whether the first fault of a set is passed.
+-- Whether the first fault of a set was passed.
 abbrev pub is_begun : ℕ → List ℕ → Bool
 is_begun passed [] = false
 is_begun passed (size ∷ rest) = nat_lt 0 passed
 
--- Whether a fault that comes next belongs to the report of an earlier one: of the first one of its
--- set.
+-- Whether the next fault belongs to the report of an earlier one: of the first one of its set.
 abbrev pub follows : NextValue → Fault → Bool
 follows next fault = is_ambiguity fault.code && is_begun next.passed next.sizes
 
@@ -51,7 +50,7 @@ follows next fault = is_ambiguity fault.code && is_begun next.passed next.sizes
 abbrev pub begins_error : NextValue → Fault → Bool
 begins_error next fault = is_error fault.code && not (follows next fault)
 
--- How many reports of errors these faults give.
+-- How many reports of errors these faults have.
 abbrev pub errors_after : NextValue → List Fault → ℕ
 errors_after next [] = 0
 errors_after next (fault ∷ faults) = cond (begins_error next fault) 1 0 + errors_after (next_after next fault) faults

@@ -1,29 +1,29 @@
--- What is shown of warnings.
+-- The text of warnings in a report.
 use Rattle.std.specs.Prelude.{ℕ, Bool, List, [], ◌∷◌, ◌++◌, codes, if◌then◌else◌, length, nat_lt, string_bytes, take}
 use Rattle.std.specs.List.{flat_map}
-use Rattle.logos_report.specs.declared.page.Style.TheVariants.{Strong, Warning}
+use Rattle.logos_page.specs.declared.page.Style.TheVariants.{Strong, Warning}
 use Rattle.logos_report.specs.declared.warnings.Warning.{Warning as Shown}
-use Rattle.logos_report.specs.Pages.{painted}
-use Rattle.logos_report.specs.Places.{SourceValue, place_line}
-use Rattle.logos_report.specs.Shown.{shown_text}
+use Rattle.logos_page.specs.Pages.{painted}
+use Rattle.logos_report.specs.Locations.{SourceValue, location_line}
+use Rattle.logos_page.specs.Shown.{shown_text}
 
--- The line of a warning: its message, as it is shown.
+-- The line of a warning: its message, in the form in which it is shown.
 abbrev pub warning_head : Bool → List ℕ → List ℕ
 warning_head is_colored message = painted is_colored Warning (codes "warning") ++ (painted is_colored Strong (codes ": " ++ shown_text message) ++ codes "\n")
 
 -- The line of a warning, and the one that names its position in the file.
 abbrev pub warning_texts : Bool → SourceValue → ℕ → Shown → List (List ℕ)
 warning_texts is_colored source begin warning =
-    warning_head is_colored (string_bytes warning.message) ∷ place_line is_colored source begin warning.span.from ∷ []
+    warning_head is_colored (string_bytes warning.message) ∷ location_line is_colored source begin warning.span.from ∷ []
 
--- The same for warnings of a part of a file, in order.
+-- The texts of warnings of a part of a file, in order.
 abbrev pub all_texts : Bool → SourceValue → ℕ → List Shown → List (List ℕ)
 all_texts is_colored source begin warnings = flat_map (warning_texts is_colored source begin) warnings
 
--- Those of these warnings that are shown: the first 50 of them.
+-- The warnings that are shown: the first 50.
 abbrev pub shown_of : List Shown → List Shown
 shown_of warnings = if nat_lt 50 (length warnings) then take 50 warnings else warnings
 
--- What is shown of warnings.
+-- The texts of warnings in a report.
 abbrev pub warnings_texts : Bool → SourceValue → ℕ → List Shown → List (List ℕ)
 warnings_texts is_colored source begin warnings = all_texts is_colored source begin (shown_of warnings)

@@ -1,4 +1,5 @@
-//! What is known of faults of a graph beyond what they say. Who builds the graph finds it.
+//! Clues about faults beyond their messages. `logos_causes` finds those for the faults of a graph,
+//! and `logos_help` adds the help for each.
 
 ghost use Rattle.std.specs.Prelude.{◌≡◌, [], MatchOption, false, nat_lt};
 ghost use Rattle.logos_report.specs.Views.{fault_of, is_ambiguity, follows, sizes_of, stepped, next_after, next_value};
@@ -7,25 +8,27 @@ use logos_token::error::{FaultCode, SpannedError};
 use logos_token::token::Span;
 use std::alloc::Global;
 
-/// What is known of the faults of a graph beyond what they say.
+/// The clues about the faults of a source.
 #[derive(Debug, Drop)]
 pub struct Clues {
-    /// What is known of each set of ambiguous leaves, in the order of their faults.
+    /// The clue about each set of ambiguous leaves, in the order of their faults.
     pub meetings: Vec<Meeting>,
-    /// The patterns that can look at what stands before their first byte.
+    /// The patterns that can examine the bytes before their start.
     pub starts: Vec<Start>,
+    /// The help for each fault, in the order of the faults. A fault without an entry has no help.
+    pub helps: Vec<Option<&'static str>>,
 }
 
-/// What is known of a set of ambiguous leaves.
+/// The clue about a set of ambiguous leaves.
 #[derive(Debug, Drop)]
 pub struct Meeting {
     /// The names of the leaves, in the order of their faults.
     pub names: Vec<String>,
-    /// On what text they meet, and which priority would decide.
+    /// A text on which they meet, and the priority that would decide.
     pub note: String,
 }
 
-/// A pattern that can look at what stands before its first byte.
+/// A pattern that can examine the bytes before its start.
 #[derive(Debug, Drop)]
 pub struct Start {
     /// The name of its leaf.
@@ -35,37 +38,41 @@ pub struct Start {
 }
 
 impl Clues {
-    /// Returns that nothing is known.
+    /// Returns empty clues.
     pub fn none(alloc: Global) -> Clues
         ensures { sizes_of result ≡ [] }
     {
         Clues {
             meetings: Vec::new(alloc),
             starts: Vec::new(alloc),
+            helps: Vec::new(alloc),
         }
     }
 }
 
-/// Which faults come next: how many of those of sets of ambiguous leaves are passed.
+/// The next faults of a source, with the clues about them and the number of faults of the current
+/// set that were passed.
 #[derive(Clone, Copy)]
 pub struct NextFaults<'c> {
-    /// The sets of which not all faults are passed.
+    /// The clues about the sets that have faults left.
     meetings: &'c [Meeting],
-    /// How many faults of the first of them are passed.
+    /// The number of passed faults of the first of them.
     passed: usize,
-    /// The patterns that can look at what stands before their first byte.
+    /// The patterns that can examine the bytes before their start.
     starts: &'c [Start],
+    /// The helps for the remaining faults.
+    helps: &'c [Option<&'static str>],
 }
 
 /// A fault of a set of ambiguous leaves.
 #[derive(Clone, Copy)]
 pub struct Member<'c> {
     pub meeting: &'c Meeting,
-    /// How many faults of the set stand in front of it.
+    /// The number of faults of the set before it.
     pub number: usize,
 }
 
-/// Returns that no fault is passed.
+/// Returns the state before the first fault.
 pub fn first_faults(clues: &Clues) -> NextFaults<'_>
     ensures { next_value result ≡ record { sizes = sizes_of clues.now; passed = 0 } }
 {
@@ -73,6 +80,7 @@ pub fn first_faults(clues: &Clues) -> NextFaults<'_>
         meetings: &clues.meetings,
         passed: 0,
         starts: &clues.starts,
+        helps: &clues.helps,
     }
 }
 
@@ -83,7 +91,7 @@ fn is_ambiguity(code: FaultCode) -> bool
     matches!(code, FaultCode::Disambiguation)
 }
 
-/// Returns what comes next after a fault of a set of ambiguous leaves.
+/// Returns the state after a fault of a set of ambiguous leaves.
 fn stepped(next: NextFaults<'_>) -> NextFaults<'_>
     ensures { next_value result ≡ stepped (next_value next.entry) (next_value next.entry).sizes }
 {
@@ -104,19 +112,28 @@ fn stepped(next: NextFaults<'_>) -> NextFaults<'_>
 }
 
 impl<'c> NextFaults<'c> {
-    /// Returns what comes next after a fault.
+    /// Returns the state after `fault`.
     pub fn after(self, fault: &SpannedError) -> NextFaults<'c>
         ensures { next_value result ≡ next_after (next_value self.entry) (fault_of fault.now) }
     {
+        let next = NextFaults {
+            helps: self.helps.get(1..).unwrap_or(&[]),
+            ..self
+        };
         if is_ambiguity(fault.code) {
-            stepped(self)
+            stepped(next)
         } else {
-            self
+            next
         }
     }
 
-    /// Returns the member of a set of ambiguous leaves that a fault which comes next is, if
-    /// something is known of the set.
+    /// Returns the help for the next fault, if there is one.
+    pub fn help(self) -> Option<&'static str> {
+        *self.helps.first()?
+    }
+
+    /// Returns which member of its ambiguous set the next fault reports, if there is a clue about
+    /// the set.
     pub fn member(self, fault: &SpannedError) -> Option<Member<'c>>
         ensures { MatchOption result (follows (next_value self.entry) (fault_of fault.now) ≡ false)
             (λ member. follows (next_value self.entry) (fault_of fault.now)
@@ -131,7 +148,7 @@ impl<'c> NextFaults<'c> {
         }
     }
 
-    /// Returns whether a fault that comes next belongs to the report of an earlier one.
+    /// Returns whether the next fault belongs to the report of an earlier one.
     pub(crate) fn follows(self, fault: &SpannedError) -> bool
         ensures { result ≡ follows (next_value self.entry) (fault_of fault.now) }
     {
@@ -141,8 +158,8 @@ impl<'c> NextFaults<'c> {
         }
     }
 
-    /// Returns the patterns that explain a fault with this code: those that can look at what stands
-    /// before their first byte.
+    /// Returns the patterns that explain a fault with this code: those that can examine the bytes
+    /// before their start.
     pub fn starts(self, code: FaultCode) -> &'c [Start] {
         match code {
             FaultCode::NoUniversalStart => self.starts,
@@ -160,7 +177,7 @@ impl Member<'_> {
         }
     }
 
-    /// Returns whether no fault of the set follows it.
+    /// Returns whether it is the last fault of its set.
     pub(crate) fn is_last(&self) -> bool {
         self.number >= self.meeting.names.len().saturating_sub(1)
     }

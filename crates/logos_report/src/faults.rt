@@ -1,25 +1,36 @@
 //! The faults of a file.
 
 ghost use Rattle.std.specs.Prelude.{◌≡◌, ◌≤◌, ◌++◌, ◌==◌, ◌∷◌, [], codes, if◌then◌else◌, length, take};
-ghost use Rattle.logos_report.specs.Views.{count_by, name_of, fault_of, faults_of, is_error, shown_text, code_text, count_text, counted_texts, fault_texts, faults_texts, texts_after, first_line, has_name, head_line, rest_line, rest_text, seen_of, summary_line, all_faults, listed_faults, begins_error, errors_after, first_faults, sizes_of, next_value, Gains, Shows, painted, place_line};
+ghost use Rattle.logos_report.specs.Views.{count_by, name_of, fault_of, faults_of, is_error, shown_text, code_text, count_text, counted_texts, fault_texts, faults_texts, texts_after, first_line, has_name, head_line, rest_line, rest_text, seen_of, summary_line, all_faults, listed_faults, begins_error, errors_after, first_faults, sizes_of, next_value, Gains, Shows, painted, location_line};
 
 use crate::clues::{Clues, NextFaults, first_faults};
+use crate::fault_set::{FaultSet, set_at};
+use crate::file_report::{FaultListing, count_in, seen_in};
 use crate::frame::{Marks, push_frame_with, push_offset};
-use crate::inner::caret_span;
 use crate::notes::{ShownFault, push_notes};
-use crate::page::{Page, Style};
-use crate::refused::{FaultListing, count_in, seen_in};
+use crate::pattern_caret::caret_span;
 use crate::sets::push_listed;
 use crate::source::Part;
+use logos_page::{Page, Style};
 use logos_token::error::{Errors, FaultCode, SpannedError};
 
-/// How many faults of one code are shown of a file.
+/// The maximum number of faults with one code that are shown for a file.
 pub const MOST: usize = 50;
 
-/// Appends the faults of a part of a file, in order. For each, a line with the name of its code and
-/// the first line of its message, and one with its position in the file stand in what is pushed. Of
-/// the faults of a set of ambiguous leaves of which something is known the first one has the line,
-/// and all have their positions under it.
+/// A fault, with the clues about it.
+#[derive(Clone, Copy)]
+pub struct KnownFault<'f> {
+    pub fault: &'f SpannedError,
+    /// The faults of its set, if it is of an ambiguous leaf.
+    pub set: FaultSet<'f>,
+    /// The help for it, if there is one.
+    pub help: Option<&'static str>,
+}
+
+/// Appends the faults of a part of a file, in order. For each, the appended text has a line with
+/// the name of its code and the first line of its message, and one with its position in the file.
+/// In a set of ambiguous leaves with a clue the first fault has the line, and all have their
+/// positions under it.
 pub fn push_faults(page: &mut Page, part: Part<'_, '_>, errors: &Errors, clues: &Clues)
     ensures { Shows (faults_texts page.old.is_colored part.entry.source.now part.entry.offset
         (sizes_of clues.now) errors.now) page.old page.new }
@@ -32,7 +43,7 @@ pub fn push_faults(page: &mut Page, part: Part<'_, '_>, errors: &Errors, clues: 
     push_all(page, part, listing, first_faults(clues));
 }
 
-/// Appends the faults of a part, of which these come first.
+/// Appends the faults of a part, beginning with the first one.
 pub(crate) fn push_all(
     page: &mut Page,
     part: Part<'_, '_>,
@@ -52,8 +63,8 @@ pub(crate) fn push_all(
     }
 }
 
-/// Appends a fault of a part, which has this number there. Of the faults of one code 50 are shown.
-/// In place of the next one stands how many are left out.
+/// Appends the fault of a part with this number. At most 50 faults of one code are shown. In place
+/// of the next one is the number of those that are left out.
 fn push_counted(
     page: &mut Page,
     part: Part<'_, '_>,
@@ -71,13 +82,18 @@ fn push_counted(
     let code = fault.code;
     let seen = seen_in(listing.earlier, &listing.faults[..number], code);
     if seen < MOST {
-        push_listed(page, part, listing.faults, fault, next);
+        let known = KnownFault {
+            fault,
+            set: set_at(listing.faults, number),
+            help: next.help(),
+        };
+        push_listed(page, part, known, next);
     } else if seen == MOST {
         push_rest(page, code, count_in(listing, code).saturating_sub(MOST));
     }
 }
 
-/// Appends how many faults of a code are left out, and an empty line.
+/// Appends the number of faults of a code that are left out, and an empty line.
 pub fn push_rest(page: &mut Page, code: FaultCode, count: usize)
     ensures { Shows (rest_line page.old.is_colored code count ∷ []) page.old page.new }
 {
@@ -85,7 +101,7 @@ pub fn push_rest(page: &mut Page, code: FaultCode, count: usize)
     page.push("\n");
 }
 
-/// Appends the line that says how many faults of a code are left out.
+/// Appends the line with the number of faults of a code that are left out.
 fn push_rest_line(page: &mut Page, code: FaultCode, count: usize)
     ensures { Gains (rest_line page.old.is_colored code count) page.old page.new }
 {
@@ -94,7 +110,7 @@ fn push_rest_line(page: &mut Page, code: FaultCode, count: usize)
     page.push("\n");
 }
 
-/// Appends what follows the code of faults that are left out.
+/// Appends the text after the code of faults that are left out.
 fn push_rest_text(page: &mut Page, count: usize)
     ensures { Gains (painted page.old.is_colored Style.Strong (rest_text count)) page.old page.new }
 {
@@ -105,7 +121,7 @@ fn push_rest_text(page: &mut Page, count: usize)
     page.end();
 }
 
-/// Returns how many of these faults have a code.
+/// Returns the number of these faults that have this code.
 pub(crate) fn count_code(faults: &[SpannedError], code: FaultCode) -> usize
     ensures { result ≡ count_by (has_name (name_of code)) (faults_of faults.now) }
 {
@@ -116,9 +132,9 @@ pub(crate) fn count_code(faults: &[SpannedError], code: FaultCode) -> usize
     count
 }
 
-/// Returns how many of these faults have a code, but no more than one above the number that is
-/// shown. It looks from the last one on, so that the time of all these calls is linear in the
-/// number of faults.
+/// Returns the number of these faults that have this code, but at most one more than the number
+/// that is shown. The search begins at the last fault, so that the time of all these calls is
+/// linear in the number of faults.
 pub(crate) fn seen_of(faults: &[SpannedError], code: FaultCode) -> usize
     ensures { result ≡ seen_of code (faults_of faults.now) }
 {
@@ -141,16 +157,15 @@ fn has_code(fault: &SpannedError, code: FaultCode) -> bool
     fault.code.name() == code.name()
 }
 
-/// Returns how many reports of errors these faults give. `Previous` is an earlier
-/// definition that an error speaks of, and a set of ambiguous leaves of which something is known
-/// has one report.
+/// Returns the number of error reports for these faults. `Previous` is an earlier definition to
+/// which an error refers, and a set of ambiguous leaves with a clue has one report.
 pub fn count_errors(errors: &Errors, clues: &Clues) -> usize
     ensures { result ≡ errors_after (first_faults (sizes_of clues.now)) errors.now }
 {
     count_all(errors.list(), first_faults(clues))
 }
 
-/// Returns how many reports of errors these faults give.
+/// Returns how many reports of errors these faults have.
 fn count_all(faults: &[SpannedError], first: NextFaults<'_>) -> usize
     ensures { result ≡ errors_after (next_value first.entry) (faults_of faults.now) }
 {
@@ -177,7 +192,7 @@ pub fn is_error(code: FaultCode) -> bool
     !matches!(code, FaultCode::Previous)
 }
 
-/// Appends the line that says how many errors there are.
+/// Appends the line with the number of errors.
 pub fn push_summary(page: &mut Page, count: usize)
     ensures { Gains (summary_line page.old.is_colored count) page.old page.new }
 {
@@ -188,7 +203,7 @@ pub fn push_summary(page: &mut Page, count: usize)
     page.push("\n");
 }
 
-/// Appends how many errors there are.
+/// Appends the number of errors.
 fn push_count(page: &mut Page, count: usize)
     ensures { Gains (count_text count) page.old page.new }
 {
@@ -197,7 +212,7 @@ fn push_count(page: &mut Page, count: usize)
     page.push(errors_text(count));
 }
 
-/// Returns the word for so many errors.
+/// Returns the word for `count` errors.
 fn errors_text(count: usize) -> &'static str
     ensures { result.now ≡ (if count == 1 then codes " previous error" else codes " previous errors") }
 {
@@ -208,33 +223,20 @@ fn errors_text(count: usize) -> &'static str
     }
 }
 
-/// Appends a fault, which is one of `faults`.
-pub fn push_fault(
-    page: &mut Page,
-    part: Part<'_, '_>,
-    faults: &[SpannedError],
-    fault: &SpannedError,
-)
+/// Appends a fault, its notes and its help.
+pub fn push_fault(page: &mut Page, part: Part<'_, '_>, known: KnownFault<'_>)
     ensures { Shows (fault_texts page.old.is_colored part.entry.source.now part.entry.offset
-        (fault_of fault.now)) page.old page.new }
+        (fault_of known.entry.fault.now)) page.old page.new }
 {
-    push_head(page, fault);
-    let width = push_span(page, part, fault);
-    push_notes(
-        page,
-        ShownFault {
-            part,
-            faults,
-            fault,
-            width,
-        },
-    );
+    push_head(page, known.fault);
+    let width = push_span(page, part, known.fault);
+    push_notes(page, ShownFault { part, known, width });
 }
 
-/// Appends where a fault begins, and its lines with carets, but no line of a source that is too
-/// long. Returns how wide the column of line numbers is.
+/// Appends the position of a fault, and its lines with carets, unless the source is too long.
+/// Returns the width of the column of line numbers.
 fn push_span(page: &mut Page, part: Part<'_, '_>, fault: &SpannedError) -> usize
-    ensures { Shows (place_line page.old.is_colored part.entry.source.now part.entry.offset
+    ensures { Shows (location_line page.old.is_colored part.entry.source.now part.entry.offset
         fault.now.span.from ∷ []) page.old page.new }
 {
     if matches!(fault.code, FaultCode::LimitSource) {
@@ -244,15 +246,15 @@ fn push_span(page: &mut Page, part: Part<'_, '_>, fault: &SpannedError) -> usize
     push_marked(page, part, fault, "")
 }
 
-/// Appends where a fault begins, and its lines with carets and a label. Returns how wide the column
-/// of line numbers is.
+/// Appends the position of a fault, and its lines with carets and a label. Returns the width of the
+/// column of line numbers.
 pub(crate) fn push_marked(
     page: &mut Page,
     part: Part<'_, '_>,
     fault: &SpannedError,
     label: &str,
 ) -> usize
-    ensures { Shows (place_line page.old.is_colored part.entry.source.now part.entry.offset
+    ensures { Shows (location_line page.old.is_colored part.entry.source.now part.entry.offset
         fault.now.span.from ∷ []) page.old page.new }
 {
     let marks = Marks {
@@ -272,7 +274,7 @@ pub(crate) fn push_head(page: &mut Page, fault: &SpannedError)
     page.push("\n");
 }
 
-/// Appends the first line of a message, and what parts it from the code.
+/// Appends the first line of a message, and the separator between it and the code.
 fn push_message(page: &mut Page, line: &str)
     ensures { Gains (painted page.old.is_colored Style.Strong (codes ": " ++ shown_text line.now))
         page.old page.new }

@@ -1,45 +1,45 @@
 //! A span of a file: its lines, and carets under it.
 
-ghost use Rattle.std.specs.Prelude.{◌≡◌, ◌∷◌, [], decimal, length};
-ghost use Rattle.logos_report.specs.Views.{shown_text, Gains, Shows, arrow_line, place_line, shown_place, shown_position};
+ghost use Rattle.std.specs.Prelude.{◌∷◌, []};
+ghost use Rattle.logos_report.specs.Views.{shown_text, Gains, Shows, arrow_line, location_line, shown_location, shown_line_column};
 
-use crate::page::{Page, Style};
 use crate::source::{Part, Source};
 use crate::window::{FileSpot, LineWindow, window_at};
-use logos_lines::Position;
+use logos_lines::Location;
+use logos_page::{Page, Style, digits};
 use logos_token::token::Span;
 
-/// A span of a file, and how it is shown.
+/// A span of a file, and the style in which it is shown.
 #[derive(Clone, Copy)]
 struct Frame<'p, 't> {
     source: &'p Source<'t>,
-    /// Where the span begins.
+    /// The start of the span.
     first: FileSpot,
-    /// Where it ends.
+    /// The end of the span.
     last: FileSpot,
-    /// How wide the column of line numbers is.
+    /// The width of the column of line numbers.
     width: usize,
     /// The style of the carets and of the label.
     style: Style,
-    /// What stands after the carets.
+    /// The text after the carets.
     label: &'p str,
 }
 
-/// What carets show in lines of a file.
+/// Carets in lines of a file.
 #[derive(Clone, Copy)]
 pub(crate) struct Marks<'l> {
-    /// What carets stand under.
+    /// The span under which the carets are.
     pub(crate) span: Span,
     /// The style of the carets and of the label.
     pub(crate) style: Style,
-    /// What stands after the carets, if it is not empty.
+    /// The text after the carets, if it is not empty.
     pub(crate) label: &'l str,
 }
 
-/// Appends where a span begins, the lines at which it begins and ends, and carets of this style
-/// under it. Long lines are cut around it. Returns how many digits the number of the last line has.
+/// Appends the start of a span, the lines at which it begins and ends, and carets of this style
+/// under it. Long lines are cut around it. Returns the number of digits of the last line's number.
 pub fn push_frame(page: &mut Page, part: Part<'_, '_>, span: Span, style: Style) -> usize
-    ensures { Shows (place_line page.old.is_colored part.entry.source.now part.entry.offset span.from
+    ensures { Shows (location_line page.old.is_colored part.entry.source.now part.entry.offset span.from
         ∷ []) page.old page.new }
 {
     let marks = Marks {
@@ -51,14 +51,14 @@ pub fn push_frame(page: &mut Page, part: Part<'_, '_>, span: Span, style: Style)
 }
 
 /// Appends an offset of a part of a file, the lines at which a span begins and ends, and carets
-/// under the span. Returns how many digits the number of the last line has.
+/// under the span. Returns the number of digits of the last line's number.
 pub(crate) fn push_frame_with(
     page: &mut Page,
     part: Part<'_, '_>,
     offset: usize,
     marks: Marks<'_>,
 ) -> usize
-    ensures { Shows (place_line page.old.is_colored part.entry.source.now part.entry.offset offset
+    ensures { Shows (location_line page.old.is_colored part.entry.source.now part.entry.offset offset
         ∷ []) page.old page.new }
 {
     let frame = frame_of(part, marks);
@@ -67,7 +67,7 @@ pub(crate) fn push_frame_with(
     frame.width
 }
 
-/// Returns how a span of a part of a file is shown.
+/// Returns the frame for a span of a part of a file.
 fn frame_of<'p, 't>(part: Part<'p, 't>, marks: Marks<'p>) -> Frame<'p, 't> {
     let first = spot_in(part, marks.span.from);
     let last = last_shown(part.source, first, spot_in(part, marks.span.to));
@@ -75,67 +75,67 @@ fn frame_of<'p, 't>(part: Part<'p, 't>, marks: Marks<'p>) -> Frame<'p, 't> {
         source: part.source,
         first,
         last,
-        width: digits(last.position.line),
+        width: digits(last.location.line),
         style: marks.style,
         label: marks.label,
     }
 }
 
-/// Returns the spot in the file of an offset of a part.
+/// Returns the location in the file of an offset of a part.
 fn spot_in(part: Part<'_, '_>, offset: usize) -> FileSpot {
     FileSpot {
         offset: offset.saturating_add(part.offset),
-        position: part.position(offset),
+        location: part.location(offset),
     }
 }
 
-/// Returns where what is shown of a span ends: at the end of the line before, where it ends with a
-/// line.
+/// Returns the end of the shown part of a span. If the span ends with a line end, it is the end of
+/// that line.
 fn last_shown(source: &Source<'_>, first: FileSpot, end: FileSpot) -> FileSpot {
-    if (end.position.column > 1) | (lines_after(first, end) == 0) {
+    if (end.location.column > 1) | (lines_after(first, end) == 0) {
         return end;
     }
     let offset = end.offset.saturating_sub(1);
     FileSpot {
         offset,
-        position: source.position(offset),
+        location: source.location(offset),
     }
 }
 
 /// Appends the line that names an offset of a part of a file, after a margin.
 pub(crate) fn push_offset(page: &mut Page, part: Part<'_, '_>, offset: usize, width: usize)
-    ensures { Shows (place_line page.old.is_colored part.entry.source.now part.entry.offset offset
+    ensures { Shows (location_line page.old.is_colored part.entry.source.now part.entry.offset offset
         ∷ []) page.old page.new }
 {
     page.push_times(" ", width);
-    push_arrow(page, part.source, part.position(offset));
+    push_arrow(page, part.source, part.location(offset));
 }
 
 /// Appends an offset of a part of a file as `path:line:column`.
-pub fn push_place(page: &mut Page, part: Part<'_, '_>, offset: usize)
-    ensures { Gains (shown_place part.entry.source.now part.entry.offset offset) page.old page.new }
+pub fn push_location(page: &mut Page, part: Part<'_, '_>, offset: usize)
+    ensures { Gains (shown_location part.entry.source.now part.entry.offset offset) page.old page.new }
 {
-    push_position(page, part.source, part.position(offset));
+    push_line_column(page, part.source, part.location(offset));
 }
 
 /// Appends a position as `path:line:column`.
-fn push_position(page: &mut Page, source: &Source<'_>, place: Position)
-    ensures { Gains (shown_position source.now.path place) page.old page.new }
+fn push_line_column(page: &mut Page, source: &Source<'_>, location: Location)
+    ensures { Gains (shown_line_column source.now.path location) page.old page.new }
 {
     page.push_shown(source.path());
     page.push(":");
-    page.push_number(place.line);
+    page.push_number(location.line);
     page.push(":");
-    page.push_number(place.column);
+    page.push_number(location.column);
 }
 
-/// Appends the line that says where a span begins, without its blanks in front.
-fn push_arrow(page: &mut Page, source: &Source<'_>, place: Position)
-    ensures { Gains (arrow_line page.old.is_colored source.now.path place) page.old page.new }
+/// Appends the line with the start of a span, without its leading blanks.
+fn push_arrow(page: &mut Page, source: &Source<'_>, location: Location)
+    ensures { Gains (arrow_line page.old.is_colored source.now.path location) page.old page.new }
 {
     page.paint(Style::Frame, "-->");
     page.push(" ");
-    push_position(page, source, place);
+    push_line_column(page, source, location);
     page.push("\n");
 }
 
@@ -145,7 +145,7 @@ fn push_lines(page: &mut Page, frame: Frame<'_, '_>)
 {
     push_margin(page, frame.width);
     page.push("\n");
-    if frame.first.position.line == frame.last.position.line {
+    if frame.first.location.line == frame.last.location.line {
         push_only_line(page, frame);
     } else {
         push_first_line(page, frame);
@@ -154,21 +154,21 @@ fn push_lines(page: &mut Page, frame: Frame<'_, '_>)
     }
 }
 
-/// Appends the line of a span that ends where it begins.
+/// Appends the line of a span that begins and ends on it.
 fn push_only_line(page: &mut Page, frame: Frame<'_, '_>)
     ensures { Shows [] page.old page.new }
 {
-    let Position { line, column } = frame.first.position;
+    let Location { line, column } = frame.first.location;
     let window = window_at(frame.source, frame.first);
     push_line(page, frame, line, window);
-    push_carets(page, frame, window, column, frame.last.position.column);
+    push_carets(page, frame, window, column, frame.last.location.column);
 }
 
 /// Appends the line at which a span begins that ends on a later one.
 fn push_first_line(page: &mut Page, frame: Frame<'_, '_>)
     ensures { Shows [] page.old page.new }
 {
-    let Position { line, column } = frame.first.position;
+    let Location { line, column } = frame.first.location;
     let window = window_at(frame.source, frame.first);
     push_line(page, frame, line, window);
     let frame = Frame { label: "", ..frame };
@@ -185,16 +185,16 @@ fn push_dots(page: &mut Page, frame: Frame<'_, '_>)
     }
 }
 
-/// Returns how many lines a spot is below another one.
+/// Returns how many lines `last` is below `first`.
 fn lines_after(first: FileSpot, last: FileSpot) -> usize {
-    last.position.line.saturating_sub(first.position.line)
+    last.location.line.saturating_sub(first.location.line)
 }
 
 /// Appends the line at which a span ends that began on an earlier one.
 fn push_last_line(page: &mut Page, frame: Frame<'_, '_>)
     ensures { Shows [] page.old page.new }
 {
-    let Position { line, column } = frame.last.position;
+    let Location { line, column } = frame.last.location;
     let window = window_at(frame.source, frame.last);
     push_line(page, frame, line, window);
     push_carets(page, frame, window, 1, column);
@@ -208,7 +208,7 @@ fn push_margin(page: &mut Page, width: usize)
     page.paint(Style::Frame, "|");
 }
 
-/// Appends what is shown of a line of the file, with its number.
+/// Appends the shown part of a line of the file, with its number.
 fn push_line(page: &mut Page, frame: Frame<'_, '_>, line: usize, window: LineWindow<'_>)
     ensures { Shows [] page.old page.new }
 {
@@ -231,8 +231,8 @@ fn push_line_number(page: &mut Page, line: usize, width: usize)
     page.end();
 }
 
-/// Appends carets under what is shown of a line, from a column to another one, which is not under
-/// them. There is at least one.
+/// Appends carets under the shown part of a line, from a column up to another one, exclusive. There
+/// is at least one.
 fn push_carets(
     page: &mut Page,
     frame: Frame<'_, '_>,
@@ -253,7 +253,7 @@ fn push_carets(
     page.push("\n");
 }
 
-/// Appends what stands after carets.
+/// Appends the text after carets.
 fn push_label(page: &mut Page, label: &str)
     ensures { Shows [] page.old page.new }
 {
@@ -261,17 +261,4 @@ fn push_label(page: &mut Page, label: &str)
         page.push(" ");
         page.push_shown(label);
     }
-}
-
-/// Returns how many decimal digits a number has.
-pub fn digits(number: usize) -> usize
-    ensures { result ≡ length (decimal number) }
-{
-    let mut rest = number;
-    let mut count: usize = 1;
-    while rest >= 10 {
-        rest /= 10;
-        count += 1;
-    }
-    count
 }

@@ -1,65 +1,58 @@
-//! Faults of a graph: one report for each set of ambiguous leaves, and the patterns that can look
-//! at what stands before their first byte.
+//! Faults of a graph: one report for each set of ambiguous leaves, and the patterns that can
+//! examine the bytes before their start. Used by `faults`.
 
 ghost use Rattle.std.specs.Prelude.{◌∷◌, [], nat_lt, if◌then◌else◌};
-ghost use Rattle.logos_report.specs.Views.{fault_of, fault_texts, listed_texts, Shows, place_line, next_value};
+ghost use Rattle.logos_report.specs.Views.{fault_of, fault_texts, listed_texts, Shows, location_line, next_value};
 
 use crate::clues::{Meeting, Member, NextFaults, Start};
-use crate::faults::{push_fault, push_head, push_marked};
+use crate::faults::{KnownFault, push_fault, push_head, push_marked};
 use crate::frame::{Marks, push_frame_with, push_offset};
 use crate::notes::{ShownFault, push_help, push_note, push_notes};
-use crate::page::{Page, Style};
 use crate::source::Part;
+use logos_page::{Page, Style};
 use logos_token::error::SpannedError;
 
-/// How many patterns are shown under a fault.
+/// The maximum number of patterns that are shown under a fault.
 const MOST: usize = 50;
 
-/// Appends a fault that comes next, which is one of `faults`.
+/// Appends the next fault of a list.
 pub(crate) fn push_listed(
     page: &mut Page,
     part: Part<'_, '_>,
-    faults: &[SpannedError],
-    fault: &SpannedError,
+    known: KnownFault<'_>,
     next: NextFaults<'_>,
 )
     ensures { Shows (listed_texts page.old.is_colored part.entry.source.now part.entry.offset
-        (next_value next.entry) (fault_of fault.now)) page.old page.new }
+        (next_value next.entry) (fault_of known.entry.fault.now)) page.old page.new }
 {
-    match next.member(fault) {
-        Some(member) => push_member(page, part, fault, member),
-        None => push_single(page, part, faults, fault, next.starts(fault.code)),
+    match next.member(known.fault) {
+        Some(member) => push_member(page, part, known, member),
+        None => push_single(page, part, known, next.starts(known.fault.code)),
     }
 }
 
-/// Appends a fault of a set of ambiguous leaves, and what is known of the set after the last one.
-fn push_member(page: &mut Page, part: Part<'_, '_>, fault: &SpannedError, member: Member<'_>)
+/// Appends a fault of a set of ambiguous leaves, and the clue about the set after the last one.
+fn push_member(page: &mut Page, part: Part<'_, '_>, known: KnownFault<'_>, member: Member<'_>)
     ensures { Shows (if nat_lt 0 member.entry.number
-        then place_line page.old.is_colored part.entry.source.now part.entry.offset
-        fault.now.span.from ∷ []
+        then location_line page.old.is_colored part.entry.source.now part.entry.offset
+        known.entry.fault.now.span.from ∷ []
         else fault_texts page.old.is_colored part.entry.source.now part.entry.offset
-        (fault_of fault.now)) page.old page.new }
+        (fault_of known.entry.fault.now)) page.old page.new }
 {
-    let width = push_place_of(page, part, fault, member);
-    let shown = ShownFault {
-        part,
-        faults: &[],
-        fault,
-        width,
-    };
-    push_end(page, shown, member);
+    let width = push_location_of(page, part, known.fault, member);
+    push_end(page, ShownFault { part, known, width }, member);
 }
 
-/// Appends the position of a fault of a set of ambiguous leaves, and in front of the first one the
-/// line of the report. Returns how wide the column of line numbers is.
-fn push_place_of(
+/// Appends the position of a fault of a set of ambiguous leaves, and before the first one the line
+/// of the report. Returns the width of the column of line numbers.
+fn push_location_of(
     page: &mut Page,
     part: Part<'_, '_>,
     fault: &SpannedError,
     member: Member<'_>,
 ) -> usize
     ensures { Shows (if nat_lt 0 member.entry.number
-        then place_line page.old.is_colored part.entry.source.now part.entry.offset
+        then location_line page.old.is_colored part.entry.source.now part.entry.offset
         fault.now.span.from ∷ []
         else fault_texts page.old.is_colored part.entry.source.now part.entry.offset
         (fault_of fault.now)) page.old page.new }
@@ -71,8 +64,8 @@ fn push_place_of(
     }
 }
 
-/// Appends the line of a report and the position of its fault, with a label. Returns how wide the
-/// column of line numbers is.
+/// Appends the line of a report and the position of its fault, with a label. Returns the width of
+/// the column of line numbers.
 fn push_begin(page: &mut Page, part: Part<'_, '_>, fault: &SpannedError, label: &str) -> usize
     ensures { Shows (fault_texts page.old.is_colored part.entry.source.now part.entry.offset
         (fault_of fault.now)) page.old page.new }
@@ -81,7 +74,7 @@ fn push_begin(page: &mut Page, part: Part<'_, '_>, fault: &SpannedError, label: 
     push_marked(page, part, fault, label)
 }
 
-/// Appends what is known of a set of ambiguous leaves, if this is the last of its faults.
+/// Appends the clue about a set of ambiguous leaves, if this is the last of its faults.
 fn push_end(page: &mut Page, shown: ShownFault<'_, '_, '_>, member: Member<'_>)
     ensures { Shows [] page.old page.new }
 {
@@ -90,7 +83,7 @@ fn push_end(page: &mut Page, shown: ShownFault<'_, '_, '_>, member: Member<'_>)
     }
 }
 
-/// Appends on what text leaves meet and what to do, and an empty line.
+/// Appends the text on which leaves meet, the help, and an empty line.
 fn push_meeting(page: &mut Page, shown: ShownFault<'_, '_, '_>, meeting: &Meeting)
     ensures { Shows [] page.old page.new }
 {
@@ -100,41 +93,29 @@ fn push_meeting(page: &mut Page, shown: ShownFault<'_, '_, '_>, meeting: &Meetin
     page.push("\n");
 }
 
-/// Appends a fault that is none of a known set, with the patterns that explain it.
-fn push_single(
-    page: &mut Page,
-    part: Part<'_, '_>,
-    faults: &[SpannedError],
-    fault: &SpannedError,
-    starts: &[Start],
-)
+/// Appends a fault that is not of a set with a clue, with the patterns that explain it.
+fn push_single(page: &mut Page, part: Part<'_, '_>, known: KnownFault<'_>, starts: &[Start])
     ensures { Shows (fault_texts page.old.is_colored part.entry.source.now part.entry.offset
-        (fault_of fault.now)) page.old page.new }
+        (fault_of known.entry.fault.now)) page.old page.new }
 {
     if starts.is_empty() {
-        push_fault(page, part, faults, fault);
+        push_fault(page, part, known);
     } else {
-        push_explained(page, part, fault, starts);
+        push_explained(page, part, known, starts);
     }
 }
 
-/// Appends a fault of a whole enum, with the patterns that explain it in place of all its lines.
-fn push_explained(page: &mut Page, part: Part<'_, '_>, fault: &SpannedError, starts: &[Start])
+/// Appends a fault of a whole enum, with the patterns that explain it instead of the lines of the
+/// enum.
+fn push_explained(page: &mut Page, part: Part<'_, '_>, known: KnownFault<'_>, starts: &[Start])
     ensures { Shows (fault_texts page.old.is_colored part.entry.source.now part.entry.offset
-        (fault_of fault.now)) page.old page.new }
+        (fault_of known.entry.fault.now)) page.old page.new }
 {
-    push_head(page, fault);
-    push_offset(page, part, fault.span.from, 1);
+    push_head(page, known.fault);
+    push_offset(page, part, known.fault.span.from, 1);
     push_starts(page, part, &starts[..starts.len().min(MOST)]);
-    push_notes(
-        page,
-        ShownFault {
-            part,
-            faults: &[],
-            fault,
-            width: 1,
-        },
-    );
+    let width = 1;
+    push_notes(page, ShownFault { part, known, width });
 }
 
 /// Appends these patterns.
@@ -146,7 +127,7 @@ fn push_starts(page: &mut Page, part: Part<'_, '_>, starts: &[Start])
     }
 }
 
-/// Appends a pattern that can look at what stands before its first byte.
+/// Appends a pattern that can examine the bytes before its start.
 fn push_start(page: &mut Page, part: Part<'_, '_>, start: &Start)
     ensures { Shows [] page.old page.new }
 {

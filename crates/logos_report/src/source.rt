@@ -1,32 +1,48 @@
 //! Files whose positions are shown.
 
-ghost use Rattle.std.specs.Prelude.{◌≡◌, IfOk, IfSome};
-ghost use Rattle.logos_report.specs.Views.{IsLineOf, place_at, in_file};
+ghost use Rattle.std.specs.Prelude.{◌≡◌, ◌≤◌, ◌⊎◌, IfOk, MatchOption, length};
+ghost use Rattle.logos_report.specs.Views.{IsLineOf, IsLongLine, IsNoLine, location_at, in_file};
 
-use logos_lines::{LineIndex, Position};
+use logos_lines::{LineIndex, Location};
+use logos_token::token::Span;
 use std::alloc::{AllocError, Global};
 use std::marker::Model;
 
-/// A part of a file. Its offsets count bytes from where it begins.
+/// A part of a file. Its offsets are bytes from its beginning.
 #[derive(Clone, Copy)]
 pub struct Part<'p, 't> {
     /// The whole file.
     pub source: &'p Source<'t>,
-    /// Where the part begins in the file, in bytes.
+    /// The byte offset of the part in the file.
     pub offset: usize,
 }
 
 impl Part<'_, '_> {
     /// Returns the line and the column in the file of an offset of the part.
-    pub fn position(self, offset: usize) -> Position
-        ensures { result ≡ place_at self.entry.source.now.text
+    pub fn location(self, offset: usize) -> Location
+        ensures { result ≡ location_at self.entry.source.now.text
             (in_file self.entry.offset offset) }
     {
-        self.source.position(offset.saturating_add(self.offset))
+        self.source.location(offset.saturating_add(self.offset))
     }
 }
 
-/// A file: its path, and its text with the index of its lines.
+impl<'t> Part<'_, 't> {
+    /// Returns the text of the part at a span, or an empty one if the file has no such span.
+    pub fn text_at(self, span: Span) -> &'t str {
+        let from = span.from.saturating_add(self.offset);
+        let to = span.to.saturating_add(self.offset);
+        self.source.text().get(from..to).unwrap_or("")
+    }
+
+    /// Returns the text of the file from an offset of the part on, or an empty one after its end.
+    pub fn text_from(self, offset: usize) -> &'t str {
+        let from = offset.saturating_add(self.offset);
+        self.source.text().get(from..).unwrap_or("")
+    }
+}
+
+/// A file: its path, and its text with an index of its lines.
 #[derive(Drop)]
 pub struct Source<'t> {
     path: &'t str,
@@ -36,7 +52,7 @@ pub struct Source<'t> {
 
 impl<'t> Model for Source<'t> {
     ghost use Rattle.std.specs.Prelude.{◌≡◌};
-    ghost use Rattle.logos_report.specs.Places.{SourceValue};
+    ghost use Rattle.logos_report.specs.Locations.{SourceValue};
 
     ghost Value = { SourceValue };
 
@@ -74,16 +90,18 @@ impl<'t> Source<'t> {
     }
 
     /// Returns the line and the column of an offset in bytes.
-    pub fn position(&self, offset: usize) -> Position
-        ensures { result ≡ place_at self.now.text offset }
+    pub fn location(&self, offset: usize) -> Location
+        ensures { result ≡ location_at self.now.text offset }
     {
         self.index.line_column(offset)
     }
 
-    /// Returns the text of a line, if it has no more than `most` bytes. It looks at no more than
-    /// these.
+    /// Returns the text of a line, or `None` if the file has no such line or the line has more than
+    /// `most` bytes. It examines at most `most` bytes and the end of the line.
     pub fn short_line(&self, line: usize, most: usize) -> Option<&'t str>
-        ensures { IfSome result (λ shown. IsLineOf self.now.text line shown.now) }
+        ensures { MatchOption result
+            (IsNoLine self.now.text line ⊎ IsLongLine self.now.text line most)
+            (λ shown. IsLineOf self.now.text line shown.now × (length shown.now ≤ most)) }
     {
         self.index.short_line(line, most)
     }

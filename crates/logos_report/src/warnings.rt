@@ -1,34 +1,34 @@
 //! Warnings: probable mistakes that are not faults.
 
 ghost use Rattle.std.specs.Prelude.{◌≡◌, ◌++◌, ◌∷◌, [], codes, string_bytes};
-ghost use Rattle.logos_report.specs.Views.{shown_text, Gains, Shows, painted, place_line, all_texts, shown_of, warning_head, warning_texts, warnings_texts};
+ghost use Rattle.logos_report.specs.Views.{shown_text, Gains, Shows, painted, location_line, all_texts, shown_of, warning_head, warning_texts, warnings_texts};
 
-use crate::frame::{push_frame, push_place};
+use crate::frame::{push_frame, push_location};
 use crate::notes::push_note;
-use crate::page::{Page, Style};
 use crate::source::Part;
+use logos_page::{Page, Style};
 use logos_token::token::Span;
 
-/// How many warnings of a part of a file are shown.
+/// The maximum number of warnings that are shown for a part of a file.
 const MOST: usize = 50;
 
 /// A probable mistake in a part of a file that is not a fault.
 #[derive(Debug, Drop)]
 pub struct Warning {
-    /// What is probably wrong, as one line.
+    /// The probable mistake, on one line.
     pub message: String,
-    /// What it is about, in bytes of the part.
+    /// The span of the mistake, in bytes of the part.
     pub span: Span,
-    /// What is known besides, as one line.
+    /// A further explanation, on one line.
     pub note: Option<String>,
-    /// What to do about it.
+    /// The help.
     pub help: Option<&'static str>,
-    /// A second span that it is about.
+    /// A second span of the mistake.
     pub also: Option<Span>,
 }
 
-/// Appends the warnings of a part of a file, in order, but no more than 50, and how many are left
-/// out. For each, a line with its message and one with its position stand in what is pushed.
+/// Appends at most 50 warnings of a part of a file, in order, and the number of those that are left
+/// out. For each, the appended text has a line with its message and one with its position.
 pub fn push_warnings(page: &mut Page, part: Part<'_, '_>, warnings: &[Warning])
     ensures { Shows (warnings_texts page.old.is_colored part.entry.source.now part.entry.offset
         warnings.now) page.old page.new }
@@ -37,7 +37,7 @@ pub fn push_warnings(page: &mut Page, part: Part<'_, '_>, warnings: &[Warning])
     push_more(page, warnings.len().saturating_sub(MOST));
 }
 
-/// Returns those of these warnings that are shown.
+/// Returns the warnings that are shown.
 pub fn first_of(warnings: &[Warning]) -> &[Warning]
     ensures { result.now ≡ shown_of warnings.now }
 {
@@ -58,7 +58,7 @@ fn push_all(page: &mut Page, part: Part<'_, '_>, warnings: &[Warning])
     }
 }
 
-/// Appends how many warnings are left out, if there are any.
+/// Appends the number of warnings that are left out, if there are any.
 fn push_more(page: &mut Page, count: usize)
     ensures { Shows [] page.old page.new }
 {
@@ -90,7 +90,7 @@ fn push_head(page: &mut Page, message: &str)
     page.push("\n");
 }
 
-/// Appends a message, and what parts it from the word in front of it.
+/// Appends a message, and the separator between it and the word before it.
 fn push_message(page: &mut Page, message: &str)
     ensures { Gains (painted page.old.is_colored Style.Strong (codes ": " ++ shown_text message.now))
         page.old page.new }
@@ -101,7 +101,7 @@ fn push_message(page: &mut Page, message: &str)
     page.end();
 }
 
-/// Appends what stands under a warning, and an empty line.
+/// Appends the notes under a warning, and an empty line.
 fn push_notes(page: &mut Page, part: Part<'_, '_>, width: usize, warning: &Warning)
     ensures { Shows [] page.old page.new }
 {
@@ -129,7 +129,7 @@ fn push_other(page: &mut Page, part: Part<'_, '_>, width: usize, also: Option<Sp
 {
     if let Some(span) = also {
         push_note(page, width, "note", "see also ");
-        push_place(page, part, span.from);
+        push_location(page, part, span.from);
         page.push("\n");
     }
 }

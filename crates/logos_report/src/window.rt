@@ -1,46 +1,45 @@
-//! What is shown of a line: all of it, or about 140 columns around a spot in it. Only what is near
-//! the spot is looked at, however long the line is.
+//! The shown part of a line: all of it, or about 140 columns around a location in it. Only bytes
+//! near the location are examined, however long the line is. Used by `frame`.
 
 ghost use Rattle.std.specs.Prelude.{◌≡◌, []};
-ghost use Rattle.logos_report.specs.Pages.{Shows};
+ghost use Rattle.logos_page.specs.Pages.{Shows};
 
-use crate::page::Page;
-use crate::shown::columns_of;
 use crate::source::Source;
-use logos_lines::Position;
+use logos_lines::Location;
+use logos_page::{Page, columns_of};
 
-/// How many columns of a line are shown.
+/// The width of the shown part of a line, in columns.
 const COLUMNS: usize = 140;
-/// How many columns in front of the first caret are never left out.
+/// The columns before the first caret that are always shown.
 const NEAR: usize = 100;
-/// How many columns are shown in front of the first caret, if more are left out.
+/// The columns before the first caret that are shown if more are left out.
 const FRONT: usize = 60;
-/// How many bytes on either side of a spot are looked at. The columns that are shown have fewer,
-/// but for characters that take no column.
+/// How many bytes on either side of a location are examined. The shown columns have fewer, except
+/// for characters that take no column.
 const FAR: usize = 800;
 
-/// A spot in a file: its offset and its position.
+/// A location in a file: its offset, line and column.
 #[derive(Clone, Copy)]
 pub(crate) struct FileSpot {
-    /// In bytes of the file.
+    /// The byte offset in the file.
     pub(crate) offset: usize,
-    pub(crate) position: Position,
+    pub(crate) location: Location,
 }
 
-/// What is near a spot in a line, and how much of it is left out.
+/// The text near a location in a line, and how much of it is left out.
 #[derive(Clone, Copy)]
 pub(crate) struct LineWindow<'t> {
-    /// What is near the spot.
+    /// The text near the location.
     text: &'t str,
-    /// How many characters of the line stand in front of it.
+    /// The number of characters of the line before the text.
     front: usize,
-    /// How many of its own characters are left out in front.
+    /// The number of leading characters of the text that are left out.
     skipped: usize,
-    /// Whether the line goes on after it.
+    /// Whether the line continues after the text.
     goes_on: bool,
 }
 
-/// Returns what is shown of the line of a spot of a file.
+/// Returns the shown part of the line at a location of a file.
 pub(crate) fn window_at<'t>(source: &Source<'t>, spot: FileSpot) -> LineWindow<'t> {
     let text = source.text();
     let bytes = text.as_bytes();
@@ -51,7 +50,7 @@ pub(crate) fn window_at<'t>(source: &Source<'t>, spot: FileSpot) -> LineWindow<'
     let window = LineWindow {
         text: near,
         front: spot
-            .position
+            .location
             .column
             .saturating_sub(1)
             .saturating_sub(before),
@@ -64,7 +63,8 @@ pub(crate) fn window_at<'t>(source: &Source<'t>, spot: FileSpot) -> LineWindow<'
     }
 }
 
-/// Returns where what is near an offset begins: with its line, or so many bytes in front of it.
+/// Returns the start of the text near an offset: the start of its line, or the offset less `FAR`
+/// bytes.
 fn near_start(bytes: &[u8], offset: usize) -> usize {
     let least = offset.saturating_sub(FAR);
     let mut from = offset.min(bytes.len());
@@ -77,7 +77,7 @@ fn near_start(bytes: &[u8], offset: usize) -> usize {
     from
 }
 
-/// Returns where what is near an offset ends: with its line, or at a last offset.
+/// Returns the end of the text near an offset: the end of its line, or the offset `last`.
 fn near_end(bytes: &[u8], from: usize, last: usize) -> usize {
     let mut to = from;
     while to < last {
@@ -99,7 +99,7 @@ fn ends_at(bytes: &[u8], at: usize) -> bool {
     }
 }
 
-/// Returns the first offset from this one on at which a character begins or the text ends.
+/// Returns the first offset at or after this one at which a character begins or the text ends.
 fn character_at(text: &str, offset: usize) -> usize {
     let mut at = offset;
     while at < text.len() {
@@ -111,8 +111,8 @@ fn character_at(text: &str, offset: usize) -> usize {
     at
 }
 
-/// Returns how many characters of a window are left out in front of the spot that has so many in
-/// front of it.
+/// Returns how many leading characters of a window are left out for a location with `before`
+/// characters before it.
 fn skipped_of(window: LineWindow<'_>, before: usize) -> usize {
     let width = columns(window.text, 0, before);
     let is_whole = (window.front == 0) & !window.goes_on;
@@ -124,7 +124,7 @@ fn skipped_of(window: LineWindow<'_>, before: usize) -> usize {
     }
 }
 
-/// Returns how many columns so many characters of a text take, from the one with this number on.
+/// Returns the width in columns of `count` characters of a text, from number `from` on.
 fn columns(text: &str, from: usize, count: usize) -> usize {
     let mut total: usize = 0;
     for character in text.chars().skip(from).take(count) {
@@ -133,7 +133,7 @@ fn columns(text: &str, from: usize, count: usize) -> usize {
     total
 }
 
-/// Returns how many characters at the front of a text take so many columns.
+/// Returns how many leading characters of a text fit into `columns` columns.
 fn characters_in(text: &str, columns: usize) -> usize {
     let mut total: usize = 0;
     let mut count: usize = 0;
@@ -153,12 +153,12 @@ impl LineWindow<'_> {
         self.text.is_empty()
     }
 
-    /// Returns whether the line is cut in front.
+    /// Returns whether the beginning of the line is left out.
     fn is_cut(self) -> bool {
         (self.skipped > 0) | (self.front > 0)
     }
 
-    /// Appends the part of the line that is shown, with dots where it is cut.
+    /// Appends the shown part of the line, with dots where it is cut.
     pub(crate) fn push(self, page: &mut Page)
         ensures { Shows [] page.old page.new }
     {
@@ -170,7 +170,7 @@ impl LineWindow<'_> {
         }
     }
 
-    /// Appends the part of the line that is shown. Returns whether it is cut at its end.
+    /// Appends the shown part of the line. Returns whether it is cut at its end.
     fn push_characters(self, page: &mut Page) -> bool
         ensures { Shows [] page.old page.new }
     {
@@ -185,19 +185,19 @@ impl LineWindow<'_> {
         self.goes_on
     }
 
-    /// Returns how many characters of the window are in front of a column of the line.
+    /// Returns how many characters of the window are before a column of the line.
     fn characters_before(self, column: usize) -> usize {
         column.saturating_sub(1).saturating_sub(self.front)
     }
 
-    /// Returns how many columns are shown in front of a column.
+    /// Returns the number of columns that are shown before a column.
     pub(crate) fn columns_before(self, column: usize) -> usize {
         let dots = if self.is_cut() { 3 } else { 0 };
         let shown = self.characters_before(column).saturating_sub(self.skipped);
         columns(self.text, self.skipped, shown).saturating_add(dots)
     }
 
-    /// Returns how many columns are shown from a column to another one.
+    /// Returns the number of columns that are shown from a column to another one.
     pub(crate) fn columns_between(self, from: usize, to: usize) -> usize {
         let first = self.characters_before(from).max(self.skipped);
         let count = self.characters_before(to).saturating_sub(first);

@@ -4,7 +4,7 @@ use Rattle.std.proofs.lemmas.List.Elements.{All-nil, All-cons, All-append}
 use Rattle.logos_token.specs.Tokens.{TokenList, also, IsRestOf}
 use Rattle.logos_token.specs.Spelling.{Spells}
 use Rattle.logos_token.proofs.reading.SpanLemmas.{RunCut, append_front, append_back, span_cut, spelled_cut}
-use Rattle.logos_rust_file.specs.declared.finding.FoundEnum.{FoundEnum}
+use Rattle.logos_rust_file.specs.declared.finder.FoundEnum.{FoundEnum}
 use Rattle.logos_rust_file.specs.Files.{Finds}
 use Rattle.logos_rust_file.specs.Files.Finds.{done, finds, enters, passes}
 use Rattle.logos_rust_file.specs.Fronts.{is_module, is_other}
@@ -14,7 +14,7 @@ use Rattle.logos_rust_file.proofs.FrontLemmas.{item_of, Shape, another, a_module
 rest_cut : (text : List ℕ) (run rest : TokenList) → IsRestOf run rest → RunCut text run → RunCut text rest
 rest_cut text run rest r c = append_back text r.front rest (rw r.is at c)
 
--- what is inside a module, and what follows it
+-- the tokens inside a module, and the tokens after it
 module_cut : (text : List ℕ) (at inside rest : TokenList) → Shape at (is_module inside rest) → RunCut text at → RunCut text inside × RunCut text rest
 module_cut text _ inside rest (a_module) c = (c.1.1.0.1, c.1.1.1)
 

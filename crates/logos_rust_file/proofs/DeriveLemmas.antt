@@ -8,7 +8,7 @@ use Rattle.logos_lexeme.specs.declared.lexeme.Delimiter.{Delimiter}
 use Rattle.logos_lexeme.specs.declared.lexeme.Delimiter.TheVariants.{Parenthesis, Bracket, Brace}
 use Rattle.logos_token.specs.Tokens.{Token, TokenList, identifier, punctuation, literal, doc, group, none, also}
 use Rattle.logos_enum.specs.declared.error.ReadError.{ReadError}
-use Rattle.logos_enum.specs.Attributes.{attribute_mismatch, unless, after_attributes, after_hash, Attributes, stand, announced_in}
+use Rattle.logos_enum.specs.Attributes.{attribute_mismatch, unless, after_attributes, after_hash, Attributes, occur, announced_in}
 use Rattle.logos_enum.specs.Enum.{Reads, reads}
 use Rattle.logos_enum.specs.EnumValues.{EnumValue}
 use Rattle.logos_enum.specs.Marks.{hash, is_none, is_outer}
@@ -167,7 +167,7 @@ helper_quiet (also (identifier text span) rest) h = go (bytes_eq text (codes "de
     go true e = let f : false ≡ true = rw (other_name text e) at h in cc
     go false e = rw e refl
 
--- what stands after attributes begins with a word
+-- the tokens after attributes begin with a word
 abbrev BeginsWord : TokenList → Type 0
 BeginsWord (also (identifier text span) rest) = Unit {0}
 BeginsWord run = ⊥
@@ -241,7 +241,7 @@ mutual
 
 -- the tokens of an enum
 pub derives-lost : (tokens : TokenList) (value : EnumValue) → Reads tokens (Ok value) → derives tokens ≡ loses_derive tokens
-derives-lost tokens value (reads {rest = rest} front item) = go front.stand front.announced
+derives-lost tokens value (reads {rest = rest} front item) = go front.occur front.announced
   where
     go : {attributes middle : TokenList} → Attributes tokens (Ok (attributes, middle)) → announced_in middle ≡ Some rest → derives tokens ≡ loses_derive tokens
-    go (stand {rest = middle} e is) word = attributes_same tokens middle e (word_comes middle rest word)
+    go (occur {rest = middle} e is) word = attributes_same tokens middle e (word_comes middle rest word)

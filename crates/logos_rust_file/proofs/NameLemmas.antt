@@ -6,7 +6,7 @@ use Rattle.logos_lexeme.specs.declared.lexeme.Spacing.{Spacing}
 use Rattle.logos_lexeme.specs.declared.lexeme.Delimiter.TheVariants.{Parenthesis, Bracket, Brace}
 use Rattle.logos_token.specs.Tokens.{Token, TokenList, identifier, punctuation, literal, doc, group, none, also, rest_of}
 use Rattle.logos_enum.specs.declared.error.ReadError.{ReadError}
-use Rattle.logos_enum.specs.Attributes.{Attributes, after_attributes, after_hash, after_keyword, after_visibility, announced_in, attribute_mismatch, stand, unless}
+use Rattle.logos_enum.specs.Attributes.{Attributes, after_attributes, after_hash, after_keyword, after_visibility, announced_in, attribute_mismatch, occur, unless}
 use Rattle.logos_enum.specs.Enum.{Reads, enum_of, item, reads}
 use Rattle.logos_enum.specs.EnumValues.{EnumValue}
 use Rattle.logos_enum.specs.Generics.{name_in}
@@ -93,8 +93,8 @@ named attributes rest value (goes {value = name} {rest = after} e (goes {value =
     name_read rest after name e ∙ ap (λ (read : EnumValue × TokenList). Some read.0.name.span) same
 
 pub name-read : (tokens : TokenList) (value : EnumValue) → Reads tokens (Ok value) → name_of tokens ≡ Some value.name.span
-name-read tokens value (reads {attributes} {rest} front is) = go front.stand front.announced
+name-read tokens value (reads {attributes} {rest} front is) = go front.occur front.announced
   where
     go : {middle : TokenList} → Attributes tokens (Ok (attributes, middle)) → announced_in middle ≡ Some rest → name_of tokens ≡ Some value.name.span
-    go (stand {rest = middle} e whole) word =
+    go (occur {rest = middle} e whole) word =
         ap (λ (run : TokenList). name_at (rest_of (after_visibility run))) (attributes_left tokens middle e) ∙ ap name_at (keyword_left (after_visibility middle) rest word) ∙ named attributes rest value is

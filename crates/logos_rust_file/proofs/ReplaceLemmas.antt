@@ -2,7 +2,7 @@
 use Rattle.std.proofs.Common.{◌≡◌, ◌≤◌, ◌<◌, ◌+◌, ℕ, suc, List, [], ◌∷◌, ◌++◌, append_assoc, length, get_or, drop, map, slice_range, string_bytes, sym, ap, ◌∙◌, arith, subst}
 use Rattle.std.proofs.Math.Seq.{drop-cons}
 use Rattle.logos_lexeme.specs.declared.lexeme.Span.{Span}
-use Rattle.logos_rust_file.specs.declared.replacing.Replacement.{Replacement}
+use Rattle.logos_rust_file.specs.declared.replacement.Replacement.{Replacement}
 use Rattle.logos_rust_file.specs.Replacing.{AreInOrder, part_span, replaced}
 
 next_part : (parts : List Replacement) (i : ℕ) (part : Replacement) → i < length parts → part ≡ get_or parts i part → drop i parts ≡ part ∷ drop (i + 1) parts
@@ -14,7 +14,7 @@ order_end : (from : ℕ) (spans : List Span) (to : ℕ) → AreInOrder from span
 order_end from [] to s = s
 order_end from (span ∷ rest) to s = omega (arith, s.0, s.1, order_end span.to rest to s.2)
 
--- the next part stands after this place, and the others after it
+-- the next part follows this offset, and the others follow the part
 pub record Next (from : ℕ) (part : Replacement) (rest : List Replacement) (to : ℕ) : Type 0 where
   pub after : from ≤ part.span.from
   pub inside : part.span.from ≤ to

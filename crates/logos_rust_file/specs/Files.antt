@@ -1,8 +1,8 @@
--- The enums of a file, by its tokens.
+-- The enums of a file, found in its tokens.
 use Rattle.std.specs.Prelude.{◌≡◌, ℕ, List, [], ◌∷◌, ◌++◌}
 use Rattle.logos_token.specs.Tokens.{Token, TokenList, also, append, run_span}
 use Rattle.logos_token.specs.Spelling.{Spells}
-use Rattle.logos_rust_file.specs.declared.finding.FoundEnum.{FoundEnum}
+use Rattle.logos_rust_file.specs.declared.finder.FoundEnum.{FoundEnum}
 use Rattle.logos_rust_file.specs.Derives.{derives}
 use Rattle.logos_rust_file.specs.Fronts.{kind_of, ends, is_enum, is_module, is_other, name_of}
 
@@ -13,8 +13,8 @@ pub record Describes (item : TokenList) (found : FoundEnum) : Type 0 where
   pub derives : found.derives ≡ derives item
 
 -- These are the enums among the items of a run, in order, and inside its modules that have a body.
--- An enum begins with what stands before its `enum`, and other tokens are skipped, groups as a
--- whole.
+-- An enum includes the attributes and the visibility before its `enum`, and other tokens are
+-- skipped, groups as a whole.
 pub data Finds : TokenList → List FoundEnum → Type 0 where
   done : {run : TokenList} → kind_of run ≡ ends → Finds run []
   finds : {run : TokenList} {token : Token} {tail rest : TokenList} {found : FoundEnum} {more : List FoundEnum} →

@@ -4,5 +4,5 @@ pub mod Fronts
 pub mod Files
 pub mod Replacing
 pub mod inside
-pub mod Words
+pub mod Imports
 pub mod Views

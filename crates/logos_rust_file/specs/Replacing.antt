@@ -1,15 +1,15 @@
 -- A text with parts of it replaced.
 use Rattle.std.specs.Prelude.{◌≤◌, ◌<◌, IsCharBoundary, ℕ, List, [], ◌∷◌, ◌++◌, length, slice_range, string_bytes}
 use Rattle.logos_lexeme.specs.declared.lexeme.Span.{Span}
-use Rattle.logos_rust_file.specs.declared.finding.FoundEnum.{FoundEnum}
-use Rattle.logos_rust_file.specs.declared.replacing.Replacement.{Replacement}
+use Rattle.logos_rust_file.specs.declared.finder.FoundEnum.{FoundEnum}
+use Rattle.logos_rust_file.specs.declared.replacement.Replacement.{Replacement}
 
--- These spans are not empty and lie between two offsets, in order and without overlap.
+-- These spans are nonempty and lie between two offsets, in order and without overlap.
 abbrev pub AreInOrder : ℕ → List Span → ℕ → Type 0
 AreInOrder from [] to = from ≤ to
 AreInOrder from (span ∷ rest) to = (from ≤ span.from) × (span.from < span.to) × AreInOrder span.to rest to
 
--- Where an enum is.
+-- The span of an enum.
 abbrev pub found_span : FoundEnum → Span
 found_span found = found.span
 

@@ -1,14 +1,14 @@
-//! Whether an enum derives `Logos`.
+//! Whether an enum derives `Logos`. Used by `finder`.
 
 ghost use Rattle.std.specs.Prelude.{◌≡◌, ◌<◌, ◌||◌, false, true, MatchOption};
-ghost use Rattle.logos_rust_file.specs.Words.{count_of, tokens_of, begins_list, derives, derives_after, derives_in, lists_macro};
+ghost use Rattle.logos_rust_file.specs.Imports.{count_of, tokens_of, begins_list, derives, derives_after, derives_in, lists_macro};
 
 use logos_strip::helpers::{is_comma, is_macro_entry};
 use logos_token::token::{Delimiter, TokenTree, Tokens};
 use logos_token::util::after_word;
 
 /// Returns whether one of the attributes that come first is a `derive` that lists `Logos`,
-/// `logos::Logos` or `::logos::Logos`: an entry that `strip_attributes` takes away.
+/// `logos::Logos` or `::logos::Logos`: an entry that `strip_attributes` removes.
 pub(crate) fn derives(tokens: Tokens<'_, '_>) -> bool
     ensures { result ≡ derives (tokens_of tokens.entry) }
 {
@@ -22,8 +22,8 @@ pub(crate) fn derives(tokens: Tokens<'_, '_>) -> bool
     false
 }
 
-/// Returns whether the attribute that comes first derives `Logos`, and what follows it; `None` if
-/// no attribute comes first.
+/// Returns whether the first attribute derives `Logos`, and the tokens after it; `None` if the run
+/// does not begin with an attribute.
 fn first_attribute<'t, 's>(tokens: Tokens<'t, 's>) -> Option<(bool, Tokens<'t, 's>)>
     ensures { MatchOption result (derives (tokens_of tokens.entry) ≡ false)
         (λ read. (derives (tokens_of tokens.entry) ≡ (read.0 || derives (tokens_of read.1)))
@@ -36,8 +36,8 @@ fn first_attribute<'t, 's>(tokens: Tokens<'t, 's>) -> Option<(bool, Tokens<'t, '
     }
 }
 
-/// Returns whether the brackets that come after the `#` of an attribute derive `Logos`, and what
-/// follows them; `None` if no brackets come first.
+/// Returns whether the brackets after the `#` of an attribute derive `Logos`, and the tokens after
+/// them; `None` if the run does not begin with brackets.
 fn bracketed<'t, 's>(tokens: Tokens<'t, 's>) -> Option<(bool, Tokens<'t, 's>)>
     ensures { MatchOption result (derives_after (tokens_of tokens.entry) ≡ false)
         (λ read. (derives_after (tokens_of tokens.entry)
@@ -62,7 +62,7 @@ fn derives_in(tokens: Tokens<'_, '_>) -> bool
     }
 }
 
-/// Returns whether a parenthesis comes first that lists `Logos`.
+/// Returns whether the run begins with a parenthesis that lists `Logos`.
 fn begins_list(tokens: Tokens<'_, '_>) -> bool
     ensures { result ≡ begins_list (tokens_of tokens.entry) }
 {

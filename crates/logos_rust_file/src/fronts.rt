@@ -1,4 +1,5 @@
-//! What comes before an item, which kind of item it is, and the name of an enum.
+//! The attributes and the visibility before an item, the kind of an item, and the name of an enum.
+//! Used by `finder`.
 
 ghost use Rattle.std.specs.Prelude.{◌≡◌, ◌<◌, MatchOption};
 ghost use Rattle.logos_rust_file.specs.Views.{Token, also, count_of, tokens_of, tree_of, after_attributes, after_body, after_hash, after_head, braced_in, ends_body, kind_at, kind_of, kind_value, module_in, name_at, name_of};
@@ -6,34 +7,34 @@ ghost use Rattle.logos_rust_file.specs.Views.{Token, also, count_of, tokens_of, 
 use logos_enum::{is_outer, skip_generics, skip_visibility};
 use logos_token::token::{Delimiter, Span, TokenTree, Tokens};
 
-/// What a run of items begins with, after attributes and a visibility.
+/// The beginning of a run of items, after attributes and a visibility.
 #[derive(Clone, Copy)]
 pub(crate) enum ItemKind<'t, 's> {
     /// Nothing.
     End,
-    /// An enum. `rest` follows it.
+    /// An enum, followed by `rest`.
     Enum {
         rest: Tokens<'t, 's>,
     },
-    /// A module with a body. `inside` is in the body, and `rest` follows it.
+    /// A module with the body `inside`, followed by `rest`.
     Module {
         inside: Tokens<'t, 's>,
         rest: Tokens<'t, 's>,
     },
-    /// Another token. `rest` follows it.
+    /// Another token, followed by `rest`.
     Other {
         rest: Tokens<'t, 's>,
     },
 }
 
-/// Returns the kind of the item that comes first.
+/// Returns the kind of the first item.
 pub(crate) fn kind_of<'t, 's>(tokens: Tokens<'t, 's>) -> ItemKind<'t, 's>
     ensures { kind_value result ≡ kind_of (tokens_of tokens.entry) }
 {
     kind_at(skip_visibility(skip_attributes(tokens)))
 }
 
-/// Returns what follows a documentation comment or an attribute, if one comes first.
+/// Returns the tokens after a documentation comment or an attribute, if the run begins with one.
 fn skip_attribute<'t, 's>(tokens: Tokens<'t, 's>) -> Option<Tokens<'t, 's>>
     ensures { MatchOption result
         (after_attributes (tokens_of tokens.entry) ≡ tokens_of tokens.entry)
@@ -47,7 +48,7 @@ fn skip_attribute<'t, 's>(tokens: Tokens<'t, 's>) -> Option<Tokens<'t, 's>>
     }
 }
 
-/// Returns what follows brackets, if they come first.
+/// Returns the tokens after brackets, if the run begins with them.
 fn skip_brackets<'t, 's>(tokens: Tokens<'t, 's>) -> Option<Tokens<'t, 's>>
     ensures { MatchOption result ((sign : Token) →
         after_hash sign (tokens_of tokens.entry) ≡ also sign (tokens_of tokens.entry))
@@ -63,7 +64,7 @@ fn skip_brackets<'t, 's>(tokens: Tokens<'t, 's>) -> Option<Tokens<'t, 's>>
     }
 }
 
-/// Returns what follows all attributes that come first.
+/// Returns the tokens after all leading attributes.
 fn skip_attributes<'t, 's>(tokens: Tokens<'t, 's>) -> Tokens<'t, 's>
     ensures { tokens_of result ≡ after_attributes (tokens_of tokens.entry) }
 {
@@ -74,7 +75,7 @@ fn skip_attributes<'t, 's>(tokens: Tokens<'t, 's>) -> Tokens<'t, 's>
     rest
 }
 
-/// Returns the kind of an item by what follows its visibility.
+/// Returns the kind of an item from the tokens after its visibility.
 fn kind_at<'t, 's>(tokens: Tokens<'t, 's>) -> ItemKind<'t, 's>
     ensures { kind_value result ≡ kind_at (tokens_of tokens.entry) }
 {
@@ -91,7 +92,7 @@ fn kind_at<'t, 's>(tokens: Tokens<'t, 's>) -> ItemKind<'t, 's>
     }
 }
 
-/// Returns a module after its `mod`, if a name and braces come first.
+/// Returns a module from the tokens after its `mod`, if they begin with a name and braces.
 fn module_at<'t, 's>(tokens: Tokens<'t, 's>) -> ItemKind<'t, 's>
     ensures { kind_value result ≡ module_in (tokens_of tokens.entry) }
 {
@@ -101,7 +102,8 @@ fn module_at<'t, 's>(tokens: Tokens<'t, 's>) -> ItemKind<'t, 's>
     }
 }
 
-/// Returns a module after its name, if braces come first. Without them `tokens` are left.
+/// Returns a module from the tokens after its name, if they begin with braces. Otherwise the rest
+/// is `tokens`.
 fn braced_module<'t, 's>(tokens: Tokens<'t, 's>, after: Tokens<'t, 's>) -> ItemKind<'t, 's>
     ensures { kind_value result ≡ braced_in (tokens_of tokens.entry) (tokens_of after.entry) }
 {
@@ -114,8 +116,8 @@ fn braced_module<'t, 's>(tokens: Tokens<'t, 's>, after: Tokens<'t, 's>) -> ItemK
     }
 }
 
-/// Returns what follows the name and the generic parameters of an enum, which may have braces in
-/// them.
+/// Returns the tokens after the name and the generic parameters of an enum, which may contain
+/// braces.
 fn skip_head<'t, 's>(tokens: Tokens<'t, 's>) -> Tokens<'t, 's>
     ensures { tokens_of result ≡ after_head (tokens_of tokens.entry) }
 {
@@ -125,7 +127,7 @@ fn skip_head<'t, 's>(tokens: Tokens<'t, 's>) -> Tokens<'t, 's>
     }
 }
 
-/// Returns what follows the first braces or the first `;`.
+/// Returns the tokens after the first braces or the first `;`.
 fn skip_body<'t, 's>(tokens: Tokens<'t, 's>) -> Tokens<'t, 's>
     ensures { tokens_of result ≡ after_body (tokens_of tokens.entry) }
 {
@@ -150,15 +152,15 @@ fn ends_body(tree: TokenTree<'_, '_>) -> bool
     }
 }
 
-/// Returns the span of the name of an enum with these tokens: of the identifier that follows
-/// `enum`, if one does.
+/// Returns the span of the name of an enum with these tokens: of the identifier after `enum`, if
+/// there is one.
 pub(crate) fn name_of(item: Tokens<'_, '_>) -> Option<Span>
     ensures { result ≡ name_of (tokens_of item.entry) }
 {
     name_at(skip_visibility(skip_attributes(item)).rest())
 }
 
-/// Returns the span of the identifier that comes first, if one does.
+/// Returns the span of the first token, if it is an identifier.
 fn name_at(tokens: Tokens<'_, '_>) -> Option<Span>
     ensures { result ≡ name_at (tokens_of tokens.entry) }
 {

@@ -2,16 +2,16 @@
 //! law.
 
 ghost use Rattle.std.specs.Prelude.{◌≡◌, Ok, Some};
-ghost use Rattle.logos_rust_file.specs.Words.{TokenList, Reads, EnumValue, loses_derive, derives};
+ghost use Rattle.logos_rust_file.specs.Imports.{TokenList, Reads, EnumValue, loses_derive, derives};
 ghost use Rattle.logos_rust_file.specs.Views.{name_of};
 
-/// An enum derives `Logos` exactly where stripping takes an entry of a `derive` away.
+/// An enum derives `Logos` exactly if stripping removes an entry of a `derive`.
 pub fn derives_where_stripped()
     ensures { (tokens : TokenList) (value : EnumValue) → Reads tokens (Ok value) →
         derives tokens ≡ loses_derive tokens }
 {}
 
-/// An enum that `read_enum` reads is found with the name that is read.
+/// An enum that `read_enum` reads is found with the name that `read_enum` reads.
 pub fn names_as_read()
     ensures { (tokens : TokenList) (value : EnumValue) → Reads tokens (Ok value) →
         name_of tokens ≡ Some value.name.span }

@@ -1,15 +1,16 @@
-//! The enums of a whole Rust file, and replacing parts of a file.
+//! The enums of a whole Rust file, and replacing parts of a file. Called by `logos_cli` and
+//! `logos_show`.
 
 #![tactic(auto)]
 
 mod derives;
-mod finding;
+mod finder;
 mod fronts;
 pub mod laws;
 mod names;
 mod paths;
-mod replacing;
+mod replacement;
 
-pub use finding::{FoundEnum, enums_in};
+pub use finder::{FoundEnum, ReadFile, enums_in, read_file};
 pub use paths::path_of;
-pub use replacing::{Replacement, replace};
+pub use replacement::{Replacement, replace};

@@ -1,10 +1,10 @@
-//! Whether an enum derives `Logos` by its name alone, and so by an import.
+//! Whether an enum derives `Logos` by its name alone, and thus through an import. Used by `finder`.
 
 use logos_strip::helpers::{is_comma, is_macro_entry};
 use logos_token::token::{Delimiter, TokenTree, Tokens};
 use logos_token::util::after_word;
 
-/// Returns whether a `derive` in front of an enum lists `Logos` without a path.
+/// Returns whether a `derive` before an enum lists `Logos` without a path.
 pub(crate) fn derives_by_name(item: Tokens<'_, '_>) -> bool {
     let mut rest = item;
     for _ in 0..item.count() {
@@ -16,7 +16,8 @@ pub(crate) fn derives_by_name(item: Tokens<'_, '_>) -> bool {
     false
 }
 
-/// Returns whether brackets come first that hold a `derive` which lists `Logos` without a path.
+/// Returns whether the run begins with brackets that contain a `derive` which lists `Logos` without
+/// a path.
 fn begins_list(tokens: Tokens<'_, '_>) -> bool {
     match tokens.first() {
         Some(TokenTree::Group(group)) if group.delimiter == Delimiter::Bracket => {
@@ -26,7 +27,8 @@ fn begins_list(tokens: Tokens<'_, '_>) -> bool {
     }
 }
 
-/// Returns whether the brackets of an attribute hold a `derive` that lists `Logos` without a path.
+/// Returns whether the brackets of an attribute contain a `derive` that lists `Logos` without a
+/// path.
 fn lists_name(inside: Tokens<'_, '_>) -> bool {
     let Some(rest) = after_word("derive", inside) else {
         return false;
@@ -51,7 +53,7 @@ fn has_name(entries: Tokens<'_, '_>) -> bool {
     false
 }
 
-/// Returns whether the entry `Logos` comes first.
+/// Returns whether the run begins with the entry `Logos`.
 fn is_name(tokens: Tokens<'_, '_>) -> bool {
     match tokens.first() {
         Some(TokenTree::Ident(word)) => (word.text == "Logos") & is_macro_entry(tokens),
@@ -59,7 +61,7 @@ fn is_name(tokens: Tokens<'_, '_>) -> bool {
     }
 }
 
-/// Returns whether a comma comes first.
+/// Returns whether the run begins with a comma.
 fn begins_comma(tokens: Tokens<'_, '_>) -> bool {
     match tokens.first() {
         Some(tree) => is_comma(tree),

@@ -1,12 +1,12 @@
-//! The paths of enums in a file. `logos_show` asks for them where an enum is given by its name.
+//! The paths of enums in a file. `logos_show` requests them for an enum that is given by its name.
 
-use crate::finding::FoundEnum;
+use crate::finder::FoundEnum;
 use logos_lexeme::lexeme::{LexemeKind, lexeme_at};
 use logos_token::error::Memory;
 use logos_token::token::Delimiter;
 use std::alloc::Global;
 
-/// The lexeme that comes first in a text, and the text after it.
+/// The first lexeme of a text, and the text after it.
 #[derive(Clone, Copy)]
 struct Word<'t> {
     kind: LexemeKind,
@@ -14,8 +14,8 @@ struct Word<'t> {
     rest: &'t str,
 }
 
-/// Returns the path of an enum of a file with this text, as `lexers::Token`: the names of the
-/// modules that are open where it begins, and its own, which is empty if it has none.
+/// Returns the path of an enum in a file with this text, such as `lexers::Token`: the names of the
+/// modules that are open at its beginning, and its own name, which is empty if it has none.
 ///
 /// # Errors
 ///
@@ -58,7 +58,7 @@ fn push_level(path: &mut String, level: &str) -> Result<(), Memory> {
 }
 
 /// Returns the modules whose braces are open at the end of a text, in order, and an empty text for
-/// each brace that is open and no module's.
+/// each open brace that does not begin a module.
 fn levels_of<'t>(alloc: Global, text: &'t str) -> Result<Vec<&'t str>, Memory> {
     let mut levels = Vec::new(alloc);
     let mut rest = text;
@@ -74,7 +74,7 @@ fn levels_of<'t>(alloc: Global, text: &'t str) -> Result<Vec<&'t str>, Memory> {
     Ok(levels)
 }
 
-/// Returns the first lexeme of a text, unless the text is empty or no Rust.
+/// Returns the first lexeme of a text, unless the text is empty or begins with invalid Rust.
 fn first_word<'t>(text: &'t str) -> Option<Word<'t>> {
     if text.is_empty() || !text.is_char_boundary(0) {
         return None;
@@ -86,7 +86,7 @@ fn first_word<'t>(text: &'t str) -> Option<Word<'t>> {
     Some(Word { kind, text, rest })
 }
 
-/// Returns the last two words after one more; gaps and documentation are none.
+/// Returns the last two lexemes after one more. Gaps and documentation do not count.
 fn words_after<'t>(words: (&'t str, &'t str), word: Word<'t>) -> (&'t str, &'t str) {
     match word.kind {
         LexemeKind::Gap | LexemeKind::Doc => words,
@@ -94,7 +94,7 @@ fn words_after<'t>(words: (&'t str, &'t str), word: Word<'t>) -> (&'t str, &'t s
     }
 }
 
-/// Adds the module of a brace that opens, or takes away that of one that closes.
+/// Adds the module of an opening brace, or removes that of a closing one.
 fn note_brace<'t>(
     levels: &mut Vec<&'t str>,
     words: (&'t str, &'t str),

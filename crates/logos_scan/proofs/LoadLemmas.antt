@@ -10,23 +10,23 @@ use Rattle.logos_automaton.specs.Munch.{matched}
 use Rattle.logos_code.specs.Code.{CodeValue}
 use Rattle.logos_code.specs.Rows.{IsUse}
 use Rattle.logos_code.specs.declared.code.rows.MatchUse.{MatchUse}
-use Rattle.logos_code.specs.declared.code.rows.MatchUse.TheVariants.{Emits, Skips, Asks}
-use Rattle.logos_fold.specs.Folds.{AreFolded, HasUse, leaf_of}
+use Rattle.logos_code.specs.declared.code.rows.MatchUse.TheVariants.{Emits, Skips, CallsBack}
+use Rattle.logos_scan.specs.fold.Folds.{AreFolded, HasUse, leaf_of}
 use Rattle.logos_machine.specs.inside.Looks.{Tried}
 use Rattle.logos_machine.proofs.WalkLemmas.{comes_first}
-use Rattle.logos_scan.specs.Tries.{StandsIn, SkipsTo, skips_none, skips_then}
+use Rattle.logos_scan.specs.Attempts.{ComesTo, SkipsTo, skips_none, skips_then}
 use Rattle.logos_scan.specs.Runs.{IsChunk, IsLoaded, IsRun, IsTaken, WithChunk, point_of}
-use Rattle.logos_scan.specs.declared.tries.Taken.{Taken}
-use Rattle.logos_scan.specs.declared.tries.Taken.TheVariants.{Emits as TakenEmits, Asks as TakenAsks, Fails as TakenFails, Ends as TakenEnds}
+use Rattle.logos_scan.specs.declared.attempts.Taken.{Taken}
+use Rattle.logos_scan.specs.declared.attempts.Taken.TheVariants.{Emits as TakenEmits, CallsBack as TakenCallsBack, Fails as TakenFails, Ends as TakenEnds}
 use Rattle.logos_scan.specs.declared.run.Loaded.{Loaded}
 use Rattle.logos_scan.proofs.RunLemmas.{Holds, later_at, starts_short, tried, ends_as, holds_next}
-use Rattle.logos_scan.proofs.TryLemmas.{stands_begun}
-use Rattle.logos_walk.specs.declared.cursor.ChunkCursor.{ChunkCursor}
-use Rattle.logos_walk.specs.Cursor.{HasRoom, IsNext, NoToken, StartsAt, token_bit, end_bit}
-use Rattle.logos_walk.specs.Cursors.{IsMarked, Stands, start_of}
-use Rattle.logos_walk.proofs.CursorLemmas.{starts_same}
-use Rattle.logos_walk.specs.Masks.{MarksFrom}
-use Rattle.logos_walk.specs.Walk.{IsPlace, IsSameBeside, Walked, entry_at, place_of}
+use Rattle.logos_scan.proofs.TryLemmas.{is_at_begun}
+use Rattle.logos_scan.specs.declared.walk.cursor.ChunkCursor.{ChunkCursor}
+use Rattle.logos_scan.specs.walk.Cursor.{HasRoom, IsNext, NoToken, StartsAt, token_bit, end_bit}
+use Rattle.logos_scan.specs.walk.Cursors.{IsMarked, IsAt, start_of}
+use Rattle.logos_scan.proofs.walk.CursorLemmas.{starts_same}
+use Rattle.logos_scan.specs.walk.Masks.{MarksFrom}
+use Rattle.logos_scan.specs.walk.Walk.{IsRowStart, IsSameBeside, Walked, entry_at, row_start_of}
 
 pub ways : (a b : ℕ) → (a < b) ⊎ (b ≤ a)
 ways a b = grind arith
@@ -36,18 +36,18 @@ pub walked_text : (rows text other : List ℕ) (p : ℕ) (trace : List ℕ) (fro
     Walked rows text p trace from to q → Walked rows other p trace from to q
 walked_text rows text other p trace from to q same w = record {
   first = λ h. w.first h ∙ ap (λ b. slice_index rows (b + p)) (same from h);
-  later = λ j h k. w.later j h k ∙ ap (λ b. slice_index rows (b + place_of (slice_index trace j))) (same (j + 1) k);
+  later = λ j h k. w.later j h k ∙ ap (λ b. slice_index rows (b + row_start_of (slice_index trace j))) (same (j + 1) k);
   none = w.none;
   last = w.last;
 }
 
 -- a walk without its first bytes
 pub walked_suffix : (rows text : List ℕ) (p : ℕ) (trace : List ℕ) (at from to q : ℕ) → at < from → from ≤ to → Walked rows text p trace at to q →
-    Walked rows text (place_of (slice_index trace (from - 1))) trace from to q
+    Walked rows text (row_start_of (slice_index trace (from - 1))) trace from to q
 walked_suffix rows text p trace at from to q lt le w =
     let e : from - 1 + 1 ≡ from = omega (arith, lt) in
     record {
-      first = λ h. subst (λ k. slice_index trace k ≡ entry_at rows text k (place_of (slice_index trace (from - 1)))) e (w.later (from - 1) (omega (arith, lt)) (omega (arith, h, e)));
+      first = λ h. subst (λ k. slice_index trace k ≡ entry_at rows text k (row_start_of (slice_index trace (from - 1)))) e (w.later (from - 1) (omega (arith, lt)) (omega (arith, h, e)));
       later = λ j h k. w.later j (omega (arith, h, lt)) k;
       none = λ n. w.last (from - 1) (omega (arith, lt)) (omega (arith, e, n));
       last = λ j h n. w.last j (omega (arith, h, lt)) n;
@@ -63,19 +63,19 @@ rest_long input base = omega (arith, length-take (length input - base) (drop bas
 pub part_there : (input : List ℕ) (base j : ℕ) → base + 4608 ≤ length input → j < 4608 → slice_index (take 4608 (take (length input - base) (drop base input))) j ≡ slice_index (drop base input) j
 part_there input base j long h = get_or-take 4608 (take (length input - base) (drop base input)) j 0 h ∙ rest_there input base j (omega (arith, long, h))
 
--- the place of the root
-pub root_is_place : (code : CodeValue) (rows : List ℕ) → AreFolded code rows → IsPlace rows (272 * code.root)
-root_is_place code rows folded =
+-- the row offset of the root
+pub root_is_row_start : (code : CodeValue) (rows : List ℕ) → AreFolded code rows → IsRowStart rows (272 * code.root)
+root_is_row_start code rows folded =
     let c = comes_first code folded.sound [] 0 (omega arith) in
-    let s = c.stands in
+    let s = c.is_at in
     let there = s.state in
     omega (arith, folded.count, there)
 
--- a run from what was loaded
-pub loaded_run : (code : CodeValue) (rows input : List ℕ) (run : WithChunk) (start base place : ℕ) (entries : List ℕ) (loaded : Loaded) → IsLoaded rows input base place entries loaded →
-    run.chunk.entries ≡ entries → run.cursor.base ≡ base → run.count ≡ loaded.count → run.place ≡ loaded.place → run.low ≡ 0 → IsMarked run.chunk → Stands run.chunk.entries run.cursor → HasRoom base →
-    StandsIn code input start base place → IsRun code rows input run start 0
-loaded_run code rows input run start base place entries loaded l ee eb ec ep el marked stands room s =
+-- a run from the bytes that were loaded
+pub loaded_run : (code : CodeValue) (rows input : List ℕ) (run : WithChunk) (start base row_start : ℕ) (entries : List ℕ) (loaded : Loaded) → IsLoaded rows input base row_start entries loaded →
+    run.chunk.entries ≡ entries → run.cursor.base ≡ base → run.count ≡ loaded.count → run.row_start ≡ loaded.row_start → run.low ≡ 0 → IsMarked run.chunk → IsAt run.chunk.entries run.cursor → HasRoom base →
+    ComesTo code input start base row_start → IsRun code rows input run start 0
+loaded_run code rows input run start base row_start entries loaded l ee eb ec ep el marked is_at room s =
     let within = l.within in
     let few = l.few in
     let zero : base ≡ run.cursor.base + 0 = omega (arith, eb) in
@@ -84,16 +84,16 @@ loaded_run code rows input run start base place entries loaded l ee eb ec ep el 
         within = omega (arith, eb, ec, within);
         few = omega (arith, ec, few);
         full = λ h. ec ∙ l.full (omega (arith, h, eb, ec));
-        stays = subst (λ (p : ℕ). IsPlace rows p) (sym ep) l.stays;
+        stays = subst (λ (p : ℕ). IsRowStart rows p) (sym ep) l.stays;
         rest = λ k f h. ap (λ e. slice_index e k) ee ∙ l.rest k (omega (arith, f, ec)) h;
         marked = marked;
-        cursor = stands;
+        cursor = is_at;
         room = omega (arith, room, eb);
-        whole = (place, rw (ee, eb, ec, ep, el) l.walked);
+        whole = (row_start, rw (ee, eb, ec, ep, el) l.walked);
       };
       near = omega arith;
-      before = place;
-      stands = subst (λ (k : ℕ). StandsIn code input start k place) zero s;
+      before = row_start;
+      is_at = subst (λ (k : ℕ). ComesTo code input start k row_start) zero s;
       walked = rw (ee, eb, ec, ep) l.walked;
     }
 
@@ -109,14 +109,14 @@ marks_beside flag from stop words old new w word same le out m i l =
 -- a run that was stepped over again from an entry on
 pub repaired_run : (code : CodeValue) (rows input : List ℕ) (old run : WithChunk) (from stop : ℕ) (entries : List ℕ) → AreFolded code rows → IsChunk rows input old →
     run.chunk.entries ≡ entries → run.cursor.base ≡ old.cursor.base → run.count ≡ old.count → run.low ≡ from → from ≤ old.count → stop ≤ old.count →
-    IsSameBeside from stop old.chunk.entries entries → IsMarked run.chunk → Stands run.chunk.entries run.cursor → IsPlace rows run.place →
-    Walked rows (take (length input - old.cursor.base) (drop old.cursor.base input)) (272 * code.root) entries from old.count run.place → IsRun code rows input run (old.cursor.base + from) from
-repaired_run code rows input old run from stop entries folded c ee eb ec el le ls same marked stands stays w =
+    IsSameBeside from stop old.chunk.entries entries → IsMarked run.chunk → IsAt run.chunk.entries run.cursor → IsRowStart rows run.row_start →
+    Walked rows (take (length input - old.cursor.base) (drop old.cursor.base input)) (272 * code.root) entries from old.count run.row_start → IsRun code rows input run (old.cursor.base + from) from
+repaired_run code rows input old run from stop entries folded c ee eb ec el le ls same marked is_at stays w =
     let within = c.within in
     let few = c.few in
     let past : old.cursor.base + from ≤ length input = omega (arith, within, le) in
-    let there = stands_begun code folded.sound input (old.cursor.base + from) past in
-    let there_walked = (walked_text rows _ (drop old.cursor.base input) (272 * code.root) entries from old.count run.place (λ j h. rest_there input old.cursor.base j (omega (arith, h, within))) w) in
+    let there = is_at_begun code folded.sound input (old.cursor.base + from) past in
+    let there_walked = (walked_text rows _ (drop old.cursor.base input) (272 * code.root) entries from old.count run.row_start (λ j h. rest_there input old.cursor.base j (omega (arith, h, within))) w) in
     record {
       in_chunk = record {
         within = omega (arith, eb, ec, within);
@@ -125,24 +125,24 @@ repaired_run code rows input old run from stop entries folded c ee eb ec el le l
         stays = stays;
         rest = λ k f h. ap (λ e. slice_index e k) ee ∙ same k (inr (omega (arith, f, ec, ls))) ∙ c.rest k (omega (arith, f, ec)) h;
         marked = marked;
-        cursor = stands;
+        cursor = is_at;
         room = (let room = c.room in omega (arith, room, eb));
         whole = (272 * code.root, rw (ee, eb, ec, el) there_walked);
       };
       near = omega (arith, le, ec);
       before = 272 * code.root;
-      stands = rw eb there;
+      is_at = rw eb there;
       walked = rw (ee, eb, ec) there_walked;
     }
 
--- a run that stands between two calls
+-- a scan that is between two calls
 pub ready_run : (code : CodeValue) (rows input : List ℕ) (run : WithChunk) (start at : ℕ) → start_of run.cursor ≡ start → point_of run ≡ at → IsRun code rows input run start at →
     IsRun code rows input run (start_of run.cursor) (point_of run)
 ready_run code rows input run start at es ea r = subst (λ (k : ℕ). IsRun code rows input run k (point_of run)) (sym es) (subst (λ (k : ℕ). IsRun code rows input run start k) (sym ea) r)
 
 -- the run with another cursor
 abbrev pub moved : WithChunk → ChunkCursor → WithChunk
-moved run cursor = record { chunk = run.chunk; cursor = cursor; count = run.count; place = run.place; low = run.low }
+moved run cursor = record { chunk = run.chunk; cursor = cursor; count = run.count; row_start = run.row_start; low = run.low }
 
 -- skipped, and then skipped again
 pub skips_join : (code : CodeValue) (bytes : List ℕ) (from mid to : ℕ) → SkipsTo code bytes from mid → SkipsTo code bytes mid to → SkipsTo code bytes from to
@@ -156,30 +156,30 @@ module _ (code : CodeValue) (rows : List ℕ) (folded : AreFolded code rows) (in
   abbrev entries : List ℕ
   entries = run.chunk.entries
 
-  -- the try that stands before an entry
-  holds_at : (start at : ℕ) (r : IsRun code rows input run start at) → Holds code rows folded input are base run.count run.place entries (let c = r.in_chunk in c.within) start at r.before
+  -- the attempt that is active before an entry
+  holds_at : (start at : ℕ) (r : IsRun code rows input run start at) → Holds code rows folded input are base run.count run.row_start entries (let c = r.in_chunk in c.within) start at r.before
   holds_at start at r =
-      let s = r.stands in
+      let s = r.is_at in
       let past = s.past in
       let comes = s.comes in
-      let stands = comes.stands in
-      let begun = stands.begun in
+      let is_at = comes.is_at in
+      let begun = is_at.begun in
       let near = r.near in
       let c = r.in_chunk in
       let within = c.within in
       record {
-        stands = s;
+        is_at = s;
         walked = r.walked;
         starts = omega (arith, past, begun, near, within);
       }
 
-  module _ (cur : ChunkCursor) (same_base : cur.base ≡ base) (stands : Stands entries cur) where
-    -- where a later try stands, the run with the cursor there stands
+  module _ (cur : ChunkCursor) (same_base : cur.base ≡ base) (is_at : IsAt entries cur) where
+    -- the run with the cursor at a later match attempt is in its state
     later_run : (start from at now : ℕ) (r : IsRun code rows input run start from) → from ≤ at → at ≤ run.count → NoToken entries from at → StartsAt base entries from start at now →
         IsRun code rows input (moved run cur) now at × SkipsTo code input start now
     later_run start from at now r le near none starts =
         let c = r.in_chunk in
-        let l = later_at code rows folded input are base run.count run.place entries c.within from at start r.before le near none (holds_at start from r) in
+        let l = later_at code rows folded input are base run.count run.row_start entries c.within from at start r.before le near none (holds_at start from r) in
         let e : l.start ≡ now = starts_same base entries from start at l.start now l.starts_at starts in
         let h = l.holds in (
           record {
@@ -190,13 +190,13 @@ module _ (code : CodeValue) (rows : List ℕ) (folded : AreFolded code rows) (in
               stays = c.stays;
               rest = c.rest;
               marked = c.marked;
-              cursor = stands;
+              cursor = is_at;
               room = (let room = c.room in omega (arith, room, same_base));
               whole = (c.whole.0, rw same_base c.whole.1);
             };
             near = near;
-            before = l.place;
-            stands = rw (same_base, ← e) h.stands;
+            before = l.row_start;
+            is_at = rw (same_base, ← e) h.is_at;
             walked = rw same_base h.walked;
           },
           subst (λ (k : ℕ). SkipsTo code input start k) e l.skipped,
@@ -228,7 +228,7 @@ module _ (code : CodeValue) (rows : List ℕ) (folded : AreFolded code rows) (in
           | inr g ↦
               let point : point_of run ≡ run.cursor.from = omega (arith, g) in
               later_run start run.cursor.from run.count now (subst (λ (k : ℕ). IsRun code rows input run start k) point r) g (omega arith) (λ k f h. none k f (omega (arith, h, few)))
-              (starts_short code rows folded input are base run.count run.place entries c.within run.cursor.from start now few c.rest starts)
+              (starts_short code rows folded input are base run.count run.row_start entries c.within run.cursor.from start now few c.rest starts)
           | inl l ↦
               let point : point_of run ≡ run.count = omega (arith, l) in
               later_run start run.count run.count now (subst (λ (k : ℕ). IsRun code rows input run start k) point r) (omega arith) (omega arith) (λ k f h. absurd (omega (arith, f, h)))
@@ -242,40 +242,40 @@ module _ (code : CodeValue) (rows : List ℕ) (folded : AreFolded code rows) (in
               ])
         ]
 
-  -- the place after the chunk
-  pub stands_last : (start : ℕ) → IsRun code rows input run start run.count → StandsIn code input start (base + run.count) run.place
-  stands_last start r =
+  -- the row offset after the chunk
+  pub is_at_last : (start : ℕ) → IsRun code rows input run start run.count → ComesTo code input start (base + run.count) run.row_start
+  is_at_last start r =
       let w = r.walked in
-      subst (λ (p : ℕ). StandsIn code input start (base + run.count) p) (sym (w.none refl)) r.stands
+      subst (λ (p : ℕ). ComesTo code input start (base + run.count) p) (sym (w.none refl)) r.is_at
 
-  -- what ends before a flagged entry
+  -- the match that ends before a flagged entry
   module _ (start at : ℕ) (r : IsRun code rows input run start at) (inside : at < run.count) (ended : end_bit entries at ≡ 1) where
     abbrev entry : ℕ
     entry = slice_index entries at
 
     pub found_match : ((n : ℕ) × Tried code input start (matched (leaf_of entry) (base + at)) n)
-    found_match = (let c = r.in_chunk in tried code rows folded input are base run.count run.place entries c.within start at r.before (holds_at start at r) inside ended).0
+    found_match = (let c = r.in_chunk in tried code rows folded input are base run.count run.row_start entries c.within start at r.before (holds_at start at r) inside ended).0
 
     pub found_use : token_bit entries at ≡ 1 → bit_at entry 29 ≡ 0 → IsUse code (leaf_of entry) Emits
     found_use t b = (let c = r.in_chunk in
-        let used = ends_as code rows folded input are base run.count run.place entries c.within start at r.before (holds_at start at r) inside ended in
-        by_use used.used used.has_use (tried code rows folded input are base run.count run.place entries c.within start at r.before (holds_at start at r) inside ended).1)
+        let used = ends_as code rows folded input are base run.count run.row_start entries c.within start at r.before (holds_at start at r) inside ended in
+        by_use used.used used.has_use (tried code rows folded input are base run.count run.row_start entries c.within start at r.before (holds_at start at r) inside ended).1)
       where
         by_use : (used : MatchUse) → HasUse entry used → IsUse code (leaf_of entry) used → IsUse code (leaf_of entry) Emits
         by_use Emits has is = is
         by_use Skips has is = absurd (omega (arith, has, t))
-        by_use Asks has is = absurd (let o = has.1 in omega (arith, o, b))
+        by_use CallsBack has is = absurd (let o = has.1 in omega (arith, o, b))
 
-    -- the next try stands after it
+    -- the next attempt is after it
     pub found_next : IsRun code rows input run (base + at) (at + 1)
     found_next =
         let c = r.in_chunk in
-        let h = holds_next code rows folded input are base run.count run.place entries c.within start at r.before (holds_at start at r) inside ended in
+        let h = holds_next code rows folded input are base run.count run.row_start entries c.within start at r.before (holds_at start at r) inside ended in
         record {
           in_chunk = c;
           near = omega (arith, inside);
-          before = place_of entry;
-          stands = h.stands;
+          before = row_start_of entry;
+          is_at = h.is_at;
           walked = h.walked;
         }
 
@@ -286,10 +286,10 @@ bytes_at bytes are k = elim (ways k (length bytes)) [
   | inr g ↦ let e = get_or-eq_default bytes 0 g in omega (arith, e)
 ]
 
--- what is taken after more that is skipped
+-- the match that is taken after more skipped matches
 pub taken_after : (code : CodeValue) (bytes : List ℕ) (from mid : ℕ) (taken : Taken) (next : ℕ) → SkipsTo code bytes from mid → IsTaken code bytes mid taken next → IsTaken code bytes from taken next
 taken_after code bytes from mid (TakenEmits leaf span) next s t = (skips_join code bytes from mid span.from s t.0, t.1, t.2, t.3)
-taken_after code bytes from mid (TakenAsks leaf span) next s t = (skips_join code bytes from mid span.from s t.0, t.1, t.2)
+taken_after code bytes from mid (TakenCallsBack leaf span) next s t = (skips_join code bytes from mid span.from s t.0, t.1, t.2)
 taken_after code bytes from mid (TakenFails span) next s t = (skips_join code bytes from mid span.from s t.0, t.1, t.2)
 taken_after code bytes from mid TakenEnds next s t = (skips_join code bytes from mid next s t.0, t.1)
 

@@ -1,5 +1,7 @@
-pub mod Tries
+pub mod walk
+pub mod fold
+pub mod Attempts
 pub mod Runs
 pub mod Items
-pub mod Words
+pub mod Imports
 pub mod Views

@@ -1,59 +1,61 @@
-//! Whether a run by chunks takes less time than a lexer.
+//! Estimates whether a scan by chunks takes less time than a lexer. `items` calls it once for each
+//! input.
 
 ghost use Rattle.std.specs.Prelude.{◌≡◌, ◌<◌, ◌≤◌, ◌+◌, IfOk, IfSome, length};
 
+use crate::fold::folded::Folded;
 use logos_code::code::Code;
-use logos_fold::folded::Folded;
 use logos_machine::machine::walk::{Outcome, attempt};
 use std::alloc::{AllocError, Global};
 
-/// In how many parts of an input samples are looked at.
+/// The number of parts of an input from which samples are taken.
 const PARTS: usize = 16;
 
-/// How many bytes a sample has.
+/// The number of bytes of a sample.
 const SAMPLE: usize = 512;
 
-/// How many bytes all samples have.
+/// The number of bytes of all samples.
 const SAMPLED: usize = PARTS * SAMPLE;
 
-/// Among how many bytes of its part a sample lies.
+/// The number of bytes at the start of a part that its sample is taken from.
 const SPREAD: usize = 2 * SAMPLE;
 
-/// The most errors of a sample that count: one that begins within a quote may have many more.
+/// The greatest number of errors of a sample that count, since a sample that begins within a quote
+/// may have many more.
 const ERRORS: usize = 4;
 
-/// How many bytes of input pay for the folded row of one state.
+/// The number of bytes of input that justify the folded row of one state.
 const WORTH: usize = 8_192;
 
-/// What a lexer meets in samples of an input.
+/// The counts of a lexer on samples of an input.
 #[derive(Clone, Copy, Drop)]
 struct SampleCounts {
-    /// How many tries it makes.
-    tries: usize,
-    /// How many of them end with an item.
+    /// The number of match attempts.
+    attempts: usize,
+    /// The number of attempts that end with an item.
     items: usize,
-    /// How many items are errors.
+    /// The number of items that are errors.
     errors: usize,
-    /// How many states its tries enter.
+    /// The number of states that the attempts enter.
     states: usize,
 }
 
-/// The counts of no bytes.
+/// The counts of an empty sample.
 const NOTHING: SampleCounts = SampleCounts {
-    tries: 0,
+    attempts: 0,
     items: 0,
     errors: 0,
     states: 0,
 };
 
-/// Returns whether a run by chunks likely takes less time on the input than a lexer. Any answer is
-/// right: both find the same items.
+/// Returns whether a scan by chunks likely takes less time on the input than a lexer. Any result is
+/// correct, since both find the same items.
 ///
-/// A run takes the same time for each byte, and less for a token than a lexer, which takes most of
-/// its time for the states that it enters. So a run loses where matches stay long in few states,
-/// where nearly each byte is an item, where there are many errors, and where the input is too short
-/// for what the folded rows take. Samples from sixteen parts of the input are looked at, each from
-/// the beginning of a line on where there is one.
+/// The time of a scan is the same for each byte, and less for a token than that of a lexer, which
+/// takes most of its time for the states that it enters. A scan is therefore slower if matches
+/// remain long in few states, if nearly each byte is an item, if there are many errors, or if the
+/// input is too short to justify the folded rows. Samples are taken from sixteen parts of the
+/// input, each from the start of a line on if there is one.
 pub fn suits(code: &Code, input: &[u8]) -> bool {
     let part = input.len() / PARTS;
     if part < SPREAD || input.len() / WORTH < code.parts().states.len() {
@@ -62,7 +64,8 @@ pub fn suits(code: &Code, input: &[u8]) -> bool {
     in_parts(code, input, part).suit_runs()
 }
 
-/// Counts what a lexer meets in a sample from each part of an input, which has so many bytes.
+/// Counts the attempts of a lexer in a sample from each part of an input. Each part has `part`
+/// bytes.
 fn in_parts(code: &Code, input: &[u8], part: usize) -> SampleCounts
     requires { SPREAD ≤ part }
 {
@@ -75,7 +78,7 @@ fn in_parts(code: &Code, input: &[u8], part: usize) -> SampleCounts
     counts
 }
 
-/// Counts what a lexer meets in the sample of the part that begins at a point of the input.
+/// Counts the attempts of a lexer in the sample of the part that begins at `at`.
 fn in_sample(code: &Code, input: &[u8], at: usize) -> SampleCounts
     requires { at + SPREAD ≤ length input.now }
 {
@@ -87,8 +90,8 @@ fn in_sample(code: &Code, input: &[u8], at: usize) -> SampleCounts
     }
 }
 
-/// Returns the folded rows of a code where a run by chunks likely takes less time on the input than
-/// a lexer, and there are not too many states for them.
+/// Returns the folded rows of a code if a scan by chunks likely takes less time on the input than a
+/// lexer, and the code does not have too many states for them.
 ///
 /// # Errors
 ///
@@ -106,8 +109,8 @@ pub fn rows_for<'c, 's>(
     Ok(None)
 }
 
-/// Returns where the first line begins that begins in a part of an input, after its first byte, or
-/// 0 if none does. Few tokens go on over a line end.
+/// Returns the start of the first line that begins in a part of an input, after the part's first
+/// byte, or 0 if there is none. Few tokens extend over a line end.
 fn line_start(part: &[u8]) -> usize
     ensures { result ≤ length part.now }
 {
@@ -119,7 +122,7 @@ fn line_start(part: &[u8]) -> usize
     0
 }
 
-/// Counts what a lexer meets in a part of an input.
+/// Counts the attempts of a lexer in a part of an input.
 fn counted(code: &Code, part: &[u8]) -> SampleCounts {
     let mut counts = NOTHING;
     let mut from = 0;
@@ -131,8 +134,8 @@ fn counted(code: &Code, part: &[u8]) -> SampleCounts {
     counts
 }
 
-/// Returns what a lexer meets in the try from a point of a part on, and where the next one begins.
-/// A match that is skipped is taken for one of two states, as of blanks.
+/// Returns the counts of the attempt from a point of a part on, and the start of the next attempt.
+/// A skipped match is counted with two states, as if it were of blanks.
 fn met(code: &Code, part: &[u8], from: usize) -> (SampleCounts, usize)
     requires { from < length part.now }
     ensures past { from < result.1 }
@@ -141,43 +144,43 @@ fn met(code: &Code, part: &[u8], from: usize) -> (SampleCounts, usize)
     match attempt(code, part, from) {
         Outcome::Skips(to) => (SampleCounts::of(0, 0, 2), to),
         Outcome::Emits(_, to, states) => (SampleCounts::of(1, 0, states), to),
-        Outcome::Asks(_, to, states) => (SampleCounts::of(1, 0, states), to),
+        Outcome::CallsBack(_, to, states) => (SampleCounts::of(1, 0, states), to),
         Outcome::Fails(to, states) => (SampleCounts::of(1, 1, states), to),
         Outcome::Ends(states) => (SampleCounts::of(0, 0, states), part.len()),
     }
 }
 
 impl SampleCounts {
-    /// Returns the counts of one try.
+    /// Returns the counts of one attempt.
     fn of(items: usize, errors: usize, states: usize) -> SampleCounts {
         SampleCounts {
-            tries: 1,
+            attempts: 1,
             items,
             errors,
             states,
         }
     }
 
-    /// Returns the sums of these counts and of others.
+    /// Returns the sums of these counts and of `found`.
     fn and(self, found: SampleCounts) -> SampleCounts {
         SampleCounts {
-            tries: self.tries.wrapping_add(found.tries),
+            attempts: self.attempts.wrapping_add(found.attempts),
             items: self.items.wrapping_add(found.items),
             errors: self.errors.wrapping_add(found.errors),
             states: self.states.wrapping_add(found.states),
         }
     }
 
-    /// Returns whether a run by chunks likely takes less time than a lexer where these are the
-    /// counts of all samples.
+    /// Returns whether a scan by chunks likely takes less time than a lexer, given the counts of
+    /// all samples.
     ///
-    /// The numbers are measured: a lexer takes about as long for three states as a run for ten
-    /// bytes or tries. An error costs a run more where items are longer, since it steps again over
-    /// what comes after it.
+    /// The numbers are measured: a lexer takes about as long for three states as a scan for ten
+    /// bytes or attempts. An error costs a scan more if items are longer, since it steps again over
+    /// the bytes after it.
     fn suit_runs(self) -> bool {
         let entered = self.states.wrapping_mul(10) / 3;
         let long = self.items <= SAMPLED / 3;
         let few = self.errors.wrapping_mul(2 * SAMPLED) <= self.items.wrapping_mul(self.items);
-        long & few & (entered > self.tries.wrapping_add(SAMPLED))
+        long & few & (entered > self.attempts.wrapping_add(SAMPLED))
     }
 }

@@ -1,19 +1,19 @@
-//! All items of an input at once.
+//! All items of an input at once, from a scan or from a lexer. `logos_codegen` calls it.
 
 ghost use Rattle.std.specs.Prelude.{◌≡◌, map, IfOk};
-ghost use Rattle.logos_scan.specs.Words.{answers_of, item_of, Runs};
+ghost use Rattle.logos_scan.specs.Imports.{answers_of, item_of, Runs, TakesMatches};
 
 use crate::choice::rows_for;
+use crate::fold::folded::Folded;
 use crate::run::{Reading, Run};
+use crate::walk::masks::ChunkEntries;
 use logos_code::action::Action;
-use logos_fold::folded::Folded;
 use logos_hir::leaf::LeafId;
 use logos_machine::machine::{Item, Lexer};
-use logos_walk::masks::ChunkEntries;
 use std::alloc::{AllocError, Global};
 
-/// Returns all items of the input of a lexer that stands at its start, in order: by chunks where
-/// that likely takes less time.
+/// Returns all items of the input of a lexer that is at its start, in order. The input is scanned
+/// by chunks if that likely takes less time.
 ///
 /// # Errors
 ///
@@ -22,7 +22,7 @@ pub fn items<'i, C: Fn(LeafId, &[u8]) -> Action + Drop>(
     alloc: Global,
     lexer: Lexer<'_, '_, 'i, C>,
 ) -> Result<Vec<Item<'i>>, AllocError>
-    requires callable { C.IsAlwaysCallable lexer.callback }
+    requires callable { TakesMatches C.Fn lexer.code lexer.callback }
     requires first { lexer.to ≡ 0 }
     ensures { IfOk result (λ items. Runs lexer.entry.code (answers_of C.Fn lexer.entry.callback)
         lexer.entry.input 0 (map item_of items.items)) }
@@ -33,7 +33,7 @@ pub fn items<'i, C: Fn(LeafId, &[u8]) -> Action + Drop>(
     }
 }
 
-/// Returns all items of an input, in order, by chunks.
+/// Returns all items of an input, in order, by scanning chunks.
 ///
 /// # Errors
 ///
@@ -44,7 +44,7 @@ pub fn items_by_chunks<'i, C: Fn(LeafId, &[u8]) -> Action>(
     input: &'i [u8],
     callback: &C,
 ) -> Result<Vec<Item<'i>>, AllocError>
-    requires { C.IsAlwaysCallable callback.now }
+    requires { TakesMatches C.Fn folded.now.code callback.now }
     ensures { IfOk result (λ items. Runs folded.now.code (answers_of C.Fn callback.now) input.now 0
         (map item_of items.items)) }
 {

@@ -1,21 +1,22 @@
-//! Tries of an input, one after the other, by the entries of a chunk.
+//! The match attempts of an input, one after another, from the entries of a chunk. `items` and the
+//! programs call it.
 
 ghost use Rattle.std.specs.Prelude.{◌≡◌, ◌+◌, ◌<◌, ◌≤◌, length, MatchOption};
-ghost use Rattle.logos_scan.specs.Views.{IsBytes, IsPlace, StandsIn, answers_of, item_of, EndsItems, GivesItem, IsChunk, IsFlagged, IsHeld, IsLoaded, IsMarked, IsOver, IsReading, IsReady, IsRun, IsTaken, start_of, with_chunk};
+ghost use Rattle.logos_scan.specs.Views.{IsBytes, IsRowStart, ComesTo, answers_of, item_of, EndsItems, YieldsItem, IsChunk, IsFlagged, IsHeld, IsLoaded, IsMarked, IsOver, IsReading, IsReady, IsRun, IsTaken, TakesMatches, start_of, with_chunk};
 
-use crate::tries::{Taken, tried};
+use crate::attempts::{Taken, tried};
+use crate::fold::entries::CALLS;
+use crate::fold::folded::Folded;
+use crate::walk::blocks::walk_chunk;
+use crate::walk::cursor::ChunkCursor;
+use crate::walk::masks::ChunkEntries;
+use crate::walk::repair::{Stretch, repair};
+use crate::walk::{ENDED, PLACE, walk};
 use logos_code::action::Action;
 use logos_code::code::Code;
-use logos_fold::entries::CALLS;
-use logos_fold::folded::Folded;
 use logos_hir::leaf::LeafId;
 use logos_machine::machine::{Item, error, matched_item, token};
 use logos_token::token::Span;
-use logos_walk::blocks::walk_chunk;
-use logos_walk::cursor::ChunkCursor;
-use logos_walk::masks::ChunkEntries;
-use logos_walk::repair::{Stretch, repair};
-use logos_walk::walk::{ENDED, PLACE, walk};
 
 /// A code, its folded rows, and the input that is stepped over.
 #[derive(Clone, Copy, Drop)]
@@ -26,7 +27,7 @@ pub struct Reading<'r, 'c, 's, 'i> {
 }
 
 impl<'r, 'c, 's, 'i> Reading<'r, 'c, 's, 'i> {
-    /// Returns a reading of an input by the folded rows of a code.
+    /// Returns a reading of an input with the folded rows of a code.
     pub fn new(folded: &'r Folded<'c, 's>, input: &'i [u8]) -> Reading<'r, 'c, 's, 'i>
         ensures folded { IsReading result }
         ensures code { result.code.now ≡ folded.now.code }
@@ -40,70 +41,71 @@ impl<'r, 'c, 's, 'i> Reading<'r, 'c, 's, 'i> {
     }
 }
 
-/// How many bytes of the input a chunk has, and the row after them.
+/// The number of bytes of the input in a chunk, and the row after them.
 #[derive(Clone, Copy, Drop)]
 pub struct Loaded {
     pub count: usize,
-    pub place: usize,
+    pub row_start: usize,
 }
 
-/// A run over an input: what is known of its chunk, and where the next try begins. Its chunk stands
-/// apart, so that the compiler can hold the run in registers.
+/// A scan of an input: the state of its chunk, and the start of the next attempt. Its chunk is
+/// stored separately, so that the compiler can keep the scan in registers.
 #[derive(Clone, Copy, Drop)]
 pub struct Run {
     pub cursor: ChunkCursor,
-    /// How many bytes the chunk has.
+    /// The number of bytes in the chunk.
     pub count: usize,
-    /// The row after them.
-    pub place: usize,
-    /// The first entry of those that one walk wrote.
+    /// The row after these bytes.
+    pub row_start: usize,
+    /// The first entry that the last walk wrote.
     pub low: usize,
 }
 
-/// Does nothing. A call says that what stands in a slice of bytes are bytes.
+/// Does nothing. Calling it brings into the proof that the elements of a slice of bytes are bytes.
 #[inline(always)]
 fn are_bytes(input: &[u8])
     ensures { IsBytes input.now }
 {}
 
-/// Steps over the next bytes of the input, a chunk if there are as many, from a row on.
-fn step_over(reading: &Reading, base: usize, place: usize, entries: &mut [u32; 4608]) -> Loaded
+/// Steps over the next bytes of the input, up to one chunk, from a row on.
+fn step_over(reading: &Reading, base: usize, row_start: usize, entries: &mut [u32; 4608]) -> Loaded
     requires reading { IsReading reading.now }
     requires base { base ≤ length reading.now.input.now }
-    requires place { IsPlace reading.now.rows.now place }
-    ensures { IsLoaded reading.now.rows.now reading.now.input.now base place entries.new result }
+    requires row_start { IsRowStart reading.now.rows.now row_start }
+    ensures { IsLoaded reading.now.rows.now reading.now.input.now base row_start entries.new result }
 {
     let rest = &reading.input[base..];
     if rest.len() >= 4608 {
-        let root = reading.code.root_place();
+        let root = reading.code.root_row_start();
         return Loaded {
             count: 4608,
-            place: walk_chunk(reading.rows, &rest[..4608], root, place, entries),
+            row_start: walk_chunk(reading.rows, &rest[..4608], root, row_start, entries),
         };
     }
     *entries = [0; 4608];
     Loaded {
         count: rest.len(),
-        place: walk(reading.rows, rest, place, entries),
+        row_start: walk(reading.rows, rest, row_start, entries),
     }
 }
 
-/// Steps over the next bytes of the input, and marks what there is to do.
+/// Steps over the next bytes of the input, and computes the flags of the entries.
 #[inline(never)]
-fn load(reading: &Reading, base: usize, place: usize, chunk: &mut ChunkEntries) -> Loaded
+fn load(reading: &Reading, base: usize, row_start: usize, chunk: &mut ChunkEntries) -> Loaded
     requires reading { IsReading reading.now }
     requires base { base ≤ length reading.now.input.now }
-    requires place { IsPlace reading.now.rows.now place }
-    ensures loaded { IsLoaded reading.now.rows.now reading.now.input.now base place
+    requires row_start { IsRowStart reading.now.rows.now row_start }
+    ensures loaded { IsLoaded reading.now.rows.now reading.now.input.now base row_start
         chunk.new.entries result }
     ensures marked { IsMarked chunk.new }
 {
-    let loaded = step_over(reading, base, place, &mut chunk.entries);
+    let loaded = step_over(reading, base, row_start, &mut chunk.entries);
     chunk.mark(0, 72);
     loaded
 }
 
-/// Makes the try that begins at `start` again, by itself: it notes the marks that it passes.
+/// Repeats the attempt that begins at `start` as a single attempt, which records the marks that it
+/// passes.
 #[cold]
 #[inline(never)]
 fn try_again(reading: &Reading, run: Run, chunk: &mut ChunkEntries, start: usize) -> (Taken, Run)
@@ -118,7 +120,7 @@ fn try_again(reading: &Reading, run: Run, chunk: &mut ChunkEntries, start: usize
     (taken, after)
 }
 
-/// Begins a try at a point of the input.
+/// Begins a match attempt at a point of the input.
 fn restarted(reading: &Reading, run: Run, chunk: &mut ChunkEntries, to: usize) -> Run
     requires reading { IsReading reading.now }
     requires chunk { IsChunk reading.now.rows.now reading.now.input.now (with_chunk chunk.old run) }
@@ -130,12 +132,12 @@ fn restarted(reading: &Reading, run: Run, chunk: &mut ChunkEntries, to: usize) -
     if to > base && to - base > run.low && to - base < run.count {
         repaired_from(reading, run, chunk, to - base)
     } else {
-        filled(reading, chunk, to, to, reading.code.root_place())
+        filled(reading, chunk, to, to, reading.code.root_row_start())
     }
 }
 
-/// Begins a try at an entry of the chunk that is not passed, and steps again over the bytes from
-/// there on until the entries are those that stand.
+/// Begins a match attempt at an entry of the chunk that has not been passed, and steps again over
+/// the bytes from there on until a byte leads to the same row as before.
 fn repaired_from(reading: &Reading, run: Run, chunk: &mut ChunkEntries, from: usize) -> Run
     requires reading { IsReading reading.now }
     requires chunk { IsChunk reading.now.rows.now reading.now.input.now (with_chunk chunk.old run) }
@@ -151,9 +153,9 @@ fn repaired_from(reading: &Reading, run: Run, chunk: &mut ChunkEntries, from: us
         from,
         to: run.count,
         begin: (chunk.entries[from - 1] & PLACE) as usize,
-        end: run.place,
+        end: run.row_start,
     };
-    let root = reading.code.root_place();
+    let root = reading.code.root_row_start();
     let rest = &reading.input[base..];
     let repaired = repair(reading.rows, rest, root, &mut chunk.entries, stretch);
     chunk.mark(from / 64, (repaired.stop + 63) / 64);
@@ -161,53 +163,53 @@ fn repaired_from(reading: &Reading, run: Run, chunk: &mut ChunkEntries, from: us
     Run {
         cursor,
         count: run.count,
-        place: repaired.place,
+        row_start: repaired.row_start,
         low: from,
     }
 }
 
-/// Goes on to the bytes from `base` on, where a try that begins at `start` stands in a row.
+/// Continues with the bytes from `base` on, where the attempt that begins at `start` is in the
+/// state of the row.
 #[inline(always)]
 fn filled(
     reading: &Reading,
     chunk: &mut ChunkEntries,
     base: usize,
     start: usize,
-    place: usize,
+    row_start: usize,
 ) -> Run
     requires reading { IsReading reading.now }
     requires base { base ≤ length reading.now.input.now }
-    requires place { IsPlace reading.now.rows.now place }
-    requires stands { StandsIn reading.now.code.now reading.now.input.now start base place }
+    requires row_start { IsRowStart reading.now.rows.now row_start }
+    requires is_at { ComesTo reading.now.code.now reading.now.input.now start base row_start }
     ensures run { IsRun reading.now.code.now reading.now.rows.now reading.now.input.now
         (with_chunk chunk.new result) start 0 }
     ensures start { start_of result.cursor ≡ start }
     ensures base { result.cursor.base ≡ base }
     ensures from { result.cursor.from ≡ 0 }
 {
-    let loaded = load(reading, base, place, chunk);
+    let loaded = load(reading, base, row_start, chunk);
     let cursor = ChunkCursor::new(chunk, base, start, 0);
     Run {
         cursor,
         count: loaded.count,
-        place: loaded.place,
+        row_start: loaded.row_start,
         low: 0,
     }
 }
 
 impl Run {
-    /// Begins a run at the start of an input.
+    /// Begins a scan at the start of an input.
     #[inline(always)]
     pub fn new(reading: &Reading, chunk: &mut ChunkEntries) -> Run
         requires reading { IsReading reading.now }
         ensures ready { IsReady reading.now (with_chunk chunk.new result) }
         ensures start { start_of result.cursor ≡ 0 }
     {
-        filled(reading, chunk, 0, 0, reading.code.root_place())
+        filled(reading, chunk, 0, 0, reading.code.root_row_start())
     }
 
-    /// Goes on to the next entry at which there is something to do, and returns its index, or
-    /// `None` at the end of the input.
+    /// Moves to the next pending entry and returns its index, or `None` at the end of the input.
     #[inline(always)]
     fn next_flag(&mut self, reading: &Reading, chunk: &mut ChunkEntries) -> Option<usize>
         requires reading { IsReading reading.now }
@@ -226,12 +228,12 @@ impl Run {
             if base >= reading.input.len() {
                 return None;
             }
-            let run = filled(reading, chunk, base, self.cursor.word_start, self.place);
+            let run = filled(reading, chunk, base, self.cursor.word_start, self.row_start);
             *self = run;
         }
     }
 
-    /// Takes what the next try finds, after those that are skipped.
+    /// Returns the result of the next attempt, after those that are skipped.
     #[inline(always)]
     pub fn next(&mut self, reading: &Reading, chunk: &mut ChunkEntries) -> Taken
         requires reading { IsReading reading.now }
@@ -252,20 +254,20 @@ impl Run {
         let leaf = LeafId((entry >> 20 & 511) as usize);
         let to = self.cursor.base + at;
         let calls = entry & CALLS;
-        // Where the match begins is asked for in each branch: a caller that only counts tokens then
-        // never looks for it.
+        // The start of the match is computed in each branch, so that a caller that only counts
+        // tokens never computes it.
         if calls == 0 {
             let from = self.cursor.start_before(at);
             Taken::Emits(leaf, Span { from, to })
         } else {
             let from = self.cursor.start_before(at);
-            Taken::Asks(leaf, Span { from, to })
+            Taken::CallsBack(leaf, Span { from, to })
         }
     }
 
-    /// Takes what the try finds that begins at `start`, by itself. Only that try is called out of
-    /// line, and it is given a copy of the run, so that the compiler can hold this one in
-    /// registers.
+    /// Returns the result of the attempt that begins at `start`, as a single attempt. Only that
+    /// attempt is called out of line, with a copy of the scan, so that the compiler can keep the
+    /// original in registers.
     #[inline(always)]
     fn next_again(&mut self, reading: &Reading, chunk: &mut ChunkEntries, start: usize) -> Taken
         requires reading { IsReading reading.now }
@@ -279,8 +281,9 @@ impl Run {
         taken
     }
 
-    /// Returns the next item, or `None` at the end of the input, and on every later call: what a
-    /// lexer returns with this callback, which is called for each match of a leaf that has one.
+    /// Returns the next item, or `None` at the end of the input, and on every later call. The items
+    /// are those of a lexer with this callback, which is called for each match of a leaf that has
+    /// one.
     #[inline(always)]
     pub fn next_item<'i, C: Fn(LeafId, &[u8]) -> Action>(
         &mut self,
@@ -288,19 +291,19 @@ impl Run {
         chunk: &mut ChunkEntries,
         callback: &C,
     ) -> Option<Item<'i>>
-        requires callable { C.IsAlwaysCallable callback.now }
+        requires callable { TakesMatches C.Fn reading.now.code.now callback.now }
         requires reading { IsReading reading.now }
         requires ready { IsReady reading.now (with_chunk chunk.old self.old) }
         ensures ready { IsReady reading.now (with_chunk chunk.new self.new) }
         ensures item { MatchOption result
             (EndsItems (answers_of C.Fn callback.now) reading.now callback.now self.old self.new)
-            (λ i. GivesItem (answers_of C.Fn callback.now) reading.now callback.now self.old self.new
+            (λ i. YieldsItem (answers_of C.Fn callback.now) reading.now callback.now self.old self.new
             (item_of i)) }
     {
         loop {
             match self.next(reading, chunk) {
                 Taken::Emits(leaf, span) => return Some(token(reading.input, leaf, span)),
-                Taken::Asks(leaf, span) => {
+                Taken::CallsBack(leaf, span) => {
                     let (code, input) = (reading.code, reading.input);
                     if let Some(item) = matched_item(code, input, callback, leaf, span) {
                         return Some(item);

@@ -1,5 +1,6 @@
-pub mod Answers
 pub mod Choices
 pub mod Orders
-pub mod Words
+pub mod Parts
+pub mod Runs
+pub mod Imports
 pub mod Views

@@ -1,2 +1,3 @@
--- What clauses cite of the words of a command line.
-pub use Rattle.logos_questions.specs.Orders.{IsNoMisuse, asked}
+-- Definitions about the arguments of a command line that clauses cite.
+pub use Rattle.logos_host.specs.Failures.{IsNoMisuse}
+pub use Rattle.logos_questions.specs.Orders.{requested}

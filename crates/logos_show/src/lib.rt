@@ -1,28 +1,30 @@
-//! What the program `logos_show` does: it shows the lexers of a Rust file, and lexes other files by
-//! them.
+//! The program `logos_show`: it shows the lexers of a Rust file, and lexes other files with them.
 
 #![tactic(auto)]
 
-mod asking;
-mod choosing;
-mod comparing;
-mod reading;
-mod running;
-mod showing;
-mod streaming;
+mod choice;
+mod comparison;
+mod inputs;
+mod items;
+mod lexers;
+mod matches;
+mod page_files;
+mod pages;
+mod program;
+mod refusals;
+mod stream;
 
-use logos_host::{Disk, refuse_words, words};
-use running::{Host, USAGE, run};
+use logos_host::{Disk, arguments};
+use program::run_with;
 
-/// Does what the words ask for with which the program was called. Returns the exit status.
+/// Runs `logos_show` with the arguments of the process. Returns the exit status.
 pub fn run_logos_show(rt: &HostRuntime) -> u8 {
-    let mut host = Host {
-        files: &mut Disk { rt },
-        clock: rt,
-        err: &mut rt.stderr(),
-    };
-    match words(rt) {
-        Ok(words) => run(rt.alloc(), words.as_slice(), &mut host, &mut rt.stdout()),
-        Err(error) => refuse_words(error.kind(), USAGE, host.err),
-    }
+    run_with(
+        rt.alloc(),
+        arguments(rt),
+        &mut Disk { rt },
+        rt,
+        &mut rt.stderr(),
+        &mut rt.stdout(),
+    )
 }

@@ -1,18 +1,19 @@
--- What a lexer at the start of some bytes finds there.
+-- The first result of a lexer at the start of some bytes.
 use denote.Param.Members.{Shared}
 use denote.Ref.{Bor}
-use Rattle.std.proofs.Common.{◌≡◌, ℕ, ◌≤◌, Bool, true, false, if◌then◌else◌, List, [], ◌∷◌, ◌++◌, length, Some, slice_range, refl, subst, arith}
+use Rattle.std.proofs.Common.{◌≡◌, ℕ, ◌≤◌, Bool, true, false, if◌then◌else◌, List, [], ◌∷◌, ◌++◌, length, Some, slice_range, refl, subst, sym, arith}
 use Rattle.std.proofs.lemmas.List.{append-nil}
+use Rattle.std.proofs.lemmas.Str.{IsUtf8-nil}
 use Rattle.logos_automaton.specs.Munch.{Use}
 use Rattle.logos_code.specs.Code.{CodeValue}
-use Rattle.logos_code.specs.Items.{Callback, Search, Item, token, error, items_of, skips, NextItem, passes, gives, fails}
+use Rattle.logos_code.specs.Items.{Callback, Search, Item, token, error, items_of, skips, NextItem, passes, yields, fails}
 use Rattle.logos_code.specs.Runs.{CodeFinds, RunsOn}
 use Rattle.logos_code.specs.declared.action.Action.{Action}
 use Rattle.logos_code.specs.declared.action.Action.TheVariants.{Emit, Skip, Error}
 use Rattle.logos_hir.specs.declared.leaf.LeafId.{LeafId}
-use Rattle.logos_machine.specs.LexerValue.{LexerValue, HasSpan, Gives, answers_of, begun, item_of}
-use Rattle.logos_machine.specs.Streams.{first_stand, LooksPast}
-use Rattle.logos_machine.specs.Within.{DoesWithin, GivesWithin, KeepsGiven}
+use Rattle.logos_machine.specs.LexerValue.{LexerValue, HasSpan, Yields, answers_of, begun, item_of}
+use Rattle.logos_machine.specs.Streams.{first_status, LooksPast, AttemptsWithin}
+use Rattle.logos_machine.specs.Within.{DoesWithin, YieldsWithin, KeepsGiven}
 use Rattle.logos_machine.specs.declared.machine.Item.{Item as TheItem}
 use Rattle.logos_machine.specs.declared.machine.part.Within.{Within}
 use Rattle.logos_machine.specs.declared.machine.part.Within.TheVariants.{Item as Given, More, End}
@@ -39,13 +40,13 @@ given_slice uses callback bytes Error leaf from to item e =
 next_slice : (uses : List Use) (callback : Callback) (bytes : List ℕ) (search : Search) {from end : ℕ} {item : Item} →
     NextItem uses callback bytes search from item end → HasSlice bytes item
 next_slice uses callback bytes search (passes from to leaf answer item end s m e x) = next_slice uses callback bytes search x
-next_slice uses callback bytes search (gives from to leaf answer item s m e) = given_slice uses callback bytes answer leaf from to item e
+next_slice uses callback bytes search (yields from to leaf answer item s m e) = given_slice uses callback bytes answer leaf from to item e
 next_slice uses callback bytes search (fails from to s) = refl
 
 runs_slice : (code : CodeValue) (callback : Callback) (bytes : List ℕ) (from to : ℕ) (item : Item) → RunsOn code callback bytes from item to → HasSlice bytes item
 runs_slice code callback bytes from to item r = next_slice code.leaves callback bytes (CodeFinds code bytes) r
 
--- the item without its bytes has the span at which the lexer stands
+-- the item without its bytes has the span of the lexer
 with_slice : (bytes slice : List ℕ) (short : StreamItem) → HasSlice bytes (item_with short slice) → item_with short slice ≡ item_in short bytes
 with_slice bytes slice short h = go short h
   where
@@ -73,9 +74,9 @@ module _ {C : Type 0} (calls : Shared C (LeafId × (Bor (List ℕ) × Unit {0}))
   abbrev callback : Callback
   callback = answers_of calls f
 
-  first_of_last : (item : Item) (s : StreamItem) → Sliced item s → KeepsGiven from_start new → Gives callback from_start new item → IsFirst code callback bytes true s
+  first_of_last : (item : Item) (s : StreamItem) → Sliced item s → KeepsGiven from_start new → Yields callback from_start new item → IsFirst code callback bytes true s
   first_of_last item s is k given =
-      let g : Gives callback from_start new (item_with s is.0) = subst (λ (i : Item). Gives callback from_start new i) is.1 given in
+      let g : Yields callback from_start new (item_with s is.0) = subst (λ (i : Item). Yields callback from_start new i) is.1 given in
       let r : RunsOn code callback bytes 0 (item_with s is.0) new.to = g.is in
       let p = span_is new is.0 s g.span in
       let e = with_slice bytes is.0 s (runs_slice code callback bytes 0 new.to (item_with s is.0) r) in
@@ -88,18 +89,18 @@ module _ {C : Type 0} (calls : Shared C (LeafId × (Bor (List ℕ) × Unit {0}))
         within = omega (arith, fits, p.1);
       }
 
-  first_of_part : (item : Item) (s : StreamItem) → Sliced item s → KeepsGiven from_start new → GivesWithin callback from_start new item → IsFirst code callback bytes false s
+  first_of_part : (item : Item) (s : StreamItem) → Sliced item s → KeepsGiven from_start new → YieldsWithin callback from_start new item → IsFirst code callback bytes false s
   first_of_part item s is k given =
-      let g : GivesWithin callback from_start new (item_with s is.0) = subst (λ (i : Item). GivesWithin callback from_start new i) is.1 given in
+      let g : YieldsWithin callback from_start new (item_with s is.0) = subst (λ (i : Item). YieldsWithin callback from_start new i) is.1 given in
       let p = span_is new is.0 s g.span in
       let alone : RunsOn code callback bytes 0 (item_with s is.0) new.to =
-      subst (λ (l : List ℕ). RunsOn code callback l 0 (item_with s is.0) new.to) (append-nil bytes) (g.is []) in
+      subst (λ (l : List ℕ). RunsOn code callback l 0 (item_with s is.0) new.to) (append-nil bytes) (g.is [] (λ _. IsUtf8-nil)) in
       let e = with_slice bytes is.0 s (runs_slice code callback bytes 0 new.to (item_with s is.0) alone) in
       let some = g.nonempty in
       let fits : new.to ≤ length bytes = subst (λ (l : List ℕ). new.to ≤ length l) k.input g.within in
       record {
-        finds = λ more.
-            let r : RunsOn code callback (bytes ++ more) 0 (item_with s is.0) new.to = g.is more in
+        finds = λ more follows.
+            let r : RunsOn code callback (bytes ++ more) 0 (item_with s is.0) new.to = g.is more follows in
             subst (λ (i : Item). RunsOn code callback (bytes ++ more) 0 i (end_of s)) e (subst (λ (n : ℕ). RunsOn code callback (bytes ++ more) 0 (item_with s is.0) n) p.1 r);
         nonempty = omega (arith, some, p.0, p.1);
         within = omega (arith, fits, p.1);
@@ -116,7 +117,8 @@ module _ {C : Type 0} (calls : Shared C (LeafId × (Bor (List ℕ) × Unit {0}))
     unsettled = refl;
     within = subst (λ (l : List ℕ). new.to ≤ length l) k.input d.within;
     passed = d.passed;
-    looks = subst (λ (l : List ℕ). LooksPast code l new.to (first_stand code new.to)) k.input (subst (λ (c : CodeValue). LooksPast c new.input new.to (first_stand c new.to)) k.code d.looks);
+    looks = subst (λ (l : List ℕ). LooksPast code l new.to (first_status code new.to)) k.input (subst (λ (c : CodeValue). LooksPast c new.input new.to (first_status c new.to)) k.code d.looks);
+    undecided = λ found n t. d.undecided found n (subst (λ (l : List ℕ). AttemptsWithin new.code l new.to (length l) found n) (sym k.input) (subst (λ (c : CodeValue). AttemptsWithin c bytes new.to (length bytes) found n) (sym k.code) t));
   }
 
   over_at_start : (is_last : Bool) → DoesWithin is_last callback from_start new End → IsOver code callback bytes is_last

@@ -9,14 +9,14 @@ use Rattle.logos_code.specs.Items.{Callback, Item}
 use Rattle.logos_code.specs.Runs.{Runs}
 use Rattle.logos_stream.specs.Fronts.{end_of, item_with}
 use Rattle.logos_stream.specs.Lefts.{AllAreOfTheWhole, AreLeft, GoesOn, MayRead, Steps, placed}
-use Rattle.logos_stream.specs.Nexts.{GivesNext, WaitsNext}
+use Rattle.logos_stream.specs.Nexts.{YieldsNext, WaitsNext}
 use Rattle.logos_stream.specs.Wholes.{AreFound, HasGiven}
 use Rattle.logos_stream.specs.WindowValue.{GoesPast, WindowValue}
 use Rattle.logos_stream.specs.declared.item.StreamItem.{StreamItem}
 use Rattle.logos_stream.specs.declared.item.StreamItem.TheVariants.{Token, Error}
 use Rattle.logos_stream.proofs.WholeLemmas.{streams_are_of_the_whole}
 
--- the place of an item with its bytes
+-- the span of an item with its bytes
 placed_with : (item : StreamItem) (slice : List ℕ) → placed (item_with item slice) ≡ item
 placed_with (Token leaf span) slice = refl
 placed_with (Error None span) slice = refl
@@ -26,7 +26,7 @@ not_both : {P : Type 0} (b : Bool) → IsFalse b → IsTrue b → P
 not_both true f t = absurd (cc)
 not_both false f t = absurd (cc)
 
--- ---- what was read is all that the reader had
+-- ---- the bytes that were read are all bytes of the reader
 
 none_left : (first rest all : List ℕ) → length rest ≡ 0 → first ≡ all → first ++ rest ≡ all
 none_left first [] all h e = append-nil first ∙ e
@@ -51,7 +51,7 @@ all_of_two : (a b c : Option (List ℕ)) (first second : List ℕ) (is_over : Bo
 all_of_two a b c first second true p q h k = none_more a b c first second p q (h refl)
 all_of_two a b c first second false p q h k = all_more a b first second p (k refl)
 
--- ---- streams go on
+-- ---- streams continue
 
 module _ {R : Type 0} (remaining : R → Option (List ℕ)) (code : CodeValue) (callback : Callback) where
   abbrev On : WindowValue R → WindowValue R → List Item → Type 0
@@ -99,9 +99,9 @@ module _ {R : Type 0} (remaining : R → Option (List ℕ)) (code : CodeValue) (
       given = h;
     }
 
-  pub on_item : (old new : WindowValue R) (item : StreamItem) → GivesNext code callback old new item → On old new (item_with item new.slice ∷ [])
+  pub on_item : (old new : WindowValue R) (item : StreamItem) → YieldsNext code callback old new item → On old new (item_with item new.slice ∷ [])
   on_item old new item g = on_past old new (end_of g.found) g.shows.past (item_with item new.slice ∷ [])
-      (λ sound before items h. (streams_are_of_the_whole remaining callback).gives code before old new items item sound h g)
+      (λ sound before items h. (streams_are_of_the_whole remaining callback).yields code before old new items item sound h g)
 
   pub on_wait : (old new : WindowValue R) → WaitsNext code callback old new → On old new []
   on_wait old new w = on_past old new w.passed w.waits.past []
@@ -129,6 +129,7 @@ module _ {R : Type 0} (remaining : R → Option (List ℕ)) (code : CodeValue) (
       bytes = append-nil (old.lexed ++ old.after) ∙ ap (λ l. l ++ old.after) (sym s.lexed) ∙ ap (λ l. new.lexed ++ l) (sym s.after);
       all = λ f t. not_both old.is_over f (subst IsTrue s.is_over t);
       given = λ sound before items h. as_before before items (record {
+        mode = s.utf8 ∙ h.mode;
         offset = λ small. s.offset ∙ h.offset small;
         found = λ small. subst (λ (b : Bool). AreFound b code callback (before ++ new.lexed) items (length before)) (sym s.is_last)
             (subst (λ (l : List ℕ). AreFound old.is_last code callback (before ++ l) items (length before)) (sym s.lexed) (h.found small));
@@ -137,7 +138,7 @@ module _ {R : Type 0} (remaining : R → Option (List ℕ)) (code : CodeValue) (
 
   -- ---- steps
 
-  pub step_item : (old new : WindowValue R) (item : StreamItem) (former items : List StreamItem) → GivesNext code callback old new item → items ≡ former ++ item ∷ [] →
+  pub step_item : (old new : WindowValue R) (item : StreamItem) (former items : List StreamItem) → YieldsNext code callback old new item → items ≡ former ++ item ∷ [] →
       Steps remaining code callback old new former items false
   step_item old new item former items g e =
       (item_with item new.slice ∷ [], on_item old new item g, e ∙ ap (λ i. former ++ i ∷ []) (sym (placed_with item new.slice)))

@@ -1,31 +1,32 @@
 -- The items of a stream are those of all that was read.
-use Rattle.std.proofs.Common.{◌≡◌, ◌∙◌, ℕ, ◌+◌, ◌<◌, ◌^◌, Bool, true, false, List, [], ◌∷◌, ◌++◌, append_assoc, append-nil, length, take, drop, Option, refl, sym, ap, subst, arith}
+use Rattle.std.proofs.Common.{◌≡◌, ◌∙◌, ℕ, ◌+◌, ◌<◌, ◌^◌, Bool, true, false, List, [], ◌∷◌, ◌++◌, append_assoc, append-nil, length, take, drop, Option, IsTrue, refl, sym, ap, subst, arith}
 use Rattle.std.proofs.lemmas.List.{length-append, length-take, take-append-drop, take_all}
+use Rattle.std.proofs.lemmas.Str.{IsUtf8-nil}
 use Rattle.logos_code.specs.Code.{CodeValue}
 use Rattle.logos_code.specs.Headline.{IsSound}
 use Rattle.logos_code.specs.Items.{Callback, Item}
 use Rattle.logos_code.specs.Runs.{CodeFinds, Runs, RunsOn}
-use Rattle.logos_machine.specs.Streams.{AreBegun, RunsOver, item_later}
+use Rattle.logos_machine.specs.Streams.{AreBegun, MayFollow, RunsOver, item_later}
 use Rattle.logos_machine.proofs.LaterLemmas.{runs_go_later}
 use Rattle.logos_machine.proofs.PartLemmas.{next_first, parts_are_of_the_whole}
 use Rattle.logos_stream.specs.Fronts.{FindsUpTo, end_of, item_in, item_with}
-use Rattle.logos_stream.specs.Nexts.{FinishesNext, GivesNext, WaitsNext}
+use Rattle.logos_stream.specs.Nexts.{FinishesNext, YieldsNext, WaitsNext}
 use Rattle.logos_stream.specs.Wholes.{AreFound, HasGiven, StreamsAreOfTheWhole}
 use Rattle.logos_stream.specs.WindowValue.{GoesPast, ReadsOn, WindowValue}
 use Rattle.logos_stream.specs.declared.item.StreamItem.{StreamItem}
 
 module _ (code : CodeValue) (callback : Callback) where
-  -- what is so whatever follows is so if nothing follows
+  -- a fact that holds regardless of the bytes that follow holds if none follow
   closed : (last : Bool) (bytes : List ℕ) (items : List Item) (to : ℕ) → AreBegun code callback bytes items to → AreFound last code callback bytes items to
   closed false bytes items to h = h
   closed true bytes items to h = λ later r.
       let e : bytes ++ [] ≡ bytes = append-nil bytes in
-      subst (λ (l : List ℕ). Runs code callback l 0 (items ++ later)) e (h [] later (subst (λ (l : List ℕ). Runs code callback l to later) (sym e) r))
+      subst (λ (l : List ℕ). Runs code callback l 0 (items ++ later)) e (h [] (λ _. IsUtf8-nil) later (subst (λ (l : List ℕ). Runs code callback l to later) (sym e) r))
 
-  grows : (was now : Bool) (bytes grown : List ℕ) (items : List Item) (to : ℕ) → (was ≡ true → (grown ≡ []) × (now ≡ true)) → AreFound was code callback bytes items to →
+  grows : (was now : Bool) (bytes grown : List ℕ) (items : List Item) (to : ℕ) → (was ≡ true → (grown ≡ []) × (now ≡ true)) → MayFollow code grown → AreFound was code callback bytes items to →
       AreFound now code callback (bytes ++ grown) items to
-  grows false now bytes grown items to h f = closed now (bytes ++ grown) items to ((parts_are_of_the_whole callback).grown code bytes grown items to f)
-  grows true now bytes grown items to h f =
+  grows false now bytes grown items to h text f = closed now (bytes ++ grown) items to ((parts_are_of_the_whole callback).grown code bytes grown items to text f)
+  grows true now bytes grown items to h text f =
       let k = h refl in
       let e : bytes ≡ bytes ++ grown = sym (append-nil bytes) ∙ ap (λ l. bytes ++ l) (sym k.0) in
       subst (λ (b : Bool). AreFound b code callback (bytes ++ grown) items to) (sym k.1) (subst (λ (l : List ℕ). AreFound true code callback l items to) e f)
@@ -48,7 +49,7 @@ module _ (code : CodeValue) (callback : Callback) where
         subst (λ (l : List Item). Runs code callback whole 0 l) (sym e)
         (h (item_later (length passed) item ∷ later) (next_first code.leaves callback whole (CodeFinds code whole) there later r))
 
-    none_more : (to : ℕ) → AreFound false code callback whole items (length passed) → ((more : List ℕ) → RunsOver code callback (lexed ++ more) 0 to) →
+    none_more : (to : ℕ) → AreFound false code callback whole items (length passed) → ((more : List ℕ) → MayFollow code more → RunsOver code callback (lexed ++ more) 0 to) →
         AreFound false code callback whole items (length passed + to)
     none_more to h f = (parts_are_of_the_whole callback).over code passed lexed items 0 to sound (subst (λ (n : ℕ). AreBegun code callback whole items n) (sym start) h) f
 
@@ -71,6 +72,7 @@ module _ (code : CodeValue) (callback : Callback) where
     goes_further : (items more : List Item) → HasGiven code callback passed old items → (length further < 2 ^ 64 → AreFound old.is_last code callback (passed ++ old.lexed) more (length passed + to)) →
         HasGiven code callback further new more
     goes_further items more h f = record {
+      mode = past.utf8 ∙ h.mode;
       offset = λ small.
           let before = h.offset (omega (arith, far, small)) in
           let e = past.offset (omega (arith, before, far, small)) in omega (arith, e, before, far);
@@ -84,9 +86,9 @@ module _ (code : CodeValue) (callback : Callback) where
     nearer small = omega (arith, far, small)
 
   module _ {R : Type 0} (passed : List ℕ) (old new : WindowValue R) (items : List Item) (h : HasGiven code callback passed old items) where
-    gives_one : (item : StreamItem) → IsSound code → GivesNext code callback old new item →
+    yields_one : (item : StreamItem) → IsSound code → YieldsNext code callback old new item →
         HasGiven code callback (passed ++ (new.skipped ++ new.slice)) new (items ++ item_with item new.slice ∷ [])
-    gives_one item sound g =
+    yields_one item sound g =
         let past = g.shows.past in
         let to = end_of g.found in
         goes_further passed old new to past items (items ++ item_with item new.slice ∷ []) h
@@ -115,20 +117,22 @@ module _ (code : CodeValue) (callback : Callback) where
 
     reads_more : (remaining : R → Option (List ℕ)) → ReadsOn remaining old new → HasGiven code callback passed new items
     reads_more remaining r = record {
+      mode = r.utf8 ∙ h.mode;
       offset = λ small. r.offset ∙ h.offset small;
       found = λ small.
-          let grown = grows old.is_last new.is_last (passed ++ old.lexed) r.grown items (length passed) r.last (h.found small) in
+          let grown = grows old.is_last new.is_last (passed ++ old.lexed) r.grown items (length passed) r.last (λ text. r.text (subst IsTrue (sym (r.utf8 ∙ h.mode)) text)) (h.found small) in
           subst (λ (l : List ℕ). AreFound new.is_last code callback l items (length passed)) (append_assoc passed old.lexed r.grown ∙ ap (λ l. passed ++ l) (sym r.lexed)) grown;
     }
 
 pub streams_are_of_the_whole : {R : Type 0} (remaining : R → Option (List ℕ)) (callback : Callback) → StreamsAreOfTheWhole remaining callback
 streams_are_of_the_whole remaining callback = record {
   begins = λ code reader bound. record {
+    mode = refl;
     offset = λ small. refl;
     found = λ small. (parts_are_of_the_whole callback).none code [];
   };
   reads = λ code passed old new items h r. reads_more code callback passed old new items h remaining r;
-  gives = λ code passed old new items item sound h g. gives_one code callback passed old new items h item sound g;
+  yields = λ code passed old new items item sound h g. yields_one code callback passed old new items h item sound g;
   waits = λ code passed old new items sound h w. waits_on code callback passed old new items h sound w;
   ends = λ code passed old new items sound small h f. ends_all code callback passed old new items h sound small f;
 }

@@ -1,9 +1,9 @@
--- The bytes of a part, as a window moves on in them and more are read.
+-- The bytes of a part, as a window moves in them and more are read.
 use Rattle.std.proofs.Common.{◌≡◌, ◌∙◌, ◌⊎◌, inl, inr, ⊎_elim, ℕ, zero, suc, ◌+◌, ◌-◌, ◌<◌, ◌≤◌, ◌^◌, min, Bool, true, false, ◌||◌, IsTrue, IsFalse, List, [], ◌++◌, append-nil, length, take, drop, slice_range, Option, None, Some, IsUtf8, IsCharBoundary, refl, sym, ap, subst, arith}
 use Rattle.std.specs.Io.KnownBytes.{Consumes, IsAtEnd}
 use Rattle.std.proofs.Math.Seq.{take-add}
 use Rattle.std.proofs.lemmas.List.{drop-append-le, drop-drop, drop-take, length-append, length-drop, length-take, take-append-drop, take-append-le, take-take, take_all}
-use Rattle.std.proofs.lemmas.Str.{IsCharBoundary-start, IsUtf8-append, IsUtf8-drop}
+use Rattle.std.proofs.lemmas.Str.{IsCharBoundary-start, IsUtf8-append, IsUtf8-drop, IsUtf8-nil}
 use Rattle.logos_stream.specs.Moves.{IsTorn}
 use Rattle.logos_stream.specs.Tails.{IsTail}
 use Rattle.logos_stream.specs.WindowValue.{GoesPast, HasEnded, IsWindow, ReadsOn, WindowValue}
@@ -14,7 +14,7 @@ module _ (part : List ℕ) (at ready : ℕ) (order : at ≤ ready) (within : rea
   lexed_length = omega (arith, length-take (ready - at) (drop at part), length-drop at part)
 
   module _ (to : ℕ) (fits : to ≤ ready - at) where
-    -- what is left after some bytes of a slice
+    -- the rest after some bytes of a slice
     pub left_after : slice_range part (at + to) ready ≡ drop to (slice_range part at ready)
     left_after =
         let e : ready - at ≡ to + (ready - (at + to)) = omega arith in
@@ -34,7 +34,7 @@ module _ (part : List ℕ) (at ready : ℕ) (order : at ≤ ready) (within : rea
           ∙ sym (take-take (to - from) (ready - at - from) (drop from (drop at part)) short)
           ∙ ap (take (to - from)) (sym (drop-take from (ready - at - from) (drop at part)) ∙ ap (λ n. drop from (take n (drop at part))) (sym k))
 
-      -- what is before a slice, and the slice
+      -- the bytes before a slice, and the slice
       pub passed_are : slice_range part at (at + from) ++ slice_range part (at + from) (at + to) ≡ take to (slice_range part at ready)
       passed_are =
           let a : (at + from) - at ≡ from = omega arith in
@@ -112,7 +112,7 @@ module _ (utf8 : Bool) (part : List ℕ) (most : ℕ) (over : Bool) (before firs
     wanted = is.wanted;
   }
 
-  -- and what callers see of it
+  -- and the part of it that callers see
   pub moved_past : {R : Type 0} (reader : R) (offset next bound wanted : ℕ) → next ≡ min (offset + to) (2 ^ 64 - 1) →
       GoesPast {R = R} to
       (record {
@@ -157,7 +157,7 @@ module _ (utf8 : Bool) (part : List ℕ) (most : ℕ) (over : Bool) (before firs
   pub moved_slice : slice_range part (at + from) (at + to) ≡ slice_range (slice_range part at ready) from to
   moved_slice = slice_of part at ready is.order is.within to inside from ordered
 
--- what follows the last bytes
+-- the event after the last bytes
 pub torn_last : {R : Type 0} (window : WindowValue R) → HasEnded window.utf8 window.is_over window.after → 0 < length window.after → IsTorn window
 torn_last window ended some = ⊎_elim
     (λ e. absurd (let n : length window.after ≡ 0 = ap length e.0 in omega (arith, some, n)))
@@ -220,7 +220,7 @@ module _ (utf8 : Bool) (part : List ℕ) (most : ℕ) (was : Bool) (before first
     wanted = is.wanted;
   }
 
-  pub reads_on : {R : Type 0} (remaining : R → Option (List ℕ)) (reader new_reader : R) (offset bound wanted new_bound new_wanted : ℕ) (over : Bool) → IsFalse last → new_bound ≡ bound →
+  pub reads_on : {R : Type 0} (remaining : R → Option (List ℕ)) (reader new_reader : R) (offset bound wanted new_bound new_wanted : ℕ) (over : Bool) → IsFalse last → new_bound ≡ bound → new_wanted ≡ wanted →
       Consumes (remaining reader) (remaining new_reader) added → (IsFalse over → 0 < length added) → (IsTrue over → IsAtEnd (remaining new_reader)) →
       ReadsOn {R = R} remaining
       (record {
@@ -249,7 +249,7 @@ module _ (utf8 : Bool) (part : List ℕ) (most : ℕ) (was : Bool) (before first
         bound = new_bound;
         wanted = new_wanted;
       })
-  reads_on remaining reader new_reader offset bound wanted new_bound new_wanted over begun same consumed some end = record {
+  reads_on remaining reader new_reader offset bound wanted new_bound new_wanted over begun same same_wanted consumed some end = record {
     utf8 = refl;
     offset = refl;
     bound = same;
@@ -262,10 +262,12 @@ module _ (utf8 : Bool) (part : List ℕ) (most : ℕ) (was : Bool) (before first
         ∙ ap (λ l. (slice_range part at ready ++ l) ++ added) (after_moved part at ready is.order is.within);
     grown = take tail.valid (drop (ready - at) next);
     lexed = lexed_now;
+    text = tells.text;
     last = λ h. absurd (let f : false ≡ true = sym begun ∙ h in cc);
     goes_on = λ h _. some h;
     over = λ h _. end h;
     ended = λ h. second tail.is_at_fault over h;
+    wanted = same_wanted;
   }
 
 nothing_consumed : (known : Option (List ℕ)) → Consumes known known []
@@ -283,8 +285,10 @@ reads_nothing remaining window h = record {
   bytes = sym (append-nil (window.lexed ++ window.after));
   grown = [];
   lexed = sym (append-nil window.lexed);
+  text = λ _. IsUtf8-nil;
   last = λ _. (refl, h);
   goes_on = λ _ f. absurd (let g : false ≡ true = sym f ∙ h in cc);
   over = λ _ f. absurd (let g : false ≡ true = sym f ∙ h in cc);
   ended = λ _. h;
+  wanted = refl;
 }

@@ -1,4 +1,5 @@
-pub mod Words
+pub mod parts
+pub mod Imports
 pub mod Fronts
 pub mod Tails
 pub mod WindowValue

@@ -1,4 +1,4 @@
--- What contracts see of a stream.
+-- The view of a stream.
 use Rattle.std.specs.Prelude.{◌≡◌, ℕ}
 use Rattle.logos_code.specs.Code.{CodeValue}
 use Rattle.logos_stream.specs.WindowValue.{WindowValue, nothing_read}
@@ -13,7 +13,7 @@ pub record StreamValue (R C : Type 0) : Type 0 where
 abbrev pub at_start : {R C : Type 0} → CodeValue → R → ℕ → C → StreamValue R C
 at_start code reader bound callback = record { code = code; callback = callback; window = nothing_read code.utf8 reader bound }
 
--- Code and callback stay.
+-- The code and the callback stay unchanged.
 pub record KeepsCode {R C : Type 0} (old new : StreamValue R C) : Type 0 where
   pub code : new.code ≡ old.code
   pub callback : new.callback ≡ old.callback

@@ -1,29 +1,29 @@
--- What contracts see of the bytes of a stream that are in memory.
+-- The view of the bytes of a stream that are in memory.
 use Rattle.std.specs.Prelude.{◌≡◌, ◌⊎◌, ℕ, ◌+◌, ◌<◌, ◌≤◌, ◌^◌, Bool, false, List, [], ◌++◌, length, take, drop, slice_range, Option, IsTrue, IsFalse, IsUtf8}
 use Rattle.std.specs.Io.KnownBytes.{Consumes, IsAtEnd, Keeps}
 use Rattle.logos_stream.specs.Tails.{IsNoText}
 
 pub record WindowValue (R : Type 0) : Type 0 where
   pub reader : R
-  -- Whether a text is read.
+  -- Whether the bytes are text.
   pub utf8 : Bool
   -- The bytes that the last move passed without an item, and those at the span of its item.
   pub skipped : List ℕ
   pub slice : List ℕ
-  -- The bytes after these that can be lexed.
+  -- The lexable bytes after these.
   pub lexed : List ℕ
-  -- The bytes that were read after them: of a text, a character that is not whole, or what is not
+  -- The bytes that were read after them: in a text, an incomplete character, or bytes that are not
   -- UTF-8.
   pub after : List ℕ
   -- Whether `lexed` are the last bytes that are lexed.
   pub is_last : Bool
-  -- Whether the reader came to its end.
+  -- Whether the reader reached its end.
   pub is_over : Bool
-  -- How many bytes of the stream are before `lexed`, up to the greatest number.
+  -- How many bytes of the stream are before `lexed`, saturating at the greatest number.
   pub offset : ℕ
   -- How many bytes may be in memory.
   pub bound : ℕ
-  -- How many bytes there have to be for the next try.
+  -- How many bytes the next match attempt needs.
   pub wanted : ℕ
 
 -- How many bytes were read after the last item.
@@ -46,14 +46,14 @@ nothing_read utf8 reader bound = record {
   wanted = 0;
 }
 
--- Nothing after the last bytes is lexed: there is nothing, or, of a text, bytes that
--- begin no character, or one that is not whole.
+-- Nothing after the last bytes is lexed: there is nothing, or, in a text, bytes that begin no
+-- character, or an incomplete one.
 abbrev pub HasEnded : Bool → Bool → List ℕ → Type 0
 HasEnded utf8 is_over after = ((after ≡ []) × IsTrue is_over)
     ⊎ (IsTrue utf8 × ((at_fault : Bool) × IsNoText at_fault after × (IsTrue is_over ⊎ IsTrue at_fault)))
 
--- The invariant of a window, whose part has these bytes: the offsets are in order, what can be
--- lexed of a text is UTF-8, and nothing is lexed after the last bytes.
+-- The invariant of a window whose part has these bytes: the offsets are in order, the lexable bytes
+-- of a text are UTF-8, and nothing is lexed after the last bytes.
 pub record IsWindow (utf8 : Bool) (part : List ℕ) (most : ℕ) (is_over : Bool) (before from at ready : ℕ) (is_last : Bool) (limit least : ℕ) : Type 0 where
   pub skipped : before ≤ from
   pub span : from ≤ at
@@ -64,7 +64,7 @@ pub record IsWindow (utf8 : Bool) (part : List ℕ) (most : ℕ) (is_over : Bool
   pub bound : most ≡ limit
   pub wanted : least ≤ limit
 
--- What stays while no bytes are read: the window moves on in the bytes that it has.
+-- A move without reading: the window moves within the bytes that it has.
 pub record GoesPast {R : Type 0} (to : ℕ) (old new : WindowValue R) : Type 0 where
   pub utf8 : new.utf8 ≡ old.utf8
   pub reader : new.reader ≡ old.reader
@@ -77,7 +77,7 @@ pub record GoesPast {R : Type 0} (to : ℕ) (old new : WindowValue R) : Type 0 w
   pub offset : old.offset + to < 2 ^ 64 → new.offset ≡ old.offset + to
   pub bound : new.bound ≡ old.bound
 
--- What a reader gives is added to the bytes, of which more can be lexed; after the last ones
+-- The bytes from the reader are appended, and more bytes become lexable; after the last ones
 -- nothing is read.
 pub record ReadsOn {R : Type 0} (remaining : R → Option (List ℕ)) (old new : WindowValue R) : Type 0 where
   pub utf8 : new.utf8 ≡ old.utf8
@@ -86,15 +86,17 @@ pub record ReadsOn {R : Type 0} (remaining : R → Option (List ℕ)) (old new :
   pub added : List ℕ
   pub consumed : Consumes (remaining old.reader) (remaining new.reader) added
   pub bytes : new.lexed ++ new.after ≡ (old.lexed ++ old.after) ++ added
-  -- The bytes that can be lexed grow by these.
+  -- The lexable bytes grow by these.
   pub grown : List ℕ
   pub lexed : new.lexed ≡ old.lexed ++ grown
+  pub text : IsTrue new.utf8 → IsUtf8 grown
   pub last : IsTrue old.is_last → (grown ≡ []) × IsTrue new.is_last
   pub goes_on : IsFalse new.is_over → IsFalse old.is_last → 0 < length added
   pub over : IsTrue new.is_over → IsFalse old.is_last → IsAtEnd (remaining new.reader)
   pub ended : IsTrue new.is_over → IsTrue new.is_last
+  pub wanted : new.wanted ≡ old.wanted
 
--- Nothing was read, and the reader still has what it had.
+-- Nothing was read, and the remaining bytes of the reader are unchanged.
 pub record StaysUnread {R : Type 0} (remaining : R → Option (List ℕ)) (old new : WindowValue R) : Type 0 where
   pub utf8 : new.utf8 ≡ old.utf8
   pub lexed : new.lexed ≡ old.lexed
@@ -104,3 +106,7 @@ pub record StaysUnread {R : Type 0} (remaining : R → Option (List ℕ)) (old n
   pub offset : new.offset ≡ old.offset
   pub bound : new.bound ≡ old.bound
   pub unread : Keeps (remaining old.reader) (remaining new.reader)
+  pub wanted : new.wanted ≡ old.wanted
+  -- The bytes that were passed are dropped.
+  pub skipped : new.skipped ≡ []
+  pub slice : new.slice ≡ []

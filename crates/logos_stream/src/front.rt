@@ -1,7 +1,7 @@
-//! What comes first in some bytes of an input.
+//! The first item in some bytes of an input. Called by `Stream::next`.
 
 ghost use Rattle.std.specs.Prelude.{◌≡◌, IsTrue, IsUtf8};
-ghost use Rattle.logos_stream.specs.Views.{answers_of, item_of, IsFront, IsWithout};
+ghost use Rattle.logos_stream.specs.Views.{answers_of, item_of, IsFront, IsWithout, TakesMatches};
 
 use crate::item::StreamItem;
 use logos_code::action::Action;
@@ -9,25 +9,25 @@ use logos_code::code::Code;
 use logos_hir::leaf::LeafId;
 use logos_machine::machine::{Item, Lexer, Within};
 
-/// What comes first in some bytes.
+/// The first event in some bytes.
 #[derive(Clone, Copy)]
 pub(crate) enum Front {
-    /// An item, after matches that give none. Its span is that in the bytes.
+    /// An item, after matches without items. Its span is relative to the bytes.
     Item(StreamItem),
-    /// No item up to this offset. What comes next depends on what follows the bytes.
+    /// No item up to this offset. The next item depends on the bytes that follow.
     Waits(usize),
     /// No item, and nothing follows.
     Ends,
 }
 
-/// Returns what comes first in some bytes. Unless they are the last ones, more may follow.
+/// Returns the first event in `bytes`. Unless they are the last ones, more may follow.
 pub(crate) fn front_of<C: Fn(LeafId, &[u8]) -> Action + Copy>(
     code: &Code<'_>,
     bytes: &[u8],
     callback: C,
     is_last: bool,
 ) -> Front
-    requires callable { C.IsAlwaysCallable callback }
+    requires callable { TakesMatches C.Fn code.now callback }
     requires text { IsTrue code.now.utf8 → IsUtf8 bytes.now }
     ensures { IsFront code.now (answers_of C.Fn callback) bytes.now is_last result }
 {

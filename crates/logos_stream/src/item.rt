@@ -1,4 +1,4 @@
-//! Items of a stream.
+//! Items of a stream. Used by `logos_items`.
 
 ghost use Rattle.std.specs.Prelude.{◌≡◌, ◌+◌, ◌<◌, ◌^◌, List, ℕ};
 ghost use Rattle.logos_stream.specs.Views.{item_later, end_of, item_with, start_of};
@@ -6,25 +6,25 @@ ghost use Rattle.logos_stream.specs.Views.{item_later, end_of, item_with, start_
 use logos_hir::leaf::LeafId;
 use logos_token::token::Span;
 
-/// An item of a stream, with its span in the stream in bytes. `Stream::slice` returns the bytes at
+/// An item of a stream, with its span in the stream, in bytes. `Stream::slice` returns the bytes at
 /// its span.
 #[derive(Clone, Copy, Debug, PartialEq, Eq)]
 pub enum StreamItem {
     /// A match.
     Token { leaf: LeafId, span: Span },
-    /// Bytes that no leaf matches, if `leaf` is `None`, or a match that the callback of its leaf
+    /// Bytes that no leaf matches, if `leaf` is `None`, or a match that the callback of `leaf`
     /// refused.
     Error { leaf: Option<LeafId>, span: Span },
 }
 
-/// What comes next in a stream.
+/// The next event of a stream.
 #[derive(Clone, Copy, Debug, PartialEq, Eq)]
 pub enum Streamed {
-    /// An item. It is the next one whatever follows.
+    /// An item. It is the next one whatever bytes follow.
     Item(StreamItem),
-    /// What comes next depends on bytes that were not read: call `Stream::read`.
+    /// The next event depends on bytes that were not read: call `Stream::read`.
     More,
-    /// What comes next depends on more bytes than may be in memory.
+    /// The next event depends on more bytes than may be in memory.
     TooLong,
     /// The bytes at `Stream::offset` are not UTF-8, and the lexer reads text. All items of the
     /// text before them were returned.
@@ -46,7 +46,7 @@ impl StreamItem {
     }
 }
 
-/// Returns the item as it stands so many bytes later.
+/// Returns the item with its span moved by `by` bytes.
 pub(crate) fn later(item: StreamItem, by: usize) -> StreamItem
     ensures { by + start_of item < 2 ^ 64 → by + end_of item < 2 ^ 64 → (slice : List ℕ) →
         item_with result slice ≡ item_later by (item_with item slice) }
@@ -63,7 +63,7 @@ pub(crate) fn later(item: StreamItem, by: usize) -> StreamItem
     }
 }
 
-/// Returns the span so many bytes later.
+/// Returns the span moved by `by` bytes.
 fn span_later(span: Span, by: usize) -> Span
     ensures from { by + span.from < 2 ^ 64 → result.from ≡ by + span.from }
     ensures to { by + span.to < 2 ^ 64 → result.to ≡ by + span.to }

@@ -1,7 +1,7 @@
-//! All items of a stream at once.
+//! All items of a stream in one call.
 
 ghost use Rattle.std.specs.Prelude.{◌<◌, IfOk, OnOk};
-ghost use Rattle.logos_stream.specs.Views.{answers_of, unread_length, AreLeft, KeepsCode, MayRead, Steps};
+ghost use Rattle.logos_stream.specs.Views.{answers_of, unread_length, AreLeft, KeepsCode, MayRead, Steps, TakesMatches};
 
 use crate::item::{StreamItem, Streamed};
 use crate::stream::Stream;
@@ -16,11 +16,11 @@ impl<'c, 's, R: Read + Drop, C: Fn(LeafId, &[u8]) -> Action + Copy> Stream<'c, '
     ///
     /// # Errors
     ///
-    /// Returns `InvalidData` where `next` returns `TooLong` or `NotUtf8`, and what the reader
-    /// returns; after `Interrupted` it is read again. Returns `OutOfMemory` if memory runs out, and
-    /// `TimedOut` after 2^64 items and reads.
+    /// Returns `InvalidData` if `next` returns `TooLong` or `NotUtf8`, and the error of the reader,
+    /// except for `Interrupted`, after which it reads again. Returns `OutOfMemory` if memory runs
+    /// out, and `TimedOut` after 2^64 items and reads.
     pub fn items(self, alloc: Global) -> io::Result<Vec<StreamItem>>
-        requires { C.IsAlwaysCallable self.callback }
+        requires { TakesMatches C.Fn self.code self.callback }
         ensures { IfOk result (λ items. AreLeft R.remaining self.entry.code
             (answers_of C.Fn self.entry.callback) self.entry.window items.items) }
     {
@@ -34,9 +34,9 @@ impl<'c, 's, R: Read + Drop, C: Fn(LeafId, &[u8]) -> Action + Copy> Stream<'c, '
         Err(io::Error::from(ErrorKind::TimedOut))
     }
 
-    /// Adds the item that comes next, or reads. Returns whether the stream has ended.
+    /// Appends the next item, or reads. Returns whether the stream has ended.
     fn step(&mut self, items: &mut Vec<StreamItem>) -> io::Result<bool>
-        requires { C.IsAlwaysCallable self.old.callback }
+        requires { TakesMatches C.Fn self.old.code self.old.callback }
         ensures keeps { KeepsCode self.old self.new }
         ensures steps { IfOk result (Steps R.remaining self.old.code
             (answers_of C.Fn self.old.callback) self.old.window self.new.window items.old.items
@@ -56,7 +56,7 @@ impl<'c, 's, R: Read + Drop, C: Fn(LeafId, &[u8]) -> Action + Copy> Stream<'c, '
         }
     }
 
-    /// Reads once. If the reader is interrupted, nothing is read.
+    /// Reads once. If the reader is interrupted, nothing is read, which is not an error.
     fn read_again(&mut self) -> io::Result<()>
         requires { unread_length self.old.window < self.old.window.bound }
         ensures keeps { KeepsCode self.old self.new }

@@ -7,13 +7,13 @@ use logos_code::action::Action;
 use logos_hir::leaf::LeafId;
 use std::io::Read;
 
-/// The items that a stream gives, however it is read, are the items of all that was read.
+/// The items of a stream, however it is read, are the items of all bytes that were read.
 pub fn streams_are_of_the_whole<R: Read, C: Fn(LeafId, &[u8]) -> Action>(_reader: &R, callback: &C)
     ensures { StreamsAreOfTheWhole R.remaining (answers_of C.Fn callback.now) }
 {}
 
-/// All items of a stream, returned at once by `Stream::items`, are those of a run on all bytes that
-/// its reader had, if these are known.
+/// The items from `Stream::items` are those of a run on all bytes of its reader, if these are
+/// known.
 pub fn all_items_are_of_the_whole<R: Read, C: Fn(LeafId, &[u8]) -> Action>(
     _reader: &R,
     callback: &C,

@@ -1,4 +1,4 @@
-//! Items of a stream: an input of any length that is lexed while it is read.
+//! Lexes an input of any length while it is read. `logos_items` and users' code call it.
 
 #![tactic(auto)]
 
@@ -6,9 +6,11 @@ mod front;
 mod item;
 mod items;
 pub mod laws;
+mod parts;
 mod stream;
 mod tail;
 mod window;
 
 pub use item::{StreamItem, Streamed};
+pub use parts::Parts;
 pub use stream::Stream;

@@ -1,7 +1,7 @@
-//! A stream: a reader, and the items of what it gives.
+//! A stream: a reader, and the items of its bytes. Used by `items` and `logos_items`.
 
 ghost use Rattle.std.specs.Prelude.{◌≡◌, ◌<◌, IfOk, OnErr};
-ghost use Rattle.logos_stream.specs.Views.{answers_of, at_start, unread_length, DoesNext, KeepsCode, ReadsOn, StaysUnread};
+ghost use Rattle.logos_stream.specs.Views.{answers_of, at_start, unread_length, DoesNext, KeepsCode, ReadsOn, StaysUnread, TakesMatches};
 
 use crate::front::{Front, front_of};
 use crate::item::Streamed;
@@ -14,10 +14,10 @@ use std::io;
 use std::io::Read;
 use std::marker::Model;
 
-/// A run of a code value on what a reader gives. Offsets and lengths count bytes.
+/// A run of a code value on the bytes of a reader. Offsets and lengths count bytes.
 ///
-/// No more than a bound is in memory, whatever the length of the stream. In UTF-8 mode the bytes
-/// are tested as they are read.
+/// At most the bound is in memory, regardless of the length of the stream. In UTF-8 mode the bytes
+/// are validated as they are read.
 ///
 /// ```text
 /// let mut stream = Stream::new(alloc, &code, reader, bound, callback)?;
@@ -52,7 +52,7 @@ impl<'c, 's, R, C> Model for Stream<'c, 's, R, C> {
 
 impl<'c, 's, R: Read + Drop, C: Fn(LeafId, &[u8]) -> Action + Copy> Stream<'c, 's, R, C> {
     /// Makes a stream before its first byte. At most `bound` bytes of it are in memory at a time.
-    /// The callback is asked for each match of a leaf that has one.
+    /// The callback is called for each match of a leaf that has one.
     ///
     /// # Errors
     ///
@@ -74,10 +74,10 @@ impl<'c, 's, R: Read + Drop, C: Fn(LeafId, &[u8]) -> Action + Copy> Stream<'c, '
         })
     }
 
-    /// Returns what comes next. An item is returned only if it is the next one whatever follows
-    /// what was read. After another answer each call returns the same, until `read` has read.
+    /// Returns the next event. An item is returned only if it does not depend on the bytes that
+    /// follow. After any other event, each call returns that event again until `read` has read.
     pub fn next(&mut self) -> Streamed
-        requires { C.IsAlwaysCallable self.old.callback }
+        requires { TakesMatches C.Fn self.old.code self.old.callback }
         ensures keeps { KeepsCode self.old self.new }
         ensures does { DoesNext self.old.code (answers_of C.Fn self.old.callback)
             self.old.window self.new.window result }
@@ -87,17 +87,19 @@ impl<'c, 's, R: Read + Drop, C: Fn(LeafId, &[u8]) -> Action + Copy> Stream<'c, '
         }
         let is_last = self.window.is_last();
         match front_of(self.code, self.window.lexed(), self.callback, is_last) {
-            Front::Item(item) => self.window.give(item),
+            Front::Item(item) => self.window.emit(item),
             Front::Waits(to) => self.window.wait(to),
             Front::Ends => self.window.finish(),
         }
     }
 
-    /// Reads once, if the last bytes were not read yet. After `More` there is room for more bytes.
+    /// Reads once, unless the last bytes were already read. After `More` there is room for more
+    /// bytes.
     ///
     /// # Errors
     ///
-    /// Returns what the reader returns. What was read before stays, and reading can go on.
+    /// Returns the error of the reader. The bytes that were read before stay, and `read` can be
+    /// called again.
     pub fn read(&mut self) -> io::Result<()>
         requires { unread_length self.old.window < self.old.window.bound }
         ensures keeps { KeepsCode self.old self.new }
@@ -115,15 +117,16 @@ impl<'c, 's, R: Read + Drop, C: Fn(LeafId, &[u8]) -> Action + Copy> Stream<'c, '
         self.window.skipped()
     }
 
-    /// Returns the bytes at the span of the item that the last call of `next` returned, if it did.
-    /// `read` drops them.
+    /// Returns the bytes at the span of the item that the last call of `next` returned, if it
+    /// returned one. `read` drops them.
     pub fn slice(&self) -> &[u8]
         ensures { result.now ≡ self.now.window.slice }
     {
         self.window.slice()
     }
 
-    /// Returns how many bytes of the stream were passed, up to the greatest number.
+    /// Returns the number of bytes of the stream that were passed, saturating at the greatest
+    /// number.
     pub fn offset(&self) -> usize
         ensures { result ≡ self.now.window.offset }
     {

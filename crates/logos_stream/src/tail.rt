@@ -1,18 +1,18 @@
-//! How much of what was read can be lexed.
+//! The lexable prefix of the bytes that were read. Used by `window`.
 
 ghost use Rattle.std.specs.Prelude.{◌≡◌, ◌≤◌, ◌↔◌, length, false, IsTrue, IsCharBoundary};
 ghost use Rattle.logos_stream.specs.Views.{IsTail};
 
-/// What some bytes that were read begin with.
+/// The lexable prefix of some bytes that were read, and whether the bytes after it are invalid.
 #[derive(Clone, Copy)]
 pub(crate) struct Tail {
-    /// How many bytes can be lexed: all, or the longest beginning that is UTF-8.
+    /// The length of the lexable prefix: all bytes, or the longest prefix that is UTF-8.
     pub(crate) valid: usize,
-    /// Whether the bytes after these begin no character, whatever follows.
+    /// Whether the bytes after the prefix cannot begin a character, whatever follows.
     pub(crate) is_at_fault: bool,
 }
 
-/// Returns how much can be lexed of some bytes that were read, of a text or of any bytes.
+/// Returns the lexable prefix of `bytes`, which are text if `is_utf8` is set.
 pub(crate) fn tail_of(is_utf8: bool, bytes: &[u8]) -> Tail
     ensures { IsTail is_utf8 bytes.now result }
 {
@@ -28,7 +28,7 @@ pub(crate) fn tail_of(is_utf8: bool, bytes: &[u8]) -> Tail
     }
 }
 
-/// Returns the tail of bytes that can all be lexed.
+/// Returns the tail of bytes that are all lexable.
 fn whole(bytes: &[u8]) -> Tail
     ensures { result ≡ record { valid = length bytes.now; is_at_fault = false } }
 {
@@ -38,7 +38,7 @@ fn whole(bytes: &[u8]) -> Tail
     }
 }
 
-/// Returns whether no character goes over an offset of a text; yes, if bytes are read.
+/// Returns whether offset `to` is between characters, if the bytes are text; otherwise `true`.
 pub(crate) fn is_cut(is_utf8: bool, bytes: &[u8], to: usize) -> bool
     requires { to ≤ length bytes.now }
     ensures { IsTrue result ↔ (IsTrue is_utf8 → IsCharBoundary bytes.now to) }

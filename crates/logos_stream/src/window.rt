@@ -1,18 +1,19 @@
-//! The bytes of a stream that are in memory, and where its lexer stands in them.
+//! The bytes of a stream that are in memory, and the offset of its lexer in them. Used by `stream`.
 
 ghost use Rattle.std.specs.Prelude.{◌≡◌, ◌*◌, ◌<◌, ◌≤◌, [], drop, length, false, slice_range, true, IfOk, OnErr, MatchBool, IsTrue, IsUtf8, IsCharBoundary};
-ghost use Rattle.logos_stream.specs.Views.{end_of, nothing_read, start_of, unread_length, Finishes, Gives, GoesPast, IsTorn, ReadsOn, StaysUnread, Waits};
+ghost use Rattle.logos_stream.specs.Views.{end_of, nothing_read, start_of, unread_length, Finishes, Yields, GoesPast, IsPutOff, IsTorn, ReadsOn, StaysUnread, Waits};
 
 use crate::item::{StreamItem, Streamed, later};
+use crate::parts::Parts;
 use crate::tail::{is_cut, tail_of};
-use logos_parts::Parts;
 use std::alloc::{AllocError, Global};
 use std::io;
 use std::io::Read;
 use std::marker::Model;
 
-/// Up to this many bytes that a try leaves are lexed again after each read. More of them are lexed
-/// again once there are twice as many, so that the time grows as the stream does.
+/// Up to this many bytes that a match attempt leaves are lexed again after each read. If it leaves
+/// more, they are lexed again once there are twice as many, so that the time stays linear in the
+/// length of the stream.
 const SHORT: usize = 4096;
 
 /// The bytes of a stream that are in memory. Offsets and lengths count bytes.
@@ -20,20 +21,20 @@ const SHORT: usize = 4096;
 pub(crate) struct Window<R> {
     parts: Parts<R>,
     is_utf8: bool,
-    /// Where the last move began in the part.
+    /// The offset in the part at which the last move began.
     before: usize,
-    /// Where the item begins that it passed.
+    /// The offset at which the item of the last move begins.
     from: usize,
-    /// Where it ended, and the next try begins.
+    /// The offset at which the last move ended and the next match attempt begins.
     at: usize,
-    /// Where the bytes of the part end that can be lexed.
+    /// The offset in the part at which the lexable bytes end.
     ready: usize,
-    /// Whether what follows these bytes is never lexed.
+    /// Whether the bytes after the lexable ones are never lexed.
     is_last: bool,
-    /// The offset in the stream at which the next try begins.
+    /// The offset in the stream at which the next match attempt begins.
     offset: usize,
     bound: usize,
-    /// How many bytes there have to be from the next try on before it is made.
+    /// How many bytes must be available before the next match attempt is made.
     wanted: usize,
 }
 
@@ -62,7 +63,7 @@ impl<R> Model for Window<R> {
 }
 
 impl<R: Read + Drop> Window<R> {
-    /// Makes a window before the first byte of a text or of any bytes.
+    /// Makes a window before the first byte of a stream, which is text if `is_utf8` is set.
     ///
     /// # Errors
     ///
@@ -90,11 +91,12 @@ impl<R: Read + Drop> Window<R> {
         })
     }
 
-    /// Reads once, if the last bytes were not read yet.
+    /// Reads once, unless the last bytes were already read.
     ///
     /// # Errors
     ///
-    /// Returns what the reader returns. What was read before stays, and reading can go on.
+    /// Returns the error of the reader. The bytes that were read before stay, and `read` can be
+    /// called again.
     pub(crate) fn read(&mut self) -> io::Result<()>
         requires { unread_length self.old < self.old.bound }
         ensures read { IfOk result (λ _. ReadsOn R.remaining self.old self.new) }
@@ -122,28 +124,29 @@ impl<R: Read + Drop> Window<R> {
         &self.parts.part()[self.before..self.from]
     }
 
-    /// Returns the bytes at the span of the item that it passed.
+    /// Returns the bytes at the span of the item of the last move.
     pub(crate) fn slice(&self) -> &[u8]
         ensures { result.now ≡ self.now.slice }
     {
         &self.parts.part()[self.from..self.at]
     }
 
-    /// Returns how many bytes of the stream were passed, up to the greatest number.
+    /// Returns the number of bytes of the stream that were passed, saturating at the greatest
+    /// number.
     pub(crate) fn offset(&self) -> usize
         ensures { result ≡ self.now.offset }
     {
         self.offset
     }
 
-    /// Returns whether nothing is lexed after the bytes that can be lexed.
+    /// Returns whether nothing is lexed after the lexable bytes.
     pub(crate) fn is_last(&self) -> bool
         ensures { result ≡ self.now.is_last }
     {
         self.is_last
     }
 
-    /// Returns the bytes that can be lexed.
+    /// Returns the lexable bytes.
     pub(crate) fn lexed(&self) -> &[u8]
         ensures bytes { result.now ≡ self.now.lexed }
         ensures text { IsTrue self.now.utf8 → IsUtf8 self.now.lexed }
@@ -151,7 +154,7 @@ impl<R: Read + Drop> Window<R> {
         &self.parts.part()[self.at..self.ready]
     }
 
-    /// Returns whether fewer bytes were read than the next try wants.
+    /// Returns whether fewer bytes were read than the next match attempt needs.
     pub(crate) fn is_short(&self) -> bool
         ensures short { IsTrue result → unread_length self.now < self.now.wanted }
         ensures room { IsTrue result → unread_length self.now < self.now.bound }
@@ -170,12 +173,12 @@ impl<R: Read + Drop> Window<R> {
         self.parts.part().len() - self.at
     }
 
-    /// Passes an item that was found in the bytes that can be lexed, and returns it with its span
-    /// in the stream.
-    pub(crate) fn give(&mut self, item: StreamItem) -> Streamed
+    /// Passes an item that was found in the lexable bytes, and returns it with its span in the
+    /// stream.
+    pub(crate) fn emit(&mut self, item: StreamItem) -> Streamed
         requires order { start_of item < end_of item }
         requires within { end_of item ≤ length self.old.lexed }
-        ensures { Gives self.old self.new item result }
+        ensures { Yields self.old self.new item result }
     {
         let span = item.span();
         if !is_cut(self.is_utf8, self.lexed(), span.to) {
@@ -184,10 +187,11 @@ impl<R: Read + Drop> Window<R> {
         }
         let before = self.offset;
         self.go_past(span.from, span.to);
+        self.wanted = 0;
         Streamed::Item(later(item, before))
     }
 
-    /// Passes so many bytes that give no item, and waits for more.
+    /// Passes the first `to` bytes, which have no item, and waits for more.
     pub(crate) fn wait(&mut self, to: usize) -> Streamed
         requires { to ≤ length self.old.lexed }
         ensures { Waits self.old self.new to result }
@@ -205,7 +209,7 @@ impl<R: Read + Drop> Window<R> {
         Streamed::More
     }
 
-    /// Waits for more bytes without a try.
+    /// Waits for more bytes without a match attempt.
     pub(crate) fn wait_longer(&mut self) -> Streamed
         requires { unread_length self.old < self.old.bound }
         ensures { Waits self.old self.new 0 result }
@@ -214,7 +218,7 @@ impl<R: Read + Drop> Window<R> {
         Streamed::More
     }
 
-    /// Passes the last bytes that are lexed, and returns what follows them.
+    /// Passes the last lexable bytes, and returns the event that follows them.
     pub(crate) fn finish(&mut self) -> Streamed
         requires { self.old.is_last ≡ true }
         ensures { Finishes self.old self.new result }
@@ -227,7 +231,7 @@ impl<R: Read + Drop> Window<R> {
         Streamed::End
     }
 
-    /// Returns whether bytes follow the last ones that are lexed.
+    /// Returns whether bytes follow the last lexable ones.
     fn is_torn(&self) -> bool
         requires { self.now.is_last ≡ true }
         ensures { MatchBool result (IsTorn self.now)
@@ -239,7 +243,7 @@ impl<R: Read + Drop> Window<R> {
         false
     }
 
-    /// Moves after a span of the bytes that can be lexed.
+    /// Moves past the span `from..to` of the lexable bytes.
     fn go_past(&mut self, from: usize, to: usize)
         requires order { from ≤ to }
         requires within { to ≤ length self.old.lexed }
@@ -255,7 +259,7 @@ impl<R: Read + Drop> Window<R> {
     }
 }
 
-/// Passes the first bytes of a part. Without any, nothing is moved in memory.
+/// Passes the first `bytes` bytes of a part. If there are none, nothing is moved in memory.
 fn pass_front<R: Read + Drop>(parts: &mut Parts<R>, bytes: usize)
     requires { bytes ≤ length parts.old.part }
     ensures part { parts.new.part ≡ drop bytes parts.old.part }
@@ -268,10 +272,10 @@ fn pass_front<R: Read + Drop>(parts: &mut Parts<R>, bytes: usize)
     }
 }
 
-/// Returns how many bytes the next try wants, if one has left so many.
+/// Returns how many bytes the next match attempt needs, after one that has left `unread` bytes.
 fn wanted_after(unread: usize, bound: usize) -> usize
     ensures most { result ≤ bound }
-    ensures twice { result ≤ 2 * unread }
+    ensures put_off { IsPutOff unread result }
 {
     if unread <= SHORT {
         return 0;

@@ -1,4 +1,4 @@
--- What is left, tree by tree.
+-- The tokens that remain, tree by tree.
 use Rattle.std.proofs.Common.{◌≡◌, List, [], ◌∷◌, ◌++◌, Option, Some, None, refl, sym, ◌∙◌, ap}
 use Rattle.logos_token.specs.Tokens.{Token, punctuation, TokenList, none, also, append}
 use Rattle.logos_token.specs.Views.{tree_of}
@@ -22,7 +22,7 @@ pub one-more : (run : TokenList) (back : Option PunctView) (token : Token) (piec
 one-more run None token pieces = ap (λ r. append r (left (Some token ∷ pieces))) (append-none run)
 one-more run (Some p) token pieces = append-one run (punctuation p.character p.spacing p.span) (left (Some token ∷ pieces))
 
--- what is no punctuation is the same in front of what goes
+-- a token other than punctuation is unchanged before removed tokens
 in_front-gone : (tree : TokenTree) → ((punct : PunctView) → tree ≡ Punct punct → ⊥) → (pieces : List (Option Token)) → in_front pieces (tree_of tree) ≡ tree_of tree
 in_front-gone (Ident i) other [] = refl
 in_front-gone (Ident i) other (None ∷ pieces) = refl

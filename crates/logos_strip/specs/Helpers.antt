@@ -12,11 +12,11 @@ abbrev pub is_comma : Token → Bool
 is_comma (punctuation character spacing span) = character == comma
 is_comma token = false
 
--- A name is that of a helper attribute.
+-- A name is the name of a helper attribute.
 abbrev pub is_helper_name : List ℕ → Bool
 is_helper_name text = bytes_eq text (codes "logos") || (bytes_eq text (codes "token") || bytes_eq text (codes "regex"))
 
--- The path of an attribute, with which the run begins, is exactly the name of a helper attribute.
+-- The path of an attribute, at the start of the run, is exactly the name of a helper attribute.
 abbrev pub is_helper_path : TokenList → Bool
 is_helper_path (also (identifier text span) rest) = is_helper_name text && not (begins_with colon rest)
 is_helper_path run = false
@@ -31,12 +31,12 @@ abbrev pub begins_helper : TokenList → Bool
 begins_helper (also (punctuation character spacing span) rest) = (character == hash) && holds_helper rest
 begins_helper run = false
 
--- There are tokens after what was asked for, and the test holds of them.
+-- There are tokens, and the test holds of them.
 abbrev pub holds_after : (TokenList → Bool) → Option TokenList → Bool
 holds_after test None = false
 holds_after test (Some rest) = test rest
 
--- An entry of `derive` ends where the run begins.
+-- An entry of `derive` ends at the start of the run.
 abbrev pub ends_entry : TokenList → Bool
 ends_entry none = true
 ends_entry (also token rest) = is_comma token

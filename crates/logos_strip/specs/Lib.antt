@@ -4,5 +4,5 @@ pub mod Stripping
 pub mod Entries
 pub mod Results
 pub mod inside
-pub mod Words
+pub mod Imports
 pub mod Views

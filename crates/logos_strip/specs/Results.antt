@@ -1,4 +1,4 @@
--- What stripping gives for a source.
+-- The result of stripping a source.
 use Rattle.std.specs.Prelude.{◌≡◌, ◌≤◌, ℕ, List, length, Ok}
 use Rattle.logos_token.specs.Tokens.{TokenList, depth_of}
 use Rattle.logos_token.specs.Spelling.{Spells}
@@ -6,13 +6,13 @@ use Rattle.logos_enum.specs.Enum.{Reads}
 use Rattle.logos_enum.specs.EnumValues.{EnumValue}
 use Rattle.logos_strip.specs.Stripping.{stripped}
 
--- The tokens are an enum, of which these are left.
+-- The tokens are an enum, and these remain after stripping it.
 pub record AreStripped (tokens left : TokenList) : Type 0 where
   pub enum : EnumValue
   pub reads : Reads tokens (Ok enum)
   pub is : left ≡ stripped tokens
 
--- The source spells an enum, of which these tokens are left.
+-- The source spells an enum, and these tokens remain after stripping it.
 pub record IsStripped (source : List ℕ) (left : TokenList) : Type 0 where
   pub tokens : TokenList
   pub spelled : Spells source tokens

@@ -1,8 +1,8 @@
 //! The parts of an enum that belong to the derive macro: its helper attributes, and the entries of
-//! `derive` that name it.
+//! `derive` that name it. `spots` and `logos_rust_file` recognize them with it.
 
 ghost use Rattle.std.specs.Prelude.{◌≡◌};
-ghost use Rattle.logos_strip.specs.Words.{tokens_of, tree_of, is_comma, is_helper_name, is_helper_path, holds_helper, begins_helper, ends_entry, is_macro_name, is_macro_segment, is_macro_path, is_global_path, is_macro_entry};
+ghost use Rattle.logos_strip.specs.Imports.{tokens_of, tree_of, is_comma, is_helper_name, is_helper_path, holds_helper, begins_helper, ends_entry, is_macro_name, is_macro_segment, is_macro_path, is_global_path, is_macro_entry};
 
 use logos_token::token::{Delimiter, TokenTree, Tokens};
 use logos_token::util::{after_path_mark, after_word, begins_with};
@@ -17,15 +17,15 @@ pub fn is_comma(tree: TokenTree<'_, '_>) -> bool
     }
 }
 
-/// Returns whether a name is that of a helper attribute.
+/// Returns whether a name is the name of a helper attribute.
 fn is_helper_name(text: &str) -> bool
     ensures { result ≡ is_helper_name text.now }
 {
     (text == "logos") | ((text == "token") | (text == "regex"))
 }
 
-/// Returns whether the path of an attribute, with which a run begins, is exactly a helper
-/// attribute's name.
+/// Returns whether the path of an attribute, at the start of a run, is exactly a helper attribute's
+/// name.
 fn is_helper_path(tokens: Tokens<'_, '_>) -> bool
     ensures { result ≡ is_helper_path (tokens_of tokens.entry) }
 {
@@ -58,7 +58,7 @@ pub(crate) fn begins_helper(tokens: Tokens<'_, '_>) -> bool
     }
 }
 
-/// Returns whether an entry of `derive` ends where the run begins.
+/// Returns whether an entry of `derive` ends at the start of the run.
 fn ends_entry(tokens: Tokens<'_, '_>) -> bool
     ensures { result ≡ ends_entry (tokens_of tokens.entry) }
 {

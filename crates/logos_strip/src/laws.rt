@@ -6,13 +6,13 @@ ghost use Rattle.logos_strip.specs.Views.{TokenList, Spells, printed, SpellsAgai
 /// Stripping a second time removes nothing.
 pub fn strips_once()
     ensures same { (tokens : TokenList) → stripped (stripped tokens) ≡ stripped tokens }
-    // Nor does it of tokens that differ in their spans alone, as those that the printed text
-    // spells.
+    // This also holds for tokens that differ only in their spans, such as those that the printed
+    // text spells.
     ensures again { (tokens again : TokenList) → bare again ≡ bare (stripped tokens) →
         bare (stripped again) ≡ bare again }
 {}
 
-/// The printed text of a stripped source spells the same tokens again, their spans aside.
+/// The printed text of a stripped source spells the same tokens again, apart from their spans.
 pub fn strips_back()
     ensures { (source : List ℕ) → IsUtf8 source → (tokens : TokenList) → Spells source tokens →
         SpellsAgain (printed (stripped tokens)) (stripped tokens) }

@@ -1,11 +1,11 @@
-//! Stripping: removes from an enum what belongs to the derive macro, which is its helper attributes
-//! and its name in `derive`.
+//! Strips an enum: removes the parts that belong to the derive macro, which are its helper
+//! attributes and its name in `derive`. `logos strip` and the expansion of files call it.
 
 #![tactic(auto)]
 
+mod groups;
 pub mod helpers;
 pub mod laws;
 pub mod spots;
-pub mod stripping;
-mod walk;
+pub mod stripper;
 pub mod writer;

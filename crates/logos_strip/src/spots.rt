@@ -1,4 +1,5 @@
-//! The spots of tokens in an enum, and which tokens go.
+//! Determines for each token of an enum whether it is removed, by its spot. The stripping of runs
+//! calls it for each token.
 
 ghost use Rattle.std.specs.Prelude.{◌≡◌, ◌<◌, Some, None, MatchOption};
 ghost use Rattle.logos_strip.specs.Views.{tokens_of, tree_of, is_none, begins_gone, goes, after_part, after_start, after_hash, after_attributed, after_in_enum, after_in_attribute, spot_after, scope_of, rank};
@@ -13,7 +14,7 @@ pub enum Scope {
     Enum,
     /// The tokens in the brackets of an attribute of the enum.
     Attribute,
-    /// The entries of `derive` in such an attribute.
+    /// The entries of `derive` in an attribute of the enum.
     Derives,
     /// The variants of the enum.
     Variants,
@@ -24,19 +25,20 @@ pub enum Scope {
 /// The spot of the next token in a run.
 #[derive(Clone, Copy)]
 pub enum TokenSpot {
-    /// Where an attribute, a path or an entry may begin.
+    /// Where an attribute, a path or an entry can begin.
     Open,
-    /// After the `#` of an attribute that stays.
+    /// After the `#` of an attribute that remains.
     Hash,
-    /// Inside what goes.
+    /// Inside a part that is removed.
     Gone,
     /// After the name of a variant, or after `derive`.
     Named,
-    /// Inside what stays.
+    /// Inside a part that remains.
     Within,
 }
 
-/// Returns whether the run begins with what goes, where an attribute or an entry may begin.
+/// Returns whether a part that is removed begins at the start of the run, where an attribute or an
+/// entry can begin.
 fn begins_gone(scope: Scope, tokens: Tokens<'_, '_>) -> bool
     ensures { result ≡ begins_gone scope (tokens_of tokens.entry) }
 {
@@ -47,7 +49,7 @@ fn begins_gone(scope: Scope, tokens: Tokens<'_, '_>) -> bool
     }
 }
 
-/// Returns whether the first token goes, by its spot.
+/// Returns whether the first token is removed, given its spot.
 pub(crate) fn goes(scope: Scope, spot: TokenSpot, tokens: Tokens<'_, '_>) -> bool
     ensures { result ≡ goes scope spot (tokens_of tokens.entry) }
 {
@@ -58,8 +60,8 @@ pub(crate) fn goes(scope: Scope, spot: TokenSpot, tokens: Tokens<'_, '_>) -> boo
     }
 }
 
-/// Returns the spot after a token of a part, where commas of either spacing separate parts: after
-/// a comma the next part begins.
+/// Returns the spot after a token of a part, where commas of either spacing separate parts. After a
+/// comma the next part begins.
 fn after_part(other: TokenSpot, tree: TokenTree<'_, '_>) -> TokenSpot
     ensures { result ≡ after_part other (tree_of tree.entry) }
 {
@@ -70,7 +72,7 @@ fn after_part(other: TokenSpot, tree: TokenTree<'_, '_>) -> TokenSpot
     }
 }
 
-/// Returns the spot after a token that stays, where an attribute may begin.
+/// Returns the spot after a token that remains, where an attribute can begin.
 fn after_start(other: TokenSpot, tree: TokenTree<'_, '_>) -> TokenSpot
     ensures { result ≡ after_start other (tree_of tree.entry) }
 {
@@ -81,7 +83,7 @@ fn after_start(other: TokenSpot, tree: TokenTree<'_, '_>) -> TokenSpot
     }
 }
 
-/// Returns the spot after the token that follows the `#` of an attribute that stays.
+/// Returns the spot after the token that follows the `#` of an attribute that remains.
 fn after_hash(tree: TokenTree<'_, '_>) -> TokenSpot
     ensures { result ≡ after_hash (tree_of tree.entry) }
 {
@@ -91,8 +93,9 @@ fn after_hash(tree: TokenTree<'_, '_>) -> TokenSpot
     }
 }
 
-/// Returns the spot after a token that stays or goes, in a run whose parts may begin with
-/// attributes. `first` is the spot after the first token of a part that is in no attribute.
+/// Returns the spot after a token in a run whose parts can begin with attributes. `gone` is whether
+/// the token is removed, and `first` is the spot after the first token of a part that is not in an
+/// attribute.
 fn after_attributed(
     first: TokenSpot,
     spot: TokenSpot,
@@ -111,7 +114,7 @@ fn after_attributed(
     }
 }
 
-/// Returns the spot after a token of an enum, which may begin with attributes.
+/// Returns the spot after a token of an enum, which can begin with attributes.
 fn after_in_enum(spot: TokenSpot, gone: bool, tree: TokenTree<'_, '_>) -> TokenSpot
     ensures { result ≡ after_in_enum spot gone (tree_of tree.entry) }
 {
@@ -131,7 +134,7 @@ fn after_in_attribute(spot: TokenSpot, tree: TokenTree<'_, '_>) -> TokenSpot
     }
 }
 
-/// Returns the spot after a token that stays or goes.
+/// Returns the spot after a token. `gone` is whether the token is removed.
 pub(crate) fn spot_after(
     scope: Scope,
     spot: TokenSpot,
@@ -151,8 +154,8 @@ pub(crate) fn spot_after(
     }
 }
 
-/// Returns the part of an enum that a group holds which stays, by its delimiter and the tokens
-/// after it; `None` where nothing in the group may go.
+/// Returns the part of an enum that a group contains, given the group's delimiter and the tokens
+/// after it. Returns `None` if no token in the group can be removed.
 pub(crate) fn scope_of(
     scope: Scope,
     spot: TokenSpot,

@@ -1,4 +1,4 @@
-//! A writer of the tokens that stay, tree by tree.
+//! A writer of the tokens that remain, tree by tree. `groups` writes to it.
 
 ghost use Rattle.std.specs.Prelude.{◌≡◌, [], ◌∷◌, List, Option, Some, None, IfOk};
 ghost use Rattle.logos_strip.specs.Views.{Token, stream_tokens, tree_of, left, completed};
@@ -7,12 +7,13 @@ use logos_token::error::Memory;
 use logos_token::token::{Punct, Spacing, TokenStream, TokenTree};
 use std::alloc::Global;
 
-/// The trees so far.
+/// The trees written so far.
 #[derive(Drop)]
 pub(crate) struct Writer<'s> {
     /// The trees before `held`, or all trees.
     stream: TokenStream<'s>,
-    /// The last tree, where it is punctuation, which is alone if what follows directly goes.
+    /// The last tree, if it is punctuation, which becomes alone if the token directly after it is
+    /// removed.
     held: Option<Punct>,
 }
 
@@ -55,7 +56,7 @@ impl<'s> Writer<'s> {
         }
     }
 
-    /// Leaves out the next tree.
+    /// Skips the next tree, which is removed.
     pub(crate) fn without_tree(self) -> Result<Writer<'s>, Memory>
         ensures { IfOk result (λ writer. (pieces : List (Option Token)) →
             completed writer pieces ≡ completed self.entry (None ∷ pieces)) }

@@ -1,4 +1,4 @@
--- The grammar: which text spells which tree.
+-- The grammar: the tree that each text spells.
 use Rattle.std.specs.Prelude.{◌≡◌, ℕ, ◌+◌, ◌<◌, ◌≤◌, max, Bool, true, false, not, ◌||◌, ◌&&◌, ◌==◌, nat_lt, List, [], ◌∷◌, ◌++◌, if◌then◌else◌, encode_utf8}
 use Rattle.logos_pattern_tokens.specs.declared.error.PatternError.{PatternError}
 use Rattle.logos_pattern_tokens.specs.declared.error.PatternError.TheVariants as errors
@@ -24,11 +24,12 @@ use Rattle.logos_syntax.specs.Written.{Branches, first, next, Items, nothing, pi
 abbrev pub one_of : Flags → Set → Tree
 one_of flags set = if flags.unicode then one_char_of set else one_byte_of set
 
--- The number alone, or under `i` also what differs from it in case alone.
+-- The set that contains only the number. If `i` is on, it also contains the numbers that differ
+-- from it only in case.
 abbrev pub same_as : Flags → ℕ → Set
 same_as flags c = case_closure flags (only_chars (λ d. d == c))
 
--- A character stands for itself. Outside ASCII it has no other case if the pattern matches bytes.
+-- The tree of a character. Outside ASCII it has no other case if the pattern matches bytes.
 abbrev pub character_tree : Flags → ℕ → Tree
 character_tree flags c =
     if flags.ignore_case && (flags.unicode || nat_lt c 128) then one_of flags (same_as flags c) else literal (encode_utf8 c)
@@ -40,7 +41,7 @@ byte_tree flags b =
     else if flags.ignore_case then one_byte_of (same_as flags b)
     else literal (b ∷ [])
 
--- What a dot stands for: LF is 10, CR is 13.
+-- The set of a dot. LF is 10, CR is 13.
 abbrev pub dot_set : Flags → Set
 dot_set flags = only_chars (λ c. flags.dot_all || not ((c == 10) || (flags.crlf && (c == 13))))
 
@@ -86,7 +87,7 @@ class_tree flags b = one_of flags (bracket_set flags b)
 
 -- ---- trees.
 
--- A group that captures.
+-- The group is a capture.
 abbrev pub captures : Opening → Bool
 captures capturing = true
 captures (named name) = true
@@ -95,11 +96,11 @@ captures (plain change) = false
 abbrev pub group_tree : Bool → Tree → Tree
 group_tree captured tree = if captured then capture tree else tree
 
--- An operator is lazy with `?`, under `U` without it.
+-- An operator with `?` is lazy; with the flag `U`, an operator without it is.
 abbrev pub is_greedy : Flags → Operator → Bool
 is_greedy flags op = if flags.swap_greed then op.lazy else not op.lazy
 
--- What a pattern stands for. A flag setting holds to the end of its group.
+-- The tree of a pattern. A flag setting holds to the end of its group.
 abbrev mutual
   pub branch_list : Flags → Branches → List Tree
   branch_list flags (first its) = concat_of (item_list flags its) ∷ []
@@ -119,7 +120,7 @@ abbrev mutual
 abbrev pub written_tree : Flags → Branches → Tree
 written_tree flags bs = alternation_of (branch_list flags bs)
 
--- ---- what the flags allow.
+-- ---- the tokens that the flags allow.
 
 abbrev mutual
   pub BranchesFit : Flags → Branches → Type 0
@@ -137,7 +138,7 @@ abbrev mutual
   PieceFits flags (group opening bs) = BranchesFit (inner_flags opening flags) bs
   PieceFits flags (repeated p op) = PieceFits flags p
 
--- ---- how many groups, brackets and repetitions are around one point, at most.
+-- ---- the greatest number of groups, brackets and repetitions around one point.
 
 abbrev mutual
   pub branches_depth : Branches → ℕ
@@ -157,8 +158,8 @@ abbrev mutual
 
 -- ---- the whole text.
 
--- The text spells the tree under the flags. The number is the greatest number of groups, brackets
--- and repetitions around one point.
+-- The text spells the tree under the flags. `depth` is the greatest number of groups, brackets and
+-- repetitions around one point.
 pub record Spells (flags : Flags) (text : Text) (tree : Tree) (depth : ℕ) : Type 0 where
   pub written : Branches
   pub cut : Cuts text (branches_tokens written) []
@@ -171,11 +172,11 @@ pub record Spells (flags : Flags) (text : Text) (tree : Tree) (depth : ℕ) : Ty
 abbrev pub IsSpelled : Flags → Text → ℕ → Type 0
 IsSpelled flags text depth = (tree : Tree) × Spells flags text tree depth
 
--- The text spells the tree, and nests within the limit.
+-- The text spells the tree, and its nesting is within the limit.
 abbrev pub IsFound : Flags → Text → Tree → Type 0
 IsFound flags text tree = (depth : ℕ) × (depth ≤ 250) × Spells flags text tree depth
 
--- What an error means for the text.
+-- The condition on the text under which an error is returned.
 abbrev pub Refuses : Flags → Text → PatternError → Type 0
 Refuses flags text (errors.Syntax kind at) = (depth : ℕ) → IsSpelled flags text depth → ⊥
 Refuses flags text errors.LimitPatternNesting = (depth : ℕ) → IsSpelled flags text depth → 250 < depth

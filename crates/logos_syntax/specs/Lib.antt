@@ -4,5 +4,5 @@ pub mod Written
 pub mod Limits
 pub mod Grammar
 pub mod Nesting
-pub mod Words
+pub mod Imports
 pub mod Views

@@ -1,4 +1,4 @@
--- How deep groups, brackets and operators nest in a beginning of a text.
+-- The nesting depth of groups, brackets and operators in a prefix of a text.
 use Rattle.std.specs.Prelude.{ℕ, suc, ◌+◌, ◌<◌, max, Bool, List, [], ◌∷◌, ◌++◌}
 use Rattle.logos_pattern_tokens.specs.declared.token.Flags.{Flags}
 use Rattle.logos_pattern_tokens.specs.declared.bracket.token.BracketItem.{BracketItem as ItemValue}
@@ -14,13 +14,13 @@ use Rattle.logos_syntax.specs.Grammar.{BranchesFit, branches_depth}
 
 -- ---- groups.
 
--- The groups that are open, with the whole pattern as the outermost one: what is written in each,
--- and how the next one opens.
+-- The groups that are open, with the whole pattern as the outermost one: the contents of each, and
+-- the opening of the next one.
 pub data Around : Type 0 where
   outermost : Around
   within : (around : Around) (inside : Branches) (opening : Opening) → Around
 
--- How many groups are open.
+-- The number of open groups.
 abbrev pub groups_open : Around → ℕ
 groups_open outermost = 0
 groups_open (within around inside opening) = suc (groups_open around)
@@ -36,40 +36,40 @@ around_flags flags outermost = flags
 around_flags flags (within around inside opening) =
     inner_flags opening (branches_flags (around_flags flags around) inside)
 
--- The flags allow what is written.
+-- The flags allow the contents of the groups.
 abbrev pub AroundFits : Flags → Around → Type 0
 AroundFits flags outermost = Unit {0}
 AroundFits flags (within around inside opening) =
     AroundFits flags around × BranchesFit (around_flags flags around) inside
 
--- The innermost point of what is written in the groups around, or 0.
+-- The greatest depth of a point in the contents of the groups, or 0.
 abbrev pub around_depth : Around → ℕ
 around_depth outermost = 0
 around_depth (within around inside opening) =
     max (groups_open around + branches_depth inside) (around_depth around)
 
--- A beginning of the text is a beginning of a pattern, and the rest follows it.
+-- A prefix of the text is a prefix of a pattern, and the rest follows it.
 pub record Front (flags : Flags) (text rest : Text) : Type 0 where
   pub around : Around
-  -- What is written in the innermost group.
+  -- The contents of the innermost group.
   pub inside : Branches
   pub cut : Cuts text (around_tokens around ++ branches_tokens inside) rest
   pub around_fits : AroundFits flags around
   pub inside_fits : BranchesFit (around_flags flags around) inside
   pub names : NamesDiffer [] (around_tokens around ++ branches_tokens inside)
 
--- How many groups, brackets and operators are around one point of it, at most.
+-- The greatest number of groups, brackets and operators around one point of the prefix.
 abbrev pub front_depth : {flags : Flags} {text rest : Text} → Front flags text rest → ℕ
 front_depth front = max (groups_open front.around + branches_depth front.inside) (around_depth front.around)
 
--- The flags after it.
+-- The flags after the prefix.
 abbrev pub front_flags : {flags : Flags} {text rest : Text} → Front flags text rest → Flags
 front_flags {flags = flags} front = branches_flags (around_flags flags front.around) front.inside
 
 -- ---- brackets.
 
--- After the tokens of a bracket, the last number of brackets is open, if the first number was open
--- before them. The outermost one stays open.
+-- After the tokens of a bracket, the second number of brackets is open, if the first number was
+-- open before them. The outermost bracket stays open.
 pub data LeavesOpen : ℕ → List BracketToken → ℕ → Type 0 where
   done : (n : ℕ) → LeavesOpen n [] n
   item : (n m : ℕ) (i : ItemValue) (others : List BracketToken) → LeavesOpen n others m → LeavesOpen n (tokens.Item i ∷ others) m
@@ -78,8 +78,8 @@ pub data LeavesOpen : ℕ → List BracketToken → ℕ → Type 0 where
       LeavesOpen n (tokens.Open negated lead ∷ others) m
   closing : (n m : ℕ) (others : List BracketToken) → LeavesOpen (suc n) others m → LeavesOpen (suc (suc n)) (tokens.Close ∷ others) m
 
--- A beginning of the text, which comes after the opening of a bracket, leaves this number of
--- brackets open.
+-- A prefix of the text, which comes after the opening of a bracket, leaves this number of brackets
+-- open.
 pub record InsideFront (flags : Flags) (text : Text) (count : ℕ) : Type 0 where
   pub written : List BracketToken
   pub rest : Text
@@ -87,8 +87,8 @@ pub record InsideFront (flags : Flags) (text : Text) (count : ℕ) : Type 0 wher
   pub fits : TokensFit flags written
   pub leaves : LeavesOpen 1 written count
 
--- A beginning of the text, which comes after `[`, leaves this number of brackets open, with the one
--- of that `[`.
+-- A prefix of the text, which comes after `[`, leaves this number of brackets open, including the
+-- bracket of that `[`.
 pub record BracketFront (flags : Flags) (text : Text) (count : ℕ) : Type 0 where
   pub negated : Bool
   pub lead : Lead
@@ -98,7 +98,7 @@ pub record BracketFront (flags : Flags) (text : Text) (count : ℕ) : Type 0 whe
 
 -- ---- the limit.
 
--- After a beginning of the text, more than 250 groups, brackets and operators are around one point.
+-- After a prefix of the text, more than 250 groups, brackets and operators are around one point.
 pub data IsTooDeep (flags : Flags) (text : Text) : Type 0 where
   by_groups : (rest : Text) (front : Front flags text rest) → 250 < front_depth front → IsTooDeep flags text
   by_brackets : (following : Text) (front : Front flags text (91 ∷ following)) (count : ℕ) →

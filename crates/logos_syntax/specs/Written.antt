@@ -1,5 +1,5 @@
--- A pattern as it is written, from the left. Each beginning of a group's inside is itself the
--- inside of a group.
+-- The parts of a pattern, from the left. Each prefix of a group's inside is itself the inside of a
+-- group.
 use Rattle.std.specs.Prelude.{◌≡◌, false, List, [], ◌∷◌, ◌++◌, bytes_eq}
 use Rattle.std.specs.List.{list_any}
 use Rattle.logos_pattern_tokens.specs.declared.token.Flags.{Flags}
@@ -25,7 +25,7 @@ mutual
     -- `(?flags)`
     setting : Items → Change → Items
 
-  -- What can be repeated.
+  -- A part that can be repeated.
   pub data Piece : Type 0 where
     simple : Atom → Piece
     class : Bracket → Piece
@@ -55,7 +55,7 @@ pub data Starts : Token → Text → Text → Type 0 where
   taken : (t : Token) (text rest : Text) → Takes t text rest → Starts t text rest
   enclosed : (b : Bracket) (text rest : Text) → Encloses b text rest → Starts (bracketed b) (91 ∷ text) rest
 
--- The text is these tokens and then the rest.
+-- The text is these tokens followed by the rest.
 abbrev pub Cuts : Text → List Token → Text → Type 0
 Cuts text [] rest = text ≡ rest
 Cuts text (token ∷ tokens) rest = (after : Text) × Starts token text after × Cuts after tokens rest
@@ -71,14 +71,14 @@ abbrev pub with_name : List Text → Token → List Text
 with_name seen (opens (named name)) = name ∷ seen
 with_name seen _ = seen
 
--- No two groups have the same name, and none has a name that was seen before.
+-- No two groups have the same name, and no name is one of the earlier names.
 abbrev pub NamesDiffer : List Text → List Token → Type 0
 NamesDiffer seen [] = Unit {0}
 NamesDiffer seen (token ∷ tokens) = IsNew seen token × NamesDiffer (with_name seen token) tokens
 
 -- ---- flags.
 
--- The flags after a branch, or after the inside of a group so far.
+-- The flags after a branch, or after a prefix of the inside of a group.
 abbrev pub items_flags : Flags → Items → Flags
 items_flags flags nothing = flags
 items_flags flags (piece its p) = items_flags flags its

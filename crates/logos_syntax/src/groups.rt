@@ -1,13 +1,13 @@
-//! The stack of the groups that are open while a pattern is read, which makes the tree. The parser
-//! pushes each token's part on it.
+//! The stack of the groups that are open while a pattern is read, which builds the tree. The parser
+//! adds each token to it.
 
 ghost use Rattle.std.specs.Prelude.{◌≤◌, ◌≡◌, ◌+◌, ◌<◌, length, map, IfOk, OnOk, Some, unwrap_or, vec_len};
-ghost use Rattle.logos_syntax.specs.Words.{pattern_nesting, tree_of, simplest_tree, flags_after, opening_view, token_view, closes, opens, repeats, sets, bracketed, atom as token_atom, Bracket, set_of, bracket_set, bracket_depth, inner_flags, captures, group_tree, is_greedy};
+ghost use Rattle.logos_syntax.specs.Imports.{pattern_nesting, tree_of, simplest_tree, flags_after, opening_view, token_view, closes, opens, repeats, sets, bracketed, atom as token_atom, Bracket, set_of, bracket_set, bracket_depth, inner_flags, captures, group_tree, is_greedy};
 
 use crate::bracket::stack::{BracketValue, MAX_NESTING};
-use crate::translate::{atom_fits, atom_tree, one_of};
+use crate::translation::{atom_fits, atom_tree, one_of};
 use logos_hir::hir::Hir;
-use logos_hir::simplify;
+use logos_hir::simplifier;
 use logos_pattern_tokens::error::{Kind, Stop};
 use logos_pattern_tokens::token::{Atom, Change, Flags, GroupOpening, Operator, Token};
 use std::alloc::{AllocError, Global};
@@ -23,7 +23,7 @@ pub(crate) struct GroupPart {
     ghost shallow: { depth ≤ pattern_nesting },
 }
 
-/// The inside of an open group, as far as it was read.
+/// The inside of an open group, as far as it has been read.
 #[derive(Drop)]
 pub(crate) struct OpenedGroup {
     flags: Flags,
@@ -31,11 +31,11 @@ pub(crate) struct OpenedGroup {
     captured: bool,
     branches: Vec<Hir>,
     parts: Vec<Hir>,
-    /// The part that an operator would repeat, if one may come next.
+    /// The part that an operator would repeat, if an operator is allowed next.
     last: Option<GroupPart>,
-    /// The depth of its innermost point in the whole pattern.
+    /// The depth of the group's innermost point in the whole pattern.
     inner: usize,
-    /// The number of characters from its opening to the end of the text.
+    /// The number of characters from the group's opening to the end of the text.
     left: usize,
     ghost shallow: { inner ≤ pattern_nesting },
 }
@@ -44,12 +44,12 @@ pub(crate) struct OpenedGroup {
 #[derive(Drop)]
 pub(crate) struct Groups {
     top: OpenedGroup,
-    /// The groups around it, the outermost first.
+    /// The groups around the innermost one, the outermost first.
     below: Vec<OpenedGroup>,
     ghost shallow: { vec_len below ≤ pattern_nesting },
 }
 
-/// Returns the flag after a setting that turns it on or off, or leaves it.
+/// Returns a flag after a setting that turns it on or off, or leaves it unchanged.
 fn set_or(change: Option<bool>, flag: bool) -> bool
     ensures { result ≡ unwrap_or change flag }
 {
@@ -80,7 +80,7 @@ fn inner_flags(opening: GroupOpening<'_>, flags: Flags) -> Flags
     }
 }
 
-/// Returns whether a group that opens so is a capture.
+/// Returns whether a group with this opening is a capture.
 fn captures(opening: GroupOpening<'_>) -> bool
     ensures { result ≡ captures (opening_view opening.entry) }
 {
@@ -102,7 +102,7 @@ fn group_tree(alloc: Global, captured: bool, tree: Hir) -> Result<Hir, AllocErro
     ensures { IfOk result (λ hir. simplest_tree hir ≡ group_tree captured (simplest_tree tree)) }
 {
     if captured {
-        return simplify::captured(alloc, tree);
+        return simplifier::captured(alloc, tree);
     }
     Ok(tree)
 }
@@ -110,8 +110,8 @@ fn group_tree(alloc: Global, captured: bool, tree: Hir) -> Result<Hir, AllocErro
 impl OpenedGroup {
     ghost use Rattle.logos_syntax.specs.Views.{pattern_nesting, Group, fresh, all_parts, put, set, next_branch, all_branches, whole_tree, repeat, part_view, group_view, Repeats};
 
-    /// Returns a group of which only the opening was read. `level` is the number of groups around
-    /// its inside.
+    /// Returns a group of which only the opening has been read. `level` is the number of groups
+    /// around its inside.
     fn new(alloc: Global, flags: Flags, captured: bool, level: usize, left: usize) -> OpenedGroup
         requires { level ≤ pattern_nesting }
         ensures { group_view result ≡ fresh flags captured level }
@@ -127,7 +127,7 @@ impl OpenedGroup {
         }
     }
 
-    /// Moves the part that an operator could repeat to the parts that none can.
+    /// Moves the part that an operator could repeat to the parts that no operator can.
     fn settle(&mut self) -> Result<(), AllocError>
         ensures { OnOk result (group_view self.new ≡ set (group_view self.old) self.old.flags) }
     {
@@ -147,7 +147,7 @@ impl OpenedGroup {
         Ok(())
     }
 
-    /// Sets the flags for what comes next.
+    /// Sets the flags for the rest of the group.
     fn set(&mut self, flags: Flags) -> Result<(), AllocError>
         ensures { OnOk result (group_view self.new ≡ set (group_view self.old) flags) }
     {
@@ -163,7 +163,7 @@ impl OpenedGroup {
         self.settle()?;
         let empty = Vec::new(*self.parts.allocator());
         let parts = mem::replace(&mut self.parts, empty);
-        self.branches.push(simplify::row(parts))?;
+        self.branches.push(simplifier::row(parts))?;
         Ok(())
     }
 
@@ -173,7 +173,7 @@ impl OpenedGroup {
     {
         self.next_branch()?;
         let captured = self.captured;
-        group_tree(alloc, captured, simplify::either(self.branches))
+        group_tree(alloc, captured, simplifier::either(self.branches))
     }
 
     /// Repeats the last part. `left` is the number of characters from the operator to the end of
@@ -181,7 +181,8 @@ impl OpenedGroup {
     ///
     /// # Errors
     ///
-    /// Returns `NothingToRepeat` if there is no such part, `LimitPatternNesting`, and `Memory`.
+    /// Returns `NothingToRepeat` if there is no last part, `LimitPatternNesting` if the repetition
+    /// is nested too deeply, and `Memory` if memory runs out.
     fn repeat(&mut self, alloc: Global, op: Operator, left: usize) -> Result<(), Stop>
         ensures { Repeats result (repeat (group_view self.old) op (group_view self.old).last)
             (group_view self.new) }
@@ -198,7 +199,7 @@ impl OpenedGroup {
         let depth = part.depth + 1;
         let left = part.left;
         let greedy = is_greedy(self.flags, op);
-        let tree = simplify::repeated(alloc, op.least, op.most, greedy, part.tree)?;
+        let tree = simplifier::repeated(alloc, op.least, op.most, greedy, part.tree)?;
         self.inner = self.inner.max(depth);
         self.last = Some(GroupPart { tree, depth, left });
         Ok(())
@@ -219,7 +220,7 @@ impl Groups {
         }
     }
 
-    /// Returns the flags that are on here.
+    /// Returns the flags that are on at this position.
     pub(crate) fn flags(&self) -> Flags
         ensures { result ≡ (state_view self.now).top.flags }
     {
@@ -253,7 +254,7 @@ impl Groups {
     /// # Errors
     ///
     /// Returns `UnicodeWordBoundary` or `NotInBytes` if the flags do not allow the atom, and
-    /// `Memory`.
+    /// `Memory` if memory runs out.
     fn atom(&mut self, alloc: Global, atom: Atom, left: usize) -> Result<(), Stop>
         ensures { Steps (state_view self.old) (token_atom atom) result (state_view self.new) }
     {
@@ -270,7 +271,7 @@ impl Groups {
         Ok(())
     }
 
-    /// Adds a bracket by its set.
+    /// Adds a bracket with the set `found`.
     pub(crate) fn class(
         &mut self,
         alloc: Global,
@@ -293,7 +294,8 @@ impl Groups {
     ///
     /// # Errors
     ///
-    /// Returns `LimitPatternNesting`, and `Memory`.
+    /// Returns `LimitPatternNesting` if the group is nested too deeply, and `Memory` if memory runs
+    /// out.
     fn open(&mut self, alloc: Global, opening: GroupOpening<'_>, left: usize) -> Result<(), Stop>
         ensures { Steps (state_view self.old) (opens (opening_view opening.entry)) result
             (state_view self.new) }
@@ -313,7 +315,7 @@ impl Groups {
     ///
     /// # Errors
     ///
-    /// Returns `Unopened` if no group is open, and `Memory`.
+    /// Returns `Unopened` if no group is open, and `Memory` if memory runs out.
     fn close(&mut self, alloc: Global, left: usize) -> Result<(), Stop>
         ensures { Steps (state_view self.old) closes result (state_view self.new) }
     {
@@ -343,19 +345,20 @@ impl Groups {
     ///
     /// # Errors
     ///
-    /// Those of `OpenedGroup::repeat`.
+    /// Returns the errors of `OpenedGroup::repeat`.
     fn repeat(&mut self, alloc: Global, op: Operator, left: usize) -> Result<(), Stop>
         ensures { Steps (state_view self.old) (repeats op) result (state_view self.new) }
     {
         self.top.repeat(alloc, op, left)
     }
 
-    /// Takes the next token. `left` is the number of characters from the token to the end of the
+    /// Reads the next token. `left` is the number of characters from the token to the end of the
     /// text.
     ///
     /// # Errors
     ///
-    /// Returns the fault of the token here, `LimitPatternNesting`, or `Memory`.
+    /// Returns the fault of the token at this position, `LimitPatternNesting` if it is nested too
+    /// deeply, or `Memory` if memory runs out.
     pub(crate) fn step(&mut self, alloc: Global, token: Token<'_>, left: usize) -> Result<(), Stop>
         ensures { Steps (state_view self.old) (token_view token.entry) result
             (state_view self.new) }
@@ -374,7 +377,7 @@ impl Groups {
     ///
     /// # Errors
     ///
-    /// Returns `Unclosed` if a group is still open, and `Memory`.
+    /// Returns `Unclosed` if a group is still open, and `Memory` if memory runs out.
     pub(crate) fn finish(self, alloc: Global) -> Result<Hir, Stop>
         ensures { Ends result (state_view self) }
     {
@@ -385,7 +388,7 @@ impl Groups {
             });
         }
         let tree = self.top.finish(alloc)?;
-        Ok(simplify::simplify(alloc, tree)?)
+        Ok(simplifier::simplify(alloc, tree)?)
     }
 }
 

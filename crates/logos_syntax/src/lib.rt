@@ -1,4 +1,5 @@
-//! Reads a pattern's text by the grammar into the tree that it spells.
+//! Parses the text of a pattern into its tree, as the grammar defines it. `logos_pattern` calls
+//! `parse` for each pattern.
 
 #![tactic(auto)]
 
@@ -6,4 +7,4 @@ mod bracket;
 mod groups;
 mod names;
 pub mod parser;
-mod translate;
+mod translation;

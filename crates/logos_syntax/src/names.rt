@@ -1,4 +1,4 @@
-//! The names of groups, no two of which may be equal. The parser asks it at each named group.
+//! The names of groups, which must be distinct. The parser calls it at each named group.
 
 ghost use Rattle.std.specs.Prelude.{◌≡◌, ◌∷◌, [], List, not, bytes_eq, IfOk};
 ghost use Rattle.logos_syntax.specs.Views.{list_any, Text, token_view, HasNames, Admits};
@@ -7,7 +7,7 @@ use logos_pattern_tokens::token::{GroupOpening, Token};
 use std::alloc::{AllocError, Global};
 use std::collections::BTreeSet;
 
-/// The names of the groups that were read.
+/// The names of the groups that have been read.
 #[derive(Drop)]
 pub(crate) struct GroupNames {
     seen: BTreeSet<Vec<char>>,

@@ -45,9 +45,9 @@ impl PatternParser {
         }
     }
 
-    /// Returns the stop for a fault of counts, which is at the start of the part that they would
-    /// repeat. A brace that is not closed is a fault at the brace, and so are counts with nothing
-    /// to repeat.
+    /// Returns the stop for a fault of counts. It is at the start of the part that the counts would
+    /// repeat. A brace that is not closed, and counts with nothing to repeat, are faults at the
+    /// brace.
     fn count_stop(&self, kind: Kind, left: usize) -> Stop
         ensures { IsStopOf (Fault.Syntax kind) result }
     {
@@ -61,11 +61,12 @@ impl PatternParser {
         }
     }
 
-    /// Reads a bracket, from after its `[`, and returns the rest of the text.
+    /// Reads a bracket from the text after its `[`, and returns the rest of the text.
     ///
     /// # Errors
     ///
-    /// Returns the first fault of the bracket, `LimitPatternNesting`, or `Memory`.
+    /// Returns the first fault of the bracket, `LimitPatternNesting` if it is nested too deeply, or
+    /// `Memory` if memory runs out.
     fn bracket<'t>(&mut self, alloc: Global, inside: &'t [char]) -> Result<&'t [char], Stop>
         ensures { (seen : List Text) → HasNames self.old.names seen →
             ReadsToken (state_view self.old.groups) seen (91 ∷ inside.now) result
@@ -85,7 +86,8 @@ impl PatternParser {
     ///
     /// # Errors
     ///
-    /// Returns the fault of the token, `LimitPatternNesting`, or `Memory`.
+    /// Returns the fault of the token, `LimitPatternNesting` if it is nested too deeply, or
+    /// `Memory` if memory runs out.
     fn simple<'t>(&mut self, alloc: Global, text: &'t [char]) -> Result<&'t [char], Stop>
         ensures { (seen : List Text) → HasNames self.old.names seen →
             ReadsSimple (state_view self.old.groups) seen text.now result
@@ -111,7 +113,8 @@ impl PatternParser {
     ///
     /// # Errors
     ///
-    /// Returns its first fault, `LimitPatternNesting`, or `Memory`.
+    /// Returns the first fault of the token or bracket, `LimitPatternNesting` if it is nested too
+    /// deeply, or `Memory` if memory runs out.
     fn token<'t>(&mut self, alloc: Global, text: &'t [char]) -> Result<&'t [char], Stop>
         ensures { (seen : List Text) → HasNames self.old.names seen →
             ReadsToken (state_view self.old.groups) seen text.now result
@@ -139,7 +142,8 @@ fn group_kind(kind: Kind, text: &[char]) -> Kind {
 ///
 /// # Errors
 ///
-/// Returns the first fault from the left, `LimitPatternNesting`, or `Memory`.
+/// Returns the first fault from the left, `LimitPatternNesting` if the text is nested too deeply,
+/// or `Memory` if memory runs out.
 fn run(alloc: Global, flags: Flags, text: &[char]) -> Result<Hir, Stop>
     ensures found { IfOk result (λ hir. IsFound flags text.now (tree_of hir)) }
     ensures stopped { IfErr result (StopsText flags text.now) }
@@ -165,7 +169,7 @@ fn byte_len(text: &[char]) -> usize {
     len
 }
 
-/// Returns the error for a fault at the point from which `left` characters are left.
+/// Returns the error for a fault at the position with `left` characters after it.
 fn syntax_at(text: &[char], kind: Kind, left: usize) -> PatternError
     ensures { (at : ℕ) × (result ≡ PatternError.Syntax kind at) }
 {
@@ -197,19 +201,19 @@ fn characters(alloc: Global, regex: &str) -> Result<Vec<char>, AllocError>
     regex.chars().collect(alloc)
 }
 
-/// Reads a pattern under the flags that are on at its start, and returns its tree.
+/// Reads a pattern with the flags that are on at its start, and returns its tree.
 ///
 /// # Errors
 ///
 /// Returns `Syntax` if the text breaks the grammar, with the kind and the byte offset of the fault;
-/// `LimitPatternNesting` if groups, brackets and operators nest more than 250 deep; and `Memory` if
-/// memory runs out.
+/// `LimitPatternNesting` if groups, brackets and operators are nested more than 250 deep; and
+/// `Memory` if memory runs out.
 pub fn parse(alloc: Global, flags: Flags, regex: &str) -> Result<Hir, PatternError>
     ensures found { IfOk result (λ hir. IsFound flags (chars regex.now) (tree_of hir)) }
     // A text that is refused has no tree, or only one that is nested too deeply, or memory ran out.
     ensures refused { IfErr result (Refuses flags (chars regex.now)) }
-    // After some beginning of a text that is refused as too deep, more than 250 are around one
-    // point.
+    // In some prefix of a text that is refused as too deep, more than 250 groups, brackets and
+    // operators are around one point.
     ensures deep { IfErr result (λ e. e ≡ PatternError.LimitPatternNesting →
         IsTooDeep flags (chars regex.now)) }
 {

@@ -4,5 +4,5 @@ pub mod RowsView
 pub mod Texts
 pub mod Shapes
 pub mod inside
-pub mod Words
+pub mod Imports
 pub mod Views

@@ -4,4 +4,4 @@ use Rattle.logos_reduce.specs.Rows.{rows_at}
 use Rattle.logos_tables.specs.declared.rows.StepRows.{StepRows}
 
 abbrev pub rows_of : StepRows → List (List ℕ)
-rows_of rows = rows_at rows.places.items rows.distinct.keys
+rows_of rows = rows_at rows.slots.items rows.distinct.keys

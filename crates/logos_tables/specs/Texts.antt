@@ -1,9 +1,12 @@
 -- The printed texts of tables.
-use Rattle.std.specs.Prelude.{◌≡◌, ℕ, ◌*◌, ◌&&◌, Bool, true, nat_le, List, [], ◌∷◌, ◌++◌, length, map, codes, if◌then◌else◌}
+use Rattle.std.specs.Prelude.{◌≡◌, ℕ, zero, suc, ◌/◌, ◌%◌, ◌&&◌, Bool, true, nat_le, List, [], ◌∷◌, ◌++◌, length, map, codes, if◌then◌else◌}
 use Rattle.std.specs.Fmt.{decimal}
 use Rattle.std.specs.List.{flat_map}
+use Rattle.logos_byte_class.specs.ClassText.{byte_text}
 use Rattle.logos_code.specs.Code.{CodeValue}
-use Rattle.logos_text.specs.Standing.{numbered}
+use Rattle.logos_text.specs.Fronts.{AroundValue, IsFront}
+use Rattle.logos_type.specs.Printed.{printed_type}
+use Rattle.logos_type.specs.TypeTrees.{type_tree}
 use Rattle.logos_tables.specs.Layout.{Tables, Hold}
 use Rattle.logos_tables.specs.Steps.{mark_number, skip_number}
 
@@ -12,95 +15,123 @@ abbrev pub are_at_most : ℕ → List ℕ → Bool
 are_at_most most [] = true
 are_at_most most (number ∷ numbers) = nat_le number most && are_at_most most numbers
 
--- The shortest type that holds the numbers.
-abbrev pub type_text : List ℕ → List ℕ
-type_text numbers =
-    if are_at_most 255 numbers then codes "u8"
-    else (if are_at_most 65535 numbers then codes "u16"
-    else (if are_at_most 4294967295 numbers then codes "u32"
-    else codes "u64"))
+-- The number of bytes for each number: 1, 2, 4 or 8, the least that holds all of them.
+abbrev pub size_number : List ℕ → ℕ
+size_number numbers =
+    if are_at_most 255 numbers then 1
+    else (if are_at_most 65535 numbers then 2
+    else (if are_at_most 4294967295 numbers then 4
+    else 8))
 
--- An entry: its digits, and a comma.
-abbrev pub entry_text : ℕ → List ℕ
-entry_text entry = decimal entry ++ codes ","
+-- The lowest bytes of a number, the lowest byte first, as they are written in a byte string.
+abbrev pub entry_text : ℕ → ℕ → List ℕ
+entry_text zero number = []
+entry_text (suc size) number = byte_text (number % 256) ++ entry_text size (number / 256)
 
--- The name, the type and the length of a table.
-abbrev pub head_text : List ℕ → List ℕ → List ℕ
-head_text name entries = codes "const " ++ name ++ codes ": [" ++ type_text entries ++ codes "; " ++ decimal (length entries) ++ codes "] = ["
+-- Numbers, each with `size` bytes.
+abbrev pub entries_text : ℕ → List ℕ → List ℕ
+entries_text size numbers = flat_map (entry_text size) numbers
 
--- A table with a name.
-abbrev pub table_text : List ℕ → List ℕ → List ℕ
-table_text name entries = head_text name entries ++ flat_map entry_text entries ++ codes "];\n"
+-- A field with numbers: its name, the number of bytes for each number, and all bytes.
+abbrev pub field_head : List ℕ → ℕ → List ℕ
+field_head name size = name ++ codes ": (" ++ decimal size ++ codes ", b\""
 
--- A number with a name.
-abbrev pub number_text : List ℕ → ℕ → List ℕ
-number_text name number = codes "const " ++ name ++ codes ": usize = " ++ decimal number ++ codes ";\n"
+abbrev pub field_text : List ℕ → List ℕ → List ℕ
+field_text name numbers = field_head name (size_number numbers) ++ entries_text (size_number numbers) numbers ++ codes "\"), "
 
--- How many steps each run has, and the step of each.
-abbrev pub lengths_text : List (ℕ × ℕ) → List ℕ
-lengths_text runs = table_text (codes "_RUN_LENGTHS") (map (λ run. run.0) runs)
+-- Two fields with runs: the lengths, and the number of each.
+abbrev pub runs_texts : List ℕ → List ℕ → List (ℕ × ℕ) → List (List ℕ)
+runs_texts lengths numbers runs = field_text lengths (map (λ run. run.0) runs) ∷ field_text numbers (map (λ run. run.1) runs) ∷ []
 
-abbrev pub run_steps_text : List (ℕ × ℕ) → List ℕ
-run_steps_text runs = table_text (codes "_RUN_STEPS") (map (λ run. run.1) runs)
+-- The texts of the tables of steps: the classes of symbols, the rows by classes, and the row of
+-- each state.
+abbrev pub step_texts : List (ℕ × ℕ) → List (ℕ × ℕ) → List ℕ → List (List ℕ)
+step_texts class_runs runs slots =
+    runs_texts (codes "class_lengths") (codes "classes") class_runs
+    ++ (runs_texts (codes "lengths") (codes "steps") runs ++ (field_text (codes "rows") slots ∷ []))
 
--- The texts of the tables of steps.
-abbrev pub step_texts : List ℕ → List (ℕ × ℕ) → List ℕ → List (List ℕ)
-step_texts classes runs places =
-    table_text (codes "_CLASSES") classes
-    ∷ lengths_text runs
-    ∷ run_steps_text runs
-    ∷ table_text (codes "_ROWS") places
-    ∷ []
-
--- The texts of the sizes.
-abbrev pub size_texts : ℕ → ℕ → ℕ → List (List ℕ)
-size_texts root height width = number_text (codes "_ROOT") root ∷ number_text (codes "_HEIGHT") height ∷ number_text (codes "_WIDTH") width ∷ []
-
--- The mark of each state, and which leaves are left out.
+-- The mark of each state, and the leaves that are skipped.
 abbrev pub marks_text : CodeValue → List ℕ
-marks_text code = table_text (codes "_MARKS") (map (λ state. mark_number state.mark) code.states)
+marks_text code = field_text (codes "marks") (map (λ state. mark_number state.mark) code.states)
 
 abbrev pub skips_text : CodeValue → List ℕ
-skips_text code = table_text (codes "_SKIPS") (map skip_number code.leaves)
+skips_text code = field_text (codes "skips") (map skip_number code.leaves)
 
--- A leaf in the table of leaves.
-abbrev pub name_text : ℕ → List ℕ
-name_text leaf = codes "LogosLeaf::Leaf" ++ decimal leaf ++ codes ","
+-- The head of the implementation for a type.
+abbrev pub head_text : List ℕ → List ℕ
+head_text this =
+    codes "\n#[allow(unknown_lints, non_local_definitions, long_running_const_eval)]\nimpl<'s> _Tables<'s> for " ++ this ++ codes " {\n"
 
--- The table of so many leaves, each at its number.
-abbrev pub names_text : ℕ → List ℕ
-names_text count = codes "const _NAMES: [LogosLeaf; " ++ decimal count ++ codes "] = [" ++ numbered name_text 0 count ++ codes "];\n"
+-- The beginning of the tables: the first state, and the number of classes.
+abbrev pub data_text : ℕ → ℕ → List ℕ
+data_text root width = codes "const DATA: _Data = _Data { root: " ++ decimal root ++ codes ", width: " ++ decimal width ++ codes ", "
 
--- The most steps of all states for which entries of 32 bits are taken: their upper three bits are
--- the kind of an entry.
-abbrev pub most_steps : ℕ
-most_steps = 268435456
+-- The end of the tables, and the type of the unpacked tables, for these numbers of states and of
+-- runs.
+abbrev pub unpacked_text : ℕ → ℕ → List ℕ
+unpacked_text states runs =
+    codes "};\ntype Unpacked = _Unpacked<" ++ decimal states ++ codes ", " ++ decimal runs
+    ++ codes ">;\nconst UNPACKED: &'static Self::Unpacked = { ::core::assert!(Self::DATA.width > 0); &<Self::Unpacked>::new::<Self>() };\n"
 
--- The type of entries, for so many states with so many steps each.
-abbrev pub entry_type_text : ℕ → ℕ → List ℕ
-entry_type_text states width =
-    if nat_le (states * width) most_steps then codes "type _Entry = u32;\n" else codes "type _Entry = u64;\n"
+-- The constants that the runtime computes from the tables, with the numbers of their entries.
+abbrev pub entries_size_text : ℕ → List ℕ
+entries_size_text entries =
+    codes "const ROWS: &'static [u32] = { ::core::assert!(Self::DATA.width > 0); &<Self::Unpacked>::rows::<Self, " ++ decimal entries
+    ++ codes ">() };\nconst LASTS: &'static [u32] = { ::core::assert!(Self::DATA.width > 0); &<Self::Unpacked>::lasts::<Self>() };\n"
 
--- The texts of the tables of all leaves, and of the type of entries.
-abbrev pub end_texts : ℕ → ℕ → ℕ → List (List ℕ)
-end_texts leaves states width = names_text leaves ∷ entry_type_text states width ∷ []
+abbrev pub masks_text : ℕ → List ℕ
+masks_text masks =
+    codes "const MASKS: &'static [[[u8; 8]; 256]] = { ::core::assert!(Self::DATA.width > 0); &<Self::Unpacked>::masks::<Self, " ++ decimal masks
+    ++ codes ">() };\nconst RANGES: &'static [_Ranges] = { ::core::assert!(Self::DATA.width > 0); &_Ranges::of::<Self, " ++ decimal masks ++ codes ">() };\n"
+
+abbrev pub folded_text : ℕ → List ℕ
+folded_text entries = codes "const FOLDED: &'static [u32] = { ::core::assert!(Self::DATA.width > 0); &<Self::Unpacked>::folded::<Self, " ++ decimal entries ++ codes ">() };\n"
+
+-- The text after the tables: the functions through which the runtime calls the ones before them,
+-- and the call of its loop.
+abbrev pub end_text : List ℕ
+end_text =
+    codes "fn bytes(source: &'s <Self as Logos<'s>>::Source) -> &'s [u8] { source.as_ref() }\n"
+    ++ codes "fn plain(leaf: usize) -> _Option<Self> { _token(leaf) }\n"
+    ++ codes "fn act(lex: &mut _Lexer<'s>, leaf: usize) -> CallbackResult<'s, Self> { _get_action(lex, leaf) }\n"
+    ++ codes "fn error(lex: &mut _Lexer<'s>) -> <Self as Logos<'s>>::Error { _make_error(lex) }\n"
+    ++ codes "}\n_Tables::run(lex)\n} }\n"
+
+-- The numbers of entries and masks that the runtime computes from the tables. When the text is
+-- compiled, it rejects wrong numbers.
+pub record Sizes : Type 0 where
+  pub entries : ℕ
+  pub masks : ℕ
+  pub folded : ℕ
+
+-- The texts of these constants, for these numbers of states and of runs.
+abbrev pub numbers_texts : ℕ → ℕ → Sizes → List (List ℕ)
+numbers_texts states runs sizes =
+    unpacked_text states runs ∷ entries_size_text sizes.entries ∷ masks_text sizes.masks ∷ folded_text sizes.folded ∷ []
 
 -- The texts of all tables of a code.
-abbrev pub texts_of : CodeValue → Tables → List (List ℕ)
-texts_of code tables =
-    step_texts tables.classes tables.runs tables.places
-    ++ (marks_text code ∷ skips_text code ∷ size_texts code.root (length tables.rows) tables.width)
-    ++ end_texts (length code.code_leaves) (length tables.places) tables.width
+abbrev pub made_texts : CodeValue → Tables → Sizes → List (List ℕ)
+made_texts code tables sizes =
+    (data_text code.root tables.width ∷ [])
+    ++ (step_texts tables.class_runs tables.runs tables.slots
+    ++ ((marks_text code ∷ skips_text code ∷ [])
+    ++ numbers_texts (length tables.slots) (length tables.runs) sizes))
 
 -- Texts, one right after another.
 abbrev pub joined : List (List ℕ) → List ℕ
 joined texts = flat_map (λ text. text) texts
 
--- Tables that hold what the code does stand in the text, one right after another and in order, and
--- each of their entries as its digits.
-pub record HoldsTables (code : CodeValue) (text : List ℕ) : Type 0 where
+-- The whole text after the front of an implementation by tables.
+abbrev pub tables_text : CodeValue → Tables → Sizes → List ℕ
+tables_text code tables sizes = head_text (printed_type (type_tree code.header.this)) ++ (joined (made_texts code tables sizes) ++ end_text)
+
+-- The text is a lexer with tables that hold the steps of the code: the front of an implementation
+-- for the type of the enum, with these texts around its function, followed directly by the tables
+-- and nothing else.
+pub record HoldsTables (around : AroundValue) (code : CodeValue) (text : List ℕ) : Type 0 where
   pub tables : Tables
+  pub sizes : Sizes
   pub hold : Hold code tables
   pub front : List ℕ
-  pub rest : List ℕ
-  pub is : text ≡ front ++ (joined (texts_of code tables) ++ rest)
+  pub begins : IsFront around (printed_type (type_tree code.header.this)) front
+  pub is : text ≡ front ++ tables_text code tables sizes

@@ -1,8 +1,8 @@
-//! Classes of bytes: two bytes of a class do the same in each state. `lexer` makes them from the
-//! rows, and `runs` reads rows by them.
+//! Classes of bytes: all bytes of a class have the same step in each state. `made` computes
+//! them from the rows, and `runs` reads rows by class.
 
 ghost use Rattle.std.specs.Prelude.{◌≡◌, ◌+◌, ◌<◌, IfOk, IfSome, OnOk, IsTrue, slice_index};
-ghost use Rattle.logos_tables.specs.Words.{AreClasses, Classify, IsClassOf, HaveSameSteps};
+ghost use Rattle.logos_tables.specs.Imports.{AreClasses, Classify, IsClassOf, HaveSameSteps};
 
 use crate::steps::Steps;
 use std::alloc::{AllocError, Global};

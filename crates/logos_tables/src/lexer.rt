@@ -1,72 +1,75 @@
-//! Prints a lexer as tables with a loop over them. `logos_cli` calls it for the shape `tables`.
+//! Prints a lexer as tables. Called by `shape` for the shape `tables`.
 
-ghost use Rattle.std.specs.Prelude.{ℕ, List, ◌∷◌, [], IfOk, OnOk, string_bytes};
-ghost use Rattle.logos_tables.specs.Words.{BeginsWith, IsFrontOf, HoldsTables, end_texts, marks_text, skips_text, Appends, AppendsSteps, AppendsTables};
+ghost use Rattle.std.specs.Prelude.{◌∷◌, [], IfOk, OnOk, length, string_bytes};
+ghost use Rattle.logos_tables.specs.Views.{Appends, AppendsMade, AppendsNumbers, AppendsTables, ArePrinted, HoldsTables, around_made, front_runs, marks_text, skips_text, step_texts};
 
-use crate::classes::{SymbolClasses, classes_of};
+use crate::fields::{push_field, push_runs};
+use crate::made::{PrintedTables, tables_of};
 use crate::marks::{marks_of, skips_of};
-use crate::parts::{push_entry_type, push_names, push_sizes, push_steps};
-use crate::printing::{push, push_table};
-use crate::rest::{push_rest, scanned_head};
-use crate::rows::{StepRows, rows_of};
-use crate::runs::runs_of;
+use crate::numbers::{entry_count, folded_count, mask_count};
+use crate::parts::{
+    push_data, push_end, push_entries_size, push_folded, push_head, push_masks, push_unpacked,
+};
 use logos_code::code::Code;
 use logos_codegen::Generated;
+use logos_text::Sink;
 use logos_token::error::Memory;
+use logos_type::print_type;
 use std::alloc::Global;
 
-/// Returns the Rust text of an implementation of `Logos` for the enum, whose function that lexes is
-/// one loop over tables. The tables hold what each byte, and the end of the input, does in each
-/// state of the code, and the mark of each state.
+/// Returns the Rust text of an implementation of `Logos` for the enum, with the pieces of the
+/// source in it. Its lexing function has tables for the loop of the runtime. The tables hold the
+/// step of each byte, and of the end of the input, in each state of the code, and the mark of each
+/// state.
 ///
 /// # Errors
 ///
 /// Returns `Memory` if memory runs out.
-pub fn tables(alloc: Global, made: &Generated<'_>) -> Result<String, Memory>
-    ensures holds { IfOk result (λ text. HoldsTables made.now.code (string_bytes text)) }
-    // Before the tables stands the text of `front`.
-    ensures begins { IfOk result (λ text. (front : List ℕ) × IsFrontOf made.now front
-        × BeginsWith front (string_bytes text)) }
+pub fn tables(alloc: Global, made: &Generated<'_>) -> Result<Sink, Memory>
+    // The whole text: that of `front`, and right after it the implementation of `Tables`.
+    ensures holds { IfOk result (λ sink.
+        HoldsTables (around_made made.now) made.now.code (string_bytes sink.text)) }
+    // The pieces are those of the front.
+    ensures pieces { IfOk result (λ sink. ArePrinted (front_runs (around_made made.now) made.now.code)
+        0 sink.pieces.items (string_bytes sink.text)) }
 {
-    let mut text = made.front(alloc)?;
-    let head = scanned_head(alloc, &text)?;
-    push(&mut text, "\n")?;
-    push_code(alloc, &mut text, &made.code)?;
-    push_rest(&mut text, &head, &made.code)?;
-    Ok(text)
+    let mut sink = made.front(alloc)?;
+    push_implementation(alloc, &mut sink.text, &made.code)?;
+    Ok(sink)
 }
 
-/// Appends all tables of a code, the names of its leaves, and the type of entries.
-fn push_code(alloc: Global, text: &mut String, code: &Code<'_>) -> Result<(), Memory>
+/// Appends the implementation of `Tables`, and the rest of the function that lexes.
+fn push_implementation(alloc: Global, text: &mut String, code: &Code<'_>) -> Result<(), Memory>
     ensures { OnOk result (AppendsTables code.now (string_bytes text.old) (string_bytes text.new)) }
 {
-    let rows = rows_of(alloc, code)?;
-    let classes = classes_of(alloc, rows.distinct.as_slice())?;
-    let height = rows.distinct.len();
-    let width = classes.symbols.len();
-    push_rows(alloc, text, &rows, &classes)?;
+    let this = print_type(alloc, &code.parts().header.this)?;
+    push_head(text, &this)?;
+    push_code(alloc, text, code)?;
+    push_end(text)?;
+    Ok(())
+}
+
+/// Appends all tables of a code, and the constants that are computed from them.
+fn push_code(alloc: Global, text: &mut String, code: &Code<'_>) -> Result<(), Memory>
+    ensures { OnOk result (AppendsMade code.now (string_bytes text.old) (string_bytes text.new)) }
+{
+    let made = tables_of(alloc, code)?;
+    push_data(text, code.root(), made.classes.symbols.len())?;
+    push_steps(alloc, text, &made)?;
     push_marks(alloc, text, code)?;
     push_skips(alloc, text, code)?;
-    push_sizes(text, code.root(), height, width)?;
-    let states = rows.places.len();
-    let leaves = code.leaves().len();
-    push_end(text, states, width, leaves)?;
+    push_numbers(text, &made, code.leaves().len())?;
     Ok(())
 }
 
 /// Appends the tables of steps.
-fn push_rows(
-    alloc: Global,
-    text: &mut String,
-    rows: &StepRows,
-    classes: &SymbolClasses,
-) -> Result<(), Memory>
-    ensures { OnOk result (AppendsSteps classes.now.numbers.items classes.now.symbols.items
-        rows.now.places.items rows.now.distinct.keys (string_bytes text.old)
-        (string_bytes text.new)) }
+fn push_steps(alloc: Global, text: &mut String, made: &PrintedTables) -> Result<(), Memory>
+    ensures { OnOk result (Appends (step_texts made.now.class_runs.items made.now.runs.items
+        made.now.rows.slots.items) (string_bytes text.old) (string_bytes text.new)) }
 {
-    let runs = runs_of(alloc, rows.distinct.as_slice(), &classes.symbols)?;
-    push_steps(alloc, text, &classes.numbers, &runs, &rows.places)?;
+    push_runs(alloc, text, "class_lengths", "classes", &made.class_runs)?;
+    push_runs(alloc, text, "lengths", "steps", &made.runs)?;
+    push_field(text, "rows", &made.rows.slots)?;
     Ok(())
 }
 
@@ -76,24 +79,26 @@ fn push_marks(alloc: Global, text: &mut String, code: &Code<'_>) -> Result<(), M
         (string_bytes text.new)) }
 {
     let marks = marks_of(alloc, &code.parts().states)?;
-    push_table(text, "_MARKS", &marks)
+    push_field(text, "marks", &marks)
 }
 
-/// Appends which leaves are left out.
+/// Appends the flags of the leaves that are skipped.
 fn push_skips(alloc: Global, text: &mut String, code: &Code<'_>) -> Result<(), Memory>
     ensures { OnOk result (Appends (skips_text code.now ∷ []) (string_bytes text.old)
         (string_bytes text.new)) }
 {
     let skips = skips_of(alloc, &code.parts().leaves)?;
-    push_table(text, "_SKIPS", &skips)
+    push_field(text, "skips", &skips)
 }
 
-/// Appends the names of the leaves, and the type of entries.
-fn push_end(text: &mut String, states: usize, width: usize, leaves: usize) -> Result<(), Memory>
-    ensures { OnOk result (Appends (end_texts leaves states width) (string_bytes text.old)
-        (string_bytes text.new)) }
+/// Appends the constants that are computed from the tables.
+fn push_numbers(text: &mut String, made: &PrintedTables, leaves: usize) -> Result<(), Memory>
+    ensures { OnOk result (AppendsNumbers (length made.now.rows.slots.items)
+        (length made.now.runs.items) (string_bytes text.old) (string_bytes text.new)) }
 {
-    push_names(text, leaves)?;
-    push_entry_type(text, states, width)?;
+    push_unpacked(text, made.rows.slots.len(), made.runs.len())?;
+    push_entries_size(text, entry_count(made))?;
+    push_masks(text, mask_count(made))?;
+    push_folded(text, folded_count(made, leaves))?;
     Ok(())
 }

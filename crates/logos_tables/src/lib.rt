@@ -1,19 +1,18 @@
-//! The Rust text of a lexer in each shape, and that of the shape `tables`: one loop over `static`
-//! tables.
+//! The generated code of a lexer in each shape. For the shape `tables` it is the tables of the
+//! lexer, for the loop of the runtime. Called by `logos_derive` and `logos_expand`.
 
 #![tactic(auto)]
 
+mod bytes;
 mod classes;
-mod fixed;
+mod fields;
 mod lexer;
 mod made;
 mod marks;
+mod numbers;
 mod parts;
-mod printing;
-mod rest;
 mod rows;
 mod runs;
-mod scanned;
 mod shape;
 mod steps;
 

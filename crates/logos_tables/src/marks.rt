@@ -1,8 +1,8 @@
-//! The marks of states, and which leaves are left out, as numbers. `lexer` prints them beside the
+//! The marks of states, and the leaves that are skipped, as numbers. `lexer` prints them after the
 //! steps.
 
 ghost use Rattle.std.specs.Prelude.{◌≡◌, ◌<◌, IfOk, IfSome, map, option_map};
-ghost use Rattle.logos_tables.specs.Words.{All, leaf_limit, mark_of, use_of, mark_number, skip_number};
+ghost use Rattle.logos_tables.specs.Imports.{All, leaf_limit, mark_of, use_of, mark_number, skip_number};
 
 use logos_code::code::{CodeLeaf, CodeState, Mark};
 use logos_pattern::leaf::VariantKind;
@@ -25,8 +25,8 @@ pub(crate) fn marks_of(alloc: Global, states: &[CodeState]) -> Result<Vec<usize>
     Ok(marks)
 }
 
-/// Returns the number of a mark: 0 for none, and else 2 more than twice the number of its leaf, and
-/// 1 more if it is late.
+/// Returns the number of a mark: 0 for none, otherwise 2 plus twice the number of its leaf, plus 1
+/// if it is late.
 fn mark_number(mark: Option<Mark>) -> usize
     requires { IfSome mark (λ mark. mark.leaf.0 < leaf_limit) }
     ensures { result ≡ mark_number (option_map mark_of mark) }
@@ -38,7 +38,7 @@ fn mark_number(mark: Option<Mark>) -> usize
     }
 }
 
-/// Returns for each leaf 1 if its matches are left out without a callback, and else 0.
+/// Returns for each leaf 1 if its matches are skipped without a callback, otherwise 0.
 ///
 /// # Errors
 ///
@@ -53,7 +53,7 @@ pub(crate) fn skips_of(alloc: Global, leaves: &[CodeLeaf<'_>]) -> Result<Vec<usi
     Ok(skips)
 }
 
-/// Returns 1 if the matches of the leaf are left out without a callback, and else 0.
+/// Returns 1 if the matches of the leaf are skipped without a callback, otherwise 0.
 fn skip_number(leaf: &CodeLeaf<'_>) -> usize
     ensures { result ≡ skip_number (use_of leaf.now) }
 {

@@ -1,131 +1,97 @@
-//! Prints the parts of the tables. `lexer` calls it for each part in turn.
+//! Prints the parts of the implementation of `Tables`. Called by `lexer` for each part in turn.
 
-ghost use Rattle.std.specs.Prelude.{◌≡◌, ◌*◌, ◌++◌, ◌∷◌, [], OnOk, nat_le, string_bytes};
-ghost use Rattle.logos_tables.specs.Words.{numbered, Appends, lengths_text, run_steps_text, size_texts, step_texts, entry_type_text, most_steps, name_text, names_text};
+ghost use Rattle.std.specs.Prelude.{◌≡◌, ◌++◌, ◌∷◌, [], OnOk, string_bytes};
+ghost use Rattle.logos_tables.specs.Imports.{Appends, data_text, end_text, entries_size_text, folded_text, head_text, masks_text, unpacked_text};
 
-use crate::printing::{push_number, push_str, push_table};
-use crate::runs::{Run, lengths_of, steps_in};
+use crate::fields::push_str;
 use logos_token::error::Memory;
-use std::alloc::Global;
 
-/// The most steps of all states for which entries have 32 bits.
-const MOST_STEPS: usize = 268435456;
+// rustc evaluates a reference to the value of a call when it checks a package, unless the constant
+// can end before the call. Therefore each constant of the text begins with an assertion.
 
-/// Appends the tables of steps: the classes of symbols, the runs of the rows, and the row of each
-/// state.
-pub(crate) fn push_steps(
-    alloc: Global,
-    text: &mut String,
-    classes: &[usize],
-    runs: &[Run],
-    places: &[usize],
-) -> Result<(), Memory>
-    ensures { OnOk result (Appends (step_texts classes.now runs.now places.now)
-        (string_bytes text.old) (string_bytes text.new)) }
+/// The text after the tables.
+const END: &str = "fn bytes(source: &'s <Self as Logos<'s>>::Source) -> &'s [u8] { source.as_ref() }
+fn plain(leaf: usize) -> _Option<Self> { _token(leaf) }
+fn act(lex: &mut _Lexer<'s>, leaf: usize) -> CallbackResult<'s, Self> { _get_action(lex, leaf) }
+fn error(lex: &mut _Lexer<'s>) -> <Self as Logos<'s>>::Error { _make_error(lex) }
+}
+_Tables::run(lex)
+} }
+";
+
+/// Appends the head of the implementation for a type.
+pub(crate) fn push_head(text: &mut String, this: &str) -> Result<(), Memory>
+    ensures { OnOk result (string_bytes text.new ≡ string_bytes text.old ++ head_text this.now) }
 {
-    push_table(text, "_CLASSES", classes)?;
-    push_lengths(alloc, text, runs)?;
-    push_run_steps(alloc, text, runs)?;
-    push_table(text, "_ROWS", places)?;
+    write!(
+        text,
+        "\n#[allow(unknown_lints, non_local_definitions, long_running_const_eval)]\nimpl<'s> _Tables<'s> for {this} {{\n"
+    )?;
     Ok(())
 }
 
-/// Appends how many steps each run has.
-fn push_lengths(alloc: Global, text: &mut String, runs: &[Run]) -> Result<(), Memory>
-    ensures { OnOk result (Appends (lengths_text runs.now ∷ []) (string_bytes text.old)
-        (string_bytes text.new)) }
-{
-    let lengths = lengths_of(alloc, runs)?;
-    push_table(text, "_RUN_LENGTHS", &lengths)
-}
-
-/// Appends the step of each run.
-fn push_run_steps(alloc: Global, text: &mut String, runs: &[Run]) -> Result<(), Memory>
-    ensures { OnOk result (Appends (run_steps_text runs.now ∷ []) (string_bytes text.old)
-        (string_bytes text.new)) }
-{
-    let steps = steps_in(alloc, runs)?;
-    push_table(text, "_RUN_STEPS", &steps)
-}
-
-/// Appends the root, how many rows there are, and how many steps each of them has.
-pub(crate) fn push_sizes(
-    text: &mut String,
-    root: usize,
-    height: usize,
-    width: usize,
-) -> Result<(), Memory>
-    ensures { OnOk result (Appends (size_texts root height width) (string_bytes text.old)
-        (string_bytes text.new)) }
-{
-    push_number(text, "_ROOT", root)?;
-    push_number(text, "_HEIGHT", height)?;
-    push_number(text, "_WIDTH", width)?;
-    Ok(())
-}
-
-/// Appends the table of so many leaves, each at its number.
-pub(crate) fn push_names(text: &mut String, leaves: usize) -> Result<(), Memory>
-    ensures { OnOk result (Appends (names_text leaves ∷ []) (string_bytes text.old)
-        (string_bytes text.new)) }
-{
-    push_whole_names(text, leaves)?;
-    Ok(())
-}
-
-/// Appends the table of so many leaves, and nothing else.
-fn push_whole_names(text: &mut String, leaves: usize) -> Result<(), Memory>
-    ensures { OnOk result (string_bytes text.new ≡ string_bytes text.old ++ names_text leaves) }
-{
-    write!(text, "const _NAMES: [LogosLeaf; {leaves}] = [")?;
-    push_each_name(text, leaves)?;
-    push_str(text, "];\n")?;
-    Ok(())
-}
-
-/// Appends so many leaves.
-fn push_each_name(text: &mut String, leaves: usize) -> Result<(), Memory>
+/// Appends the beginning of the tables: the state in which match attempts begin, and the number of
+/// classes.
+pub(crate) fn push_data(text: &mut String, root: usize, width: usize) -> Result<(), Memory>
     ensures { OnOk result (string_bytes text.new
-        ≡ string_bytes text.old ++ numbered name_text 0 leaves) }
+        ≡ string_bytes text.old ++ data_text root width) }
 {
-    for leaf in 0..leaves {
-        push_name(text, leaf)?;
-    }
+    write!(
+        text,
+        "const DATA: _Data = _Data {{ root: {root}, width: {width}, "
+    )?;
     Ok(())
 }
 
-/// Appends a leaf.
-fn push_name(text: &mut String, leaf: usize) -> Result<(), Memory>
-    ensures { OnOk result (string_bytes text.new ≡ string_bytes text.old ++ name_text leaf) }
+/// Appends the end of the tables, and the type of the unpacked tables.
+pub(crate) fn push_unpacked(text: &mut String, states: usize, runs: usize) -> Result<(), Memory>
+    ensures { OnOk result (string_bytes text.new
+        ≡ string_bytes text.old ++ unpacked_text states runs) }
 {
-    write!(text, "LogosLeaf::Leaf{leaf},")?;
+    write!(
+        text,
+        "}};\ntype Unpacked = _Unpacked<{states}, {runs}>;\nconst UNPACKED: &'static Self::Unpacked = {{ ::core::assert!(Self::DATA.width > 0); &<Self::Unpacked>::new::<Self>() }};\n"
+    )?;
     Ok(())
 }
 
-/// Appends the type of entries.
-pub(crate) fn push_entry_type(text: &mut String, states: usize, width: usize) -> Result<(), Memory>
-    ensures { OnOk result (Appends (entry_type_text states width ∷ []) (string_bytes text.old)
-        (string_bytes text.new)) }
+/// Appends the constants that the loop reads.
+pub(crate) fn push_entries_size(text: &mut String, entries: usize) -> Result<(), Memory>
+    ensures { OnOk result (string_bytes text.new
+        ≡ string_bytes text.old ++ entries_size_text entries) }
 {
-    push_str(text, entry_type(states, width))?;
+    write!(
+        text,
+        "const ROWS: &'static [u32] = {{ ::core::assert!(Self::DATA.width > 0); &<Self::Unpacked>::rows::<Self, {entries}>() }};\nconst LASTS: &'static [u32] = {{ ::core::assert!(Self::DATA.width > 0); &<Self::Unpacked>::lasts::<Self>() }};\n"
+    )?;
     Ok(())
 }
 
-/// Returns the text of the type of entries: it has room for an offset of the table and three bits.
-fn entry_type(states: usize, width: usize) -> &'static str
-    ensures { result.now ≡ entry_type_text states width }
+/// Appends the constants of the loops over bytes that stay.
+pub(crate) fn push_masks(text: &mut String, masks: usize) -> Result<(), Memory>
+    ensures { OnOk result (string_bytes text.new ≡ string_bytes text.old ++ masks_text masks) }
 {
-    if are_few(states, width) {
-        "type _Entry = u32;\n"
-    } else {
-        "type _Entry = u64;\n"
-    }
+    write!(
+        text,
+        "const MASKS: &'static [[[u8; 8]; 256]] = {{ ::core::assert!(Self::DATA.width > 0); &<Self::Unpacked>::masks::<Self, {masks}>() }};\nconst RANGES: &'static [_Ranges] = {{ ::core::assert!(Self::DATA.width > 0); &_Ranges::of::<Self, {masks}>() }};\n"
+    )?;
+    Ok(())
 }
 
-/// Returns whether entries of 32 bits have room for all steps of so many states, with so many steps
-/// each.
-fn are_few(states: usize, width: usize) -> bool
-    ensures { result ≡ nat_le (states * width) most_steps }
+/// Appends the constant that `scan` reads.
+pub(crate) fn push_folded(text: &mut String, entries: usize) -> Result<(), Memory>
+    ensures { OnOk result (string_bytes text.new ≡ string_bytes text.old ++ folded_text entries) }
 {
-    states.saturating_mul(width) <= MOST_STEPS
+    write!(
+        text,
+        "const FOLDED: &'static [u32] = {{ ::core::assert!(Self::DATA.width > 0); &<Self::Unpacked>::folded::<Self, {entries}>() }};\n"
+    )?;
+    Ok(())
+}
+
+/// Appends the text after the tables.
+pub(crate) fn push_end(text: &mut String) -> Result<(), Memory>
+    ensures { OnOk result (string_bytes text.new ≡ string_bytes text.old ++ end_text) }
+{
+    push_str(text, END)
 }

@@ -1,7 +1,7 @@
-//! The rows of all states, with each row once. `lexer` makes them first.
+//! The rows of all states, with each distinct row once. Used by `made`.
 
 ghost use Rattle.std.specs.Prelude.{◌≡◌, ℕ, ◌<◌, ◌++◌, ◌∷◌, [], IfOk, OnOk, length, vec_len, slice_index, slice_index_or};
-ghost use Rattle.logos_tables.specs.Words.{AreRows, AreWide, rows_at};
+ghost use Rattle.logos_tables.specs.Imports.{AreRows, AreWide, rows_at};
 
 use crate::steps::{Steps, steps_of};
 use indexmap::IndexSet;
@@ -12,11 +12,11 @@ use std::alloc::{AllocError, Global};
 #[derive(Drop)]
 pub(crate) struct StepRows {
     /// The number of each row among the distinct ones.
-    pub(crate) places: Vec<usize>,
-    /// Each row once.
+    pub(crate) slots: Vec<usize>,
+    /// The distinct rows.
     pub(crate) distinct: IndexSet<Steps>,
     ghost wide: { AreWide distinct.keys },
-    ghost placed: { (i : ℕ) → i < vec_len places → slice_index places.items i < length distinct.keys },
+    ghost placed: { (i : ℕ) → i < vec_len slots → slice_index slots.items i < length distinct.keys },
 }
 
 impl StepRows {
@@ -27,17 +27,17 @@ impl StepRows {
         ensures { rows_of result ≡ [] }
     {
         StepRows {
-            places: Vec::new(alloc),
+            slots: Vec::new(alloc),
             distinct: IndexSet::new(alloc),
         }
     }
 
-    /// Adds a row at the end.
+    /// Appends a row.
     fn push(&mut self, row: &Steps) -> Result<(), AllocError>
         ensures { OnOk result (rows_of self.new ≡ rows_of self.old ++ row.now ∷ []) }
     {
-        let (place, _) = self.distinct.insert_full(*row)?;
-        self.places.push(place)?;
+        let (slot, _) = self.distinct.insert_full(*row)?;
+        self.slots.push(slot)?;
         Ok(())
     }
 }
@@ -56,7 +56,7 @@ fn state_count(code: &Code<'_>) -> usize
 /// Returns an error if memory runs out.
 pub(crate) fn rows_of(alloc: Global, code: &Code<'_>) -> Result<StepRows, AllocError>
     ensures { IfOk result (λ rows. AreRows code.now
-        (rows_at rows.places.items rows.distinct.keys)) }
+        (rows_at rows.slots.items rows.distinct.keys)) }
 {
     let mut rows = StepRows::new(alloc);
     for state in 0..state_count(code) {

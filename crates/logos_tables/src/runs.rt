@@ -1,24 +1,40 @@
-//! Runs of equal steps. `lexer` makes them of the rows by classes, and `parts` prints them.
+//! Runs of equal numbers. `made` makes them from the classes of symbols and from the rows by
+//! classes, and `fields` prints them.
 
 ghost use Rattle.std.specs.Prelude.{◌≡◌, ◌<◌, ◌++◌, ◌∷◌, [], IfOk, OnOk, IsTrue, map};
-ghost use Rattle.logos_tables.specs.Words.{flat_map, by_classes, spread};
+ghost use Rattle.logos_tables.specs.Imports.{flat_map, by_classes, spread};
 
 use crate::classes::step_at;
 use crate::steps::Steps;
 use std::alloc::{AllocError, Global};
 
-/// The most steps in a run.
+/// The maximum length of a run.
 const LONGEST: usize = 65535;
 
-/// A run: how many steps it has, and which.
+/// A run: the number of equal numbers, and that number.
 pub(crate) type Run = (usize, usize);
 
-/// Returns the runs of the rows, one after another, each with one step for each class.
+/// Returns the runs of numbers.
 ///
 /// # Errors
 ///
 /// Returns an error if memory runs out.
-pub(crate) fn runs_of(
+pub(crate) fn runs_of(alloc: Global, numbers: &[usize]) -> Result<Vec<Run>, AllocError>
+    ensures { IfOk result (λ runs. spread runs.items ≡ numbers.now) }
+{
+    let mut runs = Vec::new(alloc);
+    for number in numbers {
+        push_step(&mut runs, *number)?;
+    }
+    Ok(runs)
+}
+
+/// Returns the runs of the concatenated rows, each with one step for each class.
+///
+/// # Errors
+///
+/// Returns an error if memory runs out.
+pub(crate) fn row_runs(
     alloc: Global,
     rows: &[Steps],
     symbols: &[usize],
@@ -58,14 +74,14 @@ fn push_step(runs: &mut Vec<Run>, step: usize) -> Result<(), AllocError>
     Ok(())
 }
 
-/// Returns whether a run can have this step too.
+/// Returns whether a run can be extended by this step.
 fn goes_on(run: Run, step: usize) -> bool
     ensures { IsTrue result → (run.1 ≡ step) × (run.0 < LONGEST) }
 {
     (run.1 == step) & (run.0 < LONGEST)
 }
 
-/// Returns how many steps each run has.
+/// Returns the length of each run.
 ///
 /// # Errors
 ///

@@ -1,24 +1,26 @@
-//! The shapes in which lexers are printed. `logos_derive`, `logos_expand` and `logos_cli` call it.
+//! The shapes in which lexers are printed. Called by `logos_derive`, `logos_expand` and
+//! `logos_cli`.
 
 ghost use Rattle.std.specs.Prelude.{◌≡◌, IfOk, string_bytes};
-ghost use Rattle.logos_tables.specs.Views.{IsShown, config_of};
+ghost use Rattle.logos_tables.specs.Views.{ArePrinted, IsShown, around_made, config_of, shape_runs};
 
 use crate::lexer::tables;
 use logos_codegen::Generated;
 use logos_codegen::generator::Config;
+use logos_text::Sink;
 use logos_token::error::Memory;
 use std::alloc::Global;
 
-/// How lexers are printed.
+/// The shape of generated code.
 #[derive(Clone, Copy)]
 pub enum Shape {
-    /// As code, in one of its shapes.
+    /// Code, in one of its shapes.
     Code(Config),
-    /// As tables with a loop over them.
+    /// Tables for the loop of the runtime.
     Tables,
 }
 
-/// Returns the shape of the code that a lexer is made of.
+/// Returns the shape of the code from which a lexer is printed.
 pub fn config_of(shape: Shape) -> Config
     ensures { result ≡ config_of shape }
 {
@@ -30,16 +32,20 @@ pub fn config_of(shape: Shape) -> Config
     }
 }
 
-/// Returns the text of a lexer.
+/// Returns the text of a lexer, with the pieces of the source in it.
 ///
 /// # Errors
 ///
 /// Returns `Memory` if memory runs out.
-pub fn lexer_text(alloc: Global, shape: Shape, made: &Generated<'_>) -> Result<String, Memory>
-    ensures { IfOk result (λ text. IsShown shape made.now.code (string_bytes text)) }
+pub fn lexer_text(alloc: Global, shape: Shape, made: &Generated<'_>) -> Result<Sink, Memory>
+    ensures shown { IfOk result (λ sink.
+        IsShown shape (around_made made.now) made.now.code (string_bytes sink.text)) }
+    ensures pieces { IfOk result (λ sink.
+        ArePrinted (shape_runs shape (around_made made.now) made.now.code)
+        0 sink.pieces.items (string_bytes sink.text)) }
 {
     match shape {
-        Shape::Code(_) => made.text(alloc),
+        Shape::Code(_) => made.printed(alloc),
         Shape::Tables => tables(alloc, made),
     }
 }

@@ -1,12 +1,12 @@
-//! What each byte, and the end of the input, does in a state, as one number. `rows` asks for those
-//! of each state.
+//! The step of each byte, and of the end of the input, in a state, as a number. Called by `rows`
+//! for each state.
 
 ghost use Rattle.std.specs.Prelude.{◌≡◌, ◌<◌, length, IfSome, IsTrue};
-ghost use Rattle.logos_tables.specs.Words.{passes_test, code_of, state_at, NamesState, NamesTest, stays, target, HasSteps, led_number, step_number};
+ghost use Rattle.logos_tables.specs.Imports.{passes_test, code_of, state_at, NamesState, NamesTest, stays, target, HasSteps, led_number, step_number};
 
 use logos_code::code::{Code, CodeParts};
 
-/// The symbol that stands for the end of the input; those before it are the bytes.
+/// The symbol for the end of the input. The symbols before it are the bytes.
 const END: usize = 256;
 
 /// The number of symbols: each byte, and the end of the input.
@@ -27,8 +27,8 @@ pub(crate) fn steps_of(code: &Code<'_>, state: usize) -> Steps
     steps
 }
 
-/// Returns the number of what the symbol does in the state: 0 for nothing, 1 where the byte stays,
-/// and else 2 more than the state that it leads to.
+/// Returns the number of the step of a symbol in a state: 0 for none, 1 if the byte stays,
+/// otherwise 2 plus the target state.
 fn step_number(code: &Code<'_>, state: usize, symbol: usize) -> usize
     requires state { state < length code.now.states }
     requires symbol { symbol < SYMBOLS }
@@ -55,7 +55,7 @@ fn stays(code: &Code<'_>, state: usize, byte: u8) -> bool
     }
 }
 
-/// Returns the number of the step to the state that the end of the input leads to.
+/// Returns the number of the step to the target of the end of the input.
 fn number_at_end(code: &Code<'_>, state: usize) -> usize
     requires { state < length code.now.states }
     ensures { result ≡ led_number (state_at code.now state).at_end }
@@ -63,7 +63,7 @@ fn number_at_end(code: &Code<'_>, state: usize) -> usize
     led_number(code.parts(), code.at_end(state))
 }
 
-/// Returns the number of the step to the state that the byte leads to.
+/// Returns the number of the step to the target of the byte.
 fn number_of_target(code: &Code<'_>, state: usize, byte: u8) -> usize
     requires { state < length code.now.states }
     ensures { result ≡ led_number (target code.now (state_at code.now state).fork byte) }
@@ -76,7 +76,7 @@ fn led_number(parts: &CodeParts<'_>, target: Option<usize>) -> usize
     requires { IfSome target (NamesState (code_of parts.now)) }
     ensures { result ≡ led_number target }
 {
-    // The parts are read for what is known of their states alone: there are not too many.
+    // `parts` is a parameter only for its invariant, which bounds the number of states.
     let _ = parts;
     match target {
         Some(state) => state + 2,

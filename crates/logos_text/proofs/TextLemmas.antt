@@ -1,10 +1,9 @@
 -- Texts that are printed part by part.
-use Rattle.std.proofs.Common.{◌≡◌, ℕ, ◌+◌, ◌-◌, ◌<◌, ◌≤◌, List, [], ◌∷◌, ◌++◌, length, map, drop, get_or, drop-cons, add-one, append-nil, arith, append_assoc, refl, suc, sym, ◌∙◌, ap, subst}
+use Rattle.std.proofs.Common.{◌≡◌, ℕ, ◌+◌, ◌<◌, ◌≤◌, List, [], ◌∷◌, ◌++◌, length, map, drop, get_or, drop-cons, add-one, append-nil, append_assoc, refl, suc, sym, ◌∙◌, ap, subst}
 use Rattle.std.proofs.Math.ListN.{drop_of_length-le}
 use Rattle.std.specs.List.{flat_map}
 use Rattle.logos_text.specs.Texts.{table_text, table_texts}
-use Rattle.logos_text.specs.Fronts.{BeginsWith, IsFront, leaf_names_text, opening_text, whole_core, whole_derives, AroundValue}
-use Rattle.logos_text.specs.Standing.{StandInOrder, Adds, AddsLast, Grows, numbered}
+use Rattle.logos_text.specs.Occurrence.{OccurInOrder, Adds, Grows}
 
 -- the part of an element is added
 part_added : (whole old new part rest : List ℕ) → new ≡ old ++ part → old ++ (part ++ rest) ≡ whole → new ++ rest ≡ whole
@@ -20,82 +19,48 @@ item_added g xs i d whole old new l e all =
 pub items_added : {A : Type 0} (g : A → List ℕ) (xs : List A) (i : ℕ) (whole text : List ℕ) → length xs ≤ i → text ++ flat_map g (drop i xs) ≡ whole → text ≡ whole
 items_added g xs i whole text l all = sym (append-nil text) ∙ ap (λ rest. text ++ flat_map g rest) (sym (drop_of_length-le xs l)) ∙ all
 
--- one part behind another
+-- one part after another
 pub parts : (a : List ℕ) {b c : List ℕ} (u v : List ℕ) → b ≡ a ++ u → c ≡ b ++ v → c ≡ a ++ (u ++ v)
 parts a u v e f = f ∙ ap (λ w. w ++ v) e ∙ append_assoc a u v
 
-stand_after : (ys : List (List ℕ)) (u v : List ℕ) → StandInOrder ys v → StandInOrder ys (u ++ v)
-stand_after [] u v k = tt
-stand_after (y ∷ ys) u v k =
+occur_after : (ys : List (List ℕ)) (u v : List ℕ) → OccurInOrder ys v → OccurInOrder ys (u ++ v)
+occur_after [] u v k = tt
+occur_after (y ∷ ys) u v k =
     (u ++ k.0, k.1, ap (λ w. u ++ w) k.2 ∙ sym (append_assoc u k.0 (y ++ k.1)), k.3)
 
-stand_together : (xs ys : List (List ℕ)) (u v : List ℕ) → StandInOrder xs u → StandInOrder ys v → StandInOrder (xs ++ ys) (u ++ v)
-stand_together [] ys u v h k = stand_after ys u v k
-stand_together (x ∷ xs) ys u v h k =
-    (h.0, h.1 ++ v, ap (λ w. w ++ v) h.2 ∙ append_assoc h.0 (x ++ h.1) v ∙ ap (λ w. h.0 ++ w) (append_assoc x h.1 v), stand_together xs ys h.1 v h.3 k)
+occur_together : (xs ys : List (List ℕ)) (u v : List ℕ) → OccurInOrder xs u → OccurInOrder ys v → OccurInOrder (xs ++ ys) (u ++ v)
+occur_together [] ys u v h k = occur_after ys u v k
+occur_together (x ∷ xs) ys u v h k =
+    (h.0, h.1 ++ v, ap (λ w. w ++ v) h.2 ∙ append_assoc h.0 (x ++ h.1) v ∙ ap (λ w. h.0 ++ w) (append_assoc x h.1 v), occur_together xs ys h.1 v h.3 k)
 
 -- one step of printing after another
 pub adds_both : {xs ys : List (List ℕ)} {a b c : List ℕ} → Adds xs a b → Adds ys b c → Adds (xs ++ ys) a c
 adds_both {xs} {ys} {a} {b} {c} p q = record {
   added = p.added ++ q.added;
   is = q.is ∙ ap (λ w. w ++ q.added) p.is ∙ append_assoc a p.added q.added;
-  stand = stand_together xs ys p.added q.added p.stand q.stand;
+  occur = occur_together xs ys p.added q.added p.occur q.occur;
 }
 
--- something is printed behind
+-- something is printed after
 pub grows_after : {xs : List (List ℕ)} {a b c : List ℕ} → Adds xs a b → Grows b c → Adds xs a c
 grows_after {xs} {a} {b} {c} p q = subst (λ texts. Adds texts a c) (append-nil xs) (adds_both p q)
 
 -- a text is printed
 pub adds_text : {a b : List ℕ} (text : List ℕ) → b ≡ a ++ text → Adds (text ∷ []) a b
-adds_text text e = record { added = text; is = e; stand = ([], [], sym (append-nil text), tt) }
+adds_text text e = record { added = text; is = e; occur = ([], [], sym (append-nil text), tt) }
 
 pub adds_nothing : (a : List ℕ) → Grows a a
-adds_nothing a = record { added = []; is = sym (append-nil a); stand = tt }
+adds_nothing a = record { added = []; is = sym (append-nil a); occur = tt }
 
 -- an exact text is printed, and nothing is promised of it
 pub grows_text : {a b : List ℕ} (text : List ℕ) → b ≡ a ++ text → Grows a b
-grows_text text e = record { added = text; is = e; stand = tt }
+grows_text text e = record { added = text; is = e; occur = tt }
 
--- a last text is printed
-pub last_added : {a b c : List ℕ} (last : List ℕ) → Grows a b → c ≡ b ++ last → AddsLast last a c
-last_added {a} {b} {c} last p e = record { added = p.added; is = e ∙ ap (λ w. w ++ last) p.is ∙ append_assoc a p.added last }
+-- a text added to the empty text is the whole
+pub occur_whole : {texts : List (List ℕ)} {old whole : List ℕ} → old ≡ [] → Adds texts old whole → OccurInOrder texts whole
+occur_whole {texts} {old} {whole} none p = subst (λ w. OccurInOrder texts w) (sym (p.is ∙ ap (λ w. w ++ p.added) none)) p.occur
 
-pub last_grows : {last a b : List ℕ} → AddsLast last a b → Grows a b
-last_grows {last} {a} {b} p = record { added = p.added ++ last; is = p.is; stand = tt }
-
--- what was printed first begins the whole
-pub begins_whole : {xs : List (List ℕ)} {front a b c d : List ℕ} → a ≡ [] → b ≡ a ++ front → Adds xs b c → Grows c d → BeginsWith front d
-begins_whole {xs} {front} {a} {b} {c} {d} none e p q = record {
-  rest = p.added ++ q.added;
-  is = q.is ∙ ap (λ w. w ++ q.added) (p.is ∙ ap (λ w. w ++ p.added) (e ∙ ap (λ w. w ++ front) none)) ∙ append_assoc front p.added q.added;
-}
-
--- the front of an implementation
-pub is_front : {a b c : List ℕ} (around : AroundValue) (this : List ℕ) (leaves : ℕ) → a ≡ [] → b ≡ a ++ opening_text whole_core around this →
-    AddsLast (leaf_names_text whole_derives leaves) b c → IsFront around this leaves c
-is_front {a} {b} {c} around this leaves none e p = record {
-  functions = p.added;
-  is = p.is ∙ ap (λ w. w ++ (p.added ++ leaf_names_text whole_derives leaves)) (e ∙ ap (λ w. w ++ opening_text whole_core around this) none);
-}
-
--- a loop that adds the text of each number
-pub number_added : (f : ℕ → List ℕ) (i count : ℕ) (whole old new : List ℕ) → i < count →
-    new ≡ old ++ f i → old ++ numbered f i (count - i) ≡ whole → new ++ numbered f (i + 1) (count - (i + 1)) ≡ whole
-number_added f i count whole old new l e all =
-    let one : count - i ≡ suc (count - (i + 1)) = omega (arith, l) in
-    part_added whole old new (f i) (numbered f (i + 1) (count - (i + 1))) e (ap (λ rest. old ++ rest) (sym (ap (numbered f i) one)) ∙ all)
-
-pub numbers_added : (f : ℕ → List ℕ) (i count : ℕ) (whole text : List ℕ) → count ≤ i → text ++ numbered f i (count - i) ≡ whole → text ≡ whole
-numbers_added f i count whole text l all =
-    let over : count - i ≡ 0 = omega (arith, l) in
-    sym (append-nil text) ∙ ap (λ n. text ++ numbered f i n) (sym over) ∙ all
-
--- what is added to nothing is the whole
-pub stand_whole : {texts : List (List ℕ)} {old whole : List ℕ} → old ≡ [] → Adds texts old whole → StandInOrder texts whole
-stand_whole {texts} {old} {whole} none p = subst (λ w. StandInOrder texts w) (sym (p.is ∙ ap (λ w. w ++ p.added) none)) p.stand
-
--- what completes the rest of a loop's texts completes all of them
+-- a result for the rest of a loop's texts completes all of them
 more_added : (all rest texts left : List (List ℕ)) (start old new : List ℕ) → rest ≡ texts ++ left → Adds texts old new →
     ((whole : List ℕ) → Adds rest old whole → Adds all start whole) → (whole : List ℕ) → Adds left new whole → Adds all start whole
 more_added all rest texts left start old new e step so_far whole behind = so_far whole (subst (λ ts. Adds ts old whole) (sym e) (adds_both step behind))

@@ -3,7 +3,7 @@ use Rattle.std.specs.Prelude.{ℕ, List, [], ◌∷◌, codes, if◌then◌else�
 use Rattle.logos_token.specs.Printing.{is_line_comment}
 use Rattle.logos_token.specs.Tokens.{Token, identifier, punctuation, literal, doc, group, TokenList, none, also}
 
--- The gap after one token: a line end after a comment that ends with its line, else a space.
+-- The gap after one token: a line end after a comment that ends with its line, otherwise a space.
 abbrev pub gap_of : Token → List ℕ
 gap_of (identifier text span) = codes " "
 gap_of (punctuation character spacing span) = codes " "

@@ -1,7 +1,10 @@
-pub mod Arounds
-pub mod Fronts
 pub mod Gaps
-pub mod Standing
+pub mod Fronts
+pub mod Runs
+pub mod FrontRuns
+pub mod Arounds
+pub mod Pieces
+pub mod Occurrence
 pub mod Texts
-pub mod Words
+pub mod Imports
 pub mod Views

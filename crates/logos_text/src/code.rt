@@ -1,20 +1,27 @@
-//! Prints a whole code. `logos_codegen` calls it.
+//! Prints a whole code. Called by `logos_codegen`.
 
-ghost use Rattle.std.specs.Prelude.{IfOk, OnOk, length, string_bytes};
-ghost use Rattle.logos_text.specs.Views.{printed_type, type_tree, code_of, BeginsWith, IsFront, leaf_names_text, opening_text, short_core, Adds, AddsLast, Grows, StandInOrder, texts_in, texts_of, around_value};
+ghost use Rattle.std.specs.Prelude.{IfOk, OnOk, map, string_bytes};
+ghost use Rattle.logos_text.specs.Views.{Adds, ArePrinted, BeginsWith, Grows, IsFront, Notes, OccurInOrder, action_runs, around_value, code_of, flat_map, front_runs, opening_text, printed_type, short_core, state_of, state_texts, text_runs, texts_in, texts_of, type_tree};
 
+use crate::actions::push_table_actions;
 use crate::errors::push_make_error;
-use crate::implementation::{Around, push_front};
+use crate::implementation::{Around, push_front, push_tables_use};
 use crate::leaves::{push_get_action, push_leaf_names};
 use crate::macros::{push_fast_loop_macro, push_take_action_macro};
-use crate::names::{Names, short_names, whole_names};
-use crate::pieces::push;
+use crate::names::Names;
+use crate::sink::Sink;
 use crate::states::{push_closing, push_opening, push_states};
 use crate::tables::push_tables;
 use logos_code::code::{Code, CodeParts};
 use logos_token::error::Memory;
 use logos_type::print_type;
 use std::alloc::Global;
+
+/// The path of `core`, with the gap after it, in generated code, where the names of the crate are
+/// in scope.
+const SHORT_CORE: &str = "core ";
+/// The path of `core` in a text of tables: the whole path, which no module beside the enum changes.
+const WHOLE_CORE: &str = ":: core ";
 
 /// Returns the Rust text of a code, as the body of a function: its tokens, with the gaps that
 /// `print` puts between tokens. The texts of all bit tables, by their numbers, are parts of it, and
@@ -25,77 +32,78 @@ use std::alloc::Global;
 ///
 /// Returns `Memory` if memory runs out.
 pub fn text(alloc: Global, code: &Code<'_>) -> Result<String, Memory>
-    ensures { IfOk result (λ text. StandInOrder (texts_of code.now) (string_bytes text)) }
+    ensures { IfOk result (λ text. OccurInOrder (texts_of code.now) (string_bytes text)) }
 {
     let parts = code.parts();
     let this = print_type(alloc, &parts.header.this)?;
-    let mut text = String::new(alloc);
-    push_code(
-        alloc,
-        &mut text,
-        parts,
-        Names::new(parts, &this, short_names()),
-    )?;
-    Ok(text)
+    let mut sink = Sink::new(alloc);
+    push_code(alloc, &mut sink, parts, Names::new(parts, &this))?;
+    Ok(sink.text)
 }
 
-/// Returns the Rust text of a code as `text` does, with the implementation of `Logos` around it.
+/// Returns the Rust text of a code as `text` does, with the implementation of `Logos` around it,
+/// and the pieces of the source in it.
 ///
 /// # Errors
 ///
 /// Returns `Memory` if memory runs out.
-pub fn text_in(alloc: Global, code: &Code<'_>, around: Around<'_>) -> Result<String, Memory>
-    ensures stand { IfOk result (λ text. StandInOrder (texts_of code.now) (string_bytes text)) }
-    ensures begins { IfOk result (λ text. BeginsWith (opening_text short_core (around_value around.entry)
-        (printed_type (type_tree code.now.header.this))) (string_bytes text)) }
+pub fn text_in(alloc: Global, code: &Code<'_>, around: Around<'_, '_>) -> Result<Sink, Memory>
+    ensures occur { IfOk result (λ sink. OccurInOrder (texts_of code.now) (string_bytes sink.text)) }
+    ensures begins { IfOk result (λ sink. BeginsWith (opening_text short_core (around_value around.entry)
+        (printed_type (type_tree code.now.header.this))) (string_bytes sink.text)) }
+    ensures pieces { IfOk result (λ sink. ArePrinted (text_runs (around_value around.entry) code.now)
+        0 sink.pieces.items (string_bytes sink.text)) }
 {
     let parts = code.parts();
     let this = print_type(alloc, &parts.header.this)?;
-    let mut text = String::new(alloc);
-    let core = short_names();
-    push_front(&mut text, around, &this, core.path)?;
-    push_code(alloc, &mut text, parts, Names::new(parts, &this, core))?;
-    push(&mut text, " } }")?;
-    Ok(text)
+    let names = Names::new(parts, &this);
+    let mut sink = Sink::new(alloc);
+    push_front(alloc, &mut sink, around, names, SHORT_CORE)?;
+    push_code(alloc, &mut sink, parts, names)?;
+    sink.push(" } }")?;
+    Ok(sink)
 }
 
 /// Returns the beginning of the implementation of `Logos` by tables for the enum of a code: its
 /// types, the imports of the function that lexes, and inside that function the functions for
-/// matches and errors and the enum of the leaves. Text that follows it can go on with the body of
-/// that function.
+/// errors, matches and tokens. Text that follows it can continue with the body of that function.
+/// The pieces of the source in it are returned with it.
 ///
 /// # Errors
 ///
 /// Returns `Memory` if memory runs out.
-pub fn front_in(alloc: Global, code: &Code<'_>, around: Around<'_>) -> Result<String, Memory>
-    ensures { IfOk result (λ text. IsFront (around_value around.entry)
-        (printed_type (type_tree code.now.header.this)) (length code.now.code_leaves)
-        (string_bytes text)) }
+pub fn front_in(alloc: Global, code: &Code<'_>, around: Around<'_, '_>) -> Result<Sink, Memory>
+    ensures front { IfOk result (λ sink. IsFront (around_value around.entry)
+        (printed_type (type_tree code.now.header.this)) (string_bytes sink.text)) }
+    ensures pieces { IfOk result (λ sink. ArePrinted (front_runs (around_value around.entry) code.now)
+        0 sink.pieces.items (string_bytes sink.text)) }
 {
     let parts = code.parts();
     let this = print_type(alloc, &parts.header.this)?;
-    let mut text = String::new(alloc);
-    let core = whole_names();
-    push_front(&mut text, around, &this, core.path)?;
-    push_actions(alloc, &mut text, parts, Names::new(parts, &this, core))?;
-    Ok(text)
+    let names = Names::new(parts, &this);
+    let mut sink = Sink::new(alloc);
+    push_front(alloc, &mut sink, around, names, WHOLE_CORE)?;
+    push_tables_use(alloc, &mut sink, around.logos)?;
+    push_table_actions(alloc, &mut sink, parts, names)?;
+    Ok(sink)
 }
 
 /// Appends the body of a lexer.
 fn push_code(
     alloc: Global,
-    text: &mut String,
+    sink: &mut Sink,
     parts: &CodeParts<'_>,
     names: Names<'_>,
 ) -> Result<(), Memory>
-    ensures { OnOk result (Adds (texts_in names.entry.shape (code_of parts.now))
-        (string_bytes text.old) (string_bytes text.new)) }
+    ensures adds { OnOk result (Adds (texts_in names.entry.shape (code_of parts.now))
+        (string_bytes sink.old.text) (string_bytes sink.new.text)) }
+    ensures notes { OnOk result (Notes (action_runs names.entry.name parts.now.header.error_callback
+        parts.now.leaves.items) sink.old sink.new) }
 {
-    push_macros(text, parts.root, names)?;
-    push_tables(text, &parts.bit_tables)?;
-    push_functions(alloc, text, parts, names)?;
-    push_states(alloc, text, parts, names)?;
-    push_closing(text, parts.root, names.shape)?;
+    push_macros(&mut sink.text, parts.root, names)?;
+    push_tables(&mut sink.text, &parts.bit_tables)?;
+    push_actions(alloc, sink, parts, names)?;
+    push_rest(alloc, &mut sink.text, parts, names)?;
     Ok(())
 }
 
@@ -107,32 +115,35 @@ fn push_macros(text: &mut String, root: usize, names: Names<'_>) -> Result<(), M
     push_take_action_macro(text, root, names)
 }
 
-/// Appends the functions for matches and errors, and the text before the states.
-fn push_functions(
-    alloc: Global,
-    text: &mut String,
-    parts: &CodeParts<'_>,
-    names: Names<'_>,
-) -> Result<(), Memory>
-    ensures { OnOk result (Grows (string_bytes text.old) (string_bytes text.new)) }
-{
-    push_actions(alloc, text, parts, names)?;
-    push_opening(alloc, text, parts, names.shape)?;
-    Ok(())
-}
-
 /// Appends the functions for matches and errors, and after them the enum of the leaves.
 fn push_actions(
     alloc: Global,
+    sink: &mut Sink,
+    parts: &CodeParts<'_>,
+    names: Names<'_>,
+) -> Result<(), Memory>
+    ensures { OnOk result (Notes (action_runs names.entry.name parts.now.header.error_callback
+        parts.now.leaves.items) sink.old sink.new) }
+{
+    push_make_error(alloc, sink, parts.header.error_callback.as_ref(), names)?;
+    push_get_action(alloc, sink, &parts.leaves, names)?;
+    push_leaf_names(&mut sink.text, parts.leaves.len())?;
+    Ok(())
+}
+
+/// Appends the states, with the text before and after them.
+fn push_rest(
+    alloc: Global,
     text: &mut String,
     parts: &CodeParts<'_>,
     names: Names<'_>,
 ) -> Result<(), Memory>
-    ensures { OnOk result (AddsLast (leaf_names_text names.entry.core.derives.now (length parts.now.leaves.items))
+    ensures { OnOk result (Adds (flat_map (state_texts names.entry.shape)
+        (map (state_of parts.now.jump_tables.items) parts.now.states.items))
         (string_bytes text.old) (string_bytes text.new)) }
 {
-    push_make_error(alloc, text, parts.header.error_callback.as_ref(), names)?;
-    push_get_action(alloc, text, &parts.leaves, names)?;
-    push_leaf_names(text, names.core.derives, parts.leaves.len())?;
+    push_opening(alloc, text, parts, names.shape)?;
+    push_states(alloc, text, parts, names)?;
+    push_closing(text, parts.root, names.shape)?;
     Ok(())
 }

@@ -1,8 +1,8 @@
-//! Prints conditions. `forks` calls it for each branch, and `states` for fast loops and for the end
-//! of the input.
+//! Prints conditions. Called by `forks` for each branch, and by `states` for fast loops and for the
+//! end of the input.
 
 ghost use Rattle.std.specs.Prelude.{◌≡◌, ◌++◌, ◌∷◌, [], ◌==◌, ◌<◌, OnOk, map, codes, string_bytes};
-ghost use Rattle.logos_text.specs.Words.{flat_map, join_by, comparison_of, condition_of, is_quoted, end_text, exception_text, single_text, between_text, comparison_text, bit_text, test_text, transition_text, condition_text};
+ghost use Rattle.logos_text.specs.Imports.{flat_map, join_by, comparison_of, condition_of, is_quoted, end_text, exception_text, single_text, between_text, comparison_text, bit_text, test_text, transition_text, condition_text};
 
 use crate::pieces::push_str;
 use logos_byte_class::byte_class::Comparisons;
@@ -12,7 +12,7 @@ use logos_token::error::Memory;
 /// The characters below this one are ASCII.
 const ASCII: u32 = 128;
 
-/// Returns whether the byte is written as a character between quotes.
+/// Returns whether a byte is written as a character between quotes.
 fn is_quoted(byte: u8) -> bool
     ensures { result ≡ is_quoted byte }
 {

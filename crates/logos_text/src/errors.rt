@@ -1,12 +1,11 @@
 //! Prints the function that makes errors. `code` calls it once.
 
-ghost use Rattle.std.specs.Prelude.{OnOk, string_bytes};
-ghost use Rattle.logos_text.specs.Words.{Grows};
+ghost use Rattle.std.specs.Prelude.{OnOk, option_copied, option_map};
+ghost use Rattle.logos_text.specs.Views.{Notes, called_runs, callback_runs, callback_value, inline_runs, noted_runs, stream_tokens, tokens_of};
 
-use crate::callbacks::push_tokens;
 use crate::names::Names;
-use crate::pieces::push;
-use logos_pattern::leaf::Callback;
+use crate::sink::Sink;
+use logos_pattern::leaf::{Callback, InlineCallback};
 use logos_token::error::Memory;
 use logos_token::token::Tokens;
 use std::alloc::Global;
@@ -14,69 +13,79 @@ use std::alloc::Global;
 /// Appends the function `_make_error`, which makes the error of a text that no leaf matches.
 pub(crate) fn push_make_error(
     alloc: Global,
-    text: &mut String,
+    sink: &mut Sink,
     callback: Option<&Callback<'_>>,
     names: Names<'_>,
 ) -> Result<(), Memory>
-    ensures { OnOk result (Grows (string_bytes text.old) (string_bytes text.new)) }
+    ensures { OnOk result (Notes (called_runs (option_map callback_value (option_copied callback.entry)))
+        sink.old sink.new) }
 {
     let this = names.this;
     write!(
-        text,
+        sink.text,
         "# [ inline ] fn _make_error < 's > ( lex : & mut _Lexer < 's > ) -> < {this} as Logos < 's >> :: Error {{ "
     )?;
-    push_error_body(alloc, text, callback, names)?;
-    push(text, "} ")
+    push_error_body(alloc, sink, callback, names)?;
+    sink.push("} ")?;
+    Ok(())
 }
 
 /// Appends the body of that function: the default error, or the call of the error callback.
 fn push_error_body(
     alloc: Global,
-    text: &mut String,
+    sink: &mut Sink,
     callback: Option<&Callback<'_>>,
     names: Names<'_>,
 ) -> Result<(), Memory>
-    ensures { OnOk result (Grows (string_bytes text.old) (string_bytes text.new)) }
+    ensures { OnOk result (Notes (called_runs (option_map callback_value (option_copied callback.entry)))
+        sink.old sink.new) }
 {
     let Some(callback) = callback else {
         let this = names.this;
-        write!(text, "< {this} as Logos < 's >> :: Error :: default ( ) ")?;
+        write!(
+            sink.text,
+            "< {this} as Logos < 's >> :: Error :: default ( ) "
+        )?;
         return Ok(());
     };
-    push_error_call(alloc, text, callback)
+    sink.note_call(callback)?;
+    push_error_call(alloc, sink, callback)?;
+    Ok(())
 }
 
 /// Appends the call of the error callback.
-fn push_error_call(alloc: Global, text: &mut String, callback: &Callback<'_>) -> Result<(), Memory>
-    ensures { OnOk result (Grows (string_bytes text.old) (string_bytes text.new)) }
+fn push_error_call(alloc: Global, sink: &mut Sink, callback: &Callback<'_>) -> Result<(), Memory>
+    ensures { OnOk result (Notes (callback_runs (callback_value callback.now)) sink.old sink.new) }
 {
     match callback {
-        Callback::Label(label) => push_error_label(alloc, text, label.run()),
-        Callback::Inline(inline) => {
-            push_error_inline(alloc, text, inline.arg.text, inline.body.run())
-        }
+        Callback::Label(label) => push_error_label(alloc, sink, label.run()),
+        Callback::Inline(inline) => push_error_inline(alloc, sink, inline),
     }
 }
 
 /// Appends the call of an error callback that is the name of a function.
-fn push_error_label(alloc: Global, text: &mut String, label: Tokens<'_, '_>) -> Result<(), Memory>
-    ensures { OnOk result (Grows (string_bytes text.old) (string_bytes text.new)) }
+fn push_error_label(alloc: Global, sink: &mut Sink, label: Tokens<'_, '_>) -> Result<(), Memory>
+    ensures { OnOk result (Notes (noted_runs (tokens_of label.entry)) sink.old sink.new) }
 {
-    push(text, "let error = ")?;
-    push_tokens(alloc, text, label)?;
-    push(text, "( lex ) ; error . into ( ) ")
+    sink.push("let error = ")?;
+    sink.push_run(alloc, label)?;
+    sink.push("( lex ) ; error . into ( ) ")?;
+    Ok(())
 }
 
 /// Appends an error callback that is written out: its parameter, and then its body.
 fn push_error_inline(
     alloc: Global,
-    text: &mut String,
-    arg: &str,
-    body: Tokens<'_, '_>,
+    sink: &mut Sink,
+    inline: &InlineCallback<'_>,
 ) -> Result<(), Memory>
-    ensures { OnOk result (Grows (string_bytes text.old) (string_bytes text.new)) }
+    ensures { OnOk result (Notes (inline_runs inline.now.arg (stream_tokens inline.now.body))
+        sink.old sink.new) }
 {
-    write!(text, "let {arg} = lex ; let error = {{ ")?;
-    push_tokens(alloc, text, body)?;
-    push(text, "} ; error . into ( ) ")
+    sink.push("let ")?;
+    sink.push_name(inline.arg)?;
+    sink.push(" = lex ; let error = { ")?;
+    sink.push_run(alloc, inline.body.run())?;
+    sink.push("} ; error . into ( ) ")?;
+    Ok(())
 }

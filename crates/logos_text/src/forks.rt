@@ -1,7 +1,7 @@
-//! Prints forks. `states` calls it for each state.
+//! Prints forks. Called by `states` for each state.
 
 ghost use Rattle.std.specs.Prelude.{◌∷◌, [], OnOk, map, string_bytes};
-ghost use Rattle.logos_text.specs.Words.{branch_of, fork_of, Adds, Grows, branch_text, fork_texts};
+ghost use Rattle.logos_text.specs.Imports.{branch_of, fork_of, Adds, Grows, branch_text, fork_texts};
 
 use crate::conditions::{push_condition, push_transition};
 use crate::pieces::{comma_before, push};
@@ -51,7 +51,7 @@ fn push_jump(text: &mut String, byte: usize, entry: u32, shape: Config) -> Resul
     Ok(())
 }
 
-/// Returns the text of the entry of a byte that leads nowhere.
+/// Returns the text of the entry of a byte that leads to no state.
 fn nowhere(shape: Config) -> &'static str {
     if shape.use_state_machine_codegen {
         "None"
@@ -82,7 +82,7 @@ fn push_step(text: &mut String, table: &[u32; 256], shape: Config) -> Result<(),
     )
 }
 
-/// Returns the numbers of the states that a jump table leads to, each once and ascending.
+/// Returns the numbers of the targets of a jump table, each once and ascending.
 fn targets_of(alloc: Global, table: &[u32; 256]) -> Result<Vec<u32>, Memory> {
     let mut targets = Vec::from_slice(alloc, table)?;
     targets.sort_unstable();
@@ -102,7 +102,7 @@ fn push_next_name(text: &mut String, n: usize, target: u32) -> Result<(), Memory
     Ok(())
 }
 
-/// Appends the names of the states that a jump leads to.
+/// Appends the names of the targets of a jump.
 fn push_next_names(text: &mut String, targets: &[u32]) -> Result<(), Memory>
     ensures { OnOk result (Grows (string_bytes text.old) (string_bytes text.new)) }
 {
@@ -122,7 +122,7 @@ fn push_next_arm(text: &mut String, n: usize, target: u32, shape: Config) -> Res
     push(text, " } ")
 }
 
-/// Appends the match arms that call the states that a jump leads to.
+/// Appends the match arms that call the targets of a jump.
 fn push_next_arms(text: &mut String, targets: &[u32], shape: Config) -> Result<(), Memory>
     ensures { OnOk result (Grows (string_bytes text.old) (string_bytes text.new)) }
 {
@@ -132,7 +132,7 @@ fn push_next_arms(text: &mut String, targets: &[u32], shape: Config) -> Result<(
     Ok(())
 }
 
-/// Appends a jump table, with an enum of the states that it leads to.
+/// Appends a jump table, with an enum of its targets.
 fn push_next_table(
     text: &mut String,
     table: &[u32; 256],
@@ -153,7 +153,8 @@ fn push_next_table(
     push_jumps(text, table, shape)
 }
 
-/// Appends a jump by a table, in the shape with a function for each state: it calls one.
+/// Appends a jump by a table, in the shape with a function for each state: a call of the target's
+/// function.
 fn push_call(
     alloc: Global,
     text: &mut String,

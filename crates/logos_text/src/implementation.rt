@@ -1,120 +1,309 @@
 //! Prints the implementation of `Logos` around the body of a lexer. `code` calls it before the
 //! body.
 
-ghost use Rattle.std.specs.Prelude.{◌≡◌, ◌++◌, OnOk, string_bytes};
-ghost use Rattle.logos_text.specs.Views.{head_text, core_text, internals_text, lexer_text, opening_text, signature_text, types_text, uses_text, around_value};
+ghost use Rattle.std.specs.Prelude.{[], ◌++◌, OnOk, option_copied, option_map};
+ghost use Rattle.logos_text.specs.Views.{Prints, answer_text, around_value, core_text, error_type_runs, error_type_text, gap_after, head_runs, head_text, internals_text, lexer_end_text, lexer_text, library_text, library_twice};
+ghost use Rattle.logos_text.specs.Views.{opening_runs, opening_text, option_runs, read_type_runs, read_type_text, signature_text, source_text, tables_use_text, this_runs, tokens_of, type_text, type_tree, typed_runs, types_runs, types_text, uses_runs, uses_text};
 
+use crate::gaps::gap_after;
+use crate::names::Names;
+use crate::sink::Sink;
 use logos_token::error::Memory;
+use logos_token::token::{Ident, Tokens, print};
+use logos_type::{TypeExpr, print_type};
+use std::alloc::Global;
 
-/// The parts that are printed around the body of a lexer: each is printed tokens, with the gap that
-/// `gap_after` gives after them.
+/// The text around the body of a lexer, mostly tokens of its source.
 #[derive(Clone, Copy)]
-pub struct Around<'p> {
-    /// The path of the `logos` library.
-    pub logos: &'p str,
-    /// The type of errors.
-    pub error: &'p str,
-    /// The type of extras.
-    pub extras: &'p str,
-    /// The type of sources.
-    pub source: &'p str,
+pub struct Around<'t, 's> {
+    /// The path of the `logos` library. Without tokens it is `::logos`.
+    pub logos: Option<Tokens<'t, 's>>,
+    /// The type of errors. Without tokens it is `()`.
+    pub error: Option<Tokens<'t, 's>>,
+    /// The type of errors as it was read from these tokens, if it was: then this is printed.
+    pub error_type: Option<&'t TypeExpr<'s>>,
+    /// The type of extras. Without tokens it is `()`.
+    pub extras: Option<Tokens<'t, 's>>,
+    /// The type of sources, with the gap after it.
+    pub source: &'static str,
 }
 
 /// Appends the text before a body. `core` is the path of Rust's `core`, with the gap after it.
 pub(crate) fn push_front(
-    text: &mut String,
-    around: Around<'_>,
-    this: &str,
+    alloc: Global,
+    sink: &mut Sink,
+    around: Around<'_, '_>,
+    names: Names<'_>,
     core: &str,
 ) -> Result<(), Memory>
-    ensures { OnOk result (string_bytes text.new
-        ≡ string_bytes text.old ++ opening_text core.now (around_value around.entry) this.now) }
+    ensures { OnOk result (Prints
+        (opening_text core.now (around_value around.entry) names.entry.this.now)
+        (opening_runs (around_value around.entry) names.entry.name names.entry.this.now)
+        sink.old sink.new) }
 {
-    push_head(text, around.logos, this)?;
-    push_types(text, around)?;
-    push_signature(text, core, around.logos)?;
-    push_uses(text, core, around.logos, this)?;
+    push_head(alloc, sink, around.logos, names)?;
+    push_types(alloc, sink, around)?;
+    push_signature(alloc, sink, core, around.logos)?;
+    push_uses(alloc, sink, core, around.logos, names.this)?;
     Ok(())
 }
 
-/// Appends the head of the implementation.
-fn push_head(text: &mut String, logos: &str, this: &str) -> Result<(), Memory>
-    ensures { OnOk result (string_bytes text.new
-        ≡ string_bytes text.old ++ head_text logos.now this.now) }
+/// Appends the path of the library, and the gap after it.
+fn push_library(
+    alloc: Global,
+    sink: &mut Sink,
+    library: Option<Tokens<'_, '_>>,
+) -> Result<(), Memory>
+    ensures { OnOk result (Prints (library_text (option_map tokens_of library.entry))
+        (option_runs (option_map tokens_of library.entry)) sink.old sink.new) }
 {
-    write!(text, "impl < 's > {logos}:: Logos < 's > for {this} {{ ")?;
+    match library {
+        Some(path) => sink.push_run(alloc, path),
+        None => sink.push(":: logos "),
+    }
+}
+
+/// Appends the enum as a type, which begins with its name.
+fn push_this(sink: &mut Sink, name: Ident<'_>, this: &str) -> Result<(), Memory>
+    ensures { OnOk result (Prints this.now (this_runs name.entry this.now) sink.old sink.new) }
+{
+    match this.strip_prefix(name.text) {
+        Some(rest) => {
+            sink.push_name(name)?;
+            sink.push(rest)?;
+            Ok(())
+        }
+        None => {
+            sink.push(this)?;
+            Ok(())
+        }
+    }
+}
+
+/// Appends the head of the implementation.
+fn push_head(
+    alloc: Global,
+    sink: &mut Sink,
+    library: Option<Tokens<'_, '_>>,
+    names: Names<'_>,
+) -> Result<(), Memory>
+    ensures { OnOk result (Prints
+        (head_text (library_text (option_map tokens_of library.entry)) names.entry.this.now)
+        (head_runs (option_map tokens_of library.entry) names.entry.name names.entry.this.now)
+        sink.old sink.new) }
+{
+    sink.push("impl < 's > ")?;
+    push_library(alloc, sink, library)?;
+    sink.push(":: Logos < 's > for ")?;
+    push_this(sink, names.name, names.this)?;
+    sink.push(" { ")?;
     Ok(())
 }
 
 /// Appends the associated types of the implementation.
-fn push_types(text: &mut String, around: Around<'_>) -> Result<(), Memory>
-    ensures { OnOk result (string_bytes text.new
-        ≡ string_bytes text.old ++ types_text (around_value around.entry)) }
+fn push_types(alloc: Global, sink: &mut Sink, around: Around<'_, '_>) -> Result<(), Memory>
+    ensures { OnOk result (Prints (types_text (around_value around.entry))
+        (types_runs (around_value around.entry)) sink.old sink.new) }
 {
-    let error = around.error;
-    let extras = around.extras;
-    let source = around.source;
-    write!(
-        text,
-        "type Error = {error}; type Extras = {extras}; type Source = {source}; "
-    )?;
+    sink.push("type Error = ")?;
+    push_error(alloc, sink, around)?;
+    sink.push("; type Extras = ")?;
+    push_type(alloc, sink, around.extras)?;
+    push_source(sink, around.source)?;
     Ok(())
 }
 
+/// Appends the type of sources.
+fn push_source(sink: &mut Sink, source: &str) -> Result<(), Memory>
+    ensures { OnOk result (Prints (source_text source.now) [] sink.old sink.new) }
+{
+    write!(sink.text, "; type Source = {source}; ")?;
+    Ok(())
+}
+
+/// Appends the type of errors, and the gap after it.
+fn push_error(alloc: Global, sink: &mut Sink, around: Around<'_, '_>) -> Result<(), Memory>
+    ensures { OnOk result (Prints
+        (error_type_text (option_map type_tree (option_copied around.entry.error_type))
+        (option_map tokens_of around.entry.error))
+        (error_type_runs (option_map type_tree (option_copied around.entry.error_type))
+        (option_map tokens_of around.entry.error)) sink.old sink.new) }
+{
+    match around.error_type {
+        Some(error) => push_read_type(alloc, sink, error, around.error),
+        None => push_type(alloc, sink, around.error),
+    }
+}
+
+/// Appends a type that was read from tokens, and the gap after these. Where it is printed as they
+/// are, they are a piece.
+fn push_read_type(
+    alloc: Global,
+    sink: &mut Sink,
+    expr: &TypeExpr<'_>,
+    tokens: Option<Tokens<'_, '_>>,
+) -> Result<(), Memory>
+    ensures { OnOk result (Prints
+        (read_type_text (type_tree expr.now) (option_map tokens_of tokens.entry))
+        (read_type_runs (type_tree expr.now) (option_map tokens_of tokens.entry))
+        sink.old sink.new) }
+{
+    let printed = print_type(alloc, expr)?;
+    match tokens {
+        Some(run) => push_typed_run(alloc, sink, printed.as_str(), run),
+        None => {
+            sink.push(printed.as_str())?;
+            sink.push(" ")?;
+            Ok(())
+        }
+    }
+}
+
+/// Appends the printed form of a type that was read from tokens, and the gap after these.
+fn push_typed_run(
+    alloc: Global,
+    sink: &mut Sink,
+    printed: &str,
+    run: Tokens<'_, '_>,
+) -> Result<(), Memory>
+    ensures { OnOk result (Prints (printed.now ++ gap_after [] (tokens_of run.entry))
+        (typed_runs printed.now (tokens_of run.entry)) sink.old sink.new) }
+{
+    let text = print(alloc, run)?;
+    if text.as_str() == printed {
+        sink.push_run(alloc, run)?;
+        return Ok(());
+    }
+    sink.push(printed)?;
+    sink.push(gap_after(run))?;
+    Ok(())
+}
+
+/// Appends a type that is not read, and the gap after it.
+fn push_type(alloc: Global, sink: &mut Sink, tokens: Option<Tokens<'_, '_>>) -> Result<(), Memory>
+    ensures { OnOk result (Prints (type_text (option_map tokens_of tokens.entry))
+        (option_runs (option_map tokens_of tokens.entry)) sink.old sink.new) }
+{
+    match tokens {
+        Some(run) => sink.push_run(alloc, run),
+        None => sink.push("( ) "),
+    }
+}
+
 /// Appends the signature of the function that lexes.
-fn push_signature(text: &mut String, core: &str, logos: &str) -> Result<(), Memory>
-    ensures { OnOk result (string_bytes text.new
-        ≡ string_bytes text.old ++ signature_text core.now logos.now) }
+fn push_signature(
+    alloc: Global,
+    sink: &mut Sink,
+    core: &str,
+    library: Option<Tokens<'_, '_>>,
+) -> Result<(), Memory>
+    ensures { OnOk result (Prints
+        (signature_text core.now (library_text (option_map tokens_of library.entry)))
+        (library_twice (option_map tokens_of library.entry)) sink.old sink.new) }
+{
+    sink.push("fn lex ( lex : & mut ")?;
+    push_library(alloc, sink, library)?;
+    push_answer(sink, core)?;
+    push_library(alloc, sink, library)?;
+    sink.push(":: Logos < 's >> :: Error >> { ")?;
+    Ok(())
+}
+
+/// Appends the type of the lexer and the result type of the function that lexes, up to the library.
+fn push_answer(sink: &mut Sink, core: &str) -> Result<(), Memory>
+    ensures { OnOk result (Prints (answer_text core.now) [] sink.old sink.new) }
 {
     write!(
-        text,
-        "fn lex ( lex : & mut {logos}:: Lexer < 's , Self > ) -> {core}:: option :: Option < {core}:: result :: Result < Self , < Self as {logos}:: Logos < 's >> :: Error >> {{ "
+        sink.text,
+        ":: Lexer < 's , Self > ) -> {core}:: option :: Option < {core}:: result :: Result < Self , < Self as "
     )?;
     Ok(())
 }
 
 /// Appends the imports of the names that the body uses.
-fn push_uses(text: &mut String, core: &str, logos: &str, this: &str) -> Result<(), Memory>
-    ensures { OnOk result (string_bytes text.new
-        ≡ string_bytes text.old ++ uses_text core.now logos.now this.now) }
+fn push_uses(
+    alloc: Global,
+    sink: &mut Sink,
+    core: &str,
+    library: Option<Tokens<'_, '_>>,
+    this: &str,
+) -> Result<(), Memory>
+    ensures { OnOk result (Prints
+        (uses_text core.now (library_text (option_map tokens_of library.entry)) this.now)
+        (uses_runs (option_map tokens_of library.entry)) sink.old sink.new) }
 {
-    push_internals(text, logos)?;
-    push_core(text, core)?;
-    push_lexer(text, logos, this)?;
+    push_internals(alloc, sink, library)?;
+    push_core(sink, core)?;
+    push_lexer(alloc, sink, library, this)?;
     Ok(())
 }
 
-/// Appends the import of what the library has for the body alone.
-fn push_internals(text: &mut String, logos: &str) -> Result<(), Memory>
-    ensures { OnOk result (string_bytes text.new
-        ≡ string_bytes text.old ++ internals_text logos.now) }
+/// Appends the import of the items of the library that only the body uses.
+fn push_internals(
+    alloc: Global,
+    sink: &mut Sink,
+    library: Option<Tokens<'_, '_>>,
+) -> Result<(), Memory>
+    ensures { OnOk result (Prints (internals_text (library_text (option_map tokens_of library.entry)))
+        (option_runs (option_map tokens_of library.entry)) sink.old sink.new) }
 {
-    write!(
-        text,
-        "use {logos}:: internal :: {{ LexerInternal , CallbackRetVal , CallbackResult , SkipRetVal , SkipResult , }} ; "
+    sink.push("use ")?;
+    push_library(alloc, sink, library)?;
+    sink.push(
+        ":: internal :: { LexerInternal , CallbackRetVal , CallbackResult , SkipRetVal , SkipResult , } ; ",
     )?;
     Ok(())
 }
 
 /// Appends the imports of types of Rust's `core`.
-fn push_core(text: &mut String, core: &str) -> Result<(), Memory>
-    ensures { OnOk result (string_bytes text.new ≡ string_bytes text.old ++ core_text core.now) }
+fn push_core(sink: &mut Sink, core: &str) -> Result<(), Memory>
+    ensures { OnOk result (Prints (core_text core.now) [] sink.old sink.new) }
 {
     write!(
-        text,
+        sink.text,
         "use {core}:: result :: Result as _Result ; use {core}:: option :: Option as _Option ; "
     )?;
     Ok(())
 }
 
 /// Appends the import of `Logos`, and the type of the lexer.
-fn push_lexer(text: &mut String, logos: &str, this: &str) -> Result<(), Memory>
-    ensures { OnOk result (string_bytes text.new
-        ≡ string_bytes text.old ++ lexer_text logos.now this.now) }
+fn push_lexer(
+    alloc: Global,
+    sink: &mut Sink,
+    library: Option<Tokens<'_, '_>>,
+    this: &str,
+) -> Result<(), Memory>
+    ensures { OnOk result (Prints
+        (lexer_text (library_text (option_map tokens_of library.entry)) this.now)
+        (library_twice (option_map tokens_of library.entry)) sink.old sink.new) }
 {
-    write!(
-        text,
-        "use {logos}:: Logos ; type _Lexer < 's > = {logos}:: Lexer < 's , {this} > ; "
-    )?;
+    sink.push("use ")?;
+    push_library(alloc, sink, library)?;
+    sink.push(":: Logos ; type _Lexer < 's > = ")?;
+    push_library(alloc, sink, library)?;
+    push_lexer_end(sink, this)?;
+    Ok(())
+}
+
+/// Appends the rest of the type of the lexer, after the path of the library.
+fn push_lexer_end(sink: &mut Sink, this: &str) -> Result<(), Memory>
+    ensures { OnOk result (Prints (lexer_end_text this.now) [] sink.old sink.new) }
+{
+    write!(sink.text, ":: Lexer < 's , {this} > ; ")?;
+    Ok(())
+}
+
+/// Appends the import of the items of the library that a lexer by tables uses.
+pub(crate) fn push_tables_use(
+    alloc: Global,
+    sink: &mut Sink,
+    library: Option<Tokens<'_, '_>>,
+) -> Result<(), Memory>
+    ensures { OnOk result (Prints (tables_use_text (library_text (option_map tokens_of library.entry)))
+        (option_runs (option_map tokens_of library.entry)) sink.old sink.new) }
+{
+    sink.push("use ")?;
+    push_library(alloc, sink, library)?;
+    sink.push(":: internal :: { _Data , _Ranges , _Tables , _Unpacked } ; ")?;
     Ok(())
 }

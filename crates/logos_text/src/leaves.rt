@@ -1,42 +1,31 @@
-//! Prints the leaves, and what the lexer does with their matches. `code` calls it once for all
-//! leaves.
+//! Prints the leaves, and the results of their matches. `code` calls it once for all leaves.
 
-ghost use Rattle.std.specs.Prelude.{◌≡◌, ◌++◌, OnOk, codes, string_bytes};
-ghost use Rattle.logos_text.specs.Words.{leaf_name_text, leaf_names_text, Grows, numbered};
+ghost use Rattle.std.specs.Prelude.{[], OnOk, string_bytes};
+ghost use Rattle.logos_text.specs.Views.{Grows, Notes, flat_map, kind_runs, kind_value, leaf_runs, variant_runs};
 
 use crate::callbacks::push_call;
 use crate::names::Names;
-use crate::pieces::{comma_before, push, push_str};
+use crate::pieces::{comma_before, push};
+use crate::sink::Sink;
 use logos_code::code::CodeLeaf;
 use logos_pattern::leaf::VariantKind;
 use logos_token::error::Memory;
+use logos_token::token::Ident;
 use logos_type::print_type;
 use std::alloc::Global;
 
-/// Appends the enum of the leaves, each with its number. It derives these traits.
-pub(crate) fn push_leaf_names(text: &mut String, derives: &str, count: usize) -> Result<(), Memory>
-    ensures { OnOk result (string_bytes text.new
-        ≡ string_bytes text.old ++ leaf_names_text derives.now count) }
+/// Appends the enum of the leaves, each with its number.
+pub(crate) fn push_leaf_names(text: &mut String, count: usize) -> Result<(), Memory>
+    ensures { OnOk result (Grows (string_bytes text.old) (string_bytes text.new)) }
 {
-    push_leaf_head(text, derives)?;
+    push(text, "# [ derive ( Clone , Copy ) ] enum LogosLeaf { ")?;
     push_each_leaf_name(text, count)?;
-    push_str(text, "} ")?;
-    Ok(())
+    push(text, "} ")
 }
 
-/// Appends the head of the enum of the leaves.
-fn push_leaf_head(text: &mut String, derives: &str) -> Result<(), Memory>
-    ensures { OnOk result (string_bytes text.new ≡ string_bytes text.old
-        ++ (codes "# [ derive ( " ++ derives.now ++ codes " ) ] enum LogosLeaf { ")) }
-{
-    write!(text, "# [ derive ( {derives} ) ] enum LogosLeaf {{ ")?;
-    Ok(())
-}
-
-/// Appends the variants of so many leaves.
+/// Appends the variants of `count` leaves.
 fn push_each_leaf_name(text: &mut String, count: usize) -> Result<(), Memory>
-    ensures { OnOk result (string_bytes text.new
-        ≡ string_bytes text.old ++ numbered leaf_name_text 0 count) }
+    ensures { OnOk result (Grows (string_bytes text.old) (string_bytes text.new)) }
 {
     for leaf in 0..count {
         push_leaf_name(text, leaf)?;
@@ -46,189 +35,204 @@ fn push_each_leaf_name(text: &mut String, count: usize) -> Result<(), Memory>
 
 /// Appends the variant of a leaf with its number.
 fn push_leaf_name(text: &mut String, leaf: usize) -> Result<(), Memory>
-    ensures { OnOk result (string_bytes text.new ≡ string_bytes text.old ++ leaf_name_text leaf) }
+    ensures { OnOk result (Grows (string_bytes text.old) (string_bytes text.new)) }
 {
     let comma = comma_before(leaf);
     write!(text, "{comma}Leaf{leaf} = {leaf}isize ")?;
     Ok(())
 }
 
-/// Appends the function `_get_action`, which returns what a match, or an error, gives.
+/// Appends the function `_get_action`, which returns the result of a match or an error.
 pub(crate) fn push_get_action(
     alloc: Global,
-    text: &mut String,
+    sink: &mut Sink,
     leaves: &[CodeLeaf<'_>],
     names: Names<'_>,
 ) -> Result<(), Memory>
-    ensures { OnOk result (Grows (string_bytes text.old) (string_bytes text.new)) }
+    ensures { OnOk result (Notes (flat_map (leaf_runs names.entry.name) leaves.now)
+        sink.old sink.new) }
 {
     let this = names.this;
-    let options = names.core.options;
     write!(
-        text,
-        "# [ inline ] fn _get_action < 's > ( lex : & mut _Lexer < 's > , offset : usize , context : _Option < LogosLeaf > ) -> CallbackResult < 's , {this} > {{ match context {{ {options}None => {{ lex . end_to_boundary ( offset . max ( lex . offset ( ) + 1 ) ) ; CallbackResult :: Error ( _make_error ( lex ) ) }} , "
+        sink.text,
+        "# [ inline ] fn _get_action < 's > ( lex : & mut _Lexer < 's > , offset : usize , context : _Option < LogosLeaf > ) -> CallbackResult < 's , {this} > {{ match context {{ None => {{ lex . end_to_boundary ( offset . max ( lex . offset ( ) + 1 ) ) ; CallbackResult :: Error ( _make_error ( lex ) ) }} , "
     )?;
-    push_arms(alloc, text, leaves, names)?;
-    push(text, "} } ")
+    push_arms(alloc, sink, leaves, names)?;
+    sink.push("} } ")?;
+    Ok(())
 }
 
 /// Appends the match arms of all leaves.
 fn push_arms(
     alloc: Global,
-    text: &mut String,
+    sink: &mut Sink,
     leaves: &[CodeLeaf<'_>],
     names: Names<'_>,
 ) -> Result<(), Memory>
-    ensures { OnOk result (Grows (string_bytes text.old) (string_bytes text.new)) }
+    ensures { OnOk result (Notes (flat_map (leaf_runs names.entry.name) leaves.now)
+        sink.old sink.new) }
 {
     if leaves.is_empty() {
-        return push_no_arm(text, names);
+        return push_no_arm(sink);
     }
     for n in 0..leaves.len() {
-        push_arm(alloc, text, n, &leaves[n], names)?;
+        push_arm(alloc, sink, n, &leaves[n], names)?;
     }
     Ok(())
 }
 
 /// Appends the match arm where there are no leaves.
-fn push_no_arm(text: &mut String, names: Names<'_>) -> Result<(), Memory>
-    ensures { OnOk result (Grows (string_bytes text.old) (string_bytes text.new)) }
+fn push_no_arm(sink: &mut Sink) -> Result<(), Memory>
+    ensures { OnOk result (Notes [] sink.old sink.new) }
 {
-    let options = names.core.options;
-    let macros = names.core.macros;
-    write!(
-        text,
-        "{options}Some ( _ ) => {macros}unreachable ! ( \"There are no matchable tokens\" ) , "
-    )?;
-    Ok(())
+    sink.push("Some ( _ ) => unreachable ! ( \"There are no matchable tokens\" ) , ")
 }
 
 /// Appends the match arm of leaf number n.
 fn push_arm(
     alloc: Global,
-    text: &mut String,
+    sink: &mut Sink,
     n: usize,
     leaf: &CodeLeaf<'_>,
     names: Names<'_>,
 ) -> Result<(), Memory>
-    ensures { OnOk result (Grows (string_bytes text.old) (string_bytes text.new)) }
+    ensures { OnOk result (Notes (leaf_runs names.entry.name leaf.now) sink.old sink.new) }
 {
     let comma = comma_before(n);
-    let options = names.core.options;
-    write!(text, "{comma}{options}Some ( LogosLeaf :: Leaf{n} ) => {{ ")?;
-    push_leaf(alloc, text, leaf, names)?;
-    push(text, "} ")
+    write!(sink.text, "{comma}Some ( LogosLeaf :: Leaf{n} ) => {{ ")?;
+    push_leaf(alloc, sink, leaf, names)?;
+    sink.push("} ")?;
+    Ok(())
 }
 
-/// Appends the body of a leaf's arm: the call of its callback, if it has one, and what a match
-/// gives.
-fn push_leaf(
+/// Appends the body of a leaf's arm: the call of its callback, if it has one, and the result of a
+/// match.
+pub(crate) fn push_leaf(
     alloc: Global,
-    text: &mut String,
+    sink: &mut Sink,
     leaf: &CodeLeaf<'_>,
     names: Names<'_>,
 ) -> Result<(), Memory>
-    ensures { OnOk result (Grows (string_bytes text.old) (string_bytes text.new)) }
+    ensures { OnOk result (Notes (leaf_runs names.entry.name leaf.now) sink.old sink.new) }
 {
     let Some(callback) = &leaf.callback else {
-        return push_plain(text, &leaf.kind, names);
+        return push_plain(sink, &leaf.kind, names);
     };
-    push(text, "let cb_result = ")?;
-    push_call(alloc, text, callback)?;
-    push(text, "; ")?;
-    push_result(alloc, text, &leaf.kind, names)
+    sink.note_call(callback)?;
+    sink.push("let cb_result = ")?;
+    push_call(alloc, sink, callback)?;
+    sink.push("; ")?;
+    push_result(alloc, sink, &leaf.kind, names)?;
+    Ok(())
 }
 
-/// Appends what a match gives if the leaf has no callback.
-fn push_plain(text: &mut String, kind: &VariantKind<'_>, names: Names<'_>) -> Result<(), Memory>
-    ensures { OnOk result (Grows (string_bytes text.old) (string_bytes text.new)) }
+/// Appends the result of a match of a leaf without a callback.
+fn push_plain(sink: &mut Sink, kind: &VariantKind<'_>, names: Names<'_>) -> Result<(), Memory>
+    ensures { OnOk result (Notes (kind_runs names.entry.name (kind_value kind.now)) sink.old sink.new) }
 {
     match kind {
-        VariantKind::Skip => push(text, "CallbackResult :: Skip "),
-        VariantKind::Unit(variant) => push_unit(text, variant.text, names),
-        VariantKind::Value(variant, _) => push_value(text, variant.text, names),
+        VariantKind::Skip => sink.push("CallbackResult :: Skip "),
+        VariantKind::Unit(variant) => push_unit(sink, *variant, names),
+        VariantKind::Value(variant, _) => push_value(sink, *variant, names),
     }
 }
 
-/// Appends that a match gives a variant without a field.
-fn push_unit(text: &mut String, variant: &str, names: Names<'_>) -> Result<(), Memory>
-    ensures { OnOk result (Grows (string_bytes text.old) (string_bytes text.new)) }
+/// Appends the result of a match that is a variant without a field.
+fn push_unit(sink: &mut Sink, variant: Ident<'_>, names: Names<'_>) -> Result<(), Memory>
+    ensures { OnOk result (Notes (variant_runs names.entry.name variant.entry) sink.old sink.new) }
 {
-    let name = names.name;
-    write!(text, "CallbackResult :: Emit ( {name} :: {variant} ) ")?;
+    sink.push("CallbackResult :: Emit ( ")?;
+    push_variant(sink, names.name, variant)?;
+    sink.push(" ) ")?;
     Ok(())
 }
 
-/// Appends that a match gives a variant whose field is the slice that was matched.
-fn push_value(text: &mut String, variant: &str, names: Names<'_>) -> Result<(), Memory>
-    ensures { OnOk result (Grows (string_bytes text.old) (string_bytes text.new)) }
+/// Appends the result of a match that is a variant whose field is the matched slice.
+fn push_value(sink: &mut Sink, variant: Ident<'_>, names: Names<'_>) -> Result<(), Memory>
+    ensures { OnOk result (Notes (variant_runs names.entry.name variant.entry) sink.old sink.new) }
 {
-    let name = names.name;
-    write!(
-        text,
-        "let token = {name} :: {variant} ( lex . slice ( ) ) ; CallbackResult :: Emit ( token ) "
-    )?;
+    sink.push("let token = ")?;
+    push_variant(sink, names.name, variant)?;
+    sink.push(" ( lex . slice ( ) ) ; CallbackResult :: Emit ( token ) ")?;
     Ok(())
 }
 
-/// Appends what a match gives by the callback's answer.
+/// Appends the path of a variant of the enum with a name.
+pub(crate) fn push_variant(
+    sink: &mut Sink,
+    name: Ident<'_>,
+    variant: Ident<'_>,
+) -> Result<(), Memory>
+    ensures { OnOk result (Notes (variant_runs name.entry variant.entry) sink.old sink.new) }
+{
+    sink.push_name(name)?;
+    sink.push(" :: ")?;
+    sink.push_name(variant)?;
+    Ok(())
+}
+
+/// Appends the result of a match, computed from the result of its callback.
 fn push_result(
     alloc: Global,
-    text: &mut String,
+    sink: &mut Sink,
     kind: &VariantKind<'_>,
     names: Names<'_>,
 ) -> Result<(), Memory>
-    ensures { OnOk result (Grows (string_bytes text.old) (string_bytes text.new)) }
+    ensures { OnOk result (Notes (kind_runs names.entry.name (kind_value kind.now)) sink.old sink.new) }
 {
     match kind {
-        VariantKind::Skip => push_skip_result(text, names),
-        VariantKind::Unit(variant) => push_unit_result(text, variant.text, names),
+        VariantKind::Skip => push_skip_result(sink, names),
+        VariantKind::Unit(variant) => push_unit_result(sink, *variant, names),
         VariantKind::Value(variant, field) => {
             let printed = print_type(alloc, field)?;
-            push_value_result(text, variant.text, printed.as_str(), names)
+            push_value_result(sink, *variant, printed.as_str(), names)
         }
     }
 }
 
-/// Appends what a match of a skip gives by the callback's answer.
-fn push_skip_result(text: &mut String, names: Names<'_>) -> Result<(), Memory>
-    ensures { OnOk result (Grows (string_bytes text.old) (string_bytes text.new)) }
+/// Appends the result of a match of a skip, computed from the result of its callback.
+fn push_skip_result(sink: &mut Sink, names: Names<'_>) -> Result<(), Memory>
+    ensures { OnOk result (Notes [] sink.old sink.new) }
 {
     let this = names.this;
     write!(
-        text,
+        sink.text,
         "let srv = SkipRetVal :: < 's , {this} > :: construct ( cb_result ) ; CallbackResult :: from ( srv ) "
     )?;
     Ok(())
 }
 
-/// Appends what a match gives by the callback's answer, of a variant without a field.
-fn push_unit_result(text: &mut String, variant: &str, names: Names<'_>) -> Result<(), Memory>
-    ensures { OnOk result (Grows (string_bytes text.old) (string_bytes text.new)) }
+/// Appends the result of a match, computed from that of its callback, for a variant without a
+/// field.
+fn push_unit_result(sink: &mut Sink, variant: Ident<'_>, names: Names<'_>) -> Result<(), Memory>
+    ensures { OnOk result (Notes (variant_runs names.entry.name variant.entry) sink.old sink.new) }
 {
     let this = names.this;
-    let name = names.name;
     write!(
-        text,
-        "CallbackRetVal :: < 's , ( ) , {this} > :: construct ( cb_result , | ( ) | {name} :: {variant} ) "
+        sink.text,
+        "CallbackRetVal :: < 's , ( ) , {this} > :: construct ( cb_result , | ( ) | "
     )?;
+    push_variant(sink, names.name, variant)?;
+    sink.push(" ) ")?;
     Ok(())
 }
 
-/// Appends what a match gives by the callback's answer, of a variant with a field of this type.
+/// Appends the result of a match, computed from that of its callback, for a variant with a field of
+/// this type.
 fn push_value_result(
-    text: &mut String,
-    variant: &str,
+    sink: &mut Sink,
+    variant: Ident<'_>,
     field: &str,
     names: Names<'_>,
 ) -> Result<(), Memory>
-    ensures { OnOk result (Grows (string_bytes text.old) (string_bytes text.new)) }
+    ensures { OnOk result (Notes (variant_runs names.entry.name variant.entry) sink.old sink.new) }
 {
     let this = names.this;
-    let name = names.name;
     write!(
-        text,
-        "CallbackRetVal :: < 's , {field} , {this} > :: construct ( cb_result , {name} :: {variant} ) "
+        sink.text,
+        "CallbackRetVal :: < 's , {field} , {this} > :: construct ( cb_result , "
     )?;
+    push_variant(sink, names.name, variant)?;
+    sink.push(" ) ")?;
     Ok(())
 }

@@ -1,20 +1,23 @@
-//! Prints a code value as Rust text.
+//! Prints a code value as generated code. Called by `logos_codegen` and `logos_tables`.
 
 #![tactic(auto)]
 
+mod actions;
 mod callbacks;
 mod code;
 mod conditions;
 mod errors;
 mod forks;
+mod gaps;
 mod implementation;
 mod leaves;
 mod macros;
 mod names;
 mod pieces;
+mod sink;
 mod states;
 mod tables;
 
-pub use callbacks::gap_after;
 pub use code::{front_in, text, text_in};
 pub use implementation::Around;
+pub use sink::{Call, Piece, Sink};

@@ -1,7 +1,7 @@
-//! Prints the macros of a lexer. `code` calls it before the states.
+//! Prints the macros of a lexer. Called by `code` before the states.
 
 ghost use Rattle.std.specs.Prelude.{OnOk, string_bytes};
-ghost use Rattle.logos_text.specs.Words.{Grows};
+ghost use Rattle.logos_text.specs.Imports.{Grows};
 
 use crate::names::Names;
 use crate::pieces::push;
@@ -36,8 +36,8 @@ fn push_block_tests(text: &mut String, factor: usize) -> Result<(), Memory>
     Ok(())
 }
 
-/// Appends the macro `_take_action`, which ends a try: it returns an item, or starts the next try
-/// after a skip.
+/// Appends the macro `_take_action`, which ends a match attempt: it returns an item, or begins the
+/// next attempt after a skip.
 pub(crate) fn push_take_action_macro(
     text: &mut String,
     root: usize,

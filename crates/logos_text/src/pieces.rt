@@ -1,7 +1,7 @@
-//! Appends to a text. All printers call it.
+//! Appends to a text. Called by all printers.
 
 ghost use Rattle.std.specs.Prelude.{◌≡◌, ◌==◌, ◌++◌, OnOk, codes, if◌then◌else◌, string_bytes};
-ghost use Rattle.logos_text.specs.Words.{Grows};
+ghost use Rattle.logos_text.specs.Imports.{Grows};
 
 use logos_token::error::Memory;
 
@@ -21,7 +21,7 @@ pub(crate) fn push(text: &mut String, part: &str) -> Result<(), Memory>
     Ok(())
 }
 
-/// Returns the text before item number n of a list: a comma, but nothing before the first.
+/// Returns the text before number `n` of a list: a comma, but nothing before the first.
 pub(crate) fn comma_before(n: usize) -> &'static str
     ensures { result.now ≡ (if n == 0 then codes "" else codes ", ") }
 {

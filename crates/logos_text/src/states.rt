@@ -1,7 +1,7 @@
-//! Prints states. `code` calls it, for a loop over a state variable or a function for each state.
+//! Prints states. Called by `code`, for a loop over a state variable or a function for each state.
 
 ghost use Rattle.std.specs.Prelude.{OnOk, map, string_bytes};
-ghost use Rattle.logos_text.specs.Words.{flat_map, state_of, Adds, Grows, state_texts};
+ghost use Rattle.logos_text.specs.Imports.{flat_map, state_of, Adds, Grows, state_texts};
 
 use crate::conditions::{push_bit, push_transition};
 use crate::forks::push_ways;
@@ -11,7 +11,7 @@ use logos_code::code::{CodeParts, CodeState, Config, Mark};
 use logos_token::error::Memory;
 use std::alloc::Global;
 
-/// Appends the fast loop by the test with this number, if there is one.
+/// Appends the fast loop for the test with this number, if there is one.
 fn push_fast_loop(text: &mut String, fast_loop: Option<usize>) -> Result<(), Memory>
     ensures { OnOk result (Grows (string_bytes text.old) (string_bytes text.new)) }
 {
@@ -23,7 +23,7 @@ fn push_fast_loop(text: &mut String, fast_loop: Option<usize>) -> Result<(), Mem
     push(text, " == 0 } _fast_loop ! ( lex , loop_test , offset ) ; ")
 }
 
-/// Returns what to subtract from the offset to get the end of a match: one byte if its mark is
+/// Returns the text that computes the end of a match from the offset: one byte less if its mark is
 /// late.
 fn distance(late: bool) -> &'static str {
     if late { " - 1" } else { "" }
@@ -45,7 +45,7 @@ fn push_mark(text: &mut String, mark: Option<Mark>) -> Result<(), Memory>
     Ok(())
 }
 
-/// Appends what the root does at the end of the input if no byte was read: it returns `None`.
+/// Appends the step of the root at the end of the input if no byte was read: it returns `None`.
 fn push_nothing_read(text: &mut String, is_root: bool) -> Result<(), Memory>
     ensures { OnOk result (Grows (string_bytes text.old) (string_bytes text.new)) }
 {
@@ -83,7 +83,7 @@ fn push_head(text: &mut String, s: usize, names: Names<'_>) -> Result<(), Memory
     Ok(())
 }
 
-/// Appends what a state does before it looks at a byte.
+/// Appends the steps of a state before it reads a byte.
 fn push_before(
     text: &mut String,
     s: usize,
@@ -101,7 +101,7 @@ fn push_before(
     )
 }
 
-/// Appends what a state does at the end of the input, and what it does when no byte leads on.
+/// Appends the steps of a state at the end of the input, and for bytes that lead to no state.
 fn push_after(
     text: &mut String,
     is_root: bool,

@@ -1,7 +1,7 @@
-//! Prints bit tables. `code` calls it before the states, whose conditions name the tables.
+//! Prints bit tables. Called by `code` before the states, whose conditions name the tables.
 
 ghost use Rattle.std.specs.Prelude.{◌≡◌, ◌++◌, ◌∷◌, [], OnOk, codes, string_bytes};
-ghost use Rattle.logos_text.specs.Words.{flat_map, join_by, entry_text, table_text, table_texts, Adds};
+ghost use Rattle.logos_text.specs.Imports.{flat_map, join_by, entry_text, table_text, table_texts, Adds};
 
 use crate::pieces::{push, push_str};
 use logos_token::error::Memory;

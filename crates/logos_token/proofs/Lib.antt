@@ -1,3 +1,4 @@
 pub mod reading
 pub mod values
 pub mod printing
+pub mod NearLemmas

@@ -1,4 +1,4 @@
--- The names of faults, as they are printed.
+-- The names of faults, as printed.
 use Rattle.std.specs.Prelude.{ℕ, List, codes}
 use Rattle.logos_token.specs.declared.error.fault_code.FaultCode.{FaultCode}
 use Rattle.logos_token.specs.declared.error.fault_code.FaultCode.TheVariants.{Lexical, NotAnEnum, Grammar, TypeUnsupported, TypeSyntax, LimitSource, LimitTokenNesting, LimitTypeNesting, LimitPatternNesting, LimitSize, LimitStates, ManyLifetimes, ConstGeneric, NotTypeParameter, TypeTwice, NoConcreteType, TypeHoldsItself, LogosForm, InvalidNested, UnknownLogos, CrateForm, ErrorTwice, ExportTwice, ExtrasTwice, Utf8Twice, ErrorEmpty, ErrorForm, ExportBytes, ExportForm, ExtrasForm, SkipForm, SkipGroup, SourceOld, SubpatternForm, TypeForm, Utf8Value, Utf8Form, LiteralSyntax, NotText, UnexpectedToken, NamedExpected, PriorityValue, PriorityTwice, GreedyTwice, PriorityForm, GreedyValue, GreedyForm, CallbackValue, CallbackClosure, CallbackBody, CallbackTwice, CallbackForm, IgnoreForm, IgnoreAscii, IgnoreUnknown, IgnoreEmpty, IgnoreToken, UnknownNested, VariantFields, NamedFields, ErrorVariant, TokenForm, RegexForm, Regex, PriorityOverflow, SubpatternName, SubpatternMissing, SubpatternTwice, Utf8Pattern, Utf8Subpattern, EmptyMatch, Disambiguation, NoUniversalStart, GreedyDot, Previous}

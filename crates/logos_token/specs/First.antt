@@ -14,12 +14,12 @@ abbrev pub begins_with : ℕ → TokenList → Bool
 begins_with mark (also (punctuation character spacing span) rest) = character == mark
 begins_with mark run = false
 
--- The tokens after this word, if the run begins with it.
+-- The tokens after this word, if the run begins with the word.
 abbrev pub after_word : List ℕ → TokenList → Option TokenList
 after_word word (also (identifier text span) rest) = if bytes_eq text word then Some rest else None
 after_word word run = None
 
--- Whether punctuation is the first `:` of `::`, by its spacing.
+-- Whether punctuation is the first `:` of `::`, given its spacing.
 abbrev pub is_path_mark : ℕ → Spacing → Bool
 is_path_mark character Joint = character == colon
 is_path_mark character Alone = false

@@ -1,5 +1,5 @@
 -- The flat form of a run of tokens: each group is an entry with the number of entries inside it,
--- and these follow it.
+-- which follow it.
 use Rattle.std.specs.Prelude.{◌≡◌, ℕ, zero, suc, List, [], ◌∷◌, ◌++◌, length, map, take, drop}
 use Rattle.logos_lexeme.specs.declared.lexeme.Span.{Span}
 use Rattle.logos_lexeme.specs.declared.lexeme.Spacing.{Spacing}
@@ -23,7 +23,7 @@ value_of (Literal l) = literal_entry l.text.now l.span
 value_of (Doc d) = doc_entry d.text.now d.span
 value_of (Group delimiter span size) = group_entry delimiter span size
 
--- How many of the next entries belong to an entry.
+-- The number of the next entries that belong to an entry.
 abbrev pub size_of : Entry → ℕ
 size_of (Ident i) = 0
 size_of (Punct p) = 0
@@ -59,7 +59,7 @@ trees_of (suc n) (group_entry delimiter span size ∷ entries) = also (group del
 abbrev pub tokens_in : List Entry → TokenList
 tokens_in entries = trees_of (length entries) (map value_of entries)
 
--- The entries that a group counts lie inside the run, and inside the group around it: the entries
--- are the flat form of tokens.
+-- The entries that a group counts are inside the run, and inside the group around it. The entries
+-- are therefore the flat form of tokens.
 abbrev pub IsFlat : List Entry → Type 0
 IsFlat entries = flat (tokens_in entries) ≡ map value_of entries

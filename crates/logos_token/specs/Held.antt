@@ -16,41 +16,41 @@ pub data Held : Type 0 where
   of_text : List ℕ → Held
   of_bytes : List ℕ → Held
 
--- The bytes that the pieces of a string stand for, from an offset on, if they reach to the offset
--- that closes it; there are at most so many pieces.
+-- The bytes that the pieces of a string denote, from an offset up to the offset at which the string
+-- closes, if the pieces end there. The last number bounds the number of pieces.
 abbrev pub held_from : Bool → Content → (ℕ → Bool) → List ℕ → ℕ → ℕ → Option (List ℕ)
 held_from escapes content closes bytes zero at = None
 held_from escapes content closes bytes (suc most) at =
     if closes at then Some []
     else option_and_then (λ piece. option_map (λ rest. piece.0 ++ rest) (held_from escapes content closes bytes most piece.1)) (piece_at escapes content bytes at)
 
--- Whether a quote stands here.
+-- Whether a quote is here.
 abbrev pub is_quote : List ℕ → ℕ → Bool
 is_quote bytes at = slice_index bytes at == 34
 
--- Whether a quote followed by `count` `#` stands here.
+-- Whether a quote followed by `count` `#` is here.
 abbrev pub is_raw_quote : ℕ → List ℕ → ℕ → Bool
 is_raw_quote count bytes at = (slice_index bytes at == 34) && nat_le count (hashes bytes (at + 1))
 
--- The value of a string with this content; a C string has none.
+-- The value of a string with this content. A C string has none.
 abbrev pub held_as : Content → List ℕ → Option Held
 held_as Characters bytes = Some (of_text bytes)
 held_as Octets bytes = Some (of_bytes bytes)
 held_as C bytes = None
 
--- The value of the string that opens so at the start of a text; a text has no more pieces than
--- bytes.
+-- The value of the string at the start of a text that opens in this way. A text has no more pieces
+-- than bytes.
 abbrev pub held_in : List ℕ → Opening → Option Held
 held_in text (Quotes content) = option_and_then (held_as content) (held_from true content (is_quote text) text (length text) (body_of (Quotes content) 0))
 held_in text (Raw content count) = option_and_then (held_as content) (held_from false content (is_raw_quote count text) text (length text) (body_of (Raw content count) 0))
 held_in text _ = None
 
--- The value of the string or byte string with which a text begins, if it begins with one that keeps
--- to its rules.
+-- The value of the string or byte string at the start of a text, if the text begins with a
+-- well-formed one.
 abbrev pub held : List ℕ → Option Held
 held text = held_in text (opening_at text 0)
 
--- The value that a `LiteralValue` stands for.
+-- The value that a `LiteralValue` represents.
 abbrev pub held_value : LiteralValue → Held
 held_value (Text value) = of_text (string_bytes value)
 held_value (Bytes value) = of_bytes value.items

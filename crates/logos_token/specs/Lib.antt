@@ -1,5 +1,6 @@
 pub mod LiteralValues
 pub mod Limits
+pub mod Near
 pub mod Held
 pub mod Tokens
 pub mod Flat
@@ -19,5 +20,5 @@ pub mod FaultView
 pub mod EscapedTexts
 pub mod Rendering
 pub mod inside
-pub mod Words
-pub mod ViewWords
+pub mod Imports
+pub mod ViewImports

@@ -5,7 +5,7 @@ use Rattle.logos_token.specs.declared.util.MaybeVoid.TheVariants.{Some, Void}
 use Rattle.logos_token.specs.Views.{stream_tokens}
 use Rattle.logos_token.specs.Printing.{printed}
 
--- The text of a run, and `()` where there is none.
+-- The text of a run, or `()` if there is none.
 abbrev pub maybe_printed : MaybeVoid → List ℕ
 maybe_printed (Some stream) = printed (stream_tokens stream)
 maybe_printed Void = codes "( )"

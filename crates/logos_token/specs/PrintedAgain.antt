@@ -6,7 +6,7 @@ use Rattle.logos_lexeme.specs.declared.lexeme.Delimiter.{Delimiter}
 use Rattle.logos_token.specs.Tokens.{Token, identifier, punctuation, literal, doc, group, TokenList, none, also, append}
 use Rattle.logos_token.specs.Spelling.{Spells}
 
--- The span of a token that stands nowhere.
+-- The span of a token that is not in the source.
 abbrev pub no_span : Span
 no_span = record { from = 0; to = 0 }
 
@@ -24,18 +24,19 @@ abbrev mutual
   bare none = none
   bare (also token rest) = also (bare_token token) (bare rest)
 
--- The bytes spell these tokens, apart from spans.
+-- The bytes spell these tokens, apart from their spans.
 pub record SpellsAgain (bytes : List ℕ) (tokens : TokenList) : Type 0 where
   pub again : TokenList
   pub spelled : Spells bytes again
   pub same : bare again ≡ bare tokens
 
--- The run is neighbouring tokens of these, or of those inside one of their groups, at any depth.
+-- The run consists of neighboring tokens of these, or of tokens inside one of their groups, at any
+-- depth.
 pub data IsRunOf (run : TokenList) : TokenList → Type 0 where
   here : {tokens : TokenList} (front back : TokenList) → tokens ≡ append front (append run back) → IsRunOf run tokens
   within : {tokens : TokenList} (front : TokenList) (delimiter : Delimiter) (span : Span) (inside back : TokenList) → tokens ≡ append front (also (group delimiter span inside) back) → IsRunOf run inside → IsRunOf run tokens
 
--- The last token of the run is punctuation that is joint to what follows it.
+-- The last token of the run is punctuation that is joint to the token after it.
 pub record EndsJoint (run : TokenList) : Type 0 where
   pub front : TokenList
   pub character : ℕ

@@ -1,5 +1,5 @@
--- The printed text of tokens: their lexemes with a space between each two, no space after joint
--- punctuation, and LF after a line comment.
+-- The printed text of tokens: their lexemes, separated by one space, without a space after joint
+-- punctuation, and with LF after a line comment.
 use Rattle.std.specs.Prelude.{ℕ, Bool, false, ◌==◌, List, [], ◌∷◌, ◌++◌, codes, fold, if◌then◌else◌}
 use Rattle.std.specs.Char.{encode_utf8}
 use Rattle.logos_lexeme.specs.declared.lexeme.Spacing.{Spacing}
@@ -58,7 +58,7 @@ pub record Printed : Type 0 where
   pub text : List ℕ
   pub gap : List ℕ
 
--- What is printed after one more lexeme, with the gap before it.
+-- The text after one more lexeme is printed, with the gap before it.
 abbrev pub print_part : Printed → Part → Printed
 print_part printed part = record { text = (printed.text ++ printed.gap) ++ part.text; gap = part.gap }
 

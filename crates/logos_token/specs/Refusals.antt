@@ -5,15 +5,15 @@ use Rattle.logos_token.specs.declared.token.reader.TokenError.TheVariants.{Lexic
 use Rattle.logos_token.specs.Tokens.{TokenList, depth_of}
 use Rattle.logos_token.specs.Spelling.{Spells, IsUnreadable, IsTooDeep}
 
--- What an error says about the source.
+-- The condition on the source under which an error is returned.
 abbrev pub IsRefusal : List ℕ → TokenError → Type 0
 IsRefusal bytes (Lexical kind span) = IsUnreadable bytes kind span
 IsRefusal bytes LimitSource = 16777216 < length bytes
 IsRefusal bytes (LimitTokenNesting span) = IsTooDeep bytes span
 IsRefusal bytes Memory = Unit {0}
 
--- A source with a lexical fault spells no tokens, and one that nests too deep spells only tokens
--- that nest too deep.
+-- A source with a lexical fault spells no tokens, and one that is nested too deeply spells only
+-- tokens that are nested too deeply.
 abbrev pub SpellsNothing : List ℕ → TokenError → Type 0
 SpellsNothing bytes (Lexical kind span) = (tokens : TokenList) → Spells bytes tokens → ⊥
 SpellsNothing bytes LimitSource = Unit {0}

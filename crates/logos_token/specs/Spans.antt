@@ -2,7 +2,7 @@
 use Rattle.std.specs.Prelude.{ℕ, ◌≤◌, List, IsCharBoundary}
 use Rattle.logos_lexeme.specs.declared.lexeme.Span.{Span}
 
--- The span is one of the text: its ends are between characters, and in order.
+-- The span is a span of the text: its ends are character boundaries, in order.
 pub record IsSpanOf (text : List ℕ) (span : Span) : Type 0 where
   pub order : span.from ≤ span.to
   pub begins : IsCharBoundary text span.from

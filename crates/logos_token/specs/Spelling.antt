@@ -1,5 +1,5 @@
--- The tokens that a source spells: the source is a row of pieces, and these are the lexemes of the
--- tokens.
+-- The tokens that a source spells: the source is a sequence of pieces, and these are the lexemes of
+-- the tokens.
 use Rattle.std.specs.Prelude.{◌≡◌, ℕ, ◌+◌, ◌-◌, ◌<◌, ◌≤◌, max, Bool, true, false, List, [], ◌∷◌, ◌++◌, length, slice_index, slice_range, Option, Some, None, if◌then◌else◌}
 use Rattle.logos_lexeme.specs.declared.lexeme.Span.{Span}
 use Rattle.logos_lexeme.specs.declared.lexeme.Delimiter.{Delimiter}
@@ -16,7 +16,7 @@ pub record Piece : Type 0 where
   pub kind : LexemeKind
   pub span : Span
 
--- The source has these pieces one after another, from one byte offset to another.
+-- The source from one byte offset to another is these pieces, in order.
 abbrev pub Pieces : List ℕ → ℕ → List Piece → ℕ → Type 0
 Pieces bytes from [] to = from ≡ to
 Pieces bytes from (piece ∷ rest) to = (piece.span.from ≡ from) × IsNext bytes from piece.kind piece.span.to × Pieces bytes piece.span.to rest to
@@ -56,27 +56,27 @@ abbrev mutual
   lexemes none = []
   lexemes (also token rest) = token_lexemes token ++ lexemes rest
 
--- The source spells these tokens: it is a row of pieces, and their lexemes are the lexemes of the
--- tokens.
+-- The source spells these tokens: it is a sequence of pieces, and their lexemes are the lexemes of
+-- the tokens.
 pub record Spells (bytes : List ℕ) (tokens : TokenList) : Type 0 where
   pub pieces : List Piece
   pub filled : Pieces bytes 0 pieces (length bytes)
   pub nested : lexemes tokens ≡ seen bytes pieces
 
 abbrev mutual
-  -- A token stands at or after this byte offset. It is not empty, its text is the source at its
-  -- span, and the tokens inside a group stand between its delimiters.
-  pub TokenStands : List ℕ → ℕ → Token → Type 0
-  TokenStands bytes from (identifier text span) = (from ≤ span.from) × (span.from < span.to) × (text ≡ slice_range bytes span.from span.to)
-  TokenStands bytes from (punctuation character spacing span) = (from ≤ span.from) × (span.from < span.to) × (character ≡ slice_index bytes span.from)
-  TokenStands bytes from (literal text span) = (from ≤ span.from) × (span.from < span.to) × (text ≡ slice_range bytes span.from span.to)
-  TokenStands bytes from (doc text span) = (from ≤ span.from) × (span.from < span.to) × (text ≡ slice_range bytes span.from span.to)
-  TokenStands bytes from (group delimiter span inside) = (from ≤ span.from) × (span.from < span.to) × RunStands bytes (span.from + 1) inside (span.to - 1)
+  -- A token is at or after this byte offset. It is not empty, its text is the source at its span,
+  -- and the tokens inside a group are between its delimiters.
+  pub TokenOccurs : List ℕ → ℕ → Token → Type 0
+  TokenOccurs bytes from (identifier text span) = (from ≤ span.from) × (span.from < span.to) × (text ≡ slice_range bytes span.from span.to)
+  TokenOccurs bytes from (punctuation character spacing span) = (from ≤ span.from) × (span.from < span.to) × (character ≡ slice_index bytes span.from)
+  TokenOccurs bytes from (literal text span) = (from ≤ span.from) × (span.from < span.to) × (text ≡ slice_range bytes span.from span.to)
+  TokenOccurs bytes from (doc text span) = (from ≤ span.from) × (span.from < span.to) × (text ≡ slice_range bytes span.from span.to)
+  TokenOccurs bytes from (group delimiter span inside) = (from ≤ span.from) × (span.from < span.to) × RunOccurs bytes (span.from + 1) inside (span.to - 1)
 
-  -- The tokens of a run stand in order between these byte offsets.
-  pub RunStands : List ℕ → ℕ → TokenList → ℕ → Type 0
-  RunStands bytes from none to = from ≤ to
-  RunStands bytes from (also token rest) to = TokenStands bytes from token × RunStands bytes (span_of token).to rest to
+  -- The tokens of a run are between these byte offsets, in order.
+  pub RunOccurs : List ℕ → ℕ → TokenList → ℕ → Type 0
+  RunOccurs bytes from none to = from ≤ to
+  RunOccurs bytes from (also token rest) to = TokenOccurs bytes from token × RunOccurs bytes (span_of token).to rest to
 
 -- Whether the second delimiter closes the first.
 abbrev pub is_partner : Delimiter → Delimiter → Bool
@@ -91,7 +91,8 @@ is_partner Brace Parenthesis = false
 is_partner Brace Bracket = false
 
 -- The delimiters that are open after the lexemes, innermost first, with their byte offsets. The
--- first argument has those that are open before them. `None` if one closes what is not its partner.
+-- first argument holds the delimiters that are open before the lexemes. `None` if a delimiter
+-- closes one that is not its partner.
 abbrev pub opened : List (Delimiter × ℕ) → List Lexeme → Option (List (Delimiter × ℕ))
 opened around [] = Some around
 opened around (leaf token ∷ rest) = opened around rest
@@ -106,15 +107,15 @@ most_open n (leaf token ∷ rest) = most_open n rest
 most_open n (opens delimiter from ∷ rest) = most_open (n + 1) rest
 most_open n (closes delimiter to ∷ rest) = max n (most_open (n - 1) rest)
 
--- The source up to this byte offset is a row of pieces. These delimiters are open there, and no
--- fault and no limit was met before it.
+-- The source up to this byte offset is a sequence of pieces. These delimiters are open there, and
+-- there is no fault before it and no limit is exceeded.
 pub record IsFront (bytes : List ℕ) (to : ℕ) (around : List (Delimiter × ℕ)) : Type 0 where
   pub pieces : List Piece
   pub filled : Pieces bytes 0 pieces to
   pub nested : opened [] (seen bytes pieces) ≡ Some around
   pub shallow : most_open 0 (seen bytes pieces) ≤ 128
 
--- After a row of pieces no further piece begins.
+-- No further piece begins after a sequence of pieces.
 pub record IsBroken (bytes : List ℕ) (kind : LexicalKind) (span : Span) : Type 0 where
   pub at : ℕ
   pub around : List (Delimiter × ℕ)
@@ -122,7 +123,8 @@ pub record IsBroken (bytes : List ℕ) (kind : LexicalKind) (span : Span) : Type
   pub inside : at < length bytes
   pub stuck : IsStuck bytes at kind span
 
--- After a row of pieces a delimiter closes nothing, or something that is not its partner.
+-- After a sequence of pieces a delimiter closes nothing, or closes a delimiter that is not its
+-- partner.
 pub record IsUnmatched (bytes : List ℕ) (span : Span) : Type 0 where
   pub around : List (Delimiter × ℕ)
   pub delimiter : Delimiter
@@ -130,7 +132,7 @@ pub record IsUnmatched (bytes : List ℕ) (span : Span) : Type 0 where
   pub piece : IsNext bytes span.from (Closing delimiter) span.to
   pub apart : opened around (closes delimiter span.to ∷ []) ≡ None
 
--- At the end of the source this delimiter is open, and it is the innermost one.
+-- At the end of the source this delimiter is open, and it is the innermost open one.
 pub record IsUnclosed (bytes : List ℕ) (span : Span) : Type 0 where
   pub around : List (Delimiter × ℕ)
   pub delimiter : Delimiter
@@ -143,7 +145,7 @@ pub data IsUnreadable (bytes : List ℕ) : LexicalKind → Span → Type 0 where
   unmatched : {span : Span} → IsUnmatched bytes span → IsUnreadable bytes Unbalanced span
   unclosed : {span : Span} → IsUnclosed bytes span → IsUnreadable bytes Unbalanced span
 
--- After a row of pieces with as many open delimiters as are allowed, another one opens.
+-- After a sequence of pieces with as many open delimiters as the limit allows, another one opens.
 pub record IsTooDeep (bytes : List ℕ) (span : Span) : Type 0 where
   pub around : List (Delimiter × ℕ)
   pub delimiter : Delimiter

@@ -14,7 +14,7 @@ mutual
     -- The span reaches from the opening delimiter to the closing one.
     group : (delimiter : Delimiter) (span : Span) (inside : TokenList) → Token
 
-  -- A run of tokens: none, or a token and more after it.
+  -- A run of tokens: empty, or a token and the run after it.
   pub data TokenList : Type 0 where
     none : TokenList
     also : Token → TokenList → TokenList
@@ -72,7 +72,7 @@ pub record IsRestOf (run rest : TokenList) : Type 0 where
   pub is : run ≡ append front rest
 
 abbrev mutual
-  -- How many groups stand inside one another in a token, which counts itself.
+  -- The number of groups nested inside one another in a token, which counts itself.
   pub token_depth : Token → ℕ
   token_depth (identifier text span) = 0
   token_depth (punctuation character spacing span) = 0
@@ -80,7 +80,7 @@ abbrev mutual
   token_depth (doc text span) = 0
   token_depth (group delimiter span inside) = 1 + depth_of inside
 
-  -- How many groups stand inside one another in a run.
+  -- The number of groups nested inside one another in a run.
   pub depth_of : TokenList → ℕ
   depth_of none = 0
   depth_of (also token rest) = max (token_depth token) (depth_of rest)

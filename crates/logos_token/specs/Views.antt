@@ -1,4 +1,4 @@
--- The tokens that a buffer and its views stand for.
+-- The tokens that a buffer and its views represent.
 use Rattle.std.specs.Prelude.{List, [], ◌∷◌}
 use Rattle.logos_token.specs.declared.token.views.TokenStream.{TokenStream}
 use Rattle.logos_token.specs.declared.token.views.Tokens.{Tokens}
@@ -34,6 +34,6 @@ abbrev pub listed : TokenList → List Token
 listed none = []
 listed (also token rest) = token ∷ listed rest
 
--- The tokens that an iterator has still to give.
+-- The tokens that an iterator has not returned yet.
 abbrev pub iter_rest : TokenIter → List Token
 iter_rest iter = listed (tokens_of iter.rest)

@@ -1,17 +1,19 @@
 //! The faults found in a source, in the order in which they were found. Every crate that reads a
-//! source adds its faults here.
+//! source adds its faults to an `Errors`.
 
+mod detail;
 mod fault_code;
 mod rendering;
 
 use crate::token::Span;
+pub use detail::{ByteOrigin, Detail, PatternDetail, PatternFront, PatternKind};
 pub use fault_code::FaultCode;
 use std::alloc::{AllocError, AllocFailed, Global};
 use std::error::Error;
 use std::fmt;
 use std::marker::Model;
 
-/// The error of a call for which there was not enough memory.
+/// The error of a call that runs out of memory.
 #[derive(Clone, Copy, Debug, PartialEq, Eq)]
 pub struct Memory;
 
@@ -43,6 +45,8 @@ pub struct SpannedError {
     pub span: Span,
     /// A second span that the fault is about.
     pub also: Option<Span>,
+    /// The detail of the fault.
+    pub detail: Detail,
 }
 
 /// The list of the faults found so far, in the order in which they were found.
@@ -54,18 +58,18 @@ pub struct Errors {
 
 impl Model for Errors {
     ghost use Rattle.std.specs.Prelude.{List};
-    ghost use Rattle.logos_token.specs.ViewWords.{Fault};
+    ghost use Rattle.logos_token.specs.ViewImports.{Fault};
 
     ghost Value = { List Fault };
 
-    ghost use Rattle.logos_token.specs.ViewWords.{faults_of};
+    ghost use Rattle.logos_token.specs.ViewImports.{faults_of};
 
     ghost view = { λ errors. faults_of errors.collected.items };
 }
 
 impl Errors {
     ghost use Rattle.std.specs.Prelude.{◌≡◌, ◌++◌, ◌∷◌, [], OnOk, OnErr, Some, None};
-    ghost use Rattle.logos_token.specs.ViewWords.{faults_of};
+    ghost use Rattle.logos_token.specs.ViewImports.{faults_of};
 
     /// Returns an empty list, which takes its memory from `alloc`.
     pub fn new(alloc: Global) -> Errors
@@ -88,10 +92,35 @@ impl Errors {
           message = message.now;
           span = span;
           also = None;
+          detail = Detail.Plain;
         }) ∷ []) }
         ensures err { OnErr result (self.new ≡ self.old) }
     {
-        self.add(code, message, span, None)
+        self.add(code, message, span, None, Detail::Plain)
+    }
+
+    /// Adds a fault with a detail at the end.
+    ///
+    /// # Errors
+    ///
+    /// Returns `Memory` if memory runs out. The list is then unchanged.
+    pub fn err_with(
+        &mut self,
+        code: FaultCode,
+        message: &str,
+        span: Span,
+        detail: Detail,
+    ) -> Result<(), Memory>
+        ensures ok { OnOk result (self.new ≡ self.old ++ (record {
+          code = code;
+          message = message.now;
+          span = span;
+          also = None;
+          detail = detail;
+        }) ∷ []) }
+        ensures err { OnErr result (self.new ≡ self.old) }
+    {
+        self.add(code, message, span, None, detail)
     }
 
     /// Adds a fault that is about two spans, at the end.
@@ -111,13 +140,14 @@ impl Errors {
           message = message.now;
           span = span;
           also = Some also;
+          detail = Detail.Plain;
         }) ∷ []) }
         ensures err { OnErr result (self.new ≡ self.old) }
     {
-        self.add(code, message, span, Some(also))
+        self.add(code, message, span, Some(also), Detail::Plain)
     }
 
-    /// Adds these faults at the end, in their order.
+    /// Adds the faults of `more` at the end, in their order.
     ///
     /// # Errors
     ///
@@ -149,12 +179,14 @@ impl Errors {
         message: &str,
         span: Span,
         also: Option<Span>,
+        detail: Detail,
     ) -> Result<(), Memory>
         ensures ok { OnOk result (self.new ≡ self.old ++ (record {
           code = code;
           message = message.now;
           span = span;
           also = also;
+          detail = detail;
         }) ∷ []) }
         ensures err { OnErr result (self.new ≡ self.old) }
     {
@@ -164,6 +196,7 @@ impl Errors {
             message,
             span,
             also,
+            detail,
         })?;
         Ok(())
     }

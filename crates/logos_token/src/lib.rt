@@ -1,5 +1,5 @@
-//! Reads a source text into tokens with their spans, collects the faults found in it, and has small
-//! helpers for both.
+//! Reads a source text into tokens with their spans, collects the faults found in it, and provides
+//! small helpers for both. All crates that read sources use it.
 
 #![tactic(auto)]
 

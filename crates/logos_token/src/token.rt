@@ -1,4 +1,4 @@
-//! The tokens of a source text.
+//! The tokens of a source text. `reader` makes them, and `views` provides access to them.
 
 mod entry;
 mod laws;
@@ -36,7 +36,7 @@ pub struct Literal<'s> {
     pub span: Span,
 }
 
-/// A documentation comment, as it stands in the source. A line comment does not include the end of
+/// A documentation comment, as written in the source. A line comment does not include the end of
 /// its line.
 #[derive(Clone, Copy)]
 pub struct Doc<'s> {

@@ -1,15 +1,17 @@
-//! Small helpers for tokens. The readers of enums and attributes use them.
+//! Small helpers for tokens. The readers of enums and attributes call them.
 
 ghost use Rattle.std.specs.Prelude.{◌≡◌, IfOk, string_bytes};
-ghost use Rattle.logos_token.specs.ViewWords.{tree_of, is_alone, unless_alone, maybe_printed};
+ghost use Rattle.logos_token.specs.ViewImports.{tree_of, is_alone, unless_alone, maybe_printed};
 
 mod escaping;
 mod first;
+mod near;
 
 use crate::error::Memory;
 use crate::token::{Ident, Spacing, Span, TokenStream, TokenTree, print};
 pub use escaping::push_escaped;
 pub use first::{after_path_mark, after_word, begins_with, is_path_mark};
+pub use near::is_near;
 use std::alloc::Global;
 use std::mem;
 
@@ -27,7 +29,7 @@ pub fn is_punct(tree: &TokenTree<'_, '_>, expected: char) -> bool
 }
 
 /// Returns `None` if `tree` is the punctuation `expected` with no other punctuation directly after
-/// it, or else `tree`.
+/// it, and `tree` otherwise.
 pub fn expect_punct<'t, 's>(
     tree: Option<TokenTree<'t, 's>>,
     expected: char,
@@ -44,7 +46,7 @@ pub fn expect_punct<'t, 's>(
 
 /// A conversion to an identifier.
 pub trait ToIdent<'a> {
-    /// Returns the identifier with this text. It stands nowhere in the source: its span is `0..0`.
+    /// Returns the identifier with this text. It is not in the source: its span is `0..0`.
     fn to_ident(self) -> Ident<'a>;
 }
 
@@ -60,7 +62,7 @@ impl<'a> ToIdent<'a> for &'a str {
     }
 }
 
-/// Tokens, or none. None are printed as `()`.
+/// Tokens, or none. Without tokens it is printed as `()`.
 #[derive(Drop)]
 pub enum MaybeVoid<'s> {
     Some(TokenStream<'s>),
@@ -84,7 +86,7 @@ impl<'s> MaybeVoid<'s> {
         mem::replace(self, MaybeVoid::Void)
     }
 
-    /// Returns the text that `print` gives for the tokens, or `()` if there are none.
+    /// Returns the printed text of the tokens, or `()` if there are none.
     ///
     /// # Errors
     ///

@@ -1,4 +1,4 @@
--- Lists of parts that are the same, one by one.
+-- Lists of parts that are equal, one by one.
 use Rattle.std.proofs.Common.{◌≡◌, ◌↔◌, IsTrue, ℕ, ◌<◌, ◌≤◌, ◌+◌, Bool, List, [], ◌∷◌, length, get_or, drop, map, Vec, Global, refl, sym, ap, ◌∙◌, arith}
 use Rattle.std.proofs.Math.ListN.{drop_of_length-le}
 use Rattle.logos_type.specs.declared.type_expr.TypePart.{TypePart}
@@ -7,7 +7,7 @@ use Rattle.logos_type.specs.Parts.{Tree, whole, still, Trees, trees, none, also,
 use Rattle.logos_type.proofs.PartTrees.{tree-Whole, tree-Still}
 use Rattle.logos_type.proofs.PartLemmas.{list_front}
 
--- the same are what is left of two lists
+-- the rests of two lists are equal
 abbrev pub SameFrom : ℕ → List TypePart → List TypePart → Type 0
 SameFrom k xs ys = map tree_of (drop k xs) ≡ map tree_of (drop k ys)
 

@@ -1,9 +1,9 @@
--- How many types stand inside one another in a type.
+-- The nesting depth of a type.
 use Rattle.std.specs.Prelude.{ℕ, ◌+◌, ◌-◌, ◌==◌, ◌||◌, max, Bool, false}
 use Rattle.logos_type.specs.Parts.{Tree, sign, name, whole, still, Trees, none, also}
 
 abbrev mutual
-  -- The depth of a type, which counts itself; tokens count nothing.
+  -- The depth of a type, which counts itself. Tokens do not count.
   pub depth : Tree → ℕ
   depth (sign s) = 0
   depth (name text) = 1
@@ -15,7 +15,7 @@ abbrev mutual
   depth_of (also part parts) = max (depth part) (depth_of parts)
 
 abbrev mutual
-  -- Whether a type is deeper than this many levels.
+  -- Whether a type is deeper than this number of levels.
   pub exceeds : ℕ → Tree → Bool
   exceeds levels (sign s) = false
   exceeds levels (name text) = levels == 0

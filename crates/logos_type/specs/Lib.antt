@@ -2,5 +2,5 @@ pub mod Parts
 pub mod TypeTrees
 pub mod Depth
 pub mod Printed
-pub mod Words
+pub mod Imports
 pub mod Views

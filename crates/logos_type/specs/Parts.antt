@@ -8,7 +8,7 @@ use Rattle.logos_type.specs.declared.type_expr.TypePart.{TypePart}
 use Rattle.logos_type.specs.declared.type_expr.TypePart.TheOpen.{TypePart-F}
 use Rattle.logos_type.specs.declared.type_expr.TypePart.TheFolds.{fold-TypePart}
 
--- A token that is not a type by itself.
+-- A token that is not itself a type.
 pub data Sign : Type 0 where
   word : (text : List ℕ) → Sign
   mark : (character : ℕ) → Sign
@@ -23,11 +23,11 @@ pub data Sign : Type 0 where
   reference : (lifetime : Option (List ℕ)) → Sign
   -- A lifetime among the angle arguments of a path that is a type.
   lifetime : (text : List ℕ) → Sign
-  -- A lifetime anywhere else.
+  -- Any other lifetime.
   other_lifetime : (text : List ℕ) → Sign
   -- Punctuation in the length of an array or in braces.
   spaced_mark : (character : ℕ) (spacing : Spacing) → Sign
-  -- A documentation comment there.
+  -- A documentation comment in the length of an array or in braces.
   comment : (text : List ℕ) → Sign
 
 mutual
@@ -63,7 +63,7 @@ sign_of (OtherLifetime text) = other_lifetime text.now
 sign_of (Punct character spacing) = spaced_mark character spacing
 sign_of (Doc text) = comment text.now
 
--- One part, with each part inside it in its place.
+-- One part, with the trees of the parts inside it.
 abbrev pub node_tree : TypePart-F Tree → Tree
 node_tree (TypePart-F.Leaf leaf) = sign (sign_of leaf)
 node_tree (TypePart-F.Name text) = name text.now

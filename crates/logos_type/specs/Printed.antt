@@ -1,5 +1,5 @@
--- The printed text of a type: its tokens with a space between each two. `<`, `>` and `&` stand
--- alone; `::`, `->` and a lifetime are one lexeme each.
+-- The printed text of a type: its tokens, separated by one space. `<`, `>` and `&` are lexemes of
+-- their own; each of `::`, `->` and a lifetime is one lexeme.
 use Rattle.std.specs.Prelude.{ℕ, List, [], ◌∷◌, ◌++◌, codes, fold, if◌then◌else◌, Some, None}
 use Rattle.std.specs.Char.{encode_utf8}
 use Rattle.logos_token.specs.Printing.{Part, spaced, opening_text, closing_text, gap_after, is_line_comment, print_part}

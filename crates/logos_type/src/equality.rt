@@ -1,11 +1,11 @@
-//! Compares types.
+//! Compares types by their parts, regardless of their spans. Users of the library call it.
 
 ghost use Rattle.std.specs.Prelude.{◌≡◌, ◌↔◌, IsTrue, map};
 ghost use Rattle.logos_type.specs.Views.{sign_of, tree_of, type_tree};
 
 use crate::type_expr::{TypeExpr, TypePart, TypeToken};
 
-/// Returns whether two tokens are the same.
+/// Returns whether two tokens are equal.
 fn is_same_leaf(leaf: &TypeToken<'_>, other: &TypeToken<'_>) -> bool
     ensures { IsTrue result ↔ (sign_of leaf.now ≡ sign_of other.now) }
 {
@@ -28,7 +28,7 @@ fn is_same_leaf(leaf: &TypeToken<'_>, other: &TypeToken<'_>) -> bool
     }
 }
 
-/// Returns whether two lists have the same parts in the same order.
+/// Returns whether two lists have equal parts in the same order.
 #[cycle(equality)]
 fn are_same_parts(parts: &[TypePart<'_>], others: &[TypePart<'_>]) -> bool
     ensures { IsTrue result ↔ (map tree_of parts.now ≡ map tree_of others.now) }
@@ -44,7 +44,7 @@ fn are_same_parts(parts: &[TypePart<'_>], others: &[TypePart<'_>]) -> bool
     true
 }
 
-/// Returns whether two parts are the same.
+/// Returns whether two parts are equal.
 #[cycle(equality)]
 fn is_same_part(part: &TypePart<'_>, other: &TypePart<'_>) -> bool
     ensures { IsTrue result ↔ (tree_of part.now ≡ tree_of other.now) }
@@ -58,7 +58,7 @@ fn is_same_part(part: &TypePart<'_>, other: &TypePart<'_>) -> bool
     }
 }
 
-/// Returns whether two types have the same parts, wherever they stand in their sources.
+/// Returns whether two types have the same parts, regardless of their spans.
 pub fn is_same_type(type_expr: &TypeExpr<'_>, other: &TypeExpr<'_>) -> bool
     ensures { IsTrue result ↔ (type_tree type_expr.now ≡ type_tree other.now) }
 {

@@ -4,7 +4,7 @@
 ghost use Rattle.std.specs.Prelude.{◌<◌, ◌↔◌, ℕ, IsTrue};
 ghost use Rattle.logos_type.specs.Views.{Tree, depth, exceeds};
 
-/// A type exceeds some levels exactly if its depth is greater.
+/// A type exceeds `levels` exactly if its depth is greater than `levels`.
 pub fn exceeds_is_deeper()
     ensures { (levels : ℕ) (tree : Tree) → IsTrue (exceeds levels tree) ↔ (levels < depth tree) }
 {}

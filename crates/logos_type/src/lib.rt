@@ -1,14 +1,14 @@
-//! Rust types as they stand in an enum's fields and in attributes: their parts, and how they are
-//! printed, copied and compared.
+//! Rust types in an enum's fields and in attributes: their parts, and how they are printed, copied
+//! and compared. `logos_type_reader` makes them.
 
 #![tactic(auto)]
 
 mod equality;
 mod laws;
-mod print;
+mod printer;
 mod type_expr;
 
 pub use equality::is_same_type;
 pub use laws::exceeds_is_deeper;
-pub use print::print_type;
+pub use printer::print_type;
 pub use type_expr::{TypeExpr, TypePart, TypeToken, exceeds};

@@ -1,17 +1,17 @@
--- Chains of types, by the names and by the places of the types.
+-- Chains of types, by the names and by the indexes of the types.
 use Rattle.std.proofs.Common.{◌≡◌, ℕ, zero, suc, ◌+◌, ◌<◌, ◌⊎◌, inl, inr, ⊎_elim, ◌↔◌, List, [], ◌∷◌, ◌++◌, ◌||◌, map, length, drop, get_or, Bool, true, false, cond, IsTrue, slice_index_or, Contains, Bor, refl, sym, ap, ◌∙◌, arith, subst, append_assoc, true≢false}
 use Rattle.std.proofs.lemmas.List.{map_push, at_drop_more, length-map}
 use Rattle.std.proofs.lemmas.List.Elements.{Contains-push, Contains-push_cases, Contains-append_left}
 use Rattle.std.proofs.lemmas.Slice.Eq.{bytes_eq-Decides}
 use Rattle.std.specs.Str.{bytes_eq}
 use Rattle.std.specs.List.{list_any}
-use Rattle.logos_cycles.specs.Cycles.{targets_of, Leads as Path, one as step, on as steps}
+use Rattle.logos_type_params.specs.cycles.Cycles.{targets_of, Leads as Path, one as step, on as steps}
 use Rattle.logos_type.specs.declared.type_expr.TypePart.{TypePart}
 use Rattle.logos_type.specs.Parts.{name, trees, also, tree_of}
 use Rattle.logos_type_params.specs.declared.substitution.TypeParam.{TypeParam}
 use Rattle.logos_type_params.specs.Substitution.{ParamValue, param_value}
 use Rattle.logos_type_params.specs.SelfReference.{names, some_names, holds, Leads, one, on, Has, texts}
-use Rattle.logos_type_params.specs.inside.Chains.{StandsAt, IsHeldAt, Reaches, AreReached, AreMarked}
+use Rattle.logos_type_params.specs.inside.Chains.{OccursAt, IsHeldAt, Reaches, AreReached, AreMarked}
 
 abbrev pub Text : Type 0
 Text = List ℕ
@@ -69,24 +69,24 @@ pub any_put : (t : Bor Text) (keys keys' : List (Bor Text)) → PutsText t keys 
 any_put t keys keys' put x =
     sym (any_texts x keys') ∙ put (record { ref_ptr = (0, 0); now = x }) ∙ ap (λ (b : Bool). cond (bytes_eq t.now x) true b) (any_texts x keys)
 
--- ---- the places of names
+-- ---- the slots of names
 
-once : (ps : List ParamValue) (t : Text) (i j : ℕ) → StandsAt ps t i → StandsAt ps t j → i ≡ j
+once : (ps : List ParamValue) (t : Text) (i j : ℕ) → OccursAt ps t i → OccursAt ps t j → i ≡ j
 once [] t i j s k = absurd s
 once (p ∷ ps) t zero zero s k = refl
 once (p ∷ ps) t zero (suc j) s k = absurd (true≢false (sym s ∙ k.0))
 once (p ∷ ps) t (suc i) zero s k = absurd (true≢false (sym k ∙ s.0))
 once (p ∷ ps) t (suc i) (suc j) s k = ap suc (once ps t i j s.1 k.1)
 
-one_name : (ps : List ParamValue) (a b : Text) (i : ℕ) → StandsAt ps a i → StandsAt ps b i → a ≡ b
+one_name : (ps : List ParamValue) (a b : Text) (i : ℕ) → OccursAt ps a i → OccursAt ps b i → a ≡ b
 one_name [] a b i s k = absurd s
 one_name (p ∷ ps) a b zero s k = sym (same_text p.name a s) ∙ same_text p.name b k
 one_name (p ∷ ps) a b (suc i) s k = one_name ps a b i s.1 k.1
 
-pub stands_within : (ps : List ParamValue) (t : Text) (i : ℕ) → StandsAt ps t i → i < length ps
-stands_within [] t i s = absurd s
-stands_within (p ∷ ps) t zero s = omega arith
-stands_within (p ∷ ps) t (suc i) s = let r = stands_within ps t i s.1 in omega (arith, r)
+pub occurs_within : (ps : List ParamValue) (t : Text) (i : ℕ) → OccursAt ps t i → i < length ps
+occurs_within [] t i s = absurd s
+occurs_within (p ∷ ps) t zero s = omega arith
+occurs_within (p ∷ ps) t (suc i) s = let r = occurs_within ps t i s.1 in omega (arith, r)
 
 -- ---- names that lead on
 
@@ -99,35 +99,35 @@ declares (p ∷ ps) from to h = go (bytes_eq p.name from) refl (λ k. declares p
     go true e rest = inl (same_text p.name from e)
     go false e rest = inr (rest (rw e at h))
 
-place_of : (ps : List ParamValue) (from to : Text) → holds ps from to ≡ true → (i : ℕ) × StandsAt ps from i
-place_of [] from to h = absurd cc
-place_of (p ∷ ps) from to h = go (bytes_eq p.name from) refl (λ k. place_of ps from to k)
+slot_of : (ps : List ParamValue) (from to : Text) → holds ps from to ≡ true → (i : ℕ) × OccursAt ps from i
+slot_of [] from to h = absurd cc
+slot_of (p ∷ ps) from to h = go (bytes_eq p.name from) refl (λ k. slot_of ps from to k)
   where
-    go : (b : Bool) → bytes_eq p.name from ≡ b → (holds ps from to ≡ true → (i : ℕ) × StandsAt ps from i) → (i : ℕ) × StandsAt (p ∷ ps) from i
+    go : (b : Bool) → bytes_eq p.name from ≡ b → (holds ps from to ≡ true → (i : ℕ) × OccursAt ps from i) → (i : ℕ) × OccursAt (p ∷ ps) from i
     go true e rest = (0, e)
     go false e rest = let r = rest (rw e at h) in (suc r.0, (e, r.1))
 
-pub start_of : {ps : List ParamValue} {from to : Text} → Leads ps from to → (i : ℕ) × StandsAt ps from i
-start_of {ps = ps} (one {from = from} {to = to} h) = place_of ps from to h
-start_of {ps = ps} (on {from = from} {over = over} h l) = place_of ps from over h
+pub start_of : {ps : List ParamValue} {from to : Text} → Leads ps from to → (i : ℕ) × OccursAt ps from i
+start_of {ps = ps} (one {from = from} {to = to} h) = slot_of ps from to h
+start_of {ps = ps} (on {from = from} {over = over} h l) = slot_of ps from over h
 
--- ---- places that are added
+-- ---- slots that are added
 
 module _ (params : List ParamValue) where
   -- none is added
-  pub reaches_none : (held : Text → Bool) (old : List ℕ) → ((t : Text) (i : ℕ) → held t ≡ true → StandsAt params t i → ⊥) → Reaches params held old old
+  pub reaches_none : (held : Text → Bool) (old : List ℕ) → ((t : Text) (i : ℕ) → held t ≡ true → OccursAt params t i → ⊥) → Reaches params held old old
   reaches_none held old none = record { each = λ i. (λ c. inl c, ⊎_elim (λ c. c) (λ h. absurd (none h.0 i h.1 h.2))) }
 
-  pub reaches_untyped : (t : Text) (old : List ℕ) → ((i : ℕ) → StandsAt params t i → ⊥) → Reaches params (names (name t)) old old
-  reaches_untyped t old none = reaches_none (names (name t)) old (λ x i e s. none i (subst (λ (y : Text). StandsAt params y i) (sym (same_text t x e)) s))
+  pub reaches_untyped : (t : Text) (old : List ℕ) → ((i : ℕ) → OccursAt params t i → ⊥) → Reaches params (names (name t)) old old
+  reaches_untyped t old none = reaches_none (names (name t)) old (λ x i e s. none i (subst (λ (y : Text). OccursAt params y i) (sym (same_text t x e)) s))
 
-  -- the place of one name is added
-  pub reaches_place : (t : Text) (i : ℕ) (old new : List ℕ) → StandsAt params t i → new ≡ old ++ i ∷ [] → Reaches params (names (name t)) old new
-  reaches_place t i old new s e = record {
+  -- the slot of one name is added
+  pub reaches_slot : (t : Text) (i : ℕ) (old new : List ℕ) → OccursAt params t i → new ≡ old ++ i ∷ [] → Reaches params (names (name t)) old new
+  reaches_slot t i old new s e = record {
     each = λ j. rw e (
-      λ c. ⊎_elim (λ k. inl k) (λ (q : i ≡ j). inr (t, eq_text t t refl, subst (λ (n : ℕ). StandsAt params t n) q s)) (Contains-push_cases old i j c),
+      λ c. ⊎_elim (λ k. inl k) (λ (q : i ≡ j). inr (t, eq_text t t refl, subst (λ (n : ℕ). OccursAt params t n) q s)) (Contains-push_cases old i j c),
       ⊎_elim (λ k. Contains-append_left old (i ∷ []) j k)
-          (λ h. let q = once params t i j s (subst (λ (y : Text). StandsAt params y j) (sym (same_text t h.0 h.1)) h.2) in subst (λ (n : ℕ). Contains (old ++ i ∷ []) n) q (Contains-push old i)),
+          (λ h. let q = once params t i j s (subst (λ (y : Text). OccursAt params y j) (sym (same_text t h.0 h.1)) h.2) in subst (λ (n : ℕ). Contains (old ++ i ∷ []) n) q (Contains-push old i)),
     );
   }
 
@@ -148,7 +148,8 @@ module _ (params : List ParamValue) where
       either t true e h = inl e
       either t false e h = inr (rw e at h)
 
--- the parts of a type, one after another, where what completes the rest completes the whole
+-- the parts of a type, one after another, where a result for the rest completes to a result for the
+-- whole
 pub reaches_on : (params : List ParamValue) (Whole : List ℕ → Type 0) (items : List TypePart) (k : ℕ) (p : TypePart) (old mid : List ℕ) →
     ((new : List ℕ) → Reaches params (some_names (trees (map tree_of (drop k items)))) old new → Whole new) → k < length items → p ≡ get_or items k p →
     Reaches params (names (tree_of p)) old mid →
@@ -158,9 +159,9 @@ reaches_on params Whole items k p old mid completes h e first new rest =
     at_drop_more (λ ps. trees (map tree_of ps)) items k p h ∙ ap (λ (q : TypePart). also (tree_of q) (trees (map tree_of (drop (k + 1) items)))) (sym e) in
     completes new (rw front (reaches_both params (names (tree_of p)) (some_names (trees (map tree_of (drop (k + 1) items)))) old mid new first rest))
 
--- ---- chains by places
+-- ---- chains by slots
 
--- each type has the list of the places to which it leads, where what completes the rest completes
+-- each type has the list of the slots to which it leads, where a result for the rest completes
 -- the whole
 pub reached_on : (params : List ParamValue) {L : Type 0} (items : L → List ℕ) (es : Entries) (k : ℕ) (e : Bor Text × TypeParam) (old new : List L) (list : L) →
     ((left : List (List ℕ)) → AreReached params (map param_value (drop k es)) left → AreReached params params (map items old ++ left)) → k < length es → e ≡ get_or es k e →
@@ -183,7 +184,7 @@ reached_length whole (p ∷ ps) (l ∷ lists) r = ap suc (reached_length whole p
 contains_none : (i : ℕ) → Contains [] i → ⊥
 contains_none i c = let lt = c.1 in omega (arith, lt)
 
-targets : (whole ps : List ParamValue) (lists : List (List ℕ)) → AreReached whole ps lists → (a : Text) (i : ℕ) → StandsAt ps a i → (j : ℕ) → Contains (targets_of lists i) j ↔ IsHeldAt whole (holds ps a) j
+targets : (whole ps : List ParamValue) (lists : List (List ℕ)) → AreReached whole ps lists → (a : Text) (i : ℕ) → OccursAt ps a i → (j : ℕ) → Contains (targets_of lists i) j ↔ IsHeldAt whole (holds ps a) j
 targets whole [] lists r a i s j = absurd s
 targets whole (p ∷ ps) [] r a i s j = absurd r
 targets whole (p ∷ ps) (l ∷ lists) r a zero s j = (
@@ -196,22 +197,22 @@ targets whole (p ∷ ps) (l ∷ lists) r a (suc i) s j =
     (λ c. let h = rest.0 c in (h.0, rw off h.1, h.2), λ h. rest.1 (h.0, (let e = h.1 in rw off at e), h.2))
 
 module _ (params : List ParamValue) (lists : List (List ℕ)) (reached : AreReached params params lists) where
-  chain_of : {i j : ℕ} → Path lists i j → (a b : Text) → StandsAt params a i → StandsAt params b j → Leads params a b
+  chain_of : {i j : ℕ} → Path lists i j → (a b : Text) → OccursAt params a i → OccursAt params b j → Leads params a b
   chain_of (step {from = i} {to = j} c) a b s k =
       let h = (targets params params lists reached a i s j).0 c in one (subst (λ (x : Text). holds params a x ≡ true) (one_name params h.0 b j h.2 k) h.1)
   chain_of (steps {from = i} {over = o} c l) a b s k = let h = (targets params params lists reached a i s o).0 c in on h.1 (chain_of l h.0 b h.2 k)
 
-  path_of : {a b : Text} → Leads params a b → (i j : ℕ) → StandsAt params a i → StandsAt params b j → Path lists i j
+  path_of : {a b : Text} → Leads params a b → (i j : ℕ) → OccursAt params a i → OccursAt params b j → Path lists i j
   path_of (one {from = a} {to = b} h) i j s k = step ((targets params params lists reached a i s j).1 (b, h, k))
   path_of (on {from = a} {over = o} h l) i j s k = let p = start_of l in steps ((targets params params lists reached a i s p.0).1 (o, h, p.1)) (path_of l p.0 j p.1 k)
 
   marked : (marks : List Bool) → ((i : ℕ) → i < length lists → IsTrue (slice_index_or marks i false) ↔ Path lists i i) → AreMarked params marks
   marked marks f t i s =
       let same = reached_length params params lists reached in
-      let g = f i (let w = stands_within params t i s in omega (arith, w, same)) in
+      let g = f i (let w = occurs_within params t i s in omega (arith, w, same)) in
       (λ m. chain_of (g.0 m) t t s s, λ l. g.1 (path_of l i i s s))
 
--- what is marked where the lists have more than their items
+-- the marks if the lists have more than their items
 pub marked_by : (params : List ParamValue) {L : Type 0} (items : L → List ℕ) (lists : List L) → AreReached params params (map items lists) → (marks : List Bool) →
     ((i : ℕ) → i < length lists → IsTrue (slice_index_or marks i false) ↔ Path (map items lists) i i) → AreMarked params marks
 marked_by params items lists reached marks f =

@@ -9,7 +9,7 @@ use Rattle.logos_type_params.specs.Substitution.{nothing, given_type, given_firs
 use Rattle.logos_type_params.specs.SelfReference.{texts}
 use Rattle.logos_type_params.specs.TypeParams.{given_of, former, given_more, Given as Typed}
 use Rattle.logos_type_params.specs.Generics.{type_of}
-use Rattle.logos_type_params.specs.inside.Places.{put_in}
+use Rattle.logos_type_params.specs.inside.Slots.{put_in}
 use Rattle.logos_type_params.proofs.ChainLemmas.{Text, Entries, eq_sym}
 
 pub among_keys : (t : Text) (keys : List (Bor Text)) → list_any (λ (k : Bor Text). bytes_eq t k.now) keys ≡ is_among (texts keys) t
@@ -20,7 +20,7 @@ among_keys t (k ∷ keys) = go (bytes_eq t k.now) refl (among_keys t keys)
     go true q rest = rw (eq_sym k.now t, q) refl
     go false q rest = rw (eq_sym k.now t, q) rest
 
--- what a name has, if an entry is looked for and what is said of its type is taken
+-- the type of a name, if an entry is found and its property is used
 module _ {X : Type 0} (none : X) (some : TypeParam → X) (meant : Entries → Text → X) (empty : (t : Text) → meant [] t ≡ none)
     (front : (e : Bor Text × TypeParam) (es : Entries) (t : Text) → meant (e ∷ es) t ≡ (if bytes_eq e.0.now t then some e.1 else meant es t)) where
   abbrev chosen : Option TypeParam → X

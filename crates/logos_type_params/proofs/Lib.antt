@@ -1,7 +1,7 @@
 pub mod SubstitutionLemmas
 pub mod SubstitutionLaws
 pub mod ChainLemmas
-mod PlaceLemmas
+mod SlotLemmas
 mod GivenLemmas
 mod ValueLemmas
 mod HeldLemmas

@@ -1,4 +1,4 @@
--- DeclaredNames in front of others, and what follows for those that are checked, copied and asked.
+-- Declared names before others, and the consequences for those that are checked and copied.
 use Rattle.std.proofs.Common.{◌≡◌, ℕ, ◌⊎◌, ◌↔◌, inl, List, [], ◌∷◌, ◌++◌, ◌||◌, Bool, true, false, not, Option, Some, None, Bor, refl, sym, ap, ◌∙◌, subst, append_assoc, append-nil, true≢false, IsTrue, if◌then◌else◌, cond, inr, Result, Ok, Err}
 use Rattle.std.specs.Prelude.{OnOk, IsOk}
 use Rattle.std.specs.Str.{bytes_eq}
@@ -13,7 +13,7 @@ use Rattle.logos_type_params.specs.Generics.{type_of, and_type, and_fault, concr
 use Rattle.logos_type_params.specs.WrittenTypes.{is_held, is_free}
 use Rattle.logos_type_params.specs.inside.Chains.{AreMarked}
 use Rattle.logos_type_params.specs.inside.Fronts.{AreInFront}
-use Rattle.logos_type_params.specs.inside.Checks.{ChecksName, AsksName, CopiesName}
+use Rattle.logos_type_params.specs.inside.Checks.{ChecksName, NeedsName, CopiesName}
 use Rattle.logos_type_params.proofs.ChainLemmas.{Text, any_texts, any_has, any_from_has, any_put, PutsText, eq_text, same_text}
 
 -- a text among those to which one was added
@@ -34,7 +34,7 @@ key_has t keys keys' x put h = any_has x (texts keys') (any_put t keys keys' put
 key_put : (t : Bor Text) (keys keys' : List (Bor Text)) → PutsText t keys keys' → Has (texts keys') t.now
 key_put t keys keys' put = any_has t.now (texts keys') (any_put t keys keys' put t.now ∙ rw (eq_text t.now t.now refl) refl)
 
--- what holds of a success that is one
+-- a property of a success that is one
 pub on_ok_is : {T E P : Type 0} (r : Result T E) → IsOk r → OnOk r P → P
 on_ok_is (Ok x) is p = p
 on_ok_is (Err e) is p = absurd (true≢false (sym is))
@@ -65,7 +65,7 @@ fronts_on t named keys keys' front is put are x =
     any_put t keys keys' put x ∙ ap (λ (b : Bool). cond (bytes_eq t.now x) true b) (are x) ∙ or_first (bytes_eq t.now x) (is_declared front x)
     ∙ ap (λ (y : Text). is_declared front x || bytes_eq y x) (sym is) ∙ sym (in_front front named x)
 
--- the same texts in another order
+-- equal texts in another order
 pub fronts_same : (front : List Named) (keys keys' : List (Bor Text)) → AreInFront front keys →
     ((q : Bor Text) → list_any (λ (k : Bor Text). bytes_eq q.now k.now) keys' ≡ list_any (λ (k : Bor Text). bytes_eq q.now k.now) keys) → AreInFront front keys'
 fronts_same front keys keys' are same x = sym (any_texts x keys') ∙ same (record { ref_ptr = (0, 0); now = x }) ∙ any_texts x keys ∙ are x
@@ -83,7 +83,7 @@ module _ (t : Bor Text) (named : Named) (is : named.text ≡ t.now) (keys keys' 
   declared_as : (front : List Named) → AreInFront front keys → (b : Bool) → list_any (bytes_eq t.now) (texts keys) ≡ b → is_declared front named.text ≡ b
   declared_as front are b e = rw is (sym (are t.now) ∙ e)
 
-  -- a name that stands in front already
+  -- a name that is already in the front
   pub checked_again : list_any (bytes_eq t.now) (texts keys) ≡ true → after ≡ before → ChecksName params marks keys named before keys' after
   checked_again e none = record {
     checked = λ are_marked front are. declared_again (declared_as front are true e) none;
@@ -92,15 +92,15 @@ module _ (t : Bor Text) (named : Named) (is : named.text ≡ t.now) (keys keys' 
 
   -- a name to which no chain leads back
   pub checked_free : (leads : Bool) → leads ≡ false → (AreMarked params marks → IsTrue leads ↔ Leads params t.now t.now) → after ≡ before → ChecksName params marks keys named before keys' after
-  checked_free leads l asked none = record {
-    checked = λ are_marked front are. leads_on (λ back. true≢false (sym ((asked are_marked).1 (rw is at back)) ∙ l)) none;
+  checked_free leads l needed none = record {
+    checked = λ are_marked front are. leads_on (λ back. true≢false (sym ((needed are_marked).1 (rw is at back)) ∙ l)) none;
     fronts = λ front are. fronts_on t named keys keys' front is put are;
   }
 
   -- a name to which a chain leads back
   pub checked_held : list_any (bytes_eq t.now) (texts keys) ≡ false → (leads : Bool) → leads ≡ true → (AreMarked params marks → IsTrue leads ↔ Leads params t.now t.now) → after ≡ before ++ type_holds_itself named ∷ [] → ChecksName params marks keys named before keys' after
-  checked_held e leads l asked listed = record {
-    checked = λ are_marked front are. leads_back (declared_as front are false e) (rw is ((asked are_marked).0 l)) listed;
+  checked_held e leads l needed listed = record {
+    checked = λ are_marked front are. leads_back (declared_as front are false e) (rw is ((needed are_marked).0 l)) listed;
     fronts = λ front are. fronts_on t named keys keys' front is put are;
   }
 
@@ -110,14 +110,14 @@ module _ (types : List Given) (t : Bor Text) (named : Named) (is : named.text �
   chosen : (front : List Named) → AreInFront front keys → (b : Bool) → list_any (bytes_eq t.now) (texts keys) ≡ b → is_declared front named.text ≡ b
   chosen front are b e = rw is (sym (are t.now) ∙ e)
 
-  -- a name that stands in front already
+  -- a name that is already in the front
   pub copies_none : list_any (bytes_eq t.now) (texts keys) ≡ true → CopiesName types keys named None keys'
   copies_none e = record {
     copied = λ front are. sym (ap (λ (b : Bool). if b then None else type_of types named.text) (chosen front are true e));
     fronts = λ front are. fronts_on t named keys keys' front is put are;
   }
 
-  -- a name that stands there for the first time
+  -- a name that occurs for the first time
   pub copies_type : (copy : Option Tree) → list_any (bytes_eq t.now) (texts keys) ≡ false → copy ≡ type_of types named.text → CopiesName types keys named copy keys'
   copies_type copy e same = record {
     copied = λ front are. same ∙ sym (ap (λ (b : Bool). if b then None else type_of types named.text) (chosen front are false e));
@@ -132,7 +132,7 @@ and_fault_on : (found : Option Tree) (named : Named) (rest : List Fault) → and
 and_fault_on None named rest = refl
 and_fault_on (Some tree) named rest = refl
 
--- types are copied one by one: what is left of the names completes the types and the faults of all
+-- types are copied one by one: the rest of the names completes the types and the faults of all
 pub record Copying (types : List Given) (all_types : List Tree) (all_faults : List Fault) (rest : List Named) (keys : List (Bor Text)) (copies : List Tree) (faults : List Fault) : Type 0 where
   pub front : List Named
   pub fronts : AreInFront front keys
@@ -156,21 +156,21 @@ copy_on types all_types all_faults all rest named keys keys' found old new befor
           ∙ sym (ap (λ names. before ++ missing_types types c.front names) e) ∙ c.faults_left;
     }
 
--- what follows from a fact about a success
+-- a consequence of a fact about a success
 pub on_ok_one : {T E P Q : Type 0} (r : Result T E) → (P → Q) → OnOk r P → OnOk r Q
 on_ok_one (Ok x) f p = f p
 on_ok_one (Err e) f p = tt
 
--- a name that is asked is held or not
-pub asks_held : (params : List ParamValue) (marks : List Bool) (t : Bor Text) (leads : Bool) (keys keys' : List (Bor Text)) → leads ≡ true → (AreMarked params marks → IsTrue leads ↔ Leads params t.now t.now) → PutsText t keys keys' →
-    AsksName params marks t.now (texts keys) (texts keys')
-asks_held params marks t leads keys keys' l asked put are =
-    is_held ((asked are).0 l) (λ other h. has_key t keys keys' other put h) (λ other h. key_has t keys keys' other put h) (key_put t keys keys' put)
+-- a tested name is held or not
+pub needs_held : (params : List ParamValue) (marks : List Bool) (t : Bor Text) (leads : Bool) (keys keys' : List (Bor Text)) → leads ≡ true → (AreMarked params marks → IsTrue leads ↔ Leads params t.now t.now) → PutsText t keys keys' →
+    NeedsName params marks t.now (texts keys) (texts keys')
+needs_held params marks t leads keys keys' l needed put are =
+    is_held ((needed are).0 l) (λ other h. has_key t keys keys' other put h) (λ other h. key_has t keys keys' other put h) (key_put t keys keys' put)
 
-pub asks_free : (params : List ParamValue) (marks : List Bool) (t : Text) (leads : Bool) (held : List Text) → leads ≡ false → (AreMarked params marks → IsTrue leads ↔ Leads params t t) → AsksName params marks t held held
-asks_free params marks t leads held l asked are = is_free (λ back. true≢false (sym ((asked are).1 back) ∙ l)) refl
+pub needs_free : (params : List ParamValue) (marks : List Bool) (t : Text) (leads : Bool) (held : List Text) → leads ≡ false → (AreMarked params marks → IsTrue leads ↔ Leads params t t) → NeedsName params marks t held held
+needs_free params marks t leads held l needed are = is_free (λ back. true≢false (sym ((needed are).1 back) ∙ l)) refl
 
--- names are checked one by one, where what completes the rest completes the whole
+-- names are checked one by one, where a result for the rest completes to a result for the whole
 pub record Checking (params : List ParamValue) (Whole : List Fault → Type 0) (rest : List Named) (keys : List (Bor (List ℕ))) (now : List Fault) : Type 0 where
   pub front : List Named
   pub fronts : AreInFront front keys
@@ -184,7 +184,7 @@ check_on params marks Whole all rest named keys keys' before after c e h are = r
   completes = λ faults r. c.completes faults (rw e (one_more (h.checked are c.front c.fronts) r));
 }
 
--- faults behind those that stood in front already
+-- faults after those that were there before
 checked_after : {params : List ParamValue} {front : List Named} {named : Named} {old new : List Fault} (ahead : List Fault) → IsChecked params front named old new → IsChecked params front named (ahead ++ old) (ahead ++ new)
 checked_after ahead (declared_again d e) = declared_again d (ap (λ l. ahead ++ l) e)
 checked_after ahead (leads_on n e) = leads_on n (ap (λ l. ahead ++ l) e)
@@ -194,7 +194,7 @@ pub all_checked_after : {params : List ParamValue} {front names : List Named} {o
 all_checked_after ahead no_name = no_name
 all_checked_after ahead (one_more first rest) = one_more (checked_after ahead first) (all_checked_after ahead rest)
 
--- faults that are found alone, and then stand behind others
+-- faults that are found alone, and are then appended to others
 pub checked_listed : {params : List ParamValue} {front names : List Named} (ahead none found all : List Fault) → none ≡ [] → AreChecked params front names none found → all ≡ ahead ++ found →
     AreChecked params front names ahead all
 checked_listed {params = params} {front = front} {names = names} ahead none found all n checked e =

@@ -6,7 +6,7 @@ use Rattle.logos_token.specs.declared.error.fault_code.FaultCode.TheVariants.{No
 use Rattle.logos_token.specs.Faults.{Fault}
 use Rattle.logos_type.specs.Parts.{Tree, sign, name, whole, still}
 use Rattle.logos_type.specs.TypeTrees.{type_tree}
-use Rattle.logos_type_params.specs.declared.type_params.concrete.Generics.{Generics}
+use Rattle.logos_type_params.specs.declared.type_params.concrete_types.Generics.{Generics}
 use Rattle.logos_type_params.specs.TypeParams.{Named, Given, Value, about, is_declared}
 
 -- The type given to a name.
@@ -30,7 +30,7 @@ pub record GenericsValue : Type 0 where
 abbrev pub generics_of : Generics → GenericsValue
 generics_of generics = record { lifetime = generics.lifetime; types = map type_tree generics.types.items }
 
--- The type of a declared name, unless it was declared before as one of `front`.
+-- The type of a declared name, unless it is one of the earlier names `front`.
 abbrev pub concrete_type : List Given → List Named → List ℕ → Option Tree
 concrete_type types front text = if is_declared front text then None else type_of types text
 
@@ -54,7 +54,7 @@ abbrev pub concrete_types : List Given → List Named → List Named → List Tr
 concrete_types types front [] = []
 concrete_types types front (n ∷ names) = and_type (concrete_type types front n.text) (concrete_types types (front ++ n ∷ []) names)
 
--- The faults of those that have none, in order of declaration.
+-- The faults of the declared names without a type, in order of declaration.
 abbrev pub missing_types : List Given → List Named → List Named → List Fault
 missing_types types front [] = []
 missing_types types front (n ∷ names) = and_fault (concrete_type types front n.text) n (missing_types types (front ++ n ∷ []) names)

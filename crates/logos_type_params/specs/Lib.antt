@@ -1,3 +1,4 @@
+pub mod cycles
 pub mod NameLists
 pub mod Substitution
 pub mod SubstitutionViews
@@ -7,5 +8,5 @@ pub mod TypeParams
 pub mod inside
 pub mod Generics
 pub mod WrittenTypes
-pub mod Words
+pub mod Imports
 pub mod Views

@@ -1,4 +1,4 @@
--- Parameters that hold themselves.
+-- Parameters whose types contain them.
 use Rattle.std.specs.Prelude.{◌≡◌, ℕ, ◌||◌, ◌⊎◌, map, List, [], ◌∷◌, Bool, true, false, if◌then◌else◌}
 use Rattle.std.specs.Str.{bytes_eq}
 use denote.Ref.{Bor}
@@ -7,7 +7,7 @@ pub use Rattle.logos_type_params.specs.Substitution.{param_value}
 use Rattle.logos_type_params.specs.Substitution.{ParamValue}
 
 abbrev mutual
-  -- Whether a type has this name among its parts, or is it.
+  -- Whether a type is this name or has it among its parts.
   pub names : Tree → List ℕ → Bool
   names (sign s) text = false
   names (name other) text = bytes_eq other text
@@ -18,7 +18,7 @@ abbrev mutual
   some_names none text = false
   some_names (also part parts) text = names part text || some_names parts text
 
--- The first type given to the one name has the other name among its parts.
+-- The first type given to the first name has the second name among its parts.
 abbrev pub holds : List ParamValue → List ℕ → List ℕ → Bool
 holds [] text other = false
 holds (p ∷ ps) text other = if bytes_eq p.name text then names p.type other else holds ps text other

@@ -1,5 +1,5 @@
--- What becomes of a type whose declared parameters are replaced and whose lifetimes are set.
--- `levels` is how many types can stand inside one another.
+-- The replacement of declared parameters in a type, and the setting of its lifetimes. `levels` is
+-- the number of types that can be nested.
 use Rattle.std.specs.Prelude.{◌≡◌, ℕ, ◌-◌, ◌<◌, List, [], ◌∷◌, Bool, true, false, if◌then◌else◌, Some, codes}
 use Rattle.std.specs.Str.{bytes_eq}
 use denote.Ref.{Bor}
@@ -27,12 +27,12 @@ pub record ParamValue : Type 0 where
 abbrev pub param_value : Bor (List ℕ) × TypeParam → ParamValue
 param_value entry = record { name = entry.0.now; type = tree_of entry.1.part }
 
--- The types that are given, and the names of the parameters that hold themselves.
+-- The given types, and the names of the parameters that contain themselves.
 pub record Params : Type 0 where
   pub types : List ParamValue
   pub held : List (List ℕ)
 
--- What replaces a name.
+-- The replacement of a name.
 pub data Given : Type 0 where
   nothing : Given
   a_name : (text : List ℕ) → Given
@@ -49,18 +49,19 @@ abbrev pub given_first : List ParamValue → List ℕ → Given
 given_first [] text = nothing
 given_first (p ∷ ps) text = if bytes_eq p.name text then given_type p.type else given_first ps text
 
--- Whether the list has this text.
+-- Whether the list contains this text.
 abbrev pub is_among : List (List ℕ) → List ℕ → Bool
 is_among [] text = false
 is_among (t ∷ ts) text = if bytes_eq t text then true else is_among ts text
 
--- A name that holds itself is left in place.
+-- The replacement of a name. A name that contains itself is not replaced.
 abbrev pub given : Params → List ℕ → Given
 given params text = if is_among params.held text then nothing else given_first params.types text
 
 mutual
-  -- The first part becomes the second one; parts that are never replaced only count their levels. A
-  -- type that replaces a name has its own parts replaced, but stays if it is a name itself.
+  -- The first part becomes the second one. Parts that are never replaced are only checked for their
+  -- depth. The parts of a type that replaces a name are replaced in turn, but the type is unchanged
+  -- if it is a name itself.
   pub data After : Params → ℕ → Tree → Tree → Type 0 where
     token : {params : Params} {levels : ℕ} {s : Sign} → After params levels (sign s) (sign (set_sign s))
     stays : {params : Params} {levels : ℕ} {text : List ℕ} → 0 < levels → given params text ≡ nothing → After params levels (name text) (name text)
@@ -70,14 +71,14 @@ mutual
     inside : {params : Params} {levels : ℕ} {parts others : Trees} → 0 < levels → AllAfter params (levels - 1) parts others → After params levels (whole parts) (whole others)
     stays_still : {params : Params} {levels : ℕ} {parts : Trees} → some_exceed levels parts ≡ false → After params levels (still parts) (still parts)
 
-  -- Each part becomes the one that stands there.
+  -- Each part becomes the part at the same index.
   pub data AllAfter : Params → ℕ → Trees → Trees → Type 0 where
     none_after : {params : Params} {levels : ℕ} → AllAfter params levels none none
     also_after : {params : Params} {levels : ℕ} {part other : Tree} {parts others : Trees} →
         After params levels part other → AllAfter params levels parts others → AllAfter params levels (also part parts) (also other others)
 
 mutual
-  -- What a part becomes nests deeper than `levels`.
+  -- The result for a part is deeper than `levels`.
   pub data Passes : Params → ℕ → Tree → Type 0 where
     name_here : {params : Params} {levels : ℕ} {text : List ℕ} → levels ≡ 0 → Passes params levels (name text)
     type_here : {params : Params} {levels : ℕ} {parts : Trees} → levels ≡ 0 → Passes params levels (whole parts)

@@ -1,8 +1,8 @@
 -- The contracts of the functions that replace parameters.
-use Rattle.logos_type_reader.specs.declared.reading.TypeFault.{TypeFault}
-use Rattle.logos_type_reader.specs.declared.reading.TypeFault.TheVariants as faults
+use Rattle.logos_type_reader.specs.declared.reader.TypeFault.{TypeFault}
+use Rattle.logos_type_reader.specs.declared.reader.TypeFault.TheVariants as faults
 
--- This holds if the limit on nesting was passed; else there was not enough memory.
+-- This holds if the limit on nesting was exceeded; otherwise memory ran out.
 abbrev pub IfDeep : Type 0 → TypeFault → Type 0
 IfDeep Holds faults.LimitNesting = Holds
 IfDeep Holds faults.Memory = Unit {0}

@@ -6,6 +6,8 @@ use denote.Ref.{Bor}
 use Rattle.logos_lexeme.specs.declared.lexeme.Span.{Span}
 use Rattle.logos_token.specs.declared.error.fault_code.FaultCode.{FaultCode}
 use Rattle.logos_token.specs.declared.error.fault_code.FaultCode.TheVariants.{ManyLifetimes, NotTypeParameter, TypeTwice, Previous, TypeSyntax, LimitTypeNesting}
+use Rattle.logos_token.specs.declared.error.detail.Detail.{Detail}
+use Rattle.logos_token.specs.declared.error.detail.Detail.TheVariants.{Plain}
 use Rattle.logos_token.specs.Tokens.{Token, TokenList, none, also, run_span}
 use Rattle.logos_token.specs.Faults.{Fault}
 use Rattle.logos_type.specs.Parts.{Tree, sign, name, whole, still, Trees, none as no_part, also as and_part, tree_of}
@@ -31,7 +33,7 @@ pub record Value : Type 0 where
   pub types : List Given
   pub lifetime : Bool
 
--- The declared names, and what was given to them, as a value.
+-- The declared names, and the types given to them, as a value.
 abbrev pub value_of : TypeParams → Value
 value_of params = record { names = map named_of params.names.list.items; types = map given_of params.types.entries.items; lifetime = params.lifetime }
 
@@ -48,7 +50,7 @@ abbrev mutual
   all_with_lifetimes no_part = no_part
   all_with_lifetimes (and_part part parts) = and_part (with_lifetimes part) (all_with_lifetimes parts)
 
--- A part with its lifetime set if it is a token; a type stays as it is.
+-- A part with its lifetime set if it is a token. A type is unchanged.
 abbrev pub own_lifetime : Tree → Tree
 own_lifetime (sign s) = sign (set_sign s)
 own_lifetime (name text) = name text
@@ -59,21 +61,29 @@ abbrev pub own_lifetimes : Trees → Trees
 own_lifetimes no_part = no_part
 own_lifetimes (and_part part parts) = and_part (own_lifetime part) (own_lifetimes parts)
 
--- A type with its own lifetimes set to `'s`: the one of a reference, or those of the angle
--- arguments of a path; the types inside it keep theirs.
+-- A type with its own lifetimes set to `'s`: the lifetime of a reference, or those of the angle
+-- arguments of a path. The types inside it keep their lifetimes.
 abbrev pub with_lifetime : Tree → Tree
 with_lifetime (sign s) = sign (set_sign s)
 with_lifetime (name text) = name text
 with_lifetime (whole parts) = whole (own_lifetimes parts)
 with_lifetime (still parts) = still parts
 
+-- A fault with a code, a message, a span and a detail, and without a second span.
+abbrev pub fault_with : FaultCode → List ℕ → Span → Detail → Fault
+fault_with code message span detail = record { code = code; message = message; span = span; also = None; detail = detail }
+
 -- A fault with a code, a message and a span, and without a second span.
 abbrev pub fault : FaultCode → List ℕ → Span → Fault
-fault code message span = record { code = code; message = message; span = span; also = None }
+fault code message span = fault_with code message span Plain
 
 -- A fault of a name, whose message has the name between two texts.
 abbrev pub about : FaultCode → List ℕ → Named → List ℕ → Fault
 about code before named after = fault code ((before ++ named.text) ++ after) named.at
+
+-- A fault of a name, with a detail.
+abbrev pub about_with : FaultCode → List ℕ → Named → List ℕ → Detail → Fault
+about_with code before named after detail = fault_with code ((before ++ named.text) ++ after) named.at detail
 
 -- The fault of a second lifetime.
 abbrev pub many_lifetimes : Span → Fault
@@ -85,18 +95,18 @@ not_type_parameter named = about NotTypeParameter [] named (codes " is not a dec
 abbrev pub type_twice : Named → Fault
 type_twice named = about TypeTwice [] named (codes " can only have one type assigned to it")
 
--- The fault that says where something was set before.
+-- The fault that points to an earlier definition.
 abbrev pub previous : Span → Fault
 previous span = fault Previous (codes "Previously assigned here") span
 
 abbrev pub type_syntax : Span → Fault
 type_syntax at = fault TypeSyntax (codes "not a type") at
 
--- The message of a type that nests too deep.
+-- The message of a fault of too many nested types.
 abbrev pub type_nesting_text : List ℕ
 type_nesting_text = codes "limit LimitTypeNesting passed"
 
--- The fault that too many types stand inside one another.
+-- The fault that too many types are nested.
 abbrev pub limit_type_nesting : Span → Fault
 limit_type_nesting at = fault LimitTypeNesting type_nesting_text at
 
@@ -106,7 +116,7 @@ value_fault (unsupported span) at = type_syntax at
 value_fault (mismatch span) at = type_syntax at
 value_fault too_deep at = limit_type_nesting at
 
--- The whole run is a type; or it is not, and that is reported at this span.
+-- The whole run is a type, or it is not a type and a fault is reported at this span.
 pub data ReadsValue (run : TokenList) (at : Span) (old new : List Fault) : Option Tree → Type 0 where
   is_type : {tree : Tree} → IsTypeExpr run tree none → new ≡ old → ReadsValue run at old new (Some tree)
   goes_on : {tree : Tree} {token : Token} {rest : TokenList} → IsTypeExpr run tree (also token rest) →
@@ -118,7 +128,7 @@ abbrev pub former : List Given → List ℕ → Option Span
 former [] text = None
 former (g ∷ types) text = if bytes_eq g.name.text text then Some g.at else former types text
 
--- One more type: it replaces the one that its name has, or comes after all others.
+-- The types with one more: it replaces the type of its name, or comes after all others.
 abbrev pub given_more : Given → List Given → List Given
 given_more type [] = type ∷ []
 given_more type (g ∷ types) = if bytes_eq type.name.text g.name.text then type ∷ types else g ∷ given_more type types
@@ -127,8 +137,8 @@ abbrev pub given_faults : Option Span → Named → List Fault
 given_faults None named = []
 given_faults (Some span) named = type_twice named ∷ previous span ∷ []
 
--- A value is given to a name. It is not a type, or the name is not declared, or the name has this
--- type from now on.
+-- A value is given to a name. Either the value is not a type, or the name is not declared, or the
+-- name has this type afterwards.
 pub data IsSet (old : Value) (named : Named) (run : TokenList) (before : List Fault) (new : Value) (after : List Fault) : Type 0 where
   no_value : ReadsValue run (run_span run) before after None → new ≡ old → IsSet old named run before new after
   undeclared : {tree : Tree} → ReadsValue run (run_span run) before before (Some tree) → is_declared old.names named.text ≡ false → new ≡ old → after ≡ before ++ not_type_parameter named ∷ [] → IsSet old named run before new after

@@ -1,5 +1,5 @@
 pub mod Fronts
-pub mod Places
+pub mod Slots
 pub mod Given
 pub mod Chains
 pub mod Checks

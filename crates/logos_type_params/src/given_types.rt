@@ -1,9 +1,10 @@
-//! Holds the types given to the parameters, and finds them by name.
+//! Stores the types given to the parameters, and finds them by name. `type_params` fills it, and
+//! substitution reads it.
 
 ghost use Rattle.std.specs.Prelude.{◌≡◌, ◌++◌, ◌∷◌, [], ◌<◌, None, Some, length, option_copied, IfSome, OnOk, OnErr};
 ghost use Rattle.std.specs.Map.{lookup};
 ghost use Rattle.std.specs.Str.{bytes_eq};
-ghost use Rattle.logos_type_params.specs.inside.Places.{ArePlaced, place_in, put_in};
+ghost use Rattle.logos_type_params.specs.inside.Slots.{ArePlaced, slot_in, put_in};
 
 use crate::substitution::TypeParam;
 use logos_token::error::Memory;
@@ -13,12 +14,12 @@ use std::collections::HashMap;
 /// The types given to the parameters, at most one to each name.
 #[derive(Drop)]
 pub struct GivenTypes<'s> {
-    /// The types with the names to which they are given, in the order in which the names first got
-    /// one.
+    /// The types with the names to which they are given, in the order in which the names first
+    /// received one.
     pub(crate) entries: Vec<(&'s str, TypeParam<'s>)>,
-    /// For each name the index of its type.
-    places: HashMap<&'s str, usize>,
-    ghost placed: { ArePlaced entries.items places.entries },
+    /// For each name, the index of its type.
+    slots: HashMap<&'s str, usize>,
+    ghost placed: { ArePlaced entries.items slots.entries },
 }
 
 impl<'s> GivenTypes<'s> {
@@ -28,38 +29,39 @@ impl<'s> GivenTypes<'s> {
     {
         GivenTypes {
             entries: Vec::new(alloc),
-            places: HashMap::new(alloc),
+            slots: HashMap::new(alloc),
         }
     }
 
-    /// Returns the index of the type given to a name, or `None` if none is.
-    pub(crate) fn place_of(&self, text: &str) -> Option<usize>
-        ensures place { result ≡ place_in self.now.entries.items text.now }
+    /// Returns the index of the type given to a name, or `None` if it has none.
+    pub(crate) fn slot_of(&self, text: &str) -> Option<usize>
+        ensures slot { result ≡ slot_in self.now.entries.items text.now }
         ensures within { IfSome result (λ at. at < length self.now.entries.items) }
     {
-        self.places.get(text).copied()
+        self.slots.get(text).copied()
     }
 
-    /// Returns the type given to a name, or `None` if none is.
+    /// Returns the type given to a name, or `None` if it has none.
     pub fn get(&self, text: &str) -> Option<&TypeParam<'s>>
         ensures { option_copied result ≡
             lookup (λ k. bytes_eq text.now k.now) self.now.entries.items }
     {
-        match self.place_of(text) {
+        match self.slot_of(text) {
             Some(at) => Some(&self.entries[at].1),
             None => None,
         }
     }
 
     /// Returns the types with the names to which they are given, in the order in which the names
-    /// first got one.
+    /// first received one.
     pub fn list(&self) -> &[(&'s str, TypeParam<'s>)]
         ensures { result.now ≡ self.now.entries.items }
     {
         self.entries.as_slice()
     }
 
-    /// Gives a type to a name, in place of a former one, whose index it gets.
+    /// Assigns a type to a name. If the name already has a type, the new one replaces it at its
+    /// index.
     ///
     /// # Errors
     ///
@@ -71,7 +73,7 @@ impl<'s> GivenTypes<'s> {
         ensures absent { OnErr result
             (lookup (λ k. bytes_eq text.now k.now) self.old.entries.items ≡ None) }
     {
-        match self.place_of(text) {
+        match self.slot_of(text) {
             Some(at) => {
                 self.entries[at] = (text, param);
                 Ok(())
@@ -82,15 +84,15 @@ impl<'s> GivenTypes<'s> {
 
     /// Adds a name that has no type, and its type. After an error the types are unchanged.
     fn add(&mut self, text: &'s str, param: TypeParam<'s>) -> Result<(), Memory>
-        requires { place_in self.old.entries.items text.now ≡ None }
+        requires { slot_in self.old.entries.items text.now ≡ None }
         ensures ok { OnOk result
             (self.new.entries.items ≡ self.old.entries.items ++ (text.entry, param.entry) ∷ []) }
         ensures err { OnErr result (self.new.entries.items ≡ self.old.entries.items) }
     {
         let at = self.entries.len();
-        self.places.reserve(1)?;
+        self.slots.reserve(1)?;
         self.entries.push((text, param))?;
-        self.places.insert(text, at)?;
+        self.slots.insert(text, at)?;
         Ok(())
     }
 }

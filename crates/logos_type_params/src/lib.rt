@@ -1,16 +1,18 @@
 //! The declared type parameters of an enum, the types given to them, and the replacement of
-//! parameters and lifetimes in types.
+//! parameters and lifetimes in types. `logos_definition` calls it.
 
 #![tactic(auto)]
 
+mod cycles;
 mod given_types;
 mod lifetimes;
 mod names;
-pub mod reporting;
+pub mod reports;
 mod self_reference;
 mod substitution;
 mod type_params;
 
+pub use cycles::on_cycles;
 pub use given_types::GivenTypes;
 pub use lifetimes::{replace_lifetime, replace_lifetimes};
 pub use self_reference::holds_itself;

@@ -1,4 +1,5 @@
-//! Sets the lifetimes of types to `'s`. Each type that is given or written goes through it.
+//! Sets the lifetimes of types to `'s`. Each type that is given to a parameter or written in a
+//! field passes through it.
 
 ghost use Rattle.std.specs.Prelude.{◌≡◌, map, IfOk};
 ghost use Rattle.logos_type_params.specs.Views.{whole, trees, tree_of, type_tree, with_lifetimes, with_lifetime, own_lifetime};
@@ -8,8 +9,8 @@ use logos_token::error::Memory;
 use logos_type::{TypeExpr, TypePart};
 use std::alloc::{AllocError, Global};
 
-/// Copies a part with the lifetimes of references, and of the angle arguments of paths that are
-/// types, set to `'s`, at any depth.
+/// Copies a part. The lifetimes of references and of the angle arguments of paths that are types
+/// are set to `'s`, at any depth.
 pub(crate) fn set_lifetimes<'s>(
     alloc: Global,
     part: &TypePart<'s>,
@@ -30,7 +31,7 @@ pub(crate) fn set_lifetimes<'s>(
     }
 }
 
-/// Copies a part, with its lifetime set if it is a token that has one. A type stays as it is.
+/// Copies a part, with its lifetime set if it is a token that has one. A type is copied unchanged.
 fn set_own<'s>(part: &TypePart<'s>) -> Result<TypePart<'s>, AllocError>
     ensures { IfOk result (λ after. tree_of after ≡ own_lifetime (tree_of part.now)) }
 {
@@ -40,7 +41,7 @@ fn set_own<'s>(part: &TypePart<'s>) -> Result<TypePart<'s>, AllocError>
     }
 }
 
-/// Copies the parts of a type in this way.
+/// Copies the parts of a type, with their lifetimes set.
 fn set_each<'s>(alloc: Global, parts: &[TypePart<'s>]) -> Result<TypePart<'s>, AllocError>
     ensures { IfOk result (λ after. tree_of after ≡
         with_lifetime (whole (trees (map tree_of parts.now)))) }
@@ -53,9 +54,9 @@ fn set_each<'s>(alloc: Global, parts: &[TypePart<'s>]) -> Result<TypePart<'s>, A
 }
 
 /// Returns the type with its lifetimes and those of all types inside it set to `'s`: the lifetime
-/// of a reference, which gets one if it has none, and the lifetimes among the angle arguments of a
-/// path that is a type. Other lifetimes stay, such as those of `dyn` and `for<..>`, and so do parts
-/// that are never replaced, such as the type before `as`.
+/// of a reference, which is added if there is none, and the lifetimes among the angle arguments of
+/// a path that is a type. Other lifetimes are unchanged, such as those of `dyn` and `for<..>`.
+/// Parts that are never replaced are also unchanged, such as the type before `as`.
 ///
 /// # Errors
 ///
@@ -70,9 +71,9 @@ pub fn replace_lifetimes<'s>(
     Ok(TypeExpr { part })
 }
 
-/// Returns the type with its own lifetimes set to `'s`: the lifetime of a reference, which gets one
-/// if it has none, or those among the angle arguments of a path that is a type. The types inside it
-/// and any other type stay as they are.
+/// Returns the type with its own lifetimes set to `'s`: the lifetime of a reference, which is added
+/// if there is none, or those among the angle arguments of a path that is a type. The types inside
+/// it and any other type are unchanged.
 ///
 /// # Errors
 ///

@@ -1,7 +1,7 @@
-//! Holds names in the order in which they are declared.
+//! Stores names in the order in which they are declared. `TypeParams` stores its parameters in it.
 
 ghost use Rattle.std.specs.Prelude.{map, ◌≡◌, ◌++◌, ◌∷◌, [], OnOk, OnErr};
-ghost use Rattle.logos_type_params.specs.Words.{is_declared};
+ghost use Rattle.logos_type_params.specs.Imports.{is_declared};
 ghost use Rattle.logos_type_params.specs.NameLists.{named_of};
 ghost use Rattle.logos_type_params.specs.inside.Fronts.{AreInFront};
 
@@ -15,7 +15,7 @@ use std::collections::HashSet;
 pub(crate) struct DeclaredNames<'s> {
     /// The names, in order of declaration.
     pub(crate) list: Vec<Ident<'s>>,
-    /// Their texts, each once.
+    /// The texts of the names, without duplicates.
     pub(crate) texts: HashSet<&'s str>,
     ghost same: { AreInFront (map named_of list.items) texts.keys },
 }
@@ -38,7 +38,7 @@ impl<'s> DeclaredNames<'s> {
         self.texts.contains(text)
     }
 
-    /// Declares a name, after all others. After an error the names are unchanged.
+    /// Appends a declared name. After an error the names are unchanged.
     pub(crate) fn push(&mut self, name: Ident<'s>) -> Result<(), Memory>
         ensures ok { OnOk result (self.new.list.items ≡ self.old.list.items ++ name.entry ∷ []) }
         ensures err { OnErr result (self.new.list.items ≡ self.old.list.items) }

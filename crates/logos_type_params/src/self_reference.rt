@@ -1,16 +1,16 @@
-//! Finds the parameters that hold themselves. It runs once, after all attributes of an enum are
+//! Finds the parameters whose types contain them. It runs once, after all attributes of an enum are
 //! read.
 
 ghost use Rattle.std.specs.Prelude.{◌≡◌, ◌↔◌, [], length, map, IfOk, OnOk, IsTrue};
 ghost use Rattle.logos_type_params.specs.Views.{name, tree_of, names, Leads, Reaches, AreReached};
 ghost use Rattle.logos_type_params.specs.SelfReference.{param_value};
 
+use crate::cycles::on_cycles;
 use crate::given_types::GivenTypes;
-use logos_cycles::on_cycles;
 use logos_type::TypePart;
 use std::alloc::{AllocError, Global};
 
-/// The types given to the parameters, and which of them lead back to their own names.
+/// The types given to the parameters, and whether each leads back to its own name.
 #[derive(Drop)]
 pub(crate) struct Chains<'p, 's> {
     /// The type given to each name.
@@ -20,7 +20,7 @@ pub(crate) struct Chains<'p, 's> {
     ghost fits: { length held.items ≡ length types.now.entries.items },
 }
 
-/// Adds the index of the type that is given to a name, if one is.
+/// Appends the index of the type that is given to a name, if there is one.
 fn reach_name<'s>(
     types: &GivenTypes<'s>,
     text: &str,
@@ -29,14 +29,14 @@ fn reach_name<'s>(
     ensures { OnOk result (Reaches (map param_value types.now.entries.items)
         (names (name text.now)) reached.old.items reached.new.items) }
 {
-    let Some(at) = types.place_of(text) else {
+    let Some(at) = types.slot_of(text) else {
         return Ok(());
     };
     reached.push(at)?;
     Ok(())
 }
 
-/// Adds the indices of the types given to the names that a type has among its parts.
+/// Appends the indices of the types given to the names among the parts of a type.
 fn reach<'s>(
     types: &GivenTypes<'s>,
     part: &TypePart<'s>,
@@ -96,15 +96,15 @@ impl<'p, 's> Chains<'p, 's> {
             IsTrue result ↔
             Leads (map param_value self.now.types.now.entries.items) text.now text.now }
     {
-        let Some(at) = self.types.place_of(text) else {
+        let Some(at) = self.types.slot_of(text) else {
             return false;
         };
         self.held[at]
     }
 }
 
-/// Returns whether a chain of types that name one another leads from this parameter back to it.
-/// This takes time linear in the sizes of all types.
+/// Returns whether a chain of types that name one another leads from the parameter `text` back to
+/// it. This takes time linear in the sizes of all types.
 ///
 /// # Errors
 ///

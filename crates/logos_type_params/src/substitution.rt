@@ -1,4 +1,4 @@
-//! Replaces declared type parameters in types.
+//! Replaces declared type parameters in types. `written_types` calls it for each field.
 
 ghost use Rattle.std.specs.Prelude.{◌≡◌, ◌<◌, ℕ, Bool, true, false, List, map, IfOk, IfErr, MatchOption};
 ghost use Rattle.logos_type_params.specs.Views.{Tree, name, whole, trees, tree_of, sign_of, IfDeep, exceeds, Params, given, given_first, given_type, set_sign, param_value, After, AllAfter, Passes, SomePasses, params_of};
@@ -21,14 +21,14 @@ pub struct TypeParam<'s> {
     pub span: Span,
 }
 
-/// The types that are given, by name, and the names of the parameters that hold themselves.
+/// The given types, by name, and the names of the parameters that contain themselves.
 #[derive(Clone, Copy)]
 pub struct Replacing<'p, 's> {
     pub types: &'p GivenTypes<'s>,
     pub held: &'p HashSet<&'s str>,
 }
 
-/// What replaces a name.
+/// The replacement of a name.
 #[derive(Clone, Copy)]
 enum GivenType<'p, 's> {
     Nothing,
@@ -36,7 +36,7 @@ enum GivenType<'p, 's> {
     Parts(&'p [TypePart<'s>]),
 }
 
-/// Returns the token with the lifetime `'s` in place of one that is set.
+/// Returns the token, with its lifetime replaced by `'s` if it is one of those that are set.
 pub(crate) fn set_lifetime(leaf: TypeToken<'_>) -> TypeToken<'_>
     ensures { sign_of result ≡ set_sign (sign_of leaf.entry) }
 {
@@ -47,7 +47,7 @@ pub(crate) fn set_lifetime(leaf: TypeToken<'_>) -> TypeToken<'_>
     }
 }
 
-/// Returns what replaces a parameter with this type.
+/// Returns the replacement of a parameter with this type.
 fn given_by<'p, 's>(part: &'p TypePart<'s>) -> GivenType<'p, 's>
     ensures { given_of result ≡ given_type (tree_of part.now) }
 {
@@ -58,7 +58,7 @@ fn given_by<'p, 's>(part: &'p TypePart<'s>) -> GivenType<'p, 's>
     }
 }
 
-/// Returns the shape of the type that is given to this name, if one is.
+/// Returns the replacement by the type that is given to this name, if there is one.
 fn given_first<'p, 's>(types: &'p GivenTypes<'s>, text: &str) -> GivenType<'p, 's>
     ensures { given_of result ≡ given_first (map param_value types.now.entries.items) text.now }
 {
@@ -68,7 +68,7 @@ fn given_first<'p, 's>(types: &'p GivenTypes<'s>, text: &str) -> GivenType<'p, '
     }
 }
 
-/// Returns what replaces a name.
+/// Returns the replacement of a name.
 fn find<'p, 's>(params: Replacing<'p, 's>, text: &str) -> GivenType<'p, 's>
     ensures { given_of result ≡ given (params_of params.entry) text.now }
 {
@@ -82,7 +82,7 @@ fn find<'p, 's>(params: Replacing<'p, 's>, text: &str) -> GivenType<'p, 's>
 ///
 /// # Errors
 ///
-/// Returns `LimitNesting` if more than `levels` types stand inside one another then, and `Memory`
+/// Returns `LimitNesting` if the resulting type has more than `levels` nested types, and `Memory`
 /// if memory runs out.
 #[cycle(after)]
 pub fn type_after<'s>(
@@ -178,7 +178,7 @@ fn parts_after<'s>(
     Ok(after)
 }
 
-/// A type becomes at most one type. If the limit is passed, that type is deeper than the limit.
+/// A type becomes at most one type. If the limit is exceeded, that type is deeper than the limit.
 pub fn at_most_one_after()
     ensures one { (params : Params) (levels others : ℕ) (part after other : Tree) →
         After params levels part after → After params others part other → after ≡ other }

@@ -1,18 +1,19 @@
-//! Holds the declared type parameters of an enum and the types given to them.
+//! The declared type parameters of an enum and the types given to them. The readers of enums and
+//! attributes declare and set them.
 
 ghost use Rattle.std.specs.Prelude.{◌≡◌, ◌++◌, ◌∷◌, [], Some, None, map, IfOk, OnOk, OnErr, if◌then◌else◌, option_map, true, false};
 ghost use Rattle.logos_type_params.specs.Views.{tokens_of, run_span, tree_of, IfFault, type_tree, IsTypeExpr, NoTypeExpr, param_value, ChecksName, named_of, given_of, type_syntax, many_lifetimes, former, given_more, given_faults, ReadsValue, AreChecked, Value, value_of, IsSet, types_of};
 
-mod concrete;
-mod written;
+mod concrete_types;
+mod written_types;
 
 use crate::given_types::GivenTypes;
 use crate::lifetimes::set_lifetimes;
 use crate::names::DeclaredNames;
-use crate::reporting::{report_about, report_depth, report_previous};
+use crate::reports::{report_about, report_depth, report_previous};
 use crate::self_reference::Chains;
 use crate::substitution::TypeParam;
-pub use concrete::Generics;
+pub use concrete_types::Generics;
 use logos_token::error::{Errors, FaultCode, Memory};
 use logos_token::token::{Ident, Span, Tokens};
 use logos_type::TypeExpr;
@@ -30,7 +31,7 @@ pub struct TypeParams<'s> {
     alloc: Global,
 }
 
-/// Reports that the value at this span is not a type.
+/// Reports that the value at the span `at` is not a type.
 fn report_syntax(errors: &mut Errors, at: Span) -> Result<(), Memory>
     ensures ok { OnOk result (errors.new ≡ errors.old ++ type_syntax at ∷ []) }
     ensures err { OnErr result (errors.new ≡ errors.old) }
@@ -38,7 +39,7 @@ fn report_syntax(errors: &mut Errors, at: Span) -> Result<(), Memory>
     errors.err(FaultCode::TypeSyntax, "not a type", at)
 }
 
-/// Reports at this span why a run is not a type.
+/// Reports at the span `at` why a run is not a type.
 fn report_no_type(
     fault: TypeFault,
     run: Tokens<'_, '_>,
@@ -57,8 +58,8 @@ fn report_no_type(
     }
 }
 
-/// Returns the type with which a run begins if no tokens are left after it. Reports at this span
-/// that the run is not a type if some are.
+/// Returns the type if no tokens are left after it. Otherwise reports at the span `at` that the run
+/// is not a type.
 fn whole_type<'s>(
     type_expr: TypeExpr<'s>,
     rest: Tokens<'_, 's>,
@@ -79,7 +80,7 @@ fn whole_type<'s>(
 }
 
 /// Reads the whole run as a type. If it is not a type, reports `TypeSyntax` at the span `at`, or
-/// `LimitTypeNesting` if the type nests too deep, and returns `None`.
+/// `LimitTypeNesting` if too many types are nested in it, and returns `None`.
 ///
 /// # Errors
 ///
@@ -103,7 +104,7 @@ pub fn read_value<'s>(
     }
 }
 
-/// Reports a lifetime if one is declared already.
+/// Reports a lifetime if one is already declared.
 fn report_second_lifetime(is_declared: bool, span: Span, errors: &mut Errors) -> Result<(), Memory>
     ensures ok { OnOk result (errors.new ≡ errors.old ++
         (if is_declared then many_lifetimes span ∷ [] else [])) }
@@ -119,7 +120,7 @@ fn report_second_lifetime(is_declared: bool, span: Span, errors: &mut Errors) ->
     )
 }
 
-/// Returns the span of the type given to a name, or `None` if none is.
+/// Returns the span of the type given to a name, or `None` if it has none.
 fn former<'s>(types: &GivenTypes<'s>, text: &str) -> Option<Span>
     ensures { result ≡ former (map given_of types.now.entries.items) text.now }
 {
@@ -129,7 +130,7 @@ fn former<'s>(types: &GivenTypes<'s>, text: &str) -> Option<Span>
     }
 }
 
-/// Reports that a type is already given to a name, and its span. After an error the faults are
+/// Reports that a name already has a type, and the span of that type. After an error the faults are
 /// unchanged.
 fn report_twice(name: Ident<'_>, former: Span, errors: &mut Errors) -> Result<(), Memory>
     ensures ok { OnOk result (errors.new
@@ -148,8 +149,7 @@ fn report_twice(name: Ident<'_>, former: Span, errors: &mut Errors) -> Result<()
     errors.append(found)
 }
 
-/// Reports a second type for a name if a first one is given to it. After an error the faults are
-/// unchanged.
+/// Reports a second type for a name if it already has one. After an error the faults are unchanged.
 fn report_given(name: Ident<'_>, former: Option<Span>, errors: &mut Errors) -> Result<(), Memory>
     ensures ok { OnOk result (errors.new
         ≡ errors.old ++ given_faults former (named_of name.entry)) }
@@ -161,9 +161,9 @@ fn report_given(name: Ident<'_>, former: Option<Span>, errors: &mut Errors) -> R
     }
 }
 
-/// Gives a type to a declared name, in place of a former one, which is reported. After an error
-/// everything is unchanged.
-fn give<'s>(
+/// Assigns a type to a declared name. If the name already has a type, that type is replaced, and
+/// the second one is reported. After an error everything is unchanged.
+fn emit<'s>(
     types: &mut GivenTypes<'s>,
     name: Ident<'s>,
     param: TypeParam<'s>,
@@ -183,7 +183,8 @@ fn give<'s>(
     Ok(())
 }
 
-/// Reports a declared name that holds itself, unless it is in `front`, and adds it to `front`.
+/// Reports a declared name whose type contains it, unless the name is in `front`, and adds it to
+/// `front`.
 fn check_name<'s>(
     front: &mut HashSet<&'s str>,
     chains: &Chains<'_, 's>,
@@ -222,8 +223,8 @@ impl<'s> TypeParams<'s> {
         }
     }
 
-    /// Notes that a lifetime parameter is declared. Reports a second one as `ManyLifetimes` at this
-    /// span.
+    /// Records that a lifetime parameter is declared. Reports a second one as `ManyLifetimes` at
+    /// this span.
     ///
     /// # Errors
     ///
@@ -261,10 +262,10 @@ impl<'s> TypeParams<'s> {
         Ok(())
     }
 
-    /// Gives the type that `value` spells to the declared parameter `name`. Reports a value that is
+    /// Assigns the type that `value` spells to the parameter `name`. Reports a value that is
     /// not a type, as `TypeSyntax` or `LimitTypeNesting`, and a name that is not declared, as
-    /// `NotTypeParameter`; nothing is given then. Reports a second type as `TypeTwice`, with the
-    /// span of the first one; the second one is given then.
+    /// `NotTypeParameter`; in these cases no type is given. Reports a second type as `TypeTwice`,
+    /// with the span of the first one, and assigns the second one.
     ///
     /// # Errors
     ///
@@ -295,7 +296,7 @@ impl<'s> TypeParams<'s> {
             );
         }
         let part = set_lifetimes(self.alloc, &written.part)?;
-        give(
+        emit(
             &mut self.types,
             name,
             TypeParam {
@@ -307,9 +308,9 @@ impl<'s> TypeParams<'s> {
         )
     }
 
-    /// Reports each parameter whose types lead back to it, as `TypeHoldsItself`, in order of
-    /// declaration. A name that is declared twice is reported once. This takes time linear in the
-    /// sizes of all types.
+    /// Reports each parameter whose type leads back to it, as `TypeHoldsItself`, in order of
+    /// declaration. A name that is declared twice is reported only once. This takes time linear in
+    /// the sizes of all types.
     ///
     /// # Errors
     ///
@@ -324,8 +325,8 @@ impl<'s> TypeParams<'s> {
         errors.append(found)
     }
 
-    /// Reports each parameter whose types lead back to it, in order of declaration. After an error
-    /// some of the faults can have been added.
+    /// Reports each parameter whose type leads back to it, in order of declaration. After an error
+    /// some of the faults may have been added.
     fn check_all(&self, errors: &mut Errors) -> Result<(), Memory>
         ensures { OnOk result (AreChecked (types_of self.now) []
             (value_of self.now).names errors.old errors.new) }

@@ -7,25 +7,25 @@ use Rattle.logos_lexeme.specs.declared.lexeme.Delimiter.{Delimiter}
 use Rattle.logos_lexeme.specs.declared.lexeme.Delimiter.TheVariants.{Parenthesis, Bracket, Brace}
 use Rattle.logos_token.specs.Tokens.{Token, TokenList, identifier, punctuation, literal, doc, group, none, also, append}
 use Rattle.logos_type.specs.Parts.{Sign, colons, reference}
-use Rattle.logos_type_reader.specs.declared.table.place.PathKind.TheVariants.{Plain}
-use Rattle.logos_type_reader.specs.declared.table.place.Place.TheVariants as place
-use Rattle.logos_type_reader.specs.declared.table.place.Place.{Place}
+use Rattle.logos_type_reader.specs.declared.table.stage.PathKind.TheVariants.{Plain}
+use Rattle.logos_type_reader.specs.declared.table.stage.Stage.TheVariants as stage
+use Rattle.logos_type_reader.specs.declared.table.stage.Stage.{Stage}
 use Rattle.logos_type_reader.specs.Table as table
 use Rattle.logos_type_reader.specs.Table.{Spot, First, starts, refused, Fault, unsupported, mismatch, to, begin, name_of, begins_colons, first_span}
-use Rattle.logos_type_reader.specs.FaultPlaces.{start, past, SameSign, EndsWith, StandsAt, fault_at}
+use Rattle.logos_type_reader.specs.FaultStages.{start, past, SameSign, EndsWith, OccursAt, fault_at}
 use Rattle.logos_type_reader.proofs.SameSigns.{ForSame, ForSeen, for_same, colons_after, mark_same, goes_on_same, begins_name, in_front}
 
 -- how a type begins: over tokens, or with a group
 pub data Begun (plus : Bool) (run : TokenList) (barred : Bool) (s : Sign) (spot : Spot) : Type 0 where
   by_tokens : (t : Token) (front : TokenList) → run ≡ also t (append front spot.run) → spot.outside ≡ None →
-      ((rest : TokenList) → SameSign spot.run rest → begin plus (also t (append front rest)) ≡ starts barred s (to spot.place rest None)) → Begun plus run barred s spot
+      ((rest : TokenList) → SameSign spot.run rest → begin plus (also t (append front rest)) ≡ starts barred s (to spot.stage rest None)) → Begun plus run barred s spot
   by_group : (d : Delimiter) (g : Span) (rest : TokenList) → run ≡ also (group d g spot.run) rest → spot.outside ≡ Some rest →
-      ((t : Span) (inside other : TokenList) → begin plus (also (group d t inside) other) ≡ starts barred s (to spot.place inside (Some other))) → Begun plus run barred s spot
+      ((t : Span) (inside other : TokenList) → begin plus (also (group d t inside) other) ≡ starts barred s (to spot.stage inside (Some other))) → Begun plus run barred s spot
 
 -- why none begins: at the first token, which is no name, or after some tokens
 pub data Refuses (plus : Bool) (run : TokenList) (fault : Fault) : Type 0 where
   at_once : begins_name run ≡ false → fault ≡ mismatch (first_span run) → ((l : TokenList) → SameSign run l → begin plus l ≡ refused (mismatch (first_span l))) → Refuses plus run fault
-  after_some : (t : Token) (front left : TokenList) → run ≡ also t (append front left) → StandsAt fault (past t (in_front front start)) left →
+  after_some : (t : Token) (front left : TokenList) → run ≡ also t (append front left) → OccursAt fault (past t (in_front front start)) left →
       ((l : TokenList) → SameSign left l → begin plus (also t (append front l)) ≡ refused (fault_at fault l)) → Refuses plus run fault
 
 abbrev pub FirstLocal : Bool → TokenList → First → Type 0
@@ -37,7 +37,7 @@ either_first F true m n f g = f refl
 either_first F false m n f g = g refl
 
 -- it begins with one token, whatever comes next
-one_token : (plus : Bool) (t : Token) (rest : TokenList) (b : Bool) (s : Sign) (p : Place) → ((x : TokenList) → SameSign rest x → begin plus (also t x) ≡ starts b s (to p x None)) → Begun plus (also t rest) b s (to p rest None)
+one_token : (plus : Bool) (t : Token) (rest : TokenList) (b : Bool) (s : Sign) (p : Stage) → ((x : TokenList) → SameSign rest x → begin plus (also t x) ≡ starts b s (to p x None)) → Begun plus (also t rest) b s (to p rest None)
 one_token plus t rest b s p k = by_tokens t none refl refl k
 
 -- the first token is a type that is not supported
@@ -60,9 +60,9 @@ lifetime_local plus c d p q s t (also (doc text u) rest) e f = refused_third plu
 lifetime_local plus c d p q s t (also (group g u inside) rest) e f = refused_third plus (punctuation c p s) (punctuation d q t) _ (λ v i x. rw (e, f) refl)
 lifetime_local plus c d p q s t none e f = refused_third plus (punctuation c p s) (punctuation d q t) none (rw (e, f) refl)
 
-shared_local : (plus : Bool) (t : Token) (rest : TokenList) → ForSame rest (λ (x : TokenList). begin plus (also t x) ≡ starts false (reference None) (to place.Referent x None)) →
-    Begun plus (also t rest) false (reference None) (to place.Referent rest None)
-shared_local plus t rest k = one_token plus t rest false (reference None) place.Referent (λ x h. for_same (λ (y : TokenList). begin plus (also t y) ≡ starts false (reference None) (to place.Referent y None)) k h)
+shared_local : (plus : Bool) (t : Token) (rest : TokenList) → ForSame rest (λ (x : TokenList). begin plus (also t x) ≡ starts false (reference None) (to stage.Referent x None)) →
+    Begun plus (also t rest) false (reference None) (to stage.Referent rest None)
+shared_local plus t rest k = one_token plus t rest false (reference None) stage.Referent (λ x h. for_same (λ (y : TokenList). begin plus (also t y) ≡ starts false (reference None) (to stage.Referent y None)) k h)
 
 reference_local : (plus : Bool) (c : ℕ) (p : Spacing) (s : Span) (rest : TokenList) → (c == 38) ≡ true → FirstLocal plus (also (punctuation c p s) rest) (table.reference_first rest)
 unfolding begin
@@ -76,7 +76,7 @@ reference_local plus c p s (also (group d t inside) rest) e = shared_local plus 
 reference_local plus c p s none e = shared_local plus (punctuation c p s) none (rw e refl)
 
 colons_local : (plus : Bool) (c : ℕ) (p : Spacing) (s : Span) (rest : TokenList) → (c == 38) ≡ false → (c == 42) ≡ false → (c == 60) ≡ false → (c == 33) ≡ false → begins_colons (also (punctuation c p s) rest) ≡ true →
-    FirstLocal plus (also (punctuation c p s) rest) (starts false colons (to (place.Colons Plain false) (table.after_two (also (punctuation c p s) rest)) None))
+    FirstLocal plus (also (punctuation c p s) rest) (starts false colons (to (stage.Colons Plain false) (table.after_two (also (punctuation c p s) rest)) None))
 unfolding begin
 colons_local plus c Joint s (also (punctuation d o t) rest) k l m n e = by_tokens (punctuation c Joint s) (also (punctuation d o t) none) refl refl (λ x h. rw (k, l, m, n, e) refl)
 colons_local plus c p s rest k l m n e = cc
@@ -107,7 +107,7 @@ firsts_local plus none = refused_here plus none refl refl
 pub begin_local : (plus : Bool) (run : TokenList) {f : First} → begin plus run ≡ f → FirstLocal plus run f
 begin_local plus run e = subst (FirstLocal plus run) e (firsts_local plus run)
 
--- a type that is just a name
+-- a type that is exactly a name
 pub record NameLocal (run : TokenList) (text : List ℕ) : Type 0 where
   pub first : Token
   pub rest : TokenList

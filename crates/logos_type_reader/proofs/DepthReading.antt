@@ -1,5 +1,5 @@
--- What is read holds no more types inside one another than its levels, and is read with as many
--- levels as it holds.
+-- A type that is read has no more nested types than its levels, and is read with as many levels as
+-- its depth.
 use Rattle.std.proofs.Common.{◌≡◌, ℕ, ◌+◌, ◌-◌, ◌<◌, ◌≤◌, ◌⊎◌, inl, inr, max, Bool, List, [], ◌∷◌, ◌++◌, refl, sym, subst, arith}
 use Rattle.logos_token.specs.Tokens.{Token, identifier, punctuation, literal, doc, group, TokenList, none as no_token_left, also as and_token}
 use Rattle.logos_type.specs.Parts.{Tree, sign, trees, closing}

@@ -8,5 +8,5 @@ pub mod ReadWritten
 pub mod SameSigns
 pub mod TableLocal
 pub mod BeginLocal
-pub mod FaultPlaces
+pub mod FaultStages
 pub mod TypesLocal

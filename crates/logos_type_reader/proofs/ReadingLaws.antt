@@ -1,25 +1,25 @@
--- A run begins with one type at most, what refuses it excludes one, and it has a type or a fault.
+-- A run begins with at most one type, a fault excludes a type, and there is a type or a fault.
 use Rattle.std.proofs.Common.{◌≡◌, ℕ, ◌-◌, ◌+◌, ◌<◌, ◌||◌, List, [], ◌∷◌, ◌++◌, Bool, true, false, Option, Some, None, refl, sym, ap, ◌∙◌, subst, arith}
 use Rattle.logos_token.specs.Tokens.{TokenList, none as no_token_left, also as and_token, append, count_of, rest_of, run_span}
-use Rattle.logos_type_reader.specs.declared.table.place.Place.{Place}
+use Rattle.logos_type_reader.specs.declared.table.stage.Stage.{Stage}
 use Rattle.logos_type.specs.Parts.{Tree, Sign, sign, name, whole, still, trees, none, also}
 use Rattle.logos_type_reader.specs.StillRuns.{still_run}
-use Rattle.logos_type_reader.specs.Table.{Spot, outer, Move, First, ends, takes, bars, asks, keeps_type, keeps, nests, stops, starts, refused, Fault, too_deep, unsupported, begin, name_of}
+use Rattle.logos_type_reader.specs.Table.{Spot, outer, Move, First, ends, takes, bars, needs, keeps_type, keeps, nests, stops, starts, refused, Fault, too_deep, unsupported, begin, name_of}
 use Rattle.logos_type_reader.specs.Reading.{IsType, just_name, formed, IsMove, a_token, a_bar, a_type, a_still_type, still_tokens, a_nest, AreParts, ended, further, NoType, deep_name, deep, unbegun, unended, left_out, NoMove, no_token, no_type, no_still_type, no_nest, NoParts, here, later, next_of, after_type}
 
 -- two readings of the same run agree
 abbrev pub Same : Tree → TokenList → Tree → TokenList → Type 0
 Same t rest u other = (t ≡ u) × (rest ≡ other)
 
--- what moves there there can be, by what comes next
+-- the moves that are possible there, by the next token
 abbrev MoveOf : ℕ → Bool → Spot → List Tree → Spot → Move → Type 0
 MoveOf n b spot ps outside ends = ⊥
 MoveOf n b spot ps outside (takes s next) = (b ≡ false) × (ps ≡ sign s ∷ []) × (outside ≡ next)
 MoveOf n b spot ps outside (bars s next) = (b ≡ true) × (ps ≡ sign s ∷ []) × (outside ≡ next)
-MoveOf n b spot ps outside (asks plus place) = (t : Tree) × (rest : TokenList) × (b ≡ false) × (ps ≡ t ∷ []) × (outside ≡ after_type spot place rest) × IsType n plus spot.run t rest
-MoveOf n b spot ps outside (keeps_type place) = (t : Tree) × (rest : TokenList) × (b ≡ false) × (ps ≡ still (also t none) ∷ []) × (outside ≡ after_type spot place rest) × IsType n true spot.run t rest
+MoveOf n b spot ps outside (needs plus stage) = (t : Tree) × (rest : TokenList) × (b ≡ false) × (ps ≡ t ∷ []) × (outside ≡ after_type spot stage rest) × IsType n plus spot.run t rest
+MoveOf n b spot ps outside (keeps_type stage) = (t : Tree) × (rest : TokenList) × (b ≡ false) × (ps ≡ still (also t none) ∷ []) × (outside ≡ after_type spot stage rest) × IsType n true spot.run t rest
 MoveOf n b spot ps outside (keeps run next) = (b ≡ false) × (ps ≡ still (trees (still_run run)) ∷ []) × (outside ≡ next)
-MoveOf n b spot ps outside (nests s inner place) = (qs : List Tree) × (rest : TokenList) × (ps ≡ sign s ∷ qs) × (outside ≡ after_type spot place rest) × AreParts n b inner qs rest
+MoveOf n b spot ps outside (nests s inner stage) = (qs : List Tree) × (rest : TokenList) × (ps ≡ sign s ∷ qs) × (outside ≡ after_type spot stage rest) × AreParts n b inner qs rest
 MoveOf n b spot ps outside (stops fault) = ⊥
 
 move_of : {n : ℕ} {b : Bool} {spot outside : Spot} {ps : List Tree} → IsMove n b spot ps outside → MoveOf n b spot ps outside (next_of spot)
@@ -33,7 +33,7 @@ move_of {n} {b} {spot} {outside} {ps} (a_nest e h) = subst (MoveOf n b spot ps o
 move_as : {n : ℕ} {b : Bool} {spot outside : Spot} {ps : List Tree} {m : Move} → IsMove n b spot ps outside → next_of spot ≡ m → MoveOf n b spot ps outside m
 move_as {n} {b} {spot} {outside} {ps} h e = subst (MoveOf n b spot ps outside) e (move_of h)
 
--- what parts there can be
+-- the possible parts
 data PartsOf (n : ℕ) (b : Bool) (spot : Spot) (ps : List Tree) (rest : TokenList) : Type 0 where
   none_follow : next_of spot ≡ ends → b ≡ false → ps ≡ [] → rest ≡ outer spot.run spot.outside → PartsOf n b spot ps rest
   some_follow : (now onward : Bool) (front others : List Tree) (outside : Spot) → b ≡ (now || onward) → ps ≡ front ++ others → IsMove n now spot front outside → AreParts n onward outside others rest → PartsOf n b spot ps rest
@@ -42,7 +42,7 @@ parts_of : {n : ℕ} {b : Bool} {spot : Spot} {ps : List Tree} {rest : TokenList
 parts_of (ended e) = none_follow e refl refl refl
 parts_of (further {now = now} {onward = onward} {next = outside} {front = front} {parts = others} m a e) = some_follow now onward front others outside e refl m a
 
--- what type there can be
+-- the possible type
 data TypeOf (n : ℕ) (plus : Bool) (run : TokenList) (t : Tree) (rest : TokenList) : Type 0 where
   of_word : (text : List ℕ) → name_of run ≡ Some text → t ≡ name text → rest ≡ rest_of run → TypeOf n plus run t rest
   of_form : (s : Sign) (spot : Spot) (ps : List Tree) → name_of run ≡ None → begin plus run ≡ starts false s spot → t ≡ whole (trees (sign s ∷ ps)) → AreParts (n - 1) false spot ps rest → TypeOf n plus run t rest
@@ -75,7 +75,7 @@ or_same {a} {b} {c} {d} e f = ap (λ (x : Bool). x || b) e ∙ ap (λ (x : Bool)
 append_same : {xs ys zs ws : List Tree} → xs ≡ zs → ys ≡ ws → xs ++ ys ≡ zs ++ ws
 append_same {xs} {ys} {zs} {ws} e f = ap (λ (x : List Tree). x ++ ys) e ∙ ap (λ (x : List Tree). zs ++ x) f
 
--- what the parts of a type are the same as
+-- the parts of a type equal these
 abbrev SameParts : Bool → Spot → List Tree → TokenList → Type 0
 SameParts b spot ps rest = (m : ℕ) (c : Bool) (qs : List Tree) (other : TokenList) → AreParts m c spot qs other → (b ≡ c) × (ps ≡ qs) × (rest ≡ other)
 
@@ -97,20 +97,20 @@ formed_same {m} {other = other} {spot = spot} e g same (of_form s' spot' qs f g'
     let q = same (m - 1) false qs other (subst (λ (x : Spot). AreParts (m - 1) false x qs other) (sym k.2) h) in
     (whole_same k.1 q.1 ∙ sym t, q.2)
 
-asked_same : (m : ℕ) (c : Bool) (spot other : Spot) {plus : Bool} {place : Place} {t : Tree} {rest : TokenList} {qs : List Tree} → SameType plus spot.run t rest →
-    MoveOf m c spot qs other (asks plus place) → (false ≡ c) × (t ∷ [] ≡ qs) × (after_type spot place rest ≡ other)
-asked_same m c spot other {place = place} same (u, r, b, q, o, h) =
-    let k = same m u r h in (sym b, ap (λ (x : Tree). x ∷ []) k.0 ∙ sym q, ap (λ (x : TokenList). after_type spot place x) k.1 ∙ sym o)
+needed_same : (m : ℕ) (c : Bool) (spot other : Spot) {plus : Bool} {stage : Stage} {t : Tree} {rest : TokenList} {qs : List Tree} → SameType plus spot.run t rest →
+    MoveOf m c spot qs other (needs plus stage) → (false ≡ c) × (t ∷ [] ≡ qs) × (after_type spot stage rest ≡ other)
+needed_same m c spot other {stage = stage} same (u, r, b, q, o, h) =
+    let k = same m u r h in (sym b, ap (λ (x : Tree). x ∷ []) k.0 ∙ sym q, ap (λ (x : TokenList). after_type spot stage x) k.1 ∙ sym o)
 
-still_asked_same : (m : ℕ) (c : Bool) (spot other : Spot) {place : Place} {t : Tree} {rest : TokenList} {qs : List Tree} → SameType true spot.run t rest →
-    MoveOf m c spot qs other (keeps_type place) → (false ≡ c) × (still (also t none) ∷ [] ≡ qs) × (after_type spot place rest ≡ other)
-still_asked_same m c spot other {place = place} same (u, r, b, q, o, h) =
-    let k = same m u r h in (sym b, still_same k.0 ∙ sym q, ap (λ (x : TokenList). after_type spot place x) k.1 ∙ sym o)
+still_needed_same : (m : ℕ) (c : Bool) (spot other : Spot) {stage : Stage} {t : Tree} {rest : TokenList} {qs : List Tree} → SameType true spot.run t rest →
+    MoveOf m c spot qs other (keeps_type stage) → (false ≡ c) × (still (also t none) ∷ [] ≡ qs) × (after_type spot stage rest ≡ other)
+still_needed_same m c spot other {stage = stage} same (u, r, b, q, o, h) =
+    let k = same m u r h in (sym b, still_same k.0 ∙ sym q, ap (λ (x : TokenList). after_type spot stage x) k.1 ∙ sym o)
 
-nested_same : (m : ℕ) (c : Bool) (spot other : Spot) {b : Bool} {inner : Spot} {place : Place} {s : Sign} {ps : List Tree} {rest : TokenList} {qs : List Tree} → SameParts b inner ps rest →
-    MoveOf m c spot qs other (nests s inner place) → (b ≡ c) × (sign s ∷ ps ≡ qs) × (after_type spot place rest ≡ other)
-nested_same m c spot other {place = place} {s = s} same (us, r, q, o, h) =
-    let k = same m c us r h in (k.0, ap (λ (x : List Tree). sign s ∷ x) k.1 ∙ sym q, ap (λ (x : TokenList). after_type spot place x) k.2 ∙ sym o)
+nested_same : (m : ℕ) (c : Bool) (spot other : Spot) {b : Bool} {inner : Spot} {stage : Stage} {s : Sign} {ps : List Tree} {rest : TokenList} {qs : List Tree} → SameParts b inner ps rest →
+    MoveOf m c spot qs other (nests s inner stage) → (b ≡ c) × (sign s ∷ ps ≡ qs) × (after_type spot stage rest ≡ other)
+nested_same m c spot other {stage = stage} {s = s} same (us, r, q, o, h) =
+    let k = same m c us r h in (k.0, ap (λ (x : List Tree). sign s ∷ x) k.1 ∙ sym q, ap (λ (x : TokenList). after_type spot stage x) k.2 ∙ sym o)
 
 further_same : {n m : ℕ} {b c now onward : Bool} {spot outside : Spot} {front more qs : List Tree} {rest other : TokenList} → b ≡ (now || onward) → IsMove n now spot front outside → SameMove now spot front outside →
     SameParts onward outside more rest → PartsOf m c spot qs other → (b ≡ c) × (front ++ more ≡ qs) × (rest ≡ other)
@@ -132,8 +132,8 @@ mutual
   pub one_move : {n m : ℕ} {b c : Bool} {spot outside other : Spot} {ps qs : List Tree} → IsMove n b spot ps outside → IsMove m c spot qs other → (b ≡ c) × (ps ≡ qs) × (outside ≡ other)
   one_move (a_token e) g = let k = move_as g e in (sym k.0, sym k.1, sym k.2)
   one_move (a_bar e) g = let k = move_as g e in (sym k.0, sym k.1, sym k.2)
-  one_move {m = m} {c = c} {spot = spot} {other = other} (a_type e h) g = asked_same m c spot other (λ m u other x. one_type h x) (move_as g e)
-  one_move {m = m} {c = c} {spot = spot} {other = other} (a_still_type e h) g = still_asked_same m c spot other (λ m u other x. one_type h x) (move_as g e)
+  one_move {m = m} {c = c} {spot = spot} {other = other} (a_type e h) g = needed_same m c spot other (λ m u other x. one_type h x) (move_as g e)
+  one_move {m = m} {c = c} {spot = spot} {other = other} (a_still_type e h) g = still_needed_same m c spot other (λ m u other x. one_type h x) (move_as g e)
   one_move (still_tokens e) g = let k = move_as g e in (sym k.0, sym k.1, sym k.2)
   one_move {m = m} {c = c} {spot = spot} {other = other} (a_nest e h) g = nested_same m c spot other (λ m c qs other x. one_parts h x) (move_as g e)
 
@@ -214,7 +214,7 @@ mutual
 pub not_less : {n : ℕ} {fault : Fault} → IsDeeper fault n n → ⊥
 not_less d = let h = d.1 in omega (arith, h)
 
--- what fault there can be
+-- the possible fault
 data FaultOf (n : ℕ) (plus : Bool) (run : TokenList) (fault : Fault) : Type 0 where
   of_name : (text : List ℕ) → n ≡ 0 → fault ≡ too_deep → name_of run ≡ Some text → FaultOf n plus run fault
   of_depth : (b : Bool) (s : Sign) (spot : Spot) → n ≡ 0 → fault ≡ too_deep → name_of run ≡ None → begin plus run ≡ starts b s spot → FaultOf n plus run fault
@@ -239,7 +239,7 @@ refuses_same e f = let k = sym e ∙ f in cc
 none_left : {n : ℕ} → n ≡ 0 → 0 < n → ⊥
 none_left z a = omega (arith, z, a)
 
--- what is in front of a rest is one thing
+-- the tokens before a rest are unique
 append_count : (front rest : TokenList) → count_of (append front rest) ≡ count_of front + count_of rest
 append_count no_token_left rest = omega arith
 append_count (and_token t front) rest = let h = append_count front rest in omega (arith, h)
@@ -296,11 +296,11 @@ bar_fault {n} {c = c} {rest = rest} {ps = ps} front a e k p i (of_bar b d s spot
     let m : append front rest ≡ append front' rest = sym i ∙ i' ∙ ap (λ (x : TokenList). append front' x) (sym l.2) in
     ap (λ (x : TokenList). unsupported (run_span x)) (one_front front front' rest m) ∙ sym j
 
--- what moves are refused there, by what comes next
+-- the moves that are refused there, by the next token
 abbrev NoMoveOf : ℕ → Spot → Fault → Move → Type 0
-NoMoveOf n spot fault (asks plus place) = NoType n plus spot.run fault
-NoMoveOf n spot fault (keeps_type place) = NoType n true spot.run fault
-NoMoveOf n spot fault (nests s inner place) = NoParts n inner fault
+NoMoveOf n spot fault (needs plus stage) = NoType n plus spot.run fault
+NoMoveOf n spot fault (keeps_type stage) = NoType n true spot.run fault
+NoMoveOf n spot fault (nests s inner stage) = NoParts n inner fault
 NoMoveOf n spot fault (stops other) = fault ≡ other
 NoMoveOf n spot fault m = ⊥
 

@@ -3,17 +3,17 @@ use Rattle.std.proofs.Common.{◌≡◌, Err, ℕ, ◌-◌, ◌<◌, ◌≤◌, 
 use Rattle.std.proofs.lemmas.List.{append-nil}
 use Rattle.logos_token.specs.Tokens.{TokenList, append, also as and_token, none as no_token, IsRestOf, count_of}
 use Rattle.logos_type.specs.Parts.{Tree, Sign, sign, whole, trees}
-use Rattle.logos_type_reader.specs.declared.table.place.Place.{Place}
-use Rattle.logos_type_reader.specs.Table.{Spot, outer, Move, Fault, nests, asks, keeps_type, ends, starts, begin, name_of}
+use Rattle.logos_type_reader.specs.declared.table.stage.Stage.{Stage}
+use Rattle.logos_type_reader.specs.Table.{Spot, outer, Move, Fault, nests, needs, keeps_type, ends, starts, begin, name_of}
 use Rattle.logos_type_reader.specs.Reading.{IsType, just_name, formed, IsMove, a_token, a_bar, a_type, a_still_type, still_tokens, a_nest, AreParts, ended, further, NoType, unbegun, NoMove, no_token, no_type, no_still_type, no_nest, NoParts, later, next_of, after_type}
-use Rattle.logos_type_reader.specs.declared.table.place.StepFault.{StepFault}
-use Rattle.logos_type_reader.specs.declared.table.place.StepFault.TheVariants.{Unsupported, Mismatch}
-use Rattle.logos_type_reader.specs.declared.reading.TypeFault.{TypeFault}
-use Rattle.logos_type_reader.specs.declared.reading.TypeFault.TheVariants as faults
+use Rattle.logos_type_reader.specs.declared.table.stage.StepFault.{StepFault}
+use Rattle.logos_type_reader.specs.declared.table.stage.StepFault.TheVariants.{Unsupported, Mismatch}
+use Rattle.logos_type_reader.specs.declared.reader.TypeFault.{TypeFault}
+use Rattle.logos_type_reader.specs.declared.reader.TypeFault.TheVariants as faults
 use Rattle.logos_type_reader.specs.ReadingViews.{left, spot_left, IsStep, IsFirst, IfFault, fault_of}
 use Rattle.logos_type_reader.proofs.TableSteps.{Moves, Onward, Inward, steps, Begins, first_steps}
 
--- what is left of what is left is left of the whole
+-- the rest of the rest is left of the whole
 append_from : (front middle rest : TokenList) → append front (append middle rest) ≡ append (append front middle) rest
 append_from no_token middle rest = refl
 append_from (and_token t front) middle rest = ap (λ (x : TokenList). and_token t x) (append_from front middle rest)
@@ -24,17 +24,17 @@ rest_from {run} {middle} {rest} r q = record { front = append r.front q.front; i
 pub rest_self : (run : TokenList) → IsRestOf run run
 rest_self run = record { front = no_token; is = refl }
 
--- one spot is behind another, with less left
+-- one spot is after another, with less left
 pub record Later (spot behind : Spot) : Type 0 where
   pub rest : IsRestOf (outer spot.run spot.outside) (outer behind.run behind.outside)
   pub less : spot_left behind < spot_left spot
 
--- a run is behind a spot
+-- a run is after a spot
 pub record Left (spot : Spot) (run : TokenList) : Type 0 where
   pub rest : IsRestOf (outer spot.run spot.outside) run
   pub less : 2 * count_of run ≤ spot_left spot
 
--- a run is behind another one, with less left
+-- a run is after another one, with less left
 pub record Rest (run rest : TokenList) : Type 0 where
   pub is : IsRestOf run rest
   pub less : count_of rest < count_of run
@@ -43,15 +43,15 @@ onward : {spot behind : Spot} → Onward spot.run spot.outside behind → Later 
 onward o = record { rest = o.rest; less = o.less }
 
 moved : (spot : Spot) {m : Move} → next_of spot ≡ m → Moves spot.run spot.outside m
-moved spot e = subst (Moves spot.run spot.outside) e (steps spot.place spot.run spot.outside)
+moved spot e = subst (Moves spot.run spot.outside) e (steps spot.stage spot.run spot.outside)
 
--- behind a type or a path
+-- after a type or a path
 after_rest : (run rest : TokenList) (behind : Option TokenList) → Rest run rest → IsRestOf (outer run behind) (outer rest behind) × (left rest behind < left run behind)
 after_rest run rest None r = (r.is, let h = r.less in omega arith)
 after_rest run rest (Some after) r = (rest_self after, let h = r.less in omega arith)
 
-later_rest : (spot : Spot) (place : Place) (rest : TokenList) → Rest spot.run rest → Later spot (after_type spot place rest)
-later_rest spot place rest r = let x = after_rest spot.run rest spot.outside r in record { rest = x.0; less = x.1 }
+later_rest : (spot : Spot) (stage : Stage) (rest : TokenList) → Rest spot.run rest → Later spot (after_type spot stage rest)
+later_rest spot stage rest r = let x = after_rest spot.run rest spot.outside r in record { rest = x.0; less = x.1 }
 
 left_self : (run : TokenList) (behind : Option TokenList) → IsRestOf (outer run behind) (outer run behind) × (2 * count_of (outer run behind) ≤ left run behind)
 left_self run None = (rest_self run, omega arith)
@@ -69,7 +69,7 @@ rest_name no_token text e = cc
 rest_name (and_token t rest) text e = record { is = record { front = and_token t no_token; is = refl }; less = omega (arith, Rattle.logos_type_reader.proofs.TableSteps.one_token t) }
 
 mutual
-  -- a type leaves less behind it
+  -- a type leaves less after it
   pub type_rest : {levels : ℕ} {plus : Bool} {run : TokenList} {t : Tree} {rest : TokenList} → IsType levels plus run t rest → Rest run rest
   type_rest {run = run} (just_name {text = text} a e) = rest_name run text e
   type_rest {plus = plus} {run = run} {rest = rest} (formed {spot = spot} a n b h) =
@@ -80,10 +80,10 @@ mutual
   pub move_rest : {levels : ℕ} {barred : Bool} {spot : Spot} {parts : List Tree} {behind : Spot} → IsMove levels barred spot parts behind → Later spot behind
   move_rest {spot = spot} (a_token e) = onward (moved spot e)
   move_rest {spot = spot} (a_bar e) = onward (moved spot e)
-  move_rest {spot = spot} (a_type {place = place} {rest = rest} e h) = later_rest spot place rest (type_rest h)
-  move_rest {spot = spot} (a_still_type {place = place} {rest = rest} e h) = later_rest spot place rest (type_rest h)
+  move_rest {spot = spot} (a_type {stage = stage} {rest = rest} e h) = later_rest spot stage rest (type_rest h)
+  move_rest {spot = spot} (a_still_type {stage = stage} {rest = rest} e h) = later_rest spot stage rest (type_rest h)
   move_rest {spot = spot} (still_tokens e) = onward (moved spot e)
-  move_rest {spot = spot} (a_nest {inner = inner} {place = place} {rest = rest} e h) = later_rest spot place rest (inner_rest spot.run inner rest (moved spot e) (parts_rest h))
+  move_rest {spot = spot} (a_nest {inner = inner} {stage = stage} {rest = rest} e h) = later_rest spot stage rest (inner_rest spot.run inner rest (moved spot e) (parts_rest h))
 
   pub parts_rest : {levels : ℕ} {barred : Bool} {spot : Spot} {parts : List Tree} {rest : TokenList} → AreParts levels barred spot parts rest → Left spot rest
   parts_rest {spot = spot} (ended e) = let l = left_self spot.run spot.outside in record { rest = l.0; less = l.1 }
@@ -97,8 +97,8 @@ or_false : (a : Bool) → (a || false) ≡ a
 or_false true = refl
 or_false false = refl
 
--- with the parts so far, what completes the rest completes the whole, and what is wrong with the
--- rest is wrong with the whole
+-- with the parts so far, a result for the rest completes to a result for the whole, and a fault of
+-- the rest is a fault of the whole
 pub record Remains (levels : ℕ) (from : Spot) (old now : List Tree) (barred : Bool) (spot : Spot) : Type 0 where
   pub front : List Tree
   pub is : now ≡ old ++ front
@@ -125,7 +125,7 @@ pub finished : (levels : ℕ) (from : Spot) (old now : List Tree) (barred : Bool
 finished levels from old now barred spot r e =
     (r.front, r.is, rw (or_false barred, append-nil r.front) at (r.completes false [] (outer spot.run spot.outside) (ended e)))
 
--- what stops the reader is the fault
+-- the reason that stops the reader is the fault
 pub stop_move : (levels : ℕ) (spot : Spot) (stop : StepFault) → IsStep (Err stop) (next_of spot) → IfFault (NoMove levels spot) (fault_of stop)
 stop_move levels spot (Unsupported span) h = no_token h
 stop_move levels spot (Mismatch span) h = no_token h
@@ -141,16 +141,16 @@ if_fault-map P Q f faults.LimitNesting h = f _ h
 if_fault-map P Q f faults.Memory h = tt
 
 -- a fault inside a part is one of the move
-pub asked_fault : (levels : ℕ) (spot : Spot) (plus : Bool) (place : Place) (fault : TypeFault) → next_of spot ≡ asks plus place → IfFault (NoType levels plus spot.run) fault → IfFault (NoMove levels spot) fault
-asked_fault levels spot plus place fault e h = if_fault-map (NoType levels plus spot.run) (NoMove levels spot) (λ f n. no_type e n) fault h
+pub needed_fault : (levels : ℕ) (spot : Spot) (plus : Bool) (stage : Stage) (fault : TypeFault) → next_of spot ≡ needs plus stage → IfFault (NoType levels plus spot.run) fault → IfFault (NoMove levels spot) fault
+needed_fault levels spot plus stage fault e h = if_fault-map (NoType levels plus spot.run) (NoMove levels spot) (λ f n. no_type e n) fault h
 
-pub still_fault : (levels : ℕ) (spot : Spot) (place : Place) (fault : TypeFault) → next_of spot ≡ keeps_type place → IfFault (NoType levels true spot.run) fault → IfFault (NoMove levels spot) fault
-still_fault levels spot place fault e h = if_fault-map (NoType levels true spot.run) (NoMove levels spot) (λ f n. no_still_type e n) fault h
+pub still_fault : (levels : ℕ) (spot : Spot) (stage : Stage) (fault : TypeFault) → next_of spot ≡ keeps_type stage → IfFault (NoType levels true spot.run) fault → IfFault (NoMove levels spot) fault
+still_fault levels spot stage fault e h = if_fault-map (NoType levels true spot.run) (NoMove levels spot) (λ f n. no_still_type e n) fault h
 
-pub nest_fault : (levels : ℕ) (spot : Spot) (s : Sign) (inner : Spot) (place : Place) (fault : TypeFault) → next_of spot ≡ nests s inner place → IfFault (NoParts levels inner) fault → IfFault (NoMove levels spot) fault
-nest_fault levels spot s inner place fault e h = if_fault-map (NoParts levels inner) (NoMove levels spot) (λ f n. no_nest e n) fault h
+pub nest_fault : (levels : ℕ) (spot : Spot) (s : Sign) (inner : Spot) (stage : Stage) (fault : TypeFault) → next_of spot ≡ nests s inner stage → IfFault (NoParts levels inner) fault → IfFault (NoMove levels spot) fault
+nest_fault levels spot s inner stage fault e h = if_fault-map (NoParts levels inner) (NoMove levels spot) (λ f n. no_nest e n) fault h
 
--- less is left behind the first token
+-- less is left after the first token
 pub begun_falls : (plus : Bool) (run : TokenList) (barred : Bool) (s : Sign) (spot : Spot) → begin plus run ≡ starts barred s spot → spot_left spot < 2 * count_of run
 begun_falls plus run barred s spot e = let f : Begins run spot = first_steps plus run e in f.less
 
@@ -169,11 +169,11 @@ formed_type levels plus run b c s spot ps rest ts a e f h n is =
     let h' : AreParts (levels - 1) false spot ps rest = subst (λ (x : Bool). AreParts (levels - 1) x spot ps rest) k.1 h in
     subst (λ (x : List Tree). IsType levels plus run (whole (trees x)) rest) (sym is) (formed a e f' h')
 
--- less is left where a path or bounds go on inside
+-- less is left where a path or bounds continue inside
 inner_less_than : (run within : TokenList) (behind other : Option TokenList) → count_of within < count_of run → other ≡ None → left within other < left run behind
 inner_less_than run within None None h n = omega (arith, h)
 inner_less_than run within (Some after) None h n = omega (arith, h)
 inner_less_than run within behind (Some after) h n = absurd (let z = n in cc)
 
-pub inner_left : (spot : Spot) (s : Sign) (inner : Spot) (place : Place) → next_of spot ≡ nests s inner place → spot_left inner < spot_left spot
-inner_left spot s inner place e = let i : Inward spot.run inner = moved spot e in inner_less_than spot.run inner.run spot.outside inner.outside i.less i.alone
+pub inner_left : (spot : Spot) (s : Sign) (inner : Spot) (stage : Stage) → next_of spot ≡ nests s inner stage → spot_left inner < spot_left spot
+inner_left spot s inner stage e = let i : Inward spot.run inner = moved spot e in inner_less_than spot.run inner.run spot.outside inner.outside i.less i.alone

@@ -1,9 +1,9 @@
 -- Each run begins with a type, or has a fault.
 use Rattle.std.proofs.Common.{◌≡◌, ℕ, zero, suc, ◌-◌, ◌+◌, ◌*◌, ◌<◌, ◌≤◌, ◌||◌, ◌⊎◌, inl, inr, List, [], ◌∷◌, ◌++◌, Bool, true, false, Option, Some, None, refl, arith}
 use Rattle.logos_token.specs.Tokens.{TokenList, count_of, rest_of, run_span}
-use Rattle.logos_type_reader.specs.declared.table.place.Place.{Place}
+use Rattle.logos_type_reader.specs.declared.table.stage.Stage.{Stage}
 use Rattle.logos_type.specs.Parts.{Tree, Sign, sign, name, whole, trees}
-use Rattle.logos_type_reader.specs.Table.{Spot, outer, Move, First, ends, takes, bars, asks, keeps_type, keeps, nests, stops, starts, refused, Fault, too_deep, unsupported, begin, name_of}
+use Rattle.logos_type_reader.specs.Table.{Spot, outer, Move, First, ends, takes, bars, needs, keeps_type, keeps, nests, stops, starts, refused, Fault, too_deep, unsupported, begin, name_of}
 use Rattle.logos_type_reader.specs.Reading.{IsType, just_name, IsMove, a_token, a_bar, a_type, a_still_type, still_tokens, a_nest, AreParts, ended, further, NoType, deep_name, deep, unbegun, unended, left_out, no_token, no_type, no_still_type, no_nest, NoParts, here, later, next_of, after_type}
 use Rattle.logos_type_reader.specs.ReadingViews.{left, spot_left}
 use Rattle.logos_type_reader.proofs.TableSteps.{Begins, first_steps}
@@ -19,26 +19,26 @@ after_move : (n : ℕ) (b : Bool) (spot outside : Spot) (ps : List Tree) → IsM
 after_move n b spot outside ps m (inl (c, qs, rest, a)) = inl (b || c, ps ++ qs, rest, further m a refl)
 after_move n b spot outside ps m (inr (f, h)) = inr (f, later m h)
 
-asked_case : (n : ℕ) (spot : Spot) (plus : Bool) (place : Place) → next_of spot ≡ asks plus place → TypeOrFault n plus spot.run → ((outside : Spot) → spot_left outside < spot_left spot → PartsOrFault n outside) → PartsOrFault n spot
-asked_case n spot plus place e (inl (t, rest, h)) rec = let m : IsMove n false spot (t ∷ []) (after_type spot place rest) = a_type e h in after_move n false spot _ _ m (rec _ (move_rest m).less)
-asked_case n spot plus place e (inr (f, h)) rec = inr (f, here (no_type e h))
+needed_case : (n : ℕ) (spot : Spot) (plus : Bool) (stage : Stage) → next_of spot ≡ needs plus stage → TypeOrFault n plus spot.run → ((outside : Spot) → spot_left outside < spot_left spot → PartsOrFault n outside) → PartsOrFault n spot
+needed_case n spot plus stage e (inl (t, rest, h)) rec = let m : IsMove n false spot (t ∷ []) (after_type spot stage rest) = a_type e h in after_move n false spot _ _ m (rec _ (move_rest m).less)
+needed_case n spot plus stage e (inr (f, h)) rec = inr (f, here (no_type e h))
 
-still_case : (n : ℕ) (spot : Spot) (place : Place) → next_of spot ≡ keeps_type place → TypeOrFault n true spot.run → ((outside : Spot) → spot_left outside < spot_left spot → PartsOrFault n outside) → PartsOrFault n spot
-still_case n spot place e (inl (t, rest, h)) rec = let m = a_still_type e h in after_move n false spot (after_type spot place rest) _ m (rec _ (move_rest m).less)
-still_case n spot place e (inr (f, h)) rec = inr (f, here (no_still_type e h))
+still_case : (n : ℕ) (spot : Spot) (stage : Stage) → next_of spot ≡ keeps_type stage → TypeOrFault n true spot.run → ((outside : Spot) → spot_left outside < spot_left spot → PartsOrFault n outside) → PartsOrFault n spot
+still_case n spot stage e (inl (t, rest, h)) rec = let m = a_still_type e h in after_move n false spot (after_type spot stage rest) _ m (rec _ (move_rest m).less)
+still_case n spot stage e (inr (f, h)) rec = inr (f, here (no_still_type e h))
 
-nest_case : (n : ℕ) (spot : Spot) (s : Sign) (inner : Spot) (place : Place) → next_of spot ≡ nests s inner place → PartsOrFault n inner → ((outside : Spot) → spot_left outside < spot_left spot → PartsOrFault n outside) → PartsOrFault n spot
-nest_case n spot s inner place e (inl (b, ps, rest, h)) rec = let m : IsMove n b spot (sign s ∷ ps) (after_type spot place rest) = a_nest e h in after_move n b spot _ _ m (rec _ (move_rest m).less)
-nest_case n spot s inner place e (inr (f, h)) rec = inr (f, here (no_nest e h))
+nest_case : (n : ℕ) (spot : Spot) (s : Sign) (inner : Spot) (stage : Stage) → next_of spot ≡ nests s inner stage → PartsOrFault n inner → ((outside : Spot) → spot_left outside < spot_left spot → PartsOrFault n outside) → PartsOrFault n spot
+nest_case n spot s inner stage e (inl (b, ps, rest, h)) rec = let m : IsMove n b spot (sign s ∷ ps) (after_type spot stage rest) = a_nest e h in after_move n b spot _ _ m (rec _ (move_rest m).less)
+nest_case n spot s inner stage e (inr (f, h)) rec = inr (f, here (no_nest e h))
 
 spot_case : (n : ℕ) (spot : Spot) (m : Move) → next_of spot ≡ m → ((plus : Bool) → TypeOrFault n plus spot.run) → ((outside : Spot) → spot_left outside < spot_left spot → PartsOrFault n outside) → PartsOrFault n spot
 spot_case n spot ends e types rec = inl (false, [], outer spot.run spot.outside, ended e)
 spot_case n spot (takes s outside) e types rec = let m : IsMove n false spot (sign s ∷ []) outside = a_token e in after_move n false spot outside _ m (rec outside (move_rest m).less)
 spot_case n spot (bars s outside) e types rec = let m : IsMove n true spot (sign s ∷ []) outside = a_bar e in after_move n true spot outside _ m (rec outside (move_rest m).less)
-spot_case n spot (asks plus place) e types rec = asked_case n spot plus place e (types plus) rec
-spot_case n spot (keeps_type place) e types rec = still_case n spot place e (types true) rec
+spot_case n spot (needs plus stage) e types rec = needed_case n spot plus stage e (types plus) rec
+spot_case n spot (keeps_type stage) e types rec = still_case n spot stage e (types true) rec
 spot_case n spot (keeps run outside) e types rec = let m = still_tokens e in after_move n false spot outside _ m (rec outside (move_rest m).less)
-spot_case n spot (nests s inner place) e types rec = nest_case n spot s inner place e (rec inner (inner_left spot s inner place e)) rec
+spot_case n spot (nests s inner stage) e types rec = nest_case n spot s inner stage e (rec inner (inner_left spot s inner stage e)) rec
 spot_case n spot (stops f) e types rec = inr (f, here (no_token e))
 
 form_case : (n : ℕ) (plus : Bool) (run : TokenList) (b : Bool) (s : Sign) (spot : Spot) → 0 < n → name_of run ≡ None → begin plus run ≡ starts b s spot → PartsOrFault (n - 1) spot → TypeOrFault n plus run

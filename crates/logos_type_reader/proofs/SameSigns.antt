@@ -1,4 +1,4 @@
--- Runs that begin with the same sign, and what the tests of the table say of them.
+-- Runs that begin with the same sign, and the results of the tests of the table for them.
 use Rattle.std.proofs.Common.{◌≡◌, ℕ, ◌+◌, Bool, true, false, refl, sym, ap, ◌∙◌, arith}
 use Rattle.logos_lexeme.specs.declared.lexeme.Span.{Span}
 use Rattle.logos_lexeme.specs.declared.lexeme.Spacing.{Spacing}
@@ -7,7 +7,7 @@ use Rattle.logos_lexeme.specs.declared.lexeme.Delimiter.{Delimiter}
 use Rattle.logos_lexeme.specs.declared.lexeme.Delimiter.TheVariants.{Parenthesis, Bracket, Brace}
 use Rattle.logos_token.specs.Tokens.{Token, TokenList, identifier, punctuation, literal, doc, group, none, also, append, count_of}
 use Rattle.logos_type_reader.specs.Table.{begins_colons, begins_mark, begins_arrow, begins_dots, begins_parenthesis, typing, goes_on}
-use Rattle.logos_type_reader.specs.FaultPlaces.{Front, start, past, within, IsAt, at_start, past_token, in_group, SameSign, no_sign, same_name, same_mark, same_joint, same_literal, same_doc, same_group, front_of, EndsWith}
+use Rattle.logos_type_reader.specs.FaultStages.{Front, start, past, within, IsAt, at_start, past_token, in_group, SameSign, no_sign, same_name, same_mark, same_joint, same_literal, same_doc, same_group, front_of, EndsWith}
 use Rattle.logos_type_reader.proofs.TableSteps.{one_token}
 
 -- of each run that begins with the same sign
@@ -168,7 +168,7 @@ typing_same h = rw (mark_same 58 h, colons_same h) refl
 pub goes_on_same : {run other : TokenList} → SameSign run other → goes_on other ≡ goes_on run
 goes_on_same h = rw (mark_same 60 h, colons_same h, parenthesis_same h) refl
 
--- what is in front of the same rest is the same
+-- the tokens before equal rests are equal
 no_more : (t : Token) (front rest : TokenList) → rest ≡ also t (append front rest) → ⊥
 no_more t front rest e = let h = ap count_of e in let k = counted front rest in omega (arith, h, k, one_token t)
   where
@@ -233,7 +233,7 @@ append_none (also t rest) = ap (λ (x : TokenList). also t x) (append_none rest)
 pub at_start_is : {run left : TokenList} → IsAt start run left → run ≡ left
 at_start_is at_start = refl
 
--- what the first of a front says of a run
+-- the meaning of the first token of a front for a run
 pub record FirstToken (t : Token) (front : Front) (run left : TokenList) : Type 0 where
   pub rest : TokenList
   pub is : run ≡ also t rest

@@ -1,4 +1,4 @@
--- What is written as a type is read.
+-- A written type is read.
 use Rattle.std.proofs.Common.{◌≡◌, ℕ, ◌-◌, ◌<◌, List, [], ◌∷◌, ◌++◌, Bool, true, false, not, ◌||◌, ◌&&◌, ◌==◌, bytes_eq, codes, if◌then◌else◌, Option, Some, None, refl, sym, ap, ◌∙◌, subst, append_assoc}
 use Rattle.std.proofs.lemmas.List.{append-nil}
 use Rattle.logos_lexeme.specs.declared.lexeme.Span.{Span}
@@ -6,23 +6,23 @@ use Rattle.logos_lexeme.specs.declared.lexeme.Spacing.{Spacing}
 use Rattle.logos_lexeme.specs.declared.lexeme.Spacing.TheVariants.{Joint}
 use Rattle.logos_lexeme.specs.declared.lexeme.Delimiter.TheVariants.{Parenthesis, Bracket, Brace}
 use Rattle.logos_token.specs.Tokens.{Token, TokenList, identifier, punctuation, literal, doc, group, none, also}
-use Rattle.logos_type_reader.specs.declared.table.place.PathKind.{PathKind}
-use Rattle.logos_type_reader.specs.declared.table.place.PathKind.TheVariants.{Plain, OfType, OfBound}
-use Rattle.logos_type_reader.specs.declared.table.place.BoundKind.{BoundKind}
-use Rattle.logos_type_reader.specs.declared.table.place.BoundKind.TheVariants.{Listed, Enclosed}
-use Rattle.logos_type_reader.specs.declared.table.place.Binder.{Binder}
-use Rattle.logos_type_reader.specs.declared.table.place.Binder.TheVariants.{OfFunction, OfTrait}
-use Rattle.logos_type_reader.specs.declared.table.place.Place.{Place}
-use Rattle.logos_type_reader.specs.declared.table.place.Place.TheVariants as place
+use Rattle.logos_type_reader.specs.declared.table.stage.PathKind.{PathKind}
+use Rattle.logos_type_reader.specs.declared.table.stage.PathKind.TheVariants.{Plain, OfType, OfBound}
+use Rattle.logos_type_reader.specs.declared.table.stage.BoundKind.{BoundKind}
+use Rattle.logos_type_reader.specs.declared.table.stage.BoundKind.TheVariants.{Listed, Enclosed}
+use Rattle.logos_type_reader.specs.declared.table.stage.Binder.{Binder}
+use Rattle.logos_type_reader.specs.declared.table.stage.Binder.TheVariants.{OfFunction, OfTrait}
+use Rattle.logos_type_reader.specs.declared.table.stage.Stage.{Stage}
+use Rattle.logos_type_reader.specs.declared.table.stage.Stage.TheVariants as stage
 use Rattle.logos_type.specs.Parts.{Sign, Tree, sign, whole, still, trees, none as no_part_left, also as and_part, word, mark, colons, arrow, value, opening, closing, reference, other_lifetime}
 use Rattle.logos_type_reader.specs.StillRuns.{still_run}
-use Rattle.logos_type_reader.specs.Table.{Spot, Move, ends, takes, asks, keeps_type, keeps, nests, First, starts, unsupported, begin, name_of, is_reserved, goes_on, begins_colons, begins_arrow, begins_mark, begins_bound, begins_dots, typing, argued, argument_lifetime, next_at, name_end, path_move, after_bound, after_for}
+use Rattle.logos_type_reader.specs.Table.{Spot, Move, ends, takes, needs, keeps_type, keeps, nests, First, starts, unsupported, begin, name_of, is_reserved, goes_on, begins_colons, begins_arrow, begins_mark, begins_bound, begins_dots, typing, argued, argument_lifetime, next_at, name_end, path_move, after_bound, after_for}
 use Rattle.logos_type_reader.specs.Reading.{IsType, just_name, formed, a_token, a_bar, a_type as part_type, a_still_type, still_tokens, a_nest, AreParts, ended, further as part}
-use Rattle.logos_type_reader.specs.Written.{Ending, closed, named, plain_named, applied, taking, bounded, trailing, may_follow, name_ending, begins_mut, begins_named_argument, begins_parameter, Lifetimes, in_angles, LifetimeList, no_lifetime, last_lifetime, lifetimes, Written, a_name, a_form, Form, path, rooted, qualified, borrowed, borrowed_for, slice, array, tuple, trait_object, bound_function, function, pointer_const, pointer_mut, Referent, shared, mutable, Listed as ListedTypes, nothing, single, several, Qualified, of_type, of_trait, AnyPath, from_name, from_root, Path, last, longer, Longer, member, angled, angled_member, called, giving, Angled, plain, turbofish, Arguments, finished, final, further, Argument, a_lifetime, a_literal, empty_braces, braces, a_type, a_binding, Bounds, one_bound, last_bound, plus_after, bounds, Bound, lifetime_bound, trait_bound, enclosed, Questioned, unquestioned, questioned, Trait, unbound, for_all, Function, not_safe, safe, Linked, linked, linked_as, unlinked, Taking, takes_only, takes_and_gives, Parameters, no_parameter, last_parameter, parameters, Parameter, unnamed, with_name}
+use Rattle.logos_type_reader.specs.Written.{Ending, closed, named, plain_named, applied, taking, bounded, trailing, may_follow, name_ending, begins_mut, begins_named_argument, begins_parameter, Lifetimes, in_angles, LifetimeList, no_lifetime, last_lifetime, lifetimes, Written, a_name, a_form, Form, path, rooted, qualified, borrowed, borrowed_for, slice, array, tuple, trait_object, bound_function, function, pointer_const, pointer_mut, Referent, shared, mutable, Listed as ListedTypes, nothing, single, several, Qualified, of_type, of_trait, AnyPath, from_name, from_root, Path, last, longer, Longer, member, angled, angled_member, called, giving, Angled, plain, turbofish, Arguments, finished, final, further, Argument, a_lifetime, a_literal, empty_braces, braces, a_type, a_binding, Bounds, one_bound, last_bound, plus_after, bounds, Bound, lifetime_bound, trait_bound, enclosed, Questioned, unquestioned, questioned, Trait, unbound, for_all, Function, not_safe, safe, Linked, linked, linked_as, unlinked, Taking, takes_only, takes_and_yields, Parameters, no_parameter, last_parameter, parameters, Parameter, unnamed, with_name}
 
--- a place with what is left there
-abbrev pub at : Place → TokenList → Option TokenList → Spot
-at p run outside = record { place = p; run = run; outside = outside }
+-- a spot with the rest there
+abbrev pub at : Stage → TokenList → Option TokenList → Spot
+at p run outside = record { stage = p; run = run; outside = outside }
 
 colons_no : (c : ℕ) (p : Spacing) (s : Span) (rest : TokenList) → (c == 58) ≡ false → begins_colons (also (punctuation c p s) rest) ≡ false
 colons_no c Joint s (also (punctuation d q t) rest) e = rw e refl
@@ -36,7 +36,7 @@ dots_no : (c : ℕ) (p : Spacing) (s : Span) (rest : TokenList) → (c == 46) �
 dots_no c Joint s (also (punctuation d Joint t) (also (punctuation f q u) rest)) e = rw e refl
 dots_no c p s rest e = refl
 
--- a punctuation with which nothing goes on: a comma, `>` or `;` lengthens no type
+-- a punctuation with which nothing continues: a comma, `>` or `;` lengthens no type
 record Idle (c : ℕ) : Type 0 where
   angle : (c == 60) ≡ false
   colon : (c == 58) ≡ false
@@ -120,45 +120,45 @@ type_begins : {levels : ℕ} {plus : Bool} {run rest : TokenList} {t : Tree} {e 
 type_begins (a_name a r) = with_word
 type_begins (a_form a f) = form_begins f
 
--- what is asked for where a type begins
-list_asks : (outside : TokenList) → {run : TokenList} → Begins run → next_at place.List run (Some outside) ≡ asks true place.ListEnd
+-- the first step where a type begins
+list_needs : (outside : TokenList) → {run : TokenList} → Begins run → next_at stage.List run (Some outside) ≡ needs true stage.ListEnd
 unfolding next_at
-list_asks outside with_word = refl
-list_asks outside (with_mark a b dot) = refl
-list_asks outside with_parenthesis = refl
-list_asks outside with_bracket = refl
+list_needs outside with_word = refl
+list_needs outside (with_mark a b dot) = refl
+list_needs outside with_parenthesis = refl
+list_needs outside with_bracket = refl
 
-inputs_asks : (outside : TokenList) → {run : TokenList} → Begins run → next_at place.Inputs run (Some outside) ≡ asks true place.InputEnd
+inputs_needs : (outside : TokenList) → {run : TokenList} → Begins run → next_at stage.Inputs run (Some outside) ≡ needs true stage.InputEnd
 unfolding next_at
-inputs_asks outside with_word = refl
-inputs_asks outside (with_mark a b dot) = refl
-inputs_asks outside with_parenthesis = refl
-inputs_asks outside with_bracket = refl
+inputs_needs outside with_word = refl
+inputs_needs outside (with_mark a b dot) = refl
+inputs_needs outside with_parenthesis = refl
+inputs_needs outside with_bracket = refl
 
-arguments_asks : (kind : PathKind) (run : TokenList) → begins_named_argument run ≡ false → Begins run → next_at (place.Arguments kind) run None ≡ asks true (place.ArgumentEnd kind)
+arguments_needs : (kind : PathKind) (run : TokenList) → begins_named_argument run ≡ false → Begins run → next_at (stage.Arguments kind) run None ≡ needs true (stage.ArgumentEnd kind)
 unfolding next_at
-arguments_asks kind (also (identifier text s) rest) n with_word = let h = both_false (begins_mark 61 rest) (typing rest) n in rw (h.0, h.1) refl
-arguments_asks kind (also (punctuation c p s) rest) n (with_mark a b dot) = rw (a, b) refl
-arguments_asks kind (also (group Parenthesis s inside) rest) n with_parenthesis = refl
-arguments_asks kind (also (group Bracket s inside) rest) n with_bracket = refl
-arguments_asks kind (also (group Brace s inside) rest) n x = elim x [ ]
-arguments_asks kind none n x = elim x [ ]
-arguments_asks kind (also (literal text s) rest) n x = elim x [ ]
-arguments_asks kind (also (doc text s) rest) n x = elim x [ ]
+arguments_needs kind (also (identifier text s) rest) n with_word = let h = both_false (begins_mark 61 rest) (typing rest) n in rw (h.0, h.1) refl
+arguments_needs kind (also (punctuation c p s) rest) n (with_mark a b dot) = rw (a, b) refl
+arguments_needs kind (also (group Parenthesis s inside) rest) n with_parenthesis = refl
+arguments_needs kind (also (group Bracket s inside) rest) n with_bracket = refl
+arguments_needs kind (also (group Brace s inside) rest) n x = elim x [ ]
+arguments_needs kind none n x = elim x [ ]
+arguments_needs kind (also (literal text s) rest) n x = elim x [ ]
+arguments_needs kind (also (doc text s) rest) n x = elim x [ ]
 
-referent_asks : (run : TokenList) → begins_mut run ≡ false → Begins run → next_at place.Referent run None ≡ asks false place.End
+referent_needs : (run : TokenList) → begins_mut run ≡ false → Begins run → next_at stage.Referent run None ≡ needs false stage.End
 unfolding next_at
-referent_asks (also (identifier text s) rest) n with_word = rw n refl
-referent_asks (also (punctuation c p s) rest) n (with_mark a b dot) = refl
-referent_asks (also (group Parenthesis s inside) rest) n with_parenthesis = refl
-referent_asks (also (group Bracket s inside) rest) n with_bracket = refl
-referent_asks (also (group Brace s inside) rest) n x = elim x [ ]
-referent_asks none n x = elim x [ ]
-referent_asks (also (literal text s) rest) n x = elim x [ ]
-referent_asks (also (doc text s) rest) n x = elim x [ ]
+referent_needs (also (identifier text s) rest) n with_word = rw n refl
+referent_needs (also (punctuation c p s) rest) n (with_mark a b dot) = refl
+referent_needs (also (group Parenthesis s inside) rest) n with_parenthesis = refl
+referent_needs (also (group Bracket s inside) rest) n with_bracket = refl
+referent_needs (also (group Brace s inside) rest) n x = elim x [ ]
+referent_needs none n x = elim x [ ]
+referent_needs (also (literal text s) rest) n x = elim x [ ]
+referent_needs (also (doc text s) rest) n x = elim x [ ]
 
 -- a reference begins so, if no lifetime comes
-reference_begins : (plus : Bool) (p : Spacing) (s : Span) (run : TokenList) → Begins run → begin plus (also (punctuation 38 p s) run) ≡ starts false (reference None) (at place.Referent run None)
+reference_begins : (plus : Bool) (p : Spacing) (s : Span) (run : TokenList) → Begins run → begin plus (also (punctuation 38 p s) run) ≡ starts false (reference None) (at stage.Referent run None)
 unfolding begin
 reference_begins plus p s (also (identifier text t) rest) with_word = refl
 reference_begins plus p s (also (punctuation c q t) rest) (with_mark a b dot) = rw b refl
@@ -173,41 +173,41 @@ referent_begins : {levels : ℕ} {run rest : TokenList} {parts : List Tree} {e :
 referent_begins (shared n w) = type_begins w
 referent_begins (mutable w) = with_word
 
-parameter_asks : (run after : TokenList) → begins_parameter run ≡ false → Begins run → next_at place.Taken run (Some after) ≡ asks true place.OneTaken
+parameter_needs : (run after : TokenList) → begins_parameter run ≡ false → Begins run → next_at stage.Taken run (Some after) ≡ needs true stage.OneTaken
 unfolding next_at
-parameter_asks (also (identifier text s) rest) after n with_word = rw n refl
-parameter_asks (also (punctuation c p s) rest) after n (with_mark a b dot) = rw (dots_no c p s rest dot) refl
-parameter_asks (also (group Parenthesis s inside) rest) after n with_parenthesis = refl
-parameter_asks (also (group Bracket s inside) rest) after n with_bracket = refl
-parameter_asks (also (group Brace s inside) rest) after n x = elim x [ ]
-parameter_asks none after n x = elim x [ ]
-parameter_asks (also (literal text s) rest) after n x = elim x [ ]
-parameter_asks (also (doc text s) rest) after n x = elim x [ ]
+parameter_needs (also (identifier text s) rest) after n with_word = rw n refl
+parameter_needs (also (punctuation c p s) rest) after n (with_mark a b dot) = rw (dots_no c p s rest dot) refl
+parameter_needs (also (group Parenthesis s inside) rest) after n with_parenthesis = refl
+parameter_needs (also (group Bracket s inside) rest) after n with_bracket = refl
+parameter_needs (also (group Brace s inside) rest) after n x = elim x [ ]
+parameter_needs none after n x = elim x [ ]
+parameter_needs (also (literal text s) rest) after n x = elim x [ ]
+parameter_needs (also (doc text s) rest) after n x = elim x [ ]
 
 parameter_name : (text : List ℕ) (s u : Span) (p : Spacing) (run after : TokenList) → begins_colons (also (punctuation 58 p u) run) ≡ false →
-    next_at place.Taken (also (identifier text s) (also (punctuation 58 p u) run)) (Some after) ≡ takes (word text) (at place.Typed (also (punctuation 58 p u) run) (Some after))
+    next_at stage.Taken (also (identifier text s) (also (punctuation 58 p u) run)) (Some after) ≡ takes (word text) (at stage.Typed (also (punctuation 58 p u) run) (Some after))
 unfolding next_at
 parameter_name text s u p run after n = rw n refl
 
-typed_asks : (run after : TokenList) → Begins run → next_at place.TypedValue run (Some after) ≡ asks true place.OneTaken
+typed_needs : (run after : TokenList) → Begins run → next_at stage.TypedValue run (Some after) ≡ needs true stage.OneTaken
 unfolding next_at
-typed_asks (also (identifier text s) rest) after with_word = refl
-typed_asks (also (punctuation c p s) rest) after (with_mark a b dot) = rw (dots_no c p s rest dot) refl
-typed_asks (also (group Parenthesis s inside) rest) after with_parenthesis = refl
-typed_asks (also (group Bracket s inside) rest) after with_bracket = refl
-typed_asks (also (group Brace s inside) rest) after x = elim x [ ]
-typed_asks none after x = elim x [ ]
-typed_asks (also (literal text s) rest) after x = elim x [ ]
-typed_asks (also (doc text s) rest) after x = elim x [ ]
+typed_needs (also (identifier text s) rest) after with_word = refl
+typed_needs (also (punctuation c p s) rest) after (with_mark a b dot) = rw (dots_no c p s rest dot) refl
+typed_needs (also (group Parenthesis s inside) rest) after with_parenthesis = refl
+typed_needs (also (group Bracket s inside) rest) after with_bracket = refl
+typed_needs (also (group Brace s inside) rest) after x = elim x [ ]
+typed_needs none after x = elim x [ ]
+typed_needs (also (literal text s) rest) after x = elim x [ ]
+typed_needs (also (doc text s) rest) after x = elim x [ ]
 
 -- a word that is not reserved begins a path
-pub path_begins : (plus : Bool) (text : List ℕ) (s : Span) (run : TokenList) → is_reserved text ≡ false → begin plus (also (identifier text s) run) ≡ starts false (word text) (at (place.Named Plain) run None)
+pub path_begins : (plus : Bool) (text : List ℕ) (s : Span) (run : TokenList) → is_reserved text ≡ false → begin plus (also (identifier text s) run) ≡ starts false (word text) (at (stage.Named Plain) run None)
 unfolding begin
 path_begins plus text s run e = go (bytes_eq text (codes "dyn")) (bytes_eq text (codes "impl")) (bytes_eq text (codes "_")) (bytes_eq text (codes "for")) (bytes_eq text (codes "fn")) (bytes_eq text (codes "unsafe")) (bytes_eq text (codes "extern")) e
   where
     go : (a b c d f g h : Bool) → (((a || b) || (c || d)) || ((f || g) || h)) ≡ false →
-        (if c then First.refused (unsupported s) else starts b (word text) (at (if a || b then place.Bound plus else (if f then place.Function else (if g then place.Unsafe else (if h then place.Extern else (if d then place.For OfFunction else place.Named Plain))))) run None))
-        ≡ starts false (word text) (at (place.Named Plain) run None)
+        (if c then First.refused (unsupported s) else starts b (word text) (at (if a || b then stage.Bound plus else (if f then stage.Function else (if g then stage.Unsafe else (if h then stage.Extern else (if d then stage.For OfFunction else stage.Named Plain))))) run None))
+        ≡ starts false (word text) (at (stage.Named Plain) run None)
     go false false false false false false false e = refl
     go true b c d f g h e = cc
     go false true c d f g h e = cc
@@ -217,7 +217,7 @@ path_begins plus text s run e = go (bytes_eq text (codes "dyn")) (bytes_eq text 
     go false false false false false true h e = cc
     go false false false false false false true e = cc
 
--- the path goes on there
+-- the path continues there
 angled_on : {levels : ℕ} {kind : PathKind} {run rest : TokenList} {parts : List Tree} → Angled levels kind run parts rest → goes_on run ≡ true
 angled_on (plain a) = refl
 angled_on (turbofish a) = refl
@@ -230,7 +230,7 @@ longer_on (called l) = refl
 longer_on (giving l w) = refl
 
 -- where a path may end
-named_tail : (kind : PathKind) (run : TokenList) → name_end kind run None ≡ ends → goes_on run ≡ false → next_at (place.Named kind) run None ≡ ends
+named_tail : (kind : PathKind) (run : TokenList) → name_end kind run None ≡ ends → goes_on run ≡ false → next_at (stage.Named kind) run None ≡ ends
 unfolding next_at
 named_tail kind (also (punctuation c p s) rest) k e = go (c == 60) (begins_colons (also (punctuation c p s) rest)) _ _ e
   where
@@ -254,20 +254,20 @@ plain_end (also (doc text s) rest) e = refl
 plain_end (also (group d s inside) rest) e = refl
 plain_end none e = refl
 
-named_ends : (kind : PathKind) (run : TokenList) → may_follow (name_ending kind) run ≡ true → next_at (place.Named kind) run None ≡ ends
+named_ends : (kind : PathKind) (run : TokenList) → may_follow (name_ending kind) run ≡ true → next_at (stage.Named kind) run None ≡ ends
 named_ends Plain run f = let h = both_false (goes_on run) (begins_mark 33 run) (not_true (goes_on run || begins_mark 33 run) f) in named_tail Plain run (plain_end run h.1) h.0
 named_ends OfType run f = named_tail OfType run refl (not_true (goes_on run) f)
 named_ends OfBound run f = named_tail OfBound run refl (not_true (goes_on run) f)
 
-segments_ends : (kind : PathKind) (run : TokenList) → begins_colons run ≡ false → next_at (place.Segments kind) run None ≡ ends
+segments_ends : (kind : PathKind) (run : TokenList) → begins_colons run ≡ false → next_at (stage.Segments kind) run None ≡ ends
 unfolding next_at
 segments_ends kind run e = rw e refl
 
-output_ends : (run : TokenList) → begins_arrow run ≡ false → next_at place.Output run None ≡ ends
+output_ends : (run : TokenList) → begins_arrow run ≡ false → next_at stage.Output run None ≡ ends
 unfolding next_at
 output_ends run e = rw e refl
 
-one_bound_ends : (run : TokenList) → next_at (place.BoundEnd false) run None ≡ ends
+one_bound_ends : (run : TokenList) → next_at (stage.BoundEnd false) run None ≡ ends
 unfolding next_at
 one_bound_ends (also (punctuation c p s) rest) = refl
 one_bound_ends (also (identifier text s) rest) = refl
@@ -276,7 +276,7 @@ one_bound_ends (also (doc text s) rest) = refl
 one_bound_ends (also (group d s inside) rest) = refl
 one_bound_ends none = refl
 
-bound_ends : (run : TokenList) → begins_mark 43 run ≡ false → next_at (place.BoundEnd true) run None ≡ ends
+bound_ends : (run : TokenList) → begins_mark 43 run ≡ false → next_at (stage.BoundEnd true) run None ≡ ends
 unfolding next_at
 bound_ends (also (punctuation c p s) rest) e = rw e refl
 bound_ends (also (identifier text s) rest) e = refl
@@ -285,349 +285,349 @@ bound_ends (also (doc text s) rest) e = refl
 bound_ends (also (group d s inside) rest) e = refl
 bound_ends none e = refl
 
-further_ends : (run : TokenList) → begins_bound run ≡ false → next_at place.Further run None ≡ ends
+further_ends : (run : TokenList) → begins_bound run ≡ false → next_at stage.Further run None ≡ ends
 unfolding next_at
 further_ends run e = rw e refl
 
-further_is : (run : TokenList) → begins_bound run ≡ true → next_at place.Further run None ≡ next_at (place.Bound true) run None
+further_is : (run : TokenList) → begins_bound run ≡ true → next_at stage.Further run None ≡ next_at (stage.Bound true) run None
 unfolding next_at
 further_is run e = rw e refl
 
--- what the table says at each of these places
-rooted_begins : (plus : Bool) (s t : Span) (p : Spacing) (run : TokenList) → begin plus (also (punctuation 58 Joint s) (also (punctuation 58 p t) run)) ≡ starts false colons (at (place.Colons Plain false) run None)
+-- the entries of the table at each of these stages
+rooted_begins : (plus : Bool) (s t : Span) (p : Spacing) (run : TokenList) → begin plus (also (punctuation 58 Joint s) (also (punctuation 58 p t) run)) ≡ starts false colons (at (stage.Colons Plain false) run None)
 unfolding begin
 rooted_begins plus s t p run = refl
 
-qualified_begins : (plus : Bool) (s : Span) (p : Spacing) (run : TokenList) → begin plus (also (punctuation 60 p s) run) ≡ starts false (mark 60) (at place.SelfType run None)
+qualified_begins : (plus : Bool) (s : Span) (p : Spacing) (run : TokenList) → begin plus (also (punctuation 60 p s) run) ≡ starts false (mark 60) (at stage.SelfType run None)
 unfolding begin
 qualified_begins plus s p run = refl
 
-lifetime_begins : (plus : Bool) (p q : Spacing) (s t u : Span) (text : List ℕ) (run : TokenList) → begin plus (also (punctuation 38 p s) (also (punctuation 39 q t) (also (identifier text u) run))) ≡ starts false (reference (Some text)) (at place.Referent run None)
+lifetime_begins : (plus : Bool) (p q : Spacing) (s t u : Span) (text : List ℕ) (run : TokenList) → begin plus (also (punctuation 38 p s) (also (punctuation 39 q t) (also (identifier text u) run))) ≡ starts false (reference (Some text)) (at stage.Referent run None)
 unfolding begin
 lifetime_begins plus p q s t u text run = refl
 
-pointer_begins : (plus : Bool) (s : Span) (p : Spacing) (run : TokenList) → begin plus (also (punctuation 42 p s) run) ≡ starts false (mark 42) (at place.Pointer run None)
+pointer_begins : (plus : Bool) (s : Span) (p : Spacing) (run : TokenList) → begin plus (also (punctuation 42 p s) run) ≡ starts false (mark 42) (at stage.Pointer run None)
 unfolding begin
 pointer_begins plus s p run = refl
 
-bracket_begins : (plus : Bool) (s : Span) (inside rest : TokenList) → begin plus (also (group Bracket s inside) rest) ≡ starts false (opening Bracket) (at place.Element inside (Some rest))
+bracket_begins : (plus : Bool) (s : Span) (inside rest : TokenList) → begin plus (also (group Bracket s inside) rest) ≡ starts false (opening Bracket) (at stage.Element inside (Some rest))
 unfolding begin
 bracket_begins plus s inside rest = refl
 
-tuple_begins : (plus : Bool) (s : Span) (inside rest : TokenList) → begin plus (also (group Parenthesis s inside) rest) ≡ starts false (opening Parenthesis) (at place.List inside (Some rest))
+tuple_begins : (plus : Bool) (s : Span) (inside rest : TokenList) → begin plus (also (group Parenthesis s inside) rest) ≡ starts false (opening Parenthesis) (at stage.List inside (Some rest))
 unfolding begin
 tuple_begins plus s inside rest = refl
 
-dyn_begins : (plus : Bool) (s : Span) (run : TokenList) → begin plus (also (identifier (codes "dyn") s) run) ≡ starts false (word (codes "dyn")) (at (place.Bound plus) run None)
+dyn_begins : (plus : Bool) (s : Span) (run : TokenList) → begin plus (also (identifier (codes "dyn") s) run) ≡ starts false (word (codes "dyn")) (at (stage.Bound plus) run None)
 unfolding begin
 dyn_begins plus s run = refl
 
-for_begins : (plus : Bool) (s : Span) (run : TokenList) → begin plus (also (identifier (codes "for") s) run) ≡ starts false (word (codes "for")) (at (place.For OfFunction) run None)
+for_begins : (plus : Bool) (s : Span) (run : TokenList) → begin plus (also (identifier (codes "for") s) run) ≡ starts false (word (codes "for")) (at (stage.For OfFunction) run None)
 unfolding begin
 for_begins plus s run = refl
 
-fn_begins : (plus : Bool) (s : Span) (run : TokenList) → begin plus (also (identifier (codes "fn") s) run) ≡ starts false (word (codes "fn")) (at place.Function run None)
+fn_begins : (plus : Bool) (s : Span) (run : TokenList) → begin plus (also (identifier (codes "fn") s) run) ≡ starts false (word (codes "fn")) (at stage.Function run None)
 unfolding begin
 fn_begins plus s run = refl
 
-extern_begins : (plus : Bool) (s : Span) (run : TokenList) → begin plus (also (identifier (codes "extern") s) run) ≡ starts false (word (codes "extern")) (at place.Extern run None)
+extern_begins : (plus : Bool) (s : Span) (run : TokenList) → begin plus (also (identifier (codes "extern") s) run) ≡ starts false (word (codes "extern")) (at stage.Extern run None)
 unfolding begin
 extern_begins plus s run = refl
 
-unsafe_begins : (plus : Bool) (s : Span) (run : TokenList) → begin plus (also (identifier (codes "unsafe") s) run) ≡ starts false (word (codes "unsafe")) (at place.Unsafe run None)
+unsafe_begins : (plus : Bool) (s : Span) (run : TokenList) → begin plus (also (identifier (codes "unsafe") s) run) ≡ starts false (word (codes "unsafe")) (at stage.Unsafe run None)
 unfolding begin
 unsafe_begins plus s run = refl
 
-const_taken : (s : Span) (run : TokenList) → next_at place.Pointer (also (identifier (codes "const") s) run) None ≡ takes (word (codes "const")) (at place.Target run None)
+const_taken : (s : Span) (run : TokenList) → next_at stage.Pointer (also (identifier (codes "const") s) run) None ≡ takes (word (codes "const")) (at stage.Target run None)
 unfolding next_at
 const_taken s run = refl
 
-pointer_mut_taken : (s : Span) (run : TokenList) → next_at place.Pointer (also (identifier (codes "mut") s) run) None ≡ takes (word (codes "mut")) (at place.Target run None)
+pointer_mut_taken : (s : Span) (run : TokenList) → next_at stage.Pointer (also (identifier (codes "mut") s) run) None ≡ takes (word (codes "mut")) (at stage.Target run None)
 unfolding next_at
 pointer_mut_taken s run = refl
 
-mut_taken : (s : Span) (run : TokenList) → next_at place.Referent (also (identifier (codes "mut") s) run) None ≡ takes (word (codes "mut")) (at place.Target run None)
+mut_taken : (s : Span) (run : TokenList) → next_at stage.Referent (also (identifier (codes "mut") s) run) None ≡ takes (word (codes "mut")) (at stage.Target run None)
 unfolding next_at
 mut_taken s run = refl
 
-end_ends : (run : TokenList) → next_at place.End run None ≡ ends
+end_ends : (run : TokenList) → next_at stage.End run None ≡ ends
 unfolding next_at
 end_ends run = refl
 
-target_asks : (run : TokenList) → next_at place.Target run None ≡ asks false place.End
+target_needs : (run : TokenList) → next_at stage.Target run None ≡ needs false stage.End
 unfolding next_at
-target_asks run = refl
+target_needs run = refl
 
-element_asks : (run : TokenList) (b : Option TokenList) → next_at place.Element run b ≡ asks true place.ElementEnd
+element_needs : (run : TokenList) (b : Option TokenList) → next_at stage.Element run b ≡ needs true stage.ElementEnd
 unfolding next_at
-element_asks run b = refl
+element_needs run b = refl
 
-element_closes : (rest : TokenList) → next_at place.ElementEnd none (Some rest) ≡ takes (closing Bracket) (at place.End rest None)
+element_closes : (rest : TokenList) → next_at stage.ElementEnd none (Some rest) ≡ takes (closing Bracket) (at stage.End rest None)
 unfolding next_at
 element_closes rest = refl
 
-element_goes_on : (s : Span) (p : Spacing) (run : TokenList) (after : TokenList) → next_at place.ElementEnd (also (punctuation 59 p s) run) (Some after) ≡ takes (mark 59) (at place.Length run (Some after))
+element_goes_on : (s : Span) (p : Spacing) (run : TokenList) (after : TokenList) → next_at stage.ElementEnd (also (punctuation 59 p s) run) (Some after) ≡ takes (mark 59) (at stage.Length run (Some after))
 unfolding next_at
 element_goes_on s p run after = refl
 
-length_kept : (first : Token) (rest after : TokenList) → next_at place.Length (also first rest) (Some after) ≡ keeps (also first rest) (at place.LengthEnd none (Some after))
+length_kept : (first : Token) (rest after : TokenList) → next_at stage.Length (also first rest) (Some after) ≡ keeps (also first rest) (at stage.LengthEnd none (Some after))
 unfolding next_at
 length_kept first rest after = refl
 
-length_closes : (run : TokenList) (after : TokenList) → next_at place.LengthEnd run (Some after) ≡ takes (closing Bracket) (at place.End after None)
+length_closes : (run : TokenList) (after : TokenList) → next_at stage.LengthEnd run (Some after) ≡ takes (closing Bracket) (at stage.End after None)
 unfolding next_at
 length_closes run after = refl
 
-list_closes : (after : TokenList) → next_at place.List none (Some after) ≡ takes (closing Parenthesis) (at place.End after None)
+list_closes : (after : TokenList) → next_at stage.List none (Some after) ≡ takes (closing Parenthesis) (at stage.End after None)
 unfolding next_at
 list_closes after = refl
 
-list_end_closes : (after : TokenList) → next_at place.ListEnd none (Some after) ≡ takes (closing Parenthesis) (at place.End after None)
+list_end_closes : (after : TokenList) → next_at stage.ListEnd none (Some after) ≡ takes (closing Parenthesis) (at stage.End after None)
 unfolding next_at
 list_end_closes after = refl
 
-list_further : (s : Span) (p : Spacing) (run after : TokenList) → next_at place.ListEnd (also (punctuation 44 p s) run) (Some after) ≡ takes (mark 44) (at place.List run (Some after))
+list_further : (s : Span) (p : Spacing) (run after : TokenList) → next_at stage.ListEnd (also (punctuation 44 p s) run) (Some after) ≡ takes (mark 44) (at stage.List run (Some after))
 unfolding next_at
 list_further s p run after = refl
 
-inputs_close : (after : TokenList) → next_at place.Inputs none (Some after) ≡ takes (closing Parenthesis) (at place.Output after None)
+inputs_close : (after : TokenList) → next_at stage.Inputs none (Some after) ≡ takes (closing Parenthesis) (at stage.Output after None)
 unfolding next_at
 inputs_close after = refl
 
-input_end_closes : (after : TokenList) → next_at place.InputEnd none (Some after) ≡ takes (closing Parenthesis) (at place.Output after None)
+input_end_closes : (after : TokenList) → next_at stage.InputEnd none (Some after) ≡ takes (closing Parenthesis) (at stage.Output after None)
 unfolding next_at
 input_end_closes after = refl
 
-inputs_further : (s : Span) (p : Spacing) (run after : TokenList) → next_at place.InputEnd (also (punctuation 44 p s) run) (Some after) ≡ takes (mark 44) (at place.Inputs run (Some after))
+inputs_further : (s : Span) (p : Spacing) (run after : TokenList) → next_at stage.InputEnd (also (punctuation 44 p s) run) (Some after) ≡ takes (mark 44) (at stage.Inputs run (Some after))
 unfolding next_at
 inputs_further s p run after = refl
 
-output_arrow : (s t : Span) (p : Spacing) (run : TokenList) → next_at place.Output (also (punctuation 45 Joint s) (also (punctuation 62 p t) run)) None ≡ takes arrow (at place.Target run None)
+output_arrow : (s t : Span) (p : Spacing) (run : TokenList) → next_at stage.Output (also (punctuation 45 Joint s) (also (punctuation 62 p t) run)) None ≡ takes arrow (at stage.Target run None)
 unfolding next_at
 output_arrow s t p run = refl
 
-colons_name : (kind : PathKind) (may : Bool) (text : List ℕ) (s : Span) (run : TokenList) → next_at (place.Colons kind may) (also (identifier text s) run) None ≡ takes (word text) (at (place.Named kind) run None)
+colons_name : (kind : PathKind) (may : Bool) (text : List ℕ) (s : Span) (run : TokenList) → next_at (stage.Colons kind may) (also (identifier text s) run) None ≡ takes (word text) (at (stage.Named kind) run None)
 unfolding next_at
 colons_name kind may text s run = refl
 
-named_colons : (kind : PathKind) (s t : Span) (p : Spacing) (run : TokenList) → next_at (place.Named kind) (also (punctuation 58 Joint s) (also (punctuation 58 p t) run)) None ≡ takes colons (at (place.Colons kind true) run None)
+named_colons : (kind : PathKind) (s t : Span) (p : Spacing) (run : TokenList) → next_at (stage.Named kind) (also (punctuation 58 Joint s) (also (punctuation 58 p t) run)) None ≡ takes colons (at (stage.Colons kind true) run None)
 unfolding next_at
 named_colons kind s t p run = refl
 
-segments_colons : (kind : PathKind) (s t : Span) (p : Spacing) (run : TokenList) → next_at (place.Segments kind) (also (punctuation 58 Joint s) (also (punctuation 58 p t) run)) None ≡ takes colons (at (place.Colons kind false) run None)
+segments_colons : (kind : PathKind) (s t : Span) (p : Spacing) (run : TokenList) → next_at (stage.Segments kind) (also (punctuation 58 Joint s) (also (punctuation 58 p t) run)) None ≡ takes colons (at (stage.Colons kind false) run None)
 unfolding next_at
 segments_colons kind s t p run = refl
 
-named_called : (kind : PathKind) (s : Span) (inside rest : TokenList) → next_at (place.Named kind) (also (group Parenthesis s inside) rest) None ≡ takes (opening Parenthesis) (at place.Inputs inside (Some rest))
+named_called : (kind : PathKind) (s : Span) (inside rest : TokenList) → next_at (stage.Named kind) (also (group Parenthesis s inside) rest) None ≡ takes (opening Parenthesis) (at stage.Inputs inside (Some rest))
 unfolding next_at
 named_called kind s inside rest = refl
 
-named_angle : (kind : PathKind) (s : Span) (p : Spacing) (run : TokenList) → next_at (place.Named kind) (also (punctuation 60 p s) run) None ≡ takes (mark 60) (at (place.Arguments (argued kind)) run None)
+named_angle : (kind : PathKind) (s : Span) (p : Spacing) (run : TokenList) → next_at (stage.Named kind) (also (punctuation 60 p s) run) None ≡ takes (mark 60) (at (stage.Arguments (argued kind)) run None)
 unfolding next_at
 named_angle kind s p run = refl
 
-colons_angle : (kind : PathKind) (s : Span) (p : Spacing) (run : TokenList) → next_at (place.Colons kind true) (also (punctuation 60 p s) run) None ≡ takes (mark 60) (at (place.Arguments (argued kind)) run None)
+colons_angle : (kind : PathKind) (s : Span) (p : Spacing) (run : TokenList) → next_at (stage.Colons kind true) (also (punctuation 60 p s) run) None ≡ takes (mark 60) (at (stage.Arguments (argued kind)) run None)
 unfolding next_at
 colons_angle kind s p run = refl
 
-arguments_close : (kind : PathKind) (s : Span) (p : Spacing) (run : TokenList) → next_at (place.Arguments kind) (also (punctuation 62 p s) run) None ≡ takes (mark 62) (at (place.Segments kind) run None)
+arguments_close : (kind : PathKind) (s : Span) (p : Spacing) (run : TokenList) → next_at (stage.Arguments kind) (also (punctuation 62 p s) run) None ≡ takes (mark 62) (at (stage.Segments kind) run None)
 unfolding next_at
 arguments_close kind s p run = refl
 
-argument_closes : (kind : PathKind) (s : Span) (p : Spacing) (run : TokenList) → next_at (place.ArgumentEnd kind) (also (punctuation 62 p s) run) None ≡ takes (mark 62) (at (place.Segments kind) run None)
+argument_closes : (kind : PathKind) (s : Span) (p : Spacing) (run : TokenList) → next_at (stage.ArgumentEnd kind) (also (punctuation 62 p s) run) None ≡ takes (mark 62) (at (stage.Segments kind) run None)
 unfolding next_at
 argument_closes kind s p run = refl
 
-argument_further : (kind : PathKind) (s : Span) (p : Spacing) (run : TokenList) → next_at (place.ArgumentEnd kind) (also (punctuation 44 p s) run) None ≡ takes (mark 44) (at (place.Arguments kind) run None)
+argument_further : (kind : PathKind) (s : Span) (p : Spacing) (run : TokenList) → next_at (stage.ArgumentEnd kind) (also (punctuation 44 p s) run) None ≡ takes (mark 44) (at (stage.Arguments kind) run None)
 unfolding next_at
 argument_further kind s p run = refl
 
-arguments_lifetime : (kind : PathKind) (s t : Span) (p : Spacing) (text : List ℕ) (run : TokenList) → next_at (place.Arguments kind) (also (punctuation 39 p s) (also (identifier text t) run)) None ≡ takes (argument_lifetime kind text) (at (place.ArgumentEnd kind) run None)
+arguments_lifetime : (kind : PathKind) (s t : Span) (p : Spacing) (text : List ℕ) (run : TokenList) → next_at (stage.Arguments kind) (also (punctuation 39 p s) (also (identifier text t) run)) None ≡ takes (argument_lifetime kind text) (at (stage.ArgumentEnd kind) run None)
 unfolding next_at
 arguments_lifetime kind s t p text run = refl
 
-arguments_literal : (kind : PathKind) (text : List ℕ) (s : Span) (run : TokenList) → next_at (place.Arguments kind) (also (literal text s) run) None ≡ takes (value text) (at (place.ArgumentEnd kind) run None)
+arguments_literal : (kind : PathKind) (text : List ℕ) (s : Span) (run : TokenList) → next_at (stage.Arguments kind) (also (literal text s) run) None ≡ takes (value text) (at (stage.ArgumentEnd kind) run None)
 unfolding next_at
 arguments_literal kind text s run = refl
 
-arguments_name : (kind : PathKind) (text : List ℕ) (s u : Span) (p : Spacing) (run : TokenList) → next_at (place.Arguments kind) (also (identifier text s) (also (punctuation 61 p u) run)) None ≡ takes (word text) (at (place.Equals kind) (also (punctuation 61 p u) run) None)
+arguments_name : (kind : PathKind) (text : List ℕ) (s u : Span) (p : Spacing) (run : TokenList) → next_at (stage.Arguments kind) (also (identifier text s) (also (punctuation 61 p u) run)) None ≡ takes (word text) (at (stage.Equals kind) (also (punctuation 61 p u) run) None)
 unfolding next_at
 arguments_name kind text s u p run = refl
 
-arguments_braces : (kind : PathKind) (s : Span) (inside rest : TokenList) → next_at (place.Arguments kind) (also (group Brace s inside) rest) None ≡ takes (opening Brace) (at (place.Braced kind) inside (Some rest))
+arguments_braces : (kind : PathKind) (s : Span) (inside rest : TokenList) → next_at (stage.Arguments kind) (also (group Brace s inside) rest) None ≡ takes (opening Brace) (at (stage.Braced kind) inside (Some rest))
 unfolding next_at
 arguments_braces kind s inside rest = refl
 
-braced_kept : (kind : PathKind) (first : Token) (rest after : TokenList) → next_at (place.Braced kind) (also first rest) (Some after) ≡ keeps (also first rest) (at (place.Braced kind) none (Some after))
+braced_kept : (kind : PathKind) (first : Token) (rest after : TokenList) → next_at (stage.Braced kind) (also first rest) (Some after) ≡ keeps (also first rest) (at (stage.Braced kind) none (Some after))
 unfolding next_at
 braced_kept kind first rest after = refl
 
-braced_closes : (kind : PathKind) (after : TokenList) → next_at (place.Braced kind) none (Some after) ≡ takes (closing Brace) (at (place.ArgumentEnd kind) after None)
+braced_closes : (kind : PathKind) (after : TokenList) → next_at (stage.Braced kind) none (Some after) ≡ takes (closing Brace) (at (stage.ArgumentEnd kind) after None)
 unfolding next_at
 braced_closes kind after = refl
 
-equals_taken : (kind : PathKind) (s : Span) (p : Spacing) (run : TokenList) → next_at (place.Equals kind) (also (punctuation 61 p s) run) None ≡ takes (mark 61) (at (place.Value kind) run None)
+equals_taken : (kind : PathKind) (s : Span) (p : Spacing) (run : TokenList) → next_at (stage.Equals kind) (also (punctuation 61 p s) run) None ≡ takes (mark 61) (at (stage.Value kind) run None)
 unfolding next_at
 equals_taken kind s p run = refl
 
-value_asks : (kind : PathKind) (run : TokenList) → next_at (place.Value kind) run None ≡ asks true (place.ArgumentEnd kind)
+value_needs : (kind : PathKind) (run : TokenList) → next_at (stage.Value kind) run None ≡ needs true (stage.ArgumentEnd kind)
 unfolding next_at
-value_asks kind run = refl
+value_needs kind run = refl
 
-self_asks : (run : TokenList) → next_at place.SelfType run None ≡ keeps_type place.SelfEnd
+self_needs : (run : TokenList) → next_at stage.SelfType run None ≡ keeps_type stage.SelfEnd
 unfolding next_at
-self_asks run = refl
+self_needs run = refl
 
-self_closes : (s : Span) (p : Spacing) (run : TokenList) → next_at place.SelfEnd (also (punctuation 62 p s) run) None ≡ takes (mark 62) (at place.SelfClosed run None)
+self_closes : (s : Span) (p : Spacing) (run : TokenList) → next_at stage.SelfEnd (also (punctuation 62 p s) run) None ≡ takes (mark 62) (at stage.SelfClosed run None)
 unfolding next_at
 self_closes s p run = refl
 
-self_as : (s : Span) (run : TokenList) → next_at place.SelfEnd (also (identifier (codes "as") s) run) None ≡ takes (word (codes "as")) (at place.SelfTrait run None)
+self_as : (s : Span) (run : TokenList) → next_at stage.SelfEnd (also (identifier (codes "as") s) run) None ≡ takes (word (codes "as")) (at stage.SelfTrait run None)
 unfolding next_at
 self_as s run = refl
 
-self_trait_path : (run : TokenList) → next_at place.SelfTrait run None ≡ path_move OfType place.SelfTraitEnd run
+self_trait_path : (run : TokenList) → next_at stage.SelfTrait run None ≡ path_move OfType stage.SelfTraitEnd run
 unfolding next_at
 self_trait_path run = refl
 
-self_trait_closes : (s : Span) (p : Spacing) (run : TokenList) → next_at place.SelfTraitEnd (also (punctuation 62 p s) run) None ≡ takes (mark 62) (at place.SelfClosed run None)
+self_trait_closes : (s : Span) (p : Spacing) (run : TokenList) → next_at stage.SelfTraitEnd (also (punctuation 62 p s) run) None ≡ takes (mark 62) (at stage.SelfClosed run None)
 unfolding next_at
 self_trait_closes s p run = refl
 
-self_goes_on : (s t : Span) (p : Spacing) (run : TokenList) → next_at place.SelfClosed (also (punctuation 58 Joint s) (also (punctuation 58 p t) run)) None ≡ takes colons (at (place.Colons OfType false) run None)
+self_goes_on : (s t : Span) (p : Spacing) (run : TokenList) → next_at stage.SelfClosed (also (punctuation 58 Joint s) (also (punctuation 58 p t) run)) None ≡ takes colons (at (stage.Colons OfType false) run None)
 unfolding next_at
 self_goes_on s t p run = refl
 
-bound_lifetime : (plus : Bool) (s t : Span) (p : Spacing) (text : List ℕ) (run : TokenList) → next_at (place.Bound plus) (also (punctuation 39 p s) (also (identifier text t) run)) None ≡ takes (other_lifetime text) (at (place.BoundEnd plus) run None)
+bound_lifetime : (plus : Bool) (s t : Span) (p : Spacing) (text : List ℕ) (run : TokenList) → next_at (stage.Bound plus) (also (punctuation 39 p s) (also (identifier text t) run)) None ≡ takes (other_lifetime text) (at (stage.BoundEnd plus) run None)
 unfolding next_at
 bound_lifetime plus s t p text run = refl
 
-bound_encloses : (plus : Bool) (s : Span) (inside rest : TokenList) → next_at (place.Bound plus) (also (group Parenthesis s inside) rest) None ≡ takes (opening Parenthesis) (at (place.Question plus) inside (Some rest))
+bound_encloses : (plus : Bool) (s : Span) (inside rest : TokenList) → next_at (stage.Bound plus) (also (group Parenthesis s inside) rest) None ≡ takes (opening Parenthesis) (at (stage.Question plus) inside (Some rest))
 unfolding next_at
 bound_encloses plus s inside rest = refl
 
-bound_joins : (s : Span) (p : Spacing) (run : TokenList) → next_at (place.BoundEnd true) (also (punctuation 43 p s) run) None ≡ takes (mark 43) (at place.Further run None)
+bound_joins : (s : Span) (p : Spacing) (run : TokenList) → next_at (stage.BoundEnd true) (also (punctuation 43 p s) run) None ≡ takes (mark 43) (at stage.Further run None)
 unfolding next_at
 bound_joins s p run = refl
 
-enclosed_closes : (plus : Bool) (after : TokenList) → next_at (place.EnclosedEnd plus) none (Some after) ≡ takes (closing Parenthesis) (at (place.BoundEnd plus) after None)
+enclosed_closes : (plus : Bool) (after : TokenList) → next_at (stage.EnclosedEnd plus) none (Some after) ≡ takes (closing Parenthesis) (at (stage.BoundEnd plus) after None)
 unfolding next_at
 enclosed_closes plus after = refl
 
-trait_path : (kind : BoundKind) (run : TokenList) (b : Option TokenList) → next_at (place.TraitPath kind) run b ≡ path_move OfBound (after_bound kind) run
+trait_path : (kind : BoundKind) (run : TokenList) (b : Option TokenList) → next_at (stage.TraitPath kind) run b ≡ path_move OfBound (after_bound kind) run
 unfolding next_at
 trait_path kind run b = refl
 
-trait_for : (kind : BoundKind) (s : Span) (run : TokenList) (b : Option TokenList) → next_at (place.Trait kind) (also (identifier (codes "for") s) run) b ≡ takes (word (codes "for")) (at (place.For (OfTrait kind)) run b)
+trait_for : (kind : BoundKind) (s : Span) (run : TokenList) (b : Option TokenList) → next_at (stage.Trait kind) (also (identifier (codes "for") s) run) b ≡ takes (word (codes "for")) (at (stage.For (OfTrait kind)) run b)
 unfolding next_at
 trait_for kind s run b = refl
 
-enclosed_question : (plus : Bool) (s : Span) (p : Spacing) (run : TokenList) (b : Option TokenList) → next_at (place.Question plus) (also (punctuation 63 p s) run) b ≡ takes (mark 63) (at (place.Trait (Enclosed plus)) run b)
+enclosed_question : (plus : Bool) (s : Span) (p : Spacing) (run : TokenList) (b : Option TokenList) → next_at (stage.Question plus) (also (punctuation 63 p s) run) b ≡ takes (mark 63) (at (stage.Trait (Enclosed plus)) run b)
 unfolding next_at
 enclosed_question plus s p run b = refl
 
-listed_question : (plus : Bool) (s : Span) (p : Spacing) (run : TokenList) → next_at (place.Bound plus) (also (punctuation 63 p s) run) None ≡ takes (mark 63) (at (place.Trait (Listed plus)) run None)
+listed_question : (plus : Bool) (s : Span) (p : Spacing) (run : TokenList) → next_at (stage.Bound plus) (also (punctuation 63 p s) run) None ≡ takes (mark 63) (at (stage.Trait (Listed plus)) run None)
 unfolding next_at
 listed_question plus s p run = refl
 
-for_opens : (binder : Binder) (s : Span) (p : Spacing) (run : TokenList) (b : Option TokenList) → next_at (place.For binder) (also (punctuation 60 p s) run) b ≡ takes (mark 60) (at (place.ForList binder) run b)
+for_opens : (binder : Binder) (s : Span) (p : Spacing) (run : TokenList) (b : Option TokenList) → next_at (stage.For binder) (also (punctuation 60 p s) run) b ≡ takes (mark 60) (at (stage.ForList binder) run b)
 unfolding next_at
 for_opens binder s p run b = refl
 
-for_closes : (binder : Binder) (s : Span) (p : Spacing) (run : TokenList) (b : Option TokenList) → next_at (place.ForList binder) (also (punctuation 62 p s) run) b ≡ takes (mark 62) (at (after_for binder) run b)
+for_closes : (binder : Binder) (s : Span) (p : Spacing) (run : TokenList) (b : Option TokenList) → next_at (stage.ForList binder) (also (punctuation 62 p s) run) b ≡ takes (mark 62) (at (after_for binder) run b)
 unfolding next_at
 for_closes binder s p run b = refl
 
-for_lifetime : (binder : Binder) (s t : Span) (p : Spacing) (text : List ℕ) (run : TokenList) (b : Option TokenList) → next_at (place.ForList binder) (also (punctuation 39 p s) (also (identifier text t) run)) b ≡ takes (other_lifetime text) (at (place.ForEnd binder) run b)
+for_lifetime : (binder : Binder) (s t : Span) (p : Spacing) (text : List ℕ) (run : TokenList) (b : Option TokenList) → next_at (stage.ForList binder) (also (punctuation 39 p s) (also (identifier text t) run)) b ≡ takes (other_lifetime text) (at (stage.ForEnd binder) run b)
 unfolding next_at
 for_lifetime binder s t p text run b = refl
 
-for_end_closes : (binder : Binder) (s : Span) (p : Spacing) (run : TokenList) (b : Option TokenList) → next_at (place.ForEnd binder) (also (punctuation 62 p s) run) b ≡ takes (mark 62) (at (after_for binder) run b)
+for_end_closes : (binder : Binder) (s : Span) (p : Spacing) (run : TokenList) (b : Option TokenList) → next_at (stage.ForEnd binder) (also (punctuation 62 p s) run) b ≡ takes (mark 62) (at (after_for binder) run b)
 unfolding next_at
 for_end_closes binder s p run b = refl
 
-for_further : (binder : Binder) (s : Span) (p : Spacing) (run : TokenList) (b : Option TokenList) → next_at (place.ForEnd binder) (also (punctuation 44 p s) run) b ≡ takes (mark 44) (at (place.ForList binder) run b)
+for_further : (binder : Binder) (s : Span) (p : Spacing) (run : TokenList) (b : Option TokenList) → next_at (stage.ForEnd binder) (also (punctuation 44 p s) run) b ≡ takes (mark 44) (at (stage.ForList binder) run b)
 unfolding next_at
 for_further binder s p run b = refl
 
-qualified_unsafe : (s : Span) (run : TokenList) → next_at place.Qualified (also (identifier (codes "unsafe") s) run) None ≡ takes (word (codes "unsafe")) (at place.Unsafe run None)
+qualified_unsafe : (s : Span) (run : TokenList) → next_at stage.Qualified (also (identifier (codes "unsafe") s) run) None ≡ takes (word (codes "unsafe")) (at stage.Unsafe run None)
 unfolding next_at
 qualified_unsafe s run = refl
 
-qualified_extern : (s : Span) (run : TokenList) → next_at place.Qualified (also (identifier (codes "extern") s) run) None ≡ takes (word (codes "extern")) (at place.Extern run None)
+qualified_extern : (s : Span) (run : TokenList) → next_at stage.Qualified (also (identifier (codes "extern") s) run) None ≡ takes (word (codes "extern")) (at stage.Extern run None)
 unfolding next_at
 qualified_extern s run = refl
 
-qualified_fn : (s : Span) (run : TokenList) → next_at place.Qualified (also (identifier (codes "fn") s) run) None ≡ takes (word (codes "fn")) (at place.Function run None)
+qualified_fn : (s : Span) (run : TokenList) → next_at stage.Qualified (also (identifier (codes "fn") s) run) None ≡ takes (word (codes "fn")) (at stage.Function run None)
 unfolding next_at
 qualified_fn s run = refl
 
-unsafe_extern : (s : Span) (run : TokenList) → next_at place.Unsafe (also (identifier (codes "extern") s) run) None ≡ takes (word (codes "extern")) (at place.Extern run None)
+unsafe_extern : (s : Span) (run : TokenList) → next_at stage.Unsafe (also (identifier (codes "extern") s) run) None ≡ takes (word (codes "extern")) (at stage.Extern run None)
 unfolding next_at
 unsafe_extern s run = refl
 
-unsafe_fn : (s : Span) (run : TokenList) → next_at place.Unsafe (also (identifier (codes "fn") s) run) None ≡ takes (word (codes "fn")) (at place.Function run None)
+unsafe_fn : (s : Span) (run : TokenList) → next_at stage.Unsafe (also (identifier (codes "fn") s) run) None ≡ takes (word (codes "fn")) (at stage.Function run None)
 unfolding next_at
 unsafe_fn s run = refl
 
-extern_fn : (s : Span) (run : TokenList) → next_at place.Extern (also (identifier (codes "fn") s) run) None ≡ takes (word (codes "fn")) (at place.Function run None)
+extern_fn : (s : Span) (run : TokenList) → next_at stage.Extern (also (identifier (codes "fn") s) run) None ≡ takes (word (codes "fn")) (at stage.Function run None)
 unfolding next_at
 extern_fn s run = refl
 
-extern_name : (text : List ℕ) (s : Span) (run : TokenList) → next_at place.Extern (also (literal text s) run) None ≡ takes (value text) (at place.Linked run None)
+extern_name : (text : List ℕ) (s : Span) (run : TokenList) → next_at stage.Extern (also (literal text s) run) None ≡ takes (value text) (at stage.Linked run None)
 unfolding next_at
 extern_name text s run = refl
 
-linked_fn : (s : Span) (run : TokenList) → next_at place.Linked (also (identifier (codes "fn") s) run) None ≡ takes (word (codes "fn")) (at place.Function run None)
+linked_fn : (s : Span) (run : TokenList) → next_at stage.Linked (also (identifier (codes "fn") s) run) None ≡ takes (word (codes "fn")) (at stage.Function run None)
 unfolding next_at
 linked_fn s run = refl
 
-function_opens : (s : Span) (inside rest : TokenList) → next_at place.Function (also (group Parenthesis s inside) rest) None ≡ takes (opening Parenthesis) (at place.Taken inside (Some rest))
+function_opens : (s : Span) (inside rest : TokenList) → next_at stage.Function (also (group Parenthesis s inside) rest) None ≡ takes (opening Parenthesis) (at stage.Taken inside (Some rest))
 unfolding next_at
 function_opens s inside rest = refl
 
-taken_closes : (after : TokenList) → next_at place.Taken none (Some after) ≡ takes (closing Parenthesis) (at place.Output after None)
+taken_closes : (after : TokenList) → next_at stage.Taken none (Some after) ≡ takes (closing Parenthesis) (at stage.Output after None)
 unfolding next_at
 taken_closes after = refl
 
-one_taken_closes : (after : TokenList) → next_at place.OneTaken none (Some after) ≡ takes (closing Parenthesis) (at place.Output after None)
+one_taken_closes : (after : TokenList) → next_at stage.OneTaken none (Some after) ≡ takes (closing Parenthesis) (at stage.Output after None)
 unfolding next_at
 one_taken_closes after = refl
 
-taken_further : (s : Span) (p : Spacing) (run after : TokenList) → next_at place.OneTaken (also (punctuation 44 p s) run) (Some after) ≡ takes (mark 44) (at place.Taken run (Some after))
+taken_further : (s : Span) (p : Spacing) (run after : TokenList) → next_at stage.OneTaken (also (punctuation 44 p s) run) (Some after) ≡ takes (mark 44) (at stage.Taken run (Some after))
 unfolding next_at
 taken_further s p run after = refl
 
-typed_taken : (s : Span) (p : Spacing) (run after : TokenList) → next_at place.Typed (also (punctuation 58 p s) run) (Some after) ≡ takes (mark 58) (at place.TypedValue run (Some after))
+typed_taken : (s : Span) (p : Spacing) (run after : TokenList) → next_at stage.Typed (also (punctuation 58 p s) run) (Some after) ≡ takes (mark 58) (at stage.TypedValue run (Some after))
 unfolding next_at
 typed_taken s p run after = refl
 
--- a token, a type, tokens that stay, or something inside, and what follows it
-next_token : {levels : ℕ} {p : Place} {run : TokenList} {b : Option TokenList} {s : Sign} {outside : Spot} {parts : List Tree} {rest : TokenList} →
+-- a token, a type, tokens that stay, or something inside, and the tokens after it
+next_token : {levels : ℕ} {p : Stage} {run : TokenList} {b : Option TokenList} {s : Sign} {outside : Spot} {parts : List Tree} {rest : TokenList} →
     next_at p run b ≡ takes s outside → AreParts levels false outside parts rest → AreParts levels false (at p run b) (sign s ∷ parts) rest
 next_token e a = part (a_token e) a refl
 
-next_type : {levels : ℕ} {p q : Place} {plus : Bool} {run middle : TokenList} {b : Option TokenList} {t : Tree} {parts : List Tree} {rest : TokenList} →
-    next_at p run b ≡ asks plus q → IsType levels plus run t middle → AreParts levels false (at q middle b) parts rest → AreParts levels false (at p run b) (t ∷ parts) rest
+next_type : {levels : ℕ} {p q : Stage} {plus : Bool} {run middle : TokenList} {b : Option TokenList} {t : Tree} {parts : List Tree} {rest : TokenList} →
+    next_at p run b ≡ needs plus q → IsType levels plus run t middle → AreParts levels false (at q middle b) parts rest → AreParts levels false (at p run b) (t ∷ parts) rest
 next_type e h a = part (part_type e h) a refl
 
-next_still : {levels : ℕ} {p q : Place} {run middle : TokenList} {b : Option TokenList} {t : Tree} {parts : List Tree} {rest : TokenList} →
+next_still : {levels : ℕ} {p q : Stage} {run middle : TokenList} {b : Option TokenList} {t : Tree} {parts : List Tree} {rest : TokenList} →
     next_at p run b ≡ keeps_type q → IsType levels true run t middle → AreParts levels false (at q middle b) parts rest → AreParts levels false (at p run b) (still (and_part t no_part_left) ∷ parts) rest
 next_still e h a = part (a_still_type e h) a refl
 
-next_kept : {levels : ℕ} {p : Place} {run kept_run : TokenList} {b : Option TokenList} {outside : Spot} {parts : List Tree} {rest : TokenList} →
+next_kept : {levels : ℕ} {p : Stage} {run kept_run : TokenList} {b : Option TokenList} {outside : Spot} {parts : List Tree} {rest : TokenList} →
     next_at p run b ≡ keeps kept_run outside → AreParts levels false outside parts rest → AreParts levels false (at p run b) (still (trees (still_run kept_run)) ∷ parts) rest
 next_kept e a = part (still_tokens e) a refl
 
-next_nest : {levels : ℕ} {p q : Place} {run middle : TokenList} {b : Option TokenList} {s : Sign} {inner : Spot} {within parts : List Tree} {rest : TokenList} →
+next_nest : {levels : ℕ} {p q : Stage} {run middle : TokenList} {b : Option TokenList} {s : Sign} {inner : Spot} {within parts : List Tree} {rest : TokenList} →
     next_at p run b ≡ nests s inner q → AreParts levels false inner within middle → AreParts levels false (at q middle b) parts rest → AreParts levels false (at p run b) (sign s ∷ (within ++ parts)) rest
 next_nest e h a = part (a_nest e h) a refl
 
-no_part : {levels : ℕ} {p : Place} {run : TokenList} → next_at p run None ≡ ends → AreParts levels false (at p run None) [] run
+no_part : {levels : ℕ} {p : Stage} {run : TokenList} → next_at p run None ≡ ends → AreParts levels false (at p run None) [] run
 no_part e = ended e
 
--- where two places have the same next move, the same parts stand
-same_next : {levels : ℕ} {c : Bool} {p q : Place} {run : TokenList} {b : Option TokenList} {parts : List Tree} {rest : TokenList} → next_at q run b ≡ next_at p run b → AreParts levels c (at p run b) parts rest → AreParts levels c (at q run b) parts rest
+-- two spots with the same next move have the same parts
+same_next : {levels : ℕ} {c : Bool} {p q : Stage} {run : TokenList} {b : Option TokenList} {parts : List Tree} {rest : TokenList} → next_at q run b ≡ next_at p run b → AreParts levels c (at p run b) parts rest → AreParts levels c (at q run b) parts rest
 same_next k (ended e) = ended (k ∙ e)
 same_next k (part (a_token e) a f) = part (a_token (k ∙ e)) a f
 same_next k (part (a_bar e) a f) = part (a_bar (k ∙ e)) a f
@@ -636,7 +636,7 @@ same_next k (part (a_still_type e h) a f) = part (a_still_type (k ∙ e) h) a f
 same_next k (part (still_tokens e) a f) = part (still_tokens (k ∙ e)) a f
 same_next k (part (a_nest e h) a f) = part (a_nest (k ∙ e) h) a f
 
--- a type of parts has a first token, and the parts behind it
+-- a type of parts has a first token, and the parts after it
 pub data Begun : ℕ → Bool → TokenList → List Tree → TokenList → Type 0 where
   begun : {levels : ℕ} {plus : Bool} {run rest : TokenList} {s : Sign} {spot : Spot} {parts : List Tree} → name_of run ≡ None → begin plus run ≡ starts false s spot → AreParts levels false spot parts rest →
       Begun levels plus run (sign s ∷ parts) rest
@@ -653,47 +653,47 @@ name_not text s rest r g = rw (r, g) refl
 same_parts : {levels : ℕ} {spot : Spot} {ps qs : List Tree} {rest : TokenList} → ps ≡ qs → AreParts levels false spot ps rest → AreParts levels false spot qs rest
 same_parts {levels} {spot} {rest = rest} e a = subst (λ (ts : List Tree). AreParts levels false spot ts rest) e a
 
--- the lifetimes behind `for`
-lifetime_list_stands : {levels : ℕ} {run middle : TokenList} {parts : List Tree} (binder : Binder) (b : Option TokenList) → LifetimeList run parts middle → {rest : TokenList} {back : List Tree} →
-    AreParts levels false (at (after_for binder) middle b) back rest → AreParts levels false (at (place.ForList binder) run b) (parts ++ back) rest
-lifetime_list_stands {middle = middle} binder b (no_lifetime {s = s} {p = p}) k = next_token (for_closes binder s p middle b) k
-lifetime_list_stands {middle = middle} binder b (last_lifetime {text = text} {s = s} {t = t} {u = u} {p = p} {q = q}) k =
+-- the lifetimes after `for`
+lifetime_list_occurs : {levels : ℕ} {run middle : TokenList} {parts : List Tree} (binder : Binder) (b : Option TokenList) → LifetimeList run parts middle → {rest : TokenList} {back : List Tree} →
+    AreParts levels false (at (after_for binder) middle b) back rest → AreParts levels false (at (stage.ForList binder) run b) (parts ++ back) rest
+lifetime_list_occurs {middle = middle} binder b (no_lifetime {s = s} {p = p}) k = next_token (for_closes binder s p middle b) k
+lifetime_list_occurs {middle = middle} binder b (last_lifetime {text = text} {s = s} {t = t} {u = u} {p = p} {q = q}) k =
     next_token (for_lifetime binder s t p text _ b) (next_token (for_end_closes binder u q middle b) k)
-lifetime_list_stands binder b (lifetimes {text = text} {s = s} {t = t} {u = u} {p = p} {q = q} {run = run} w) k =
-    next_token (for_lifetime binder s t p text _ b) (next_token (for_further binder u q run b) (lifetime_list_stands binder b w k))
+lifetime_list_occurs binder b (lifetimes {text = text} {s = s} {t = t} {u = u} {p = p} {q = q} {run = run} w) k =
+    next_token (for_lifetime binder s t p text _ b) (next_token (for_further binder u q run b) (lifetime_list_occurs binder b w k))
 
-lifetimes_stand : {levels : ℕ} {run middle : TokenList} {parts : List Tree} (binder : Binder) (b : Option TokenList) → Lifetimes run parts middle → {rest : TokenList} {back : List Tree} →
-    AreParts levels false (at (after_for binder) middle b) back rest → AreParts levels false (at (place.For binder) run b) (parts ++ back) rest
-lifetimes_stand binder b (in_angles {s = s} {p = p} {run = run} w) k = next_token (for_opens binder s p run b) (lifetime_list_stands binder b w k)
+lifetimes_occur : {levels : ℕ} {run middle : TokenList} {parts : List Tree} (binder : Binder) (b : Option TokenList) → Lifetimes run parts middle → {rest : TokenList} {back : List Tree} →
+    AreParts levels false (at (after_for binder) middle b) back rest → AreParts levels false (at (stage.For binder) run b) (parts ++ back) rest
+lifetimes_occur binder b (in_angles {s = s} {p = p} {run = run} w) k = next_token (for_opens binder s p run b) (lifetime_list_occurs binder b w k)
 
--- a place where a path begins, in front of another place
-record PathAt (p : Place) (kind : PathKind) (q : Place) (b : Option TokenList) : Type 0 where
-  at_name : (text : List ℕ) (s : Span) (run : TokenList) → next_at p (also (identifier text s) run) b ≡ nests (word text) (at (place.Named kind) run None) q
-  at_root : (s t : Span) (o : Spacing) (run : TokenList) → next_at p (also (punctuation 58 Joint s) (also (punctuation 58 o t) run)) b ≡ nests colons (at (place.Colons kind false) run None) q
+-- a spot where a path begins, in front of another spot
+record PathAt (p : Stage) (kind : PathKind) (q : Stage) (b : Option TokenList) : Type 0 where
+  at_name : (text : List ℕ) (s : Span) (run : TokenList) → next_at p (also (identifier text s) run) b ≡ nests (word text) (at (stage.Named kind) run None) q
+  at_root : (s t : Span) (o : Spacing) (run : TokenList) → next_at p (also (punctuation 58 Joint s) (also (punctuation 58 o t) run)) b ≡ nests colons (at (stage.Colons kind false) run None) q
 
-self_path : (b : Option TokenList) → PathAt place.SelfTrait OfType place.SelfTraitEnd b
+self_path : (b : Option TokenList) → PathAt stage.SelfTrait OfType stage.SelfTraitEnd b
 unfolding next_at
 self_path b = record { at_name = λ text s run. refl; at_root = λ s t o run. refl }
 
-binder_path : (kind : BoundKind) (b : Option TokenList) → PathAt (place.TraitPath kind) OfBound (after_bound kind) b
+binder_path : (kind : BoundKind) (b : Option TokenList) → PathAt (stage.TraitPath kind) OfBound (after_bound kind) b
 unfolding next_at
 binder_path kind b = record { at_name = λ text s run. refl; at_root = λ s t o run. refl }
 
--- a place where the path of a bound begins, perhaps with `for<..>`
-record TraitAt (p : Place) (kind : BoundKind) (b : Option TokenList) : Type 0 where
-  for_at : (s : Span) (run : TokenList) → next_at p (also (identifier (codes "for") s) run) b ≡ takes (word (codes "for")) (at (place.For (OfTrait kind)) run b)
-  name_at : (text : List ℕ) (s : Span) (run : TokenList) → bytes_eq text (codes "for") ≡ false → next_at p (also (identifier text s) run) b ≡ nests (word text) (at (place.Named OfBound) run None) (after_bound kind)
-  root_at : (s t : Span) (o : Spacing) (run : TokenList) → next_at p (also (punctuation 58 Joint s) (also (punctuation 58 o t) run)) b ≡ nests colons (at (place.Colons OfBound false) run None) (after_bound kind)
+-- a spot where the path of a bound begins, perhaps with `for<..>`
+record TraitAt (p : Stage) (kind : BoundKind) (b : Option TokenList) : Type 0 where
+  for_at : (s : Span) (run : TokenList) → next_at p (also (identifier (codes "for") s) run) b ≡ takes (word (codes "for")) (at (stage.For (OfTrait kind)) run b)
+  name_at : (text : List ℕ) (s : Span) (run : TokenList) → bytes_eq text (codes "for") ≡ false → next_at p (also (identifier text s) run) b ≡ nests (word text) (at (stage.Named OfBound) run None) (after_bound kind)
+  root_at : (s t : Span) (o : Spacing) (run : TokenList) → next_at p (also (punctuation 58 Joint s) (also (punctuation 58 o t) run)) b ≡ nests colons (at (stage.Colons OfBound false) run None) (after_bound kind)
 
-trait_at : (kind : BoundKind) (b : Option TokenList) → TraitAt (place.Trait kind) kind b
+trait_at : (kind : BoundKind) (b : Option TokenList) → TraitAt (stage.Trait kind) kind b
 unfolding next_at
 trait_at kind b = record { for_at = λ s run. refl; name_at = λ text s run n. rw n refl; root_at = λ s t o run. refl }
 
-question_at : (plus : Bool) (b : Option TokenList) → TraitAt (place.Question plus) (Enclosed plus) b
+question_at : (plus : Bool) (b : Option TokenList) → TraitAt (stage.Question plus) (Enclosed plus) b
 unfolding next_at
 question_at plus b = record { for_at = λ s run. refl; name_at = λ text s run n. rw n refl; root_at = λ s t o run. refl }
 
-bound_at : (plus : Bool) (b : Option TokenList) → TraitAt (place.Bound plus) (Listed plus) b
+bound_at : (plus : Bool) (b : Option TokenList) → TraitAt (stage.Bound plus) (Listed plus) b
 unfolding next_at
 bound_at plus b = record { for_at = λ s run. refl; name_at = λ text s run n. rw n refl; root_at = λ s t o run. refl }
 
@@ -720,158 +720,158 @@ bounds_begin (plus_after b f) = bound_begins b
 bounds_begin (bounds b f k) = bound_begins b
 
 mutual
-  pub type_stands : {levels : ℕ} {plus : Bool} {run rest : TokenList} {t : Tree} {e : Ending} → Written levels plus run t rest e → may_follow e rest ≡ true → IsType levels plus run t rest
-  type_stands {rest = rest} (a_name {text = text} {s = s} a r) f = just_name a (name_is text s rest r (not_true (goes_on rest || begins_mark 33 rest) f))
-  type_stands (a_form a w) f = is_type a (form_stands w f)
+  pub type_occurs : {levels : ℕ} {plus : Bool} {run rest : TokenList} {t : Tree} {e : Ending} → Written levels plus run t rest e → may_follow e rest ≡ true → IsType levels plus run t rest
+  type_occurs {rest = rest} (a_name {text = text} {s = s} a r) f = just_name a (name_is text s rest r (not_true (goes_on rest || begins_mark 33 rest) f))
+  type_occurs (a_form a w) f = is_type a (form_occurs w f)
 
-  form_stands : {levels : ℕ} {plus : Bool} {run rest : TokenList} {parts : List Tree} {e : Ending} → Form levels plus run parts rest e → may_follow e rest ≡ true → Begun levels plus run parts rest
-  form_stands {plus = plus} (path {text = text} {s = s} {run = run} r l) f = begun (name_not text s run r (longer_on l)) (path_begins plus text s run r) (longer_stands l f)
-  form_stands {plus = plus} (rooted {s = s} {t = t} {p = p} {run = run} w) f = begun refl (rooted_begins plus s t p run) (path_stands w f false)
-  form_stands {plus = plus} (qualified {s = s} {p = p} {run = run} w) f = begun refl (qualified_begins plus s p run) (qualified_stands w f)
-  form_stands {plus = plus} (borrowed {s = s} {p = p} {run = run} r) f = begun refl (reference_begins plus p s run (referent_begins r)) (referent_stands r f)
-  form_stands {plus = plus} (borrowed_for {text = text} {s = s} {t = t} {u = u} {p = p} {q = q} {run = run} r) f = begun refl (lifetime_begins plus p q s t u text run) (referent_stands r f)
-  form_stands {plus = plus} {rest = rest} (pointer_const {s = s} {t = t} {p = p} {run = run} w) f = begun refl (pointer_begins plus s p _) (next_token (const_taken t run) (next_type (target_asks run) (type_stands w f) (no_part (end_ends rest))))
-  form_stands {plus = plus} {rest = rest} (pointer_mut {s = s} {t = t} {p = p} {run = run} w) f = begun refl (pointer_begins plus s p _) (next_token (pointer_mut_taken t run) (next_type (target_asks run) (type_stands w f) (no_part (end_ends rest))))
-  form_stands {plus = plus} {rest = rest} (slice {s = s} {inside = inside} {e = e} w) f =
-      begun refl (bracket_begins plus s inside rest) (next_type (element_asks inside (Some rest)) (type_stands w (none_follows e)) (next_token (element_closes rest) (no_part (end_ends rest))))
-  form_stands {plus = plus} {rest = rest} (array {s = s} {u = u} {p = p} {inside = inside} {length = length} {first = first} {e = e} w) f =
-      begun refl (bracket_begins plus s inside rest) (next_type (element_asks inside (Some rest)) (type_stands w (mark_follows e 59 p u (also first length) idle_semicolon))
+  form_occurs : {levels : ℕ} {plus : Bool} {run rest : TokenList} {parts : List Tree} {e : Ending} → Form levels plus run parts rest e → may_follow e rest ≡ true → Begun levels plus run parts rest
+  form_occurs {plus = plus} (path {text = text} {s = s} {run = run} r l) f = begun (name_not text s run r (longer_on l)) (path_begins plus text s run r) (longer_occurs l f)
+  form_occurs {plus = plus} (rooted {s = s} {t = t} {p = p} {run = run} w) f = begun refl (rooted_begins plus s t p run) (path_occurs w f false)
+  form_occurs {plus = plus} (qualified {s = s} {p = p} {run = run} w) f = begun refl (qualified_begins plus s p run) (qualified_occurs w f)
+  form_occurs {plus = plus} (borrowed {s = s} {p = p} {run = run} r) f = begun refl (reference_begins plus p s run (referent_begins r)) (referent_occurs r f)
+  form_occurs {plus = plus} (borrowed_for {text = text} {s = s} {t = t} {u = u} {p = p} {q = q} {run = run} r) f = begun refl (lifetime_begins plus p q s t u text run) (referent_occurs r f)
+  form_occurs {plus = plus} {rest = rest} (pointer_const {s = s} {t = t} {p = p} {run = run} w) f = begun refl (pointer_begins plus s p _) (next_token (const_taken t run) (next_type (target_needs run) (type_occurs w f) (no_part (end_ends rest))))
+  form_occurs {plus = plus} {rest = rest} (pointer_mut {s = s} {t = t} {p = p} {run = run} w) f = begun refl (pointer_begins plus s p _) (next_token (pointer_mut_taken t run) (next_type (target_needs run) (type_occurs w f) (no_part (end_ends rest))))
+  form_occurs {plus = plus} {rest = rest} (slice {s = s} {inside = inside} {e = e} w) f =
+      begun refl (bracket_begins plus s inside rest) (next_type (element_needs inside (Some rest)) (type_occurs w (none_follows e)) (next_token (element_closes rest) (no_part (end_ends rest))))
+  form_occurs {plus = plus} {rest = rest} (array {s = s} {u = u} {p = p} {inside = inside} {length = length} {first = first} {e = e} w) f =
+      begun refl (bracket_begins plus s inside rest) (next_type (element_needs inside (Some rest)) (type_occurs w (mark_follows e 59 p u (also first length) idle_semicolon))
       (next_token (element_goes_on u p (also first length) rest) (next_kept (length_kept first length rest) (next_token (length_closes none rest) (no_part (end_ends rest))))))
-  form_stands {plus = plus} {rest = rest} (tuple {s = s} {inside = inside} l) f = begun refl (tuple_begins plus s inside rest) (listed_stands rest l (no_part (end_ends rest)))
-  form_stands {plus = plus} (trait_object {s = s} {run = run} w) f = begun refl (dyn_begins plus s run) (bounds_stand w f)
-  form_stands {plus = plus} (bound_function {s = s} {run = run} l w) f = begun refl (for_begins plus s run) (lifetimes_stand OfFunction None l (function_stands w f))
-  form_stands (function w) f = function_begun w f
+  form_occurs {plus = plus} {rest = rest} (tuple {s = s} {inside = inside} l) f = begun refl (tuple_begins plus s inside rest) (listed_occurs rest l (no_part (end_ends rest)))
+  form_occurs {plus = plus} (trait_object {s = s} {run = run} w) f = begun refl (dyn_begins plus s run) (bounds_occur w f)
+  form_occurs {plus = plus} (bound_function {s = s} {run = run} l w) f = begun refl (for_begins plus s run) (lifetimes_occur OfFunction None l (function_occurs w f))
+  form_occurs (function w) f = function_begun w f
 
-  referent_stands : {levels : ℕ} {run rest : TokenList} {parts : List Tree} {e : Ending} → Referent levels run parts rest e → may_follow e rest ≡ true → AreParts levels false (at place.Referent run None) parts rest
-  referent_stands {run = run} {rest = rest} (shared n w) f = next_type (referent_asks run n (type_begins w)) (type_stands w f) (no_part (end_ends rest))
-  referent_stands {rest = rest} (mutable {s = s} {run = run} w) f = next_token (mut_taken s run) (next_type (target_asks run) (type_stands w f) (no_part (end_ends rest)))
+  referent_occurs : {levels : ℕ} {run rest : TokenList} {parts : List Tree} {e : Ending} → Referent levels run parts rest e → may_follow e rest ≡ true → AreParts levels false (at stage.Referent run None) parts rest
+  referent_occurs {run = run} {rest = rest} (shared n w) f = next_type (referent_needs run n (type_begins w)) (type_occurs w f) (no_part (end_ends rest))
+  referent_occurs {rest = rest} (mutable {s = s} {run = run} w) f = next_token (mut_taken s run) (next_type (target_needs run) (type_occurs w f) (no_part (end_ends rest)))
 
-  listed_stands : {levels : ℕ} {run : TokenList} {parts : List Tree} (after : TokenList) → ListedTypes levels run parts → {rest : TokenList} {back : List Tree} →
-      AreParts levels false (at place.End after None) back rest → AreParts levels false (at place.List run (Some after)) (parts ++ (sign (closing Parenthesis) ∷ back)) rest
-  listed_stands after nothing k = next_token (list_closes after) k
-  listed_stands after (single {e = e} w) k = next_type (list_asks after (type_begins w)) (type_stands w (none_follows e)) (next_token (list_end_closes after) k)
-  listed_stands after (several {others = others} {s = s} {p = p} {e = e} w l) k =
-      next_type (list_asks after (type_begins w)) (type_stands w (mark_follows e 44 p s others idle_comma)) (next_token (list_further s p others after) (listed_stands after l k))
+  listed_occurs : {levels : ℕ} {run : TokenList} {parts : List Tree} (after : TokenList) → ListedTypes levels run parts → {rest : TokenList} {back : List Tree} →
+      AreParts levels false (at stage.End after None) back rest → AreParts levels false (at stage.List run (Some after)) (parts ++ (sign (closing Parenthesis) ∷ back)) rest
+  listed_occurs after nothing k = next_token (list_closes after) k
+  listed_occurs after (single {e = e} w) k = next_type (list_needs after (type_begins w)) (type_occurs w (none_follows e)) (next_token (list_end_closes after) k)
+  listed_occurs after (several {others = others} {s = s} {p = p} {e = e} w l) k =
+      next_type (list_needs after (type_begins w)) (type_occurs w (mark_follows e 44 p s others idle_comma)) (next_token (list_further s p others after) (listed_occurs after l k))
 
-  inputs_stand : {levels : ℕ} {run : TokenList} {parts : List Tree} (after : TokenList) → ListedTypes levels run parts → {rest : TokenList} {back : List Tree} →
-      AreParts levels false (at place.Output after None) back rest → AreParts levels false (at place.Inputs run (Some after)) (parts ++ (sign (closing Parenthesis) ∷ back)) rest
-  inputs_stand after nothing k = next_token (inputs_close after) k
-  inputs_stand after (single {e = e} w) k = next_type (inputs_asks after (type_begins w)) (type_stands w (none_follows e)) (next_token (input_end_closes after) k)
-  inputs_stand after (several {others = others} {s = s} {p = p} {e = e} w l) k =
-      next_type (inputs_asks after (type_begins w)) (type_stands w (mark_follows e 44 p s others idle_comma)) (next_token (inputs_further s p others after) (inputs_stand after l k))
+  inputs_occur : {levels : ℕ} {run : TokenList} {parts : List Tree} (after : TokenList) → ListedTypes levels run parts → {rest : TokenList} {back : List Tree} →
+      AreParts levels false (at stage.Output after None) back rest → AreParts levels false (at stage.Inputs run (Some after)) (parts ++ (sign (closing Parenthesis) ∷ back)) rest
+  inputs_occur after nothing k = next_token (inputs_close after) k
+  inputs_occur after (single {e = e} w) k = next_type (inputs_needs after (type_begins w)) (type_occurs w (none_follows e)) (next_token (input_end_closes after) k)
+  inputs_occur after (several {others = others} {s = s} {p = p} {e = e} w l) k =
+      next_type (inputs_needs after (type_begins w)) (type_occurs w (mark_follows e 44 p s others idle_comma)) (next_token (inputs_further s p others after) (inputs_occur after l k))
 
-  qualified_stands : {levels : ℕ} {run rest : TokenList} {parts : List Tree} {e : Ending} → Qualified levels run parts rest e → may_follow e rest ≡ true → AreParts levels false (at place.SelfType run None) parts rest
-  qualified_stands (of_type {s = s} {t = t} {u = u} {p = p} {q = q} {run = run} {further = onward} {e = e} w l) f =
-      next_still (self_asks run) (type_stands w (mark_follows e 62 p s _ idle_angle)) (next_token (self_closes s p _) (next_token (self_goes_on t u q onward) (path_stands l f false)))
-  qualified_stands (of_trait {s = s} {t = t} {u = u} {v = v} {p = p} {q = q} {run = run} {middle = middle} {further = onward} {f = g} w k l m) f =
-      next_still (self_asks run) (type_stands w k) (next_token (self_as v middle)
-      (any_path_stands (self_path None) l (mark_follows g 62 p s _ idle_angle) (next_token (self_trait_closes s p _) (next_token (self_goes_on t u q onward) (path_stands m f false)))))
+  qualified_occurs : {levels : ℕ} {run rest : TokenList} {parts : List Tree} {e : Ending} → Qualified levels run parts rest e → may_follow e rest ≡ true → AreParts levels false (at stage.SelfType run None) parts rest
+  qualified_occurs (of_type {s = s} {t = t} {u = u} {p = p} {q = q} {run = run} {further = onward} {e = e} w l) f =
+      next_still (self_needs run) (type_occurs w (mark_follows e 62 p s _ idle_angle)) (next_token (self_closes s p _) (next_token (self_goes_on t u q onward) (path_occurs l f false)))
+  qualified_occurs (of_trait {s = s} {t = t} {u = u} {v = v} {p = p} {q = q} {run = run} {middle = middle} {further = onward} {f = g} w k l m) f =
+      next_still (self_needs run) (type_occurs w k) (next_token (self_as v middle)
+      (any_path_occurs (self_path None) l (mark_follows g 62 p s _ idle_angle) (next_token (self_trait_closes s p _) (next_token (self_goes_on t u q onward) (path_occurs m f false)))))
 
-  any_path_stands : {levels : ℕ} {p q : Place} {kind : PathKind} {b : Option TokenList} {run rest : TokenList} {parts : List Tree} {e : Ending} → PathAt p kind q b → AnyPath levels kind run parts rest e → may_follow e rest ≡ true → {more : TokenList} {back : List Tree} →
+  any_path_occurs : {levels : ℕ} {p q : Stage} {kind : PathKind} {b : Option TokenList} {run rest : TokenList} {parts : List Tree} {e : Ending} → PathAt p kind q b → AnyPath levels kind run parts rest e → may_follow e rest ≡ true → {more : TokenList} {back : List Tree} →
       AreParts levels false (at q rest b) back more → AreParts levels false (at p run b) (parts ++ back) more
-  any_path_stands {kind = kind} {rest = rest} h (from_name (last {text = text} {s = s})) f k = next_nest (h.at_name text s rest) (no_part (named_ends kind rest f)) k
-  any_path_stands h (from_name (longer {text = text} {s = s} {run = run} l)) f k = next_nest (h.at_name text s run) (longer_stands l f) k
-  any_path_stands h (from_root {s = s} {t = t} {p = o} {run = run} w) f k = next_nest (h.at_root s t o run) (path_stands w f false) k
+  any_path_occurs {kind = kind} {rest = rest} h (from_name (last {text = text} {s = s})) f k = next_nest (h.at_name text s rest) (no_part (named_ends kind rest f)) k
+  any_path_occurs h (from_name (longer {text = text} {s = s} {run = run} l)) f k = next_nest (h.at_name text s run) (longer_occurs l f) k
+  any_path_occurs h (from_root {s = s} {t = t} {p = o} {run = run} w) f k = next_nest (h.at_root s t o run) (path_occurs w f false) k
 
-  path_stands : {levels : ℕ} {kind : PathKind} {run rest : TokenList} {parts : List Tree} {e : Ending} → Path levels kind run parts rest e → may_follow e rest ≡ true → (b : Bool) → AreParts levels false (at (place.Colons kind b) run None) parts rest
-  path_stands {kind = kind} {rest = rest} (last {text = text} {s = s}) f b = next_token (colons_name kind b text s rest) (no_part (named_ends kind rest f))
-  path_stands {kind = kind} (longer {text = text} {s = s} {run = run} l) f b = next_token (colons_name kind b text s run) (longer_stands l f)
+  path_occurs : {levels : ℕ} {kind : PathKind} {run rest : TokenList} {parts : List Tree} {e : Ending} → Path levels kind run parts rest e → may_follow e rest ≡ true → (b : Bool) → AreParts levels false (at (stage.Colons kind b) run None) parts rest
+  path_occurs {kind = kind} {rest = rest} (last {text = text} {s = s}) f b = next_token (colons_name kind b text s rest) (no_part (named_ends kind rest f))
+  path_occurs {kind = kind} (longer {text = text} {s = s} {run = run} l) f b = next_token (colons_name kind b text s run) (longer_occurs l f)
 
-  longer_stands : {levels : ℕ} {kind : PathKind} {run rest : TokenList} {parts : List Tree} {e : Ending} → Longer levels kind run parts rest e → may_follow e rest ≡ true → AreParts levels false (at (place.Named kind) run None) parts rest
-  longer_stands {kind = kind} (member {s = s} {t = t} {p = p} {run = run} w) f = next_token (named_colons kind s t p run) (path_stands w f true)
-  longer_stands {kind = kind} {rest = rest} {parts = parts} (angled a) f = same_parts (append-nil parts) (angled_stand kind a refl (no_part (segments_ends (argued kind) rest (not_true (begins_colons rest) f))))
-  longer_stands {kind = kind} (angled_member {s = s} {t = t} {p = p} {further = onward} a w) f = angled_stand kind a refl (next_token (segments_colons (argued kind) s t p onward) (path_stands w f false))
-  longer_stands {kind = kind} {rest = rest} (called {s = s} {inside = inside} l) f = next_token (named_called kind s inside rest) (inputs_stand rest l (no_part (output_ends rest (not_true (begins_arrow rest) f))))
-  longer_stands {kind = kind} {rest = rest} (giving {s = s} {t = t} {u = u} {p = p} {inside = inside} {run = run} l w) f =
-      next_token (named_called kind s inside _) (inputs_stand _ l (next_token (output_arrow t u p run) (next_type (target_asks run) (type_stands w f) (no_part (end_ends rest)))))
+  longer_occurs : {levels : ℕ} {kind : PathKind} {run rest : TokenList} {parts : List Tree} {e : Ending} → Longer levels kind run parts rest e → may_follow e rest ≡ true → AreParts levels false (at (stage.Named kind) run None) parts rest
+  longer_occurs {kind = kind} (member {s = s} {t = t} {p = p} {run = run} w) f = next_token (named_colons kind s t p run) (path_occurs w f true)
+  longer_occurs {kind = kind} {rest = rest} {parts = parts} (angled a) f = same_parts (append-nil parts) (angled_occur kind a refl (no_part (segments_ends (argued kind) rest (not_true (begins_colons rest) f))))
+  longer_occurs {kind = kind} (angled_member {s = s} {t = t} {p = p} {further = onward} a w) f = angled_occur kind a refl (next_token (segments_colons (argued kind) s t p onward) (path_occurs w f false))
+  longer_occurs {kind = kind} {rest = rest} (called {s = s} {inside = inside} l) f = next_token (named_called kind s inside rest) (inputs_occur rest l (no_part (output_ends rest (not_true (begins_arrow rest) f))))
+  longer_occurs {kind = kind} {rest = rest} (giving {s = s} {t = t} {u = u} {p = p} {inside = inside} {run = run} l w) f =
+      next_token (named_called kind s inside _) (inputs_occur _ l (next_token (output_arrow t u p run) (next_type (target_needs run) (type_occurs w f) (no_part (end_ends rest)))))
 
-  angled_stand : {levels : ℕ} (kind : PathKind) {other : PathKind} {run middle : TokenList} {parts : List Tree} → Angled levels other run parts middle → other ≡ argued kind → {rest : TokenList} {back : List Tree} →
-      AreParts levels false (at (place.Segments other) middle None) back rest → AreParts levels false (at (place.Named kind) run None) (parts ++ back) rest
-  angled_stand kind (plain {s = s} {p = p} {run = run} a) e k = next_token (named_angle kind s p run ∙ ap (λ (x : PathKind). takes (mark 60) (at (place.Arguments x) run None)) (sym e)) (arguments_stand a k)
-  angled_stand kind (turbofish {s = s} {t = t} {u = u} {p = p} {q = q} {run = run} a) e k =
-      next_token (named_colons kind s t p _) (next_token (colons_angle kind u q run ∙ ap (λ (x : PathKind). takes (mark 60) (at (place.Arguments x) run None)) (sym e)) (arguments_stand a k))
+  angled_occur : {levels : ℕ} (kind : PathKind) {other : PathKind} {run middle : TokenList} {parts : List Tree} → Angled levels other run parts middle → other ≡ argued kind → {rest : TokenList} {back : List Tree} →
+      AreParts levels false (at (stage.Segments other) middle None) back rest → AreParts levels false (at (stage.Named kind) run None) (parts ++ back) rest
+  angled_occur kind (plain {s = s} {p = p} {run = run} a) e k = next_token (named_angle kind s p run ∙ ap (λ (x : PathKind). takes (mark 60) (at (stage.Arguments x) run None)) (sym e)) (arguments_occur a k)
+  angled_occur kind (turbofish {s = s} {t = t} {u = u} {p = p} {q = q} {run = run} a) e k =
+      next_token (named_colons kind s t p _) (next_token (colons_angle kind u q run ∙ ap (λ (x : PathKind). takes (mark 60) (at (stage.Arguments x) run None)) (sym e)) (arguments_occur a k))
 
-  arguments_stand : {levels : ℕ} {kind : PathKind} {run middle : TokenList} {parts : List Tree} → Arguments levels kind run parts middle → {rest : TokenList} {back : List Tree} →
-      AreParts levels false (at (place.Segments kind) middle None) back rest → AreParts levels false (at (place.Arguments kind) run None) (parts ++ back) rest
-  arguments_stand {kind = kind} {middle = middle} (finished {s = s} {p = p}) k = next_token (arguments_close kind s p middle) k
-  arguments_stand {kind = kind} {middle = middle} (final {s = s} {p = p} {parts = parts} a) {rest = rest} {back = back} k =
-      same_parts (sym (append_assoc parts (sign (mark 62) ∷ []) back)) (argument_stands a (λ (e : Ending). mark_follows e 62 p s middle idle_angle) (next_token (argument_closes kind s p middle) k))
-  arguments_stand {kind = kind} (further {s = s} {p = p} {others = others} {parts = parts} {back = outside} a w) {rest = rest} {back = back} k =
-      same_parts (sym (append_assoc parts (sign (mark 44) ∷ outside) back)) (argument_stands a (λ (e : Ending). mark_follows e 44 p s others idle_comma) (next_token (argument_further kind s p others) (arguments_stand w k)))
+  arguments_occur : {levels : ℕ} {kind : PathKind} {run middle : TokenList} {parts : List Tree} → Arguments levels kind run parts middle → {rest : TokenList} {back : List Tree} →
+      AreParts levels false (at (stage.Segments kind) middle None) back rest → AreParts levels false (at (stage.Arguments kind) run None) (parts ++ back) rest
+  arguments_occur {kind = kind} {middle = middle} (finished {s = s} {p = p}) k = next_token (arguments_close kind s p middle) k
+  arguments_occur {kind = kind} {middle = middle} (final {s = s} {p = p} {parts = parts} a) {rest = rest} {back = back} k =
+      same_parts (sym (append_assoc parts (sign (mark 62) ∷ []) back)) (argument_occurs a (λ (e : Ending). mark_follows e 62 p s middle idle_angle) (next_token (argument_closes kind s p middle) k))
+  arguments_occur {kind = kind} (further {s = s} {p = p} {others = others} {parts = parts} {back = outside} a w) {rest = rest} {back = back} k =
+      same_parts (sym (append_assoc parts (sign (mark 44) ∷ outside) back)) (argument_occurs a (λ (e : Ending). mark_follows e 44 p s others idle_comma) (next_token (argument_further kind s p others) (arguments_occur w k)))
 
-  argument_stands : {levels : ℕ} {kind : PathKind} {run middle : TokenList} {parts : List Tree} → Argument levels kind run parts middle → ((e : Ending) → may_follow e middle ≡ true) → {rest : TokenList} {back : List Tree} →
-      AreParts levels false (at (place.ArgumentEnd kind) middle None) back rest → AreParts levels false (at (place.Arguments kind) run None) (parts ++ back) rest
-  argument_stands {kind = kind} {middle = middle} (a_lifetime {text = text} {s = s} {t = t} {p = p}) f k = next_token (arguments_lifetime kind s t p text middle) k
-  argument_stands {kind = kind} {middle = middle} (a_literal {text = text} {s = s}) f k = next_token (arguments_literal kind text s middle) k
-  argument_stands {kind = kind} {middle = middle} (empty_braces {s = s}) f k = next_token (arguments_braces kind s none middle) (next_token (braced_closes kind middle) k)
-  argument_stands {kind = kind} {middle = middle} (braces {s = s} {first = first} {inside = inside}) f k =
+  argument_occurs : {levels : ℕ} {kind : PathKind} {run middle : TokenList} {parts : List Tree} → Argument levels kind run parts middle → ((e : Ending) → may_follow e middle ≡ true) → {rest : TokenList} {back : List Tree} →
+      AreParts levels false (at (stage.ArgumentEnd kind) middle None) back rest → AreParts levels false (at (stage.Arguments kind) run None) (parts ++ back) rest
+  argument_occurs {kind = kind} {middle = middle} (a_lifetime {text = text} {s = s} {t = t} {p = p}) f k = next_token (arguments_lifetime kind s t p text middle) k
+  argument_occurs {kind = kind} {middle = middle} (a_literal {text = text} {s = s}) f k = next_token (arguments_literal kind text s middle) k
+  argument_occurs {kind = kind} {middle = middle} (empty_braces {s = s}) f k = next_token (arguments_braces kind s none middle) (next_token (braced_closes kind middle) k)
+  argument_occurs {kind = kind} {middle = middle} (braces {s = s} {first = first} {inside = inside}) f k =
       next_token (arguments_braces kind s (also first inside) middle) (next_kept (braced_kept kind first inside middle) (next_token (braced_closes kind middle) k))
-  argument_stands {kind = kind} {run = run} (a_type {e = e} n w) f k = next_type (arguments_asks kind run n (type_begins w)) (type_stands w (f e)) k
-  argument_stands {kind = kind} (a_binding {text = text} {s = s} {u = u} {p = p} {run = run} {e = e} w) f k =
-      next_token (arguments_name kind text s u p run) (next_token (equals_taken kind u p run) (next_type (value_asks kind run) (type_stands w (f e)) k))
+  argument_occurs {kind = kind} {run = run} (a_type {e = e} n w) f k = next_type (arguments_needs kind run n (type_begins w)) (type_occurs w (f e)) k
+  argument_occurs {kind = kind} (a_binding {text = text} {s = s} {u = u} {p = p} {run = run} {e = e} w) f k =
+      next_token (arguments_name kind text s u p run) (next_token (equals_taken kind u p run) (next_type (value_needs kind run) (type_occurs w (f e)) k))
 
-  bounds_stand : {levels : ℕ} {plus : Bool} {run rest : TokenList} {parts : List Tree} {e : Ending} → Bounds levels plus run parts rest e → may_follow e rest ≡ true → AreParts levels false (at (place.Bound plus) run None) parts rest
-  bounds_stand {rest = rest} {parts = parts} (one_bound b) f = same_parts (append-nil parts) (bound_stands false b f (no_part (one_bound_ends rest)))
-  bounds_stand {rest = rest} {parts = parts} (last_bound {e = e} b) f =
+  bounds_occur : {levels : ℕ} {plus : Bool} {run rest : TokenList} {parts : List Tree} {e : Ending} → Bounds levels plus run parts rest e → may_follow e rest ≡ true → AreParts levels false (at (stage.Bound plus) run None) parts rest
+  bounds_occur {rest = rest} {parts = parts} (one_bound b) f = same_parts (append-nil parts) (bound_occurs false b f (no_part (one_bound_ends rest)))
+  bounds_occur {rest = rest} {parts = parts} (last_bound {e = e} b) f =
       let h = both_true (may_follow e rest) (not (begins_mark 43 rest)) f in
-      same_parts (append-nil parts) (bound_stands true b h.0 (no_part (bound_ends rest (not_true (begins_mark 43 rest) h.1))))
-  bounds_stand {rest = rest} (plus_after {s = s} {p = p} b g) f = bound_stands true b g (next_token (bound_joins s p rest) (no_part (further_ends rest (not_true (begins_bound rest) f))))
-  bounds_stand (bounds {s = s} {p = p} {others = others} b g k) f = bound_stands true b g (next_token (bound_joins s p others) (same_next (further_is others (bounds_begin k)) (bounds_stand k f)))
+      same_parts (append-nil parts) (bound_occurs true b h.0 (no_part (bound_ends rest (not_true (begins_mark 43 rest) h.1))))
+  bounds_occur {rest = rest} (plus_after {s = s} {p = p} b g) f = bound_occurs true b g (next_token (bound_joins s p rest) (no_part (further_ends rest (not_true (begins_bound rest) f))))
+  bounds_occur (bounds {s = s} {p = p} {others = others} b g k) f = bound_occurs true b g (next_token (bound_joins s p others) (same_next (further_is others (bounds_begin k)) (bounds_occur k f)))
 
-  bound_stands : {levels : ℕ} (plus : Bool) {run rest : TokenList} {parts : List Tree} {e : Ending} → Bound levels run parts rest e → may_follow e rest ≡ true → {more : TokenList} {back : List Tree} →
-      AreParts levels false (at (place.BoundEnd plus) rest None) back more → AreParts levels false (at (place.Bound plus) run None) (parts ++ back) more
-  bound_stands plus {rest = rest} (lifetime_bound {text = text} {s = s} {t = t} {p = p}) f k = next_token (bound_lifetime plus s t p text rest) k
-  bound_stands plus (trait_bound (unquestioned w)) f k = trait_stands (bound_at plus None) w f k
-  bound_stands plus (trait_bound (questioned {s = s} {p = p} {run = run} w)) f k = next_token (listed_question plus s p run) (trait_stands (trait_at (Listed plus) None) w f k)
-  bound_stands plus {rest = rest} (enclosed {s = s} {inside = inside} {parts = parts} {e = e} w) f {back = back} k =
+  bound_occurs : {levels : ℕ} (plus : Bool) {run rest : TokenList} {parts : List Tree} {e : Ending} → Bound levels run parts rest e → may_follow e rest ≡ true → {more : TokenList} {back : List Tree} →
+      AreParts levels false (at (stage.BoundEnd plus) rest None) back more → AreParts levels false (at (stage.Bound plus) run None) (parts ++ back) more
+  bound_occurs plus {rest = rest} (lifetime_bound {text = text} {s = s} {t = t} {p = p}) f k = next_token (bound_lifetime plus s t p text rest) k
+  bound_occurs plus (trait_bound (unquestioned w)) f k = trait_occurs (bound_at plus None) w f k
+  bound_occurs plus (trait_bound (questioned {s = s} {p = p} {run = run} w)) f k = next_token (listed_question plus s p run) (trait_occurs (trait_at (Listed plus) None) w f k)
+  bound_occurs plus {rest = rest} (enclosed {s = s} {inside = inside} {parts = parts} {e = e} w) f {back = back} k =
       same_parts (sym (append_assoc (sign (opening Parenthesis) ∷ parts) (sign (closing Parenthesis) ∷ []) back))
-      (next_token (bound_encloses plus s inside rest) (enclosed_stands plus rest w (none_follows e) (next_token (enclosed_closes plus rest) k)))
+      (next_token (bound_encloses plus s inside rest) (enclosed_occurs plus rest w (none_follows e) (next_token (enclosed_closes plus rest) k)))
 
-  enclosed_stands : {levels : ℕ} (plus : Bool) (after : TokenList) {run rest : TokenList} {parts : List Tree} {e : Ending} → Questioned levels run parts rest e → may_follow e rest ≡ true → {more : TokenList} {back : List Tree} →
-      AreParts levels false (at (place.EnclosedEnd plus) rest (Some after)) back more → AreParts levels false (at (place.Question plus) run (Some after)) (parts ++ back) more
-  enclosed_stands plus after (unquestioned w) f k = trait_stands (question_at plus (Some after)) w f k
-  enclosed_stands plus after (questioned {s = s} {p = p} {run = run} w) f k = next_token (enclosed_question plus s p run (Some after)) (trait_stands (trait_at (Enclosed plus) (Some after)) w f k)
+  enclosed_occurs : {levels : ℕ} (plus : Bool) (after : TokenList) {run rest : TokenList} {parts : List Tree} {e : Ending} → Questioned levels run parts rest e → may_follow e rest ≡ true → {more : TokenList} {back : List Tree} →
+      AreParts levels false (at (stage.EnclosedEnd plus) rest (Some after)) back more → AreParts levels false (at (stage.Question plus) run (Some after)) (parts ++ back) more
+  enclosed_occurs plus after (unquestioned w) f k = trait_occurs (question_at plus (Some after)) w f k
+  enclosed_occurs plus after (questioned {s = s} {p = p} {run = run} w) f k = next_token (enclosed_question plus s p run (Some after)) (trait_occurs (trait_at (Enclosed plus) (Some after)) w f k)
 
-  trait_stands : {levels : ℕ} {p : Place} {kind : BoundKind} {b : Option TokenList} {run rest : TokenList} {parts : List Tree} {e : Ending} → TraitAt p kind b → Trait levels run parts rest e → may_follow e rest ≡ true → {more : TokenList} {back : List Tree} →
+  trait_occurs : {levels : ℕ} {p : Stage} {kind : BoundKind} {b : Option TokenList} {run rest : TokenList} {parts : List Tree} {e : Ending} → TraitAt p kind b → Trait levels run parts rest e → may_follow e rest ≡ true → {more : TokenList} {back : List Tree} →
       AreParts levels false (at (after_bound kind) rest b) back more → AreParts levels false (at p run b) (parts ++ back) more
-  trait_stands {rest = rest} h (unbound n (from_name (last {text = text} {s = s}))) f k = next_nest (h.name_at text s rest n) (no_part (named_ends OfBound rest f)) k
-  trait_stands h (unbound n (from_name (longer {text = text} {s = s} {run = run} l))) f k = next_nest (h.name_at text s run n) (longer_stands l f) k
-  trait_stands h (unbound n (from_root {s = s} {t = t} {p = o} {run = run} w)) f k = next_nest (h.root_at s t o run) (path_stands w f false) k
-  trait_stands {kind = kind} {b = b} h (for_all {s = s} {run = run} {parts = parts} {others = others} l w) f {back = back} k =
-      same_parts (sym (append_assoc (sign (word (codes "for")) ∷ parts) others back)) (next_token (h.for_at s run) (lifetimes_stand (OfTrait kind) b l (any_path_stands (binder_path kind b) w f k)))
+  trait_occurs {rest = rest} h (unbound n (from_name (last {text = text} {s = s}))) f k = next_nest (h.name_at text s rest n) (no_part (named_ends OfBound rest f)) k
+  trait_occurs h (unbound n (from_name (longer {text = text} {s = s} {run = run} l))) f k = next_nest (h.name_at text s run n) (longer_occurs l f) k
+  trait_occurs h (unbound n (from_root {s = s} {t = t} {p = o} {run = run} w)) f k = next_nest (h.root_at s t o run) (path_occurs w f false) k
+  trait_occurs {kind = kind} {b = b} h (for_all {s = s} {run = run} {parts = parts} {others = others} l w) f {back = back} k =
+      same_parts (sym (append_assoc (sign (word (codes "for")) ∷ parts) others back)) (next_token (h.for_at s run) (lifetimes_occur (OfTrait kind) b l (any_path_occurs (binder_path kind b) w f k)))
 
   function_begun : {levels : ℕ} {plus : Bool} {run rest : TokenList} {parts : List Tree} {e : Ending} → Function levels run parts rest e → may_follow e rest ≡ true → Begun levels plus run parts rest
-  function_begun {plus = plus} (not_safe {s = s} {run = run} w) f = begun refl (unsafe_begins plus s run) (unsafe_stands w f)
-  function_begun {plus = plus} (safe (linked {s = s} {t = t} {run = run} w)) f = begun refl (extern_begins plus s _) (next_token (extern_fn t run) (taking_stands w f))
-  function_begun {plus = plus} (safe (linked_as {text = text} {s = s} {t = t} {u = u} {run = run} w)) f = begun refl (extern_begins plus s _) (next_token (extern_name text u _) (next_token (linked_fn t run) (taking_stands w f)))
-  function_begun {plus = plus} (safe (unlinked {t = t} {run = run} w)) f = begun refl (fn_begins plus t run) (taking_stands w f)
+  function_begun {plus = plus} (not_safe {s = s} {run = run} w) f = begun refl (unsafe_begins plus s run) (unsafe_occurs w f)
+  function_begun {plus = plus} (safe (linked {s = s} {t = t} {run = run} w)) f = begun refl (extern_begins plus s _) (next_token (extern_fn t run) (taking_occurs w f))
+  function_begun {plus = plus} (safe (linked_as {text = text} {s = s} {t = t} {u = u} {run = run} w)) f = begun refl (extern_begins plus s _) (next_token (extern_name text u _) (next_token (linked_fn t run) (taking_occurs w f)))
+  function_begun {plus = plus} (safe (unlinked {t = t} {run = run} w)) f = begun refl (fn_begins plus t run) (taking_occurs w f)
 
-  function_stands : {levels : ℕ} {run rest : TokenList} {parts : List Tree} {e : Ending} → Function levels run parts rest e → may_follow e rest ≡ true → AreParts levels false (at place.Qualified run None) parts rest
-  function_stands (not_safe {s = s} {run = run} w) f = next_token (qualified_unsafe s run) (unsafe_stands w f)
-  function_stands (safe (linked {s = s} {t = t} {run = run} w)) f = next_token (qualified_extern s _) (next_token (extern_fn t run) (taking_stands w f))
-  function_stands (safe (linked_as {text = text} {s = s} {t = t} {u = u} {run = run} w)) f = next_token (qualified_extern s _) (next_token (extern_name text u _) (next_token (linked_fn t run) (taking_stands w f)))
-  function_stands (safe (unlinked {t = t} {run = run} w)) f = next_token (qualified_fn t run) (taking_stands w f)
+  function_occurs : {levels : ℕ} {run rest : TokenList} {parts : List Tree} {e : Ending} → Function levels run parts rest e → may_follow e rest ≡ true → AreParts levels false (at stage.Qualified run None) parts rest
+  function_occurs (not_safe {s = s} {run = run} w) f = next_token (qualified_unsafe s run) (unsafe_occurs w f)
+  function_occurs (safe (linked {s = s} {t = t} {run = run} w)) f = next_token (qualified_extern s _) (next_token (extern_fn t run) (taking_occurs w f))
+  function_occurs (safe (linked_as {text = text} {s = s} {t = t} {u = u} {run = run} w)) f = next_token (qualified_extern s _) (next_token (extern_name text u _) (next_token (linked_fn t run) (taking_occurs w f)))
+  function_occurs (safe (unlinked {t = t} {run = run} w)) f = next_token (qualified_fn t run) (taking_occurs w f)
 
-  unsafe_stands : {levels : ℕ} {run rest : TokenList} {parts : List Tree} {e : Ending} → Linked levels run parts rest e → may_follow e rest ≡ true → AreParts levels false (at place.Unsafe run None) parts rest
-  unsafe_stands (linked {s = s} {t = t} {run = run} w) f = next_token (unsafe_extern s _) (next_token (extern_fn t run) (taking_stands w f))
-  unsafe_stands (linked_as {text = text} {s = s} {t = t} {u = u} {run = run} w) f = next_token (unsafe_extern s _) (next_token (extern_name text u _) (next_token (linked_fn t run) (taking_stands w f)))
-  unsafe_stands (unlinked {t = t} {run = run} w) f = next_token (unsafe_fn t run) (taking_stands w f)
+  unsafe_occurs : {levels : ℕ} {run rest : TokenList} {parts : List Tree} {e : Ending} → Linked levels run parts rest e → may_follow e rest ≡ true → AreParts levels false (at stage.Unsafe run None) parts rest
+  unsafe_occurs (linked {s = s} {t = t} {run = run} w) f = next_token (unsafe_extern s _) (next_token (extern_fn t run) (taking_occurs w f))
+  unsafe_occurs (linked_as {text = text} {s = s} {t = t} {u = u} {run = run} w) f = next_token (unsafe_extern s _) (next_token (extern_name text u _) (next_token (linked_fn t run) (taking_occurs w f)))
+  unsafe_occurs (unlinked {t = t} {run = run} w) f = next_token (unsafe_fn t run) (taking_occurs w f)
 
-  taking_stands : {levels : ℕ} {run rest : TokenList} {parts : List Tree} {e : Ending} → Taking levels run parts rest e → may_follow e rest ≡ true → AreParts levels false (at place.Function run None) parts rest
-  taking_stands {rest = rest} (takes_only {s = s} {inside = inside} l) f = next_token (function_opens s inside rest) (parameters_stand rest l (no_part (output_ends rest (not_true (begins_arrow rest) f))))
-  taking_stands {rest = rest} (takes_and_gives {s = s} {t = t} {u = u} {p = p} {inside = inside} {run = run} l w) f =
-      next_token (function_opens s inside _) (parameters_stand _ l (next_token (output_arrow t u p run) (next_type (target_asks run) (type_stands w f) (no_part (end_ends rest)))))
+  taking_occurs : {levels : ℕ} {run rest : TokenList} {parts : List Tree} {e : Ending} → Taking levels run parts rest e → may_follow e rest ≡ true → AreParts levels false (at stage.Function run None) parts rest
+  taking_occurs {rest = rest} (takes_only {s = s} {inside = inside} l) f = next_token (function_opens s inside rest) (parameters_occur rest l (no_part (output_ends rest (not_true (begins_arrow rest) f))))
+  taking_occurs {rest = rest} (takes_and_yields {s = s} {t = t} {u = u} {p = p} {inside = inside} {run = run} l w) f =
+      next_token (function_opens s inside _) (parameters_occur _ l (next_token (output_arrow t u p run) (next_type (target_needs run) (type_occurs w f) (no_part (end_ends rest)))))
 
-  parameters_stand : {levels : ℕ} {run : TokenList} {parts : List Tree} (after : TokenList) → Parameters levels run parts → {rest : TokenList} {back : List Tree} →
-      AreParts levels false (at place.Output after None) back rest → AreParts levels false (at place.Taken run (Some after)) (parts ++ (sign (closing Parenthesis) ∷ back)) rest
-  parameters_stand after no_parameter k = next_token (taken_closes after) k
-  parameters_stand after (last_parameter w) k = parameter_stands after w none_follows (next_token (one_taken_closes after) k)
-  parameters_stand after (parameters {s = s} {p = p} {others = others} {parts = parts} {back = outside} w l) {back = back} k =
+  parameters_occur : {levels : ℕ} {run : TokenList} {parts : List Tree} (after : TokenList) → Parameters levels run parts → {rest : TokenList} {back : List Tree} →
+      AreParts levels false (at stage.Output after None) back rest → AreParts levels false (at stage.Taken run (Some after)) (parts ++ (sign (closing Parenthesis) ∷ back)) rest
+  parameters_occur after no_parameter k = next_token (taken_closes after) k
+  parameters_occur after (last_parameter w) k = parameter_occurs after w none_follows (next_token (one_taken_closes after) k)
+  parameters_occur after (parameters {s = s} {p = p} {others = others} {parts = parts} {back = outside} w l) {back = back} k =
       same_parts (sym (append_assoc parts (sign (mark 44) ∷ outside) (sign (closing Parenthesis) ∷ back)))
-      (parameter_stands after w (λ (e : Ending). mark_follows e 44 p s others idle_comma) (next_token (taken_further s p others after) (parameters_stand after l k)))
+      (parameter_occurs after w (λ (e : Ending). mark_follows e 44 p s others idle_comma) (next_token (taken_further s p others after) (parameters_occur after l k)))
 
-  parameter_stands : {levels : ℕ} {run middle : TokenList} {parts : List Tree} (after : TokenList) → Parameter levels run parts middle → ((e : Ending) → may_follow e middle ≡ true) → {rest : TokenList} {back : List Tree} →
-      AreParts levels false (at place.OneTaken middle (Some after)) back rest → AreParts levels false (at place.Taken run (Some after)) (parts ++ back) rest
-  parameter_stands {run = run} after (unnamed {e = e} n w) f k = next_type (parameter_asks run after n (type_begins w)) (type_stands w (f e)) k
-  parameter_stands after (with_name {text = text} {s = s} {u = u} {p = p} {run = run} {e = e} n w) f k =
-      next_token (parameter_name text s u p run after n) (next_token (typed_taken u p run after) (next_type (typed_asks run after (type_begins w)) (type_stands w (f e)) k))
+  parameter_occurs : {levels : ℕ} {run middle : TokenList} {parts : List Tree} (after : TokenList) → Parameter levels run parts middle → ((e : Ending) → may_follow e middle ≡ true) → {rest : TokenList} {back : List Tree} →
+      AreParts levels false (at stage.OneTaken middle (Some after)) back rest → AreParts levels false (at stage.Taken run (Some after)) (parts ++ back) rest
+  parameter_occurs {run = run} after (unnamed {e = e} n w) f k = next_type (parameter_needs run after n (type_begins w)) (type_occurs w (f e)) k
+  parameter_occurs after (with_name {text = text} {s = s} {u = u} {p = p} {run = run} {e = e} n w) f k =
+      next_token (parameter_name text s u p run after n) (next_token (typed_taken u p run after) (next_type (typed_needs run after (type_begins w)) (type_occurs w (f e)) k))

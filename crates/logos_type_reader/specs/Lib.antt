@@ -5,6 +5,6 @@ pub mod ReadingViews
 pub mod TypeExprs
 pub mod Written
 pub mod inside
-pub mod FaultPlaces
-pub mod Words
+pub mod FaultStages
+pub mod Imports
 pub mod Views

@@ -3,49 +3,49 @@ use Rattle.std.specs.Prelude.{◌≡◌, ℕ, ◌+◌, ◌*◌, ◌++◌, List, 
 use Rattle.logos_token.specs.Tokens.{TokenList, count_of}
 use Rattle.logos_token.specs.declared.token.views.Tokens.{Tokens}
 use Rattle.logos_token.specs.Views.{tokens_of}
-use Rattle.logos_type_reader.specs.declared.table.place.Spot.{Spot as SpotView}
-use Rattle.logos_type_reader.specs.declared.table.place.TypeStep.{TypeStep}
-use Rattle.logos_type_reader.specs.declared.table.place.TypeStep.TheVariants.{End, Take, Bar, Ask, KeepType, Keep, Nest}
-use Rattle.logos_type_reader.specs.declared.table.place.StepFault.{StepFault}
-use Rattle.logos_type_reader.specs.declared.table.place.StepFault.TheVariants.{Unsupported, Mismatch}
-use Rattle.logos_type_reader.specs.declared.table.place.Beginning.{Beginning}
+use Rattle.logos_type_reader.specs.declared.table.stage.Spot.{Spot as SpotView}
+use Rattle.logos_type_reader.specs.declared.table.stage.TypeStep.{TypeStep}
+use Rattle.logos_type_reader.specs.declared.table.stage.TypeStep.TheVariants.{End, Take, Bar, Need, KeepType, Keep, Nest}
+use Rattle.logos_type_reader.specs.declared.table.stage.StepFault.{StepFault}
+use Rattle.logos_type_reader.specs.declared.table.stage.StepFault.TheVariants.{Unsupported, Mismatch}
+use Rattle.logos_type_reader.specs.declared.table.stage.Beginning.{Beginning}
 use Rattle.logos_type.specs.Parts.{Tree, sign_of}
-use Rattle.logos_type_reader.specs.declared.reading.TypeFault.{TypeFault}
-use Rattle.logos_type_reader.specs.declared.reading.TypeFault.TheVariants as faults
+use Rattle.logos_type_reader.specs.declared.reader.TypeFault.{TypeFault}
+use Rattle.logos_type_reader.specs.declared.reader.TypeFault.TheVariants as faults
 use Rattle.logos_type_reader.specs.Reading.{next_of, IsMove, NoMove, AreParts, NoParts}
-use Rattle.logos_type_reader.specs.Table.{Spot, Move, ends, takes, bars, asks, keeps_type, keeps, nests, stops, First, starts, refused, Fault, unsupported, mismatch, too_deep}
+use Rattle.logos_type_reader.specs.Table.{Spot, Move, ends, takes, bars, needs, keeps_type, keeps, nests, stops, First, starts, refused, Fault, unsupported, mismatch, too_deep}
 
 abbrev pub outside_of : Option Tokens → Option TokenList
 outside_of (Some tokens) = Some (tokens_of tokens)
 outside_of None = None
 
 abbrev pub spot_of : SpotView → Spot
-spot_of spot = record { place = spot.place; run = tokens_of spot.run; outside = outside_of spot.outside }
+spot_of spot = record { stage = spot.stage; run = tokens_of spot.run; outside = outside_of spot.outside }
 
--- A measure of what is left: twice the tokens, and one more if a group has to be closed.
+-- A termination measure: twice the number of tokens left, plus one if a group is open.
 abbrev pub left : TokenList → Option TokenList → ℕ
 left run None = 2 * count_of run
 left run (Some rest) = 2 * (count_of run + count_of rest) + 1
 
--- The step is what comes next.
+-- The result is this next step.
 abbrev pub IsStep : Result TypeStep StepFault → Move → Type 0
 IsStep (Ok End) next = next ≡ ends
 IsStep (Ok (Take leaf spot)) next = next ≡ takes (sign_of leaf) (spot_of spot)
 IsStep (Ok (Bar leaf spot)) next = next ≡ bars (sign_of leaf) (spot_of spot)
-IsStep (Ok (Ask plus place)) next = next ≡ asks plus place
-IsStep (Ok (KeepType place)) next = next ≡ keeps_type place
+IsStep (Ok (Need plus stage)) next = next ≡ needs plus stage
+IsStep (Ok (KeepType stage)) next = next ≡ keeps_type stage
 IsStep (Ok (Keep run spot)) next = next ≡ keeps (tokens_of run) (spot_of spot)
-IsStep (Ok (Nest leaf spot place)) next = next ≡ nests (sign_of leaf) (spot_of spot) place
+IsStep (Ok (Nest leaf spot stage)) next = next ≡ nests (sign_of leaf) (spot_of spot) stage
 IsStep (Err (Unsupported span)) next = next ≡ stops (unsupported span)
 IsStep (Err (Mismatch span)) next = next ≡ stops (mismatch span)
 
--- The same for the first token.
+-- The result is this first token.
 abbrev pub IsFirst : Result Beginning StepFault → First → Type 0
 IsFirst (Ok read) first = first ≡ starts read.barred (sign_of read.leaf) (spot_of read.spot)
 IsFirst (Err (Unsupported span)) first = first ≡ refused (unsupported span)
 IsFirst (Err (Mismatch span)) first = first ≡ refused (mismatch span)
 
--- This holds of the fault, unless there was not enough memory.
+-- Unless memory ran out, the fault has this property.
 abbrev pub IfFault : (Fault → Type 0) → TypeFault → Type 0
 IfFault Holds (faults.Unsupported span) = Holds (unsupported span)
 IfFault Holds (faults.Mismatch span) = Holds (mismatch span)
@@ -59,15 +59,15 @@ fault_of (Mismatch span) = faults.Mismatch span
 abbrev pub spot_left : Spot → ℕ
 spot_left spot = left spot.run spot.outside
 
--- One step is made: its parts are added, and the spot after them is returned, if something comes
--- next; or the fault is returned.
-abbrev pub GivesMove : ℕ → Spot → List Tree → List Tree → Result (Option (Bool × SpotView)) TypeFault → Type 0
-GivesMove levels spot old new (Ok None) = (next_of spot ≡ ends) × (new ≡ old)
-GivesMove levels spot old new (Ok (Some read)) = (front : List Tree) × (new ≡ old ++ front) × IsMove levels read.0 spot front (spot_of read.1)
-GivesMove levels spot old new (Err fault) = IfFault (NoMove levels spot) fault
+-- One step is made: its parts are added, and the spot after them is returned if a step follows; or
+-- the fault is returned.
+abbrev pub YieldsMove : ℕ → Spot → List Tree → List Tree → Result (Option (Bool × SpotView)) TypeFault → Type 0
+YieldsMove levels spot old new (Ok None) = (next_of spot ≡ ends) × (new ≡ old)
+YieldsMove levels spot old new (Ok (Some read)) = (front : List Tree) × (new ≡ old ++ front) × IsMove levels read.0 spot front (spot_of read.1)
+YieldsMove levels spot old new (Err fault) = IfFault (NoMove levels spot) fault
 
--- All parts from the spot on are added, and whether one of them makes the type one that is not
--- supported is returned with the rest.
-abbrev pub GivesParts : ℕ → Spot → List Tree → List Tree → Result (Bool × Tokens) TypeFault → Type 0
-GivesParts levels spot old new (Ok read) = (parts : List Tree) × (new ≡ old ++ parts) × AreParts levels read.0 spot parts (tokens_of read.1)
-GivesParts levels spot old new (Err fault) = IfFault (NoParts levels spot) fault
+-- All parts from the spot on are added. Whether one of them makes the type unsupported is returned
+-- with the rest.
+abbrev pub YieldsParts : ℕ → Spot → List Tree → List Tree → Result (Bool × Tokens) TypeFault → Type 0
+YieldsParts levels spot old new (Ok read) = (parts : List Tree) × (new ≡ old ++ parts) × AreParts levels read.0 spot parts (tokens_of read.1)
+YieldsParts levels spot old new (Err fault) = IfFault (NoParts levels spot) fault

@@ -4,7 +4,7 @@ use Rattle.logos_token.specs.Tokens.{Token, identifier, punctuation, literal, do
 use Rattle.logos_type.specs.Parts.{Tree, sign, word, value, opening, closing, spaced_mark, comment}
 
 abbrev mutual
-  -- One of these tokens, as parts.
+  -- A token of an array's length or of braces, as parts.
   pub still_token : Token → List Tree
   still_token (identifier text span) = sign (word text) ∷ []
   still_token (punctuation character spacing span) = sign (spaced_mark character spacing) ∷ []
@@ -12,7 +12,7 @@ abbrev mutual
   still_token (doc text span) = sign (comment text) ∷ []
   still_token (group delimiter span inside) = sign (opening delimiter) ∷ (still_run inside ++ sign (closing delimiter) ∷ [])
 
-  -- The tokens of such a run, as parts, with those inside groups.
+  -- The tokens of such a run, as parts, including those inside groups.
   pub still_run : TokenList → List Tree
   still_run none = []
   still_run (also token rest) = still_token token ++ still_run rest

@@ -1,11 +1,11 @@
--- Types as they are read: at most 128 types stand inside one another, and `+` joins bounds.
+-- Reading types with the limit of a lexer: at most 128 types are nested, and `+` joins bounds.
 use Rattle.std.specs.Prelude.{ℕ, true}
 use Rattle.logos_token.specs.Tokens.{TokenList}
 use Rattle.logos_type.specs.Parts.{Tree}
 use Rattle.logos_type_reader.specs.Table.{Fault}
 use Rattle.logos_type_reader.specs.Reading.{IsType, NoType}
 
--- How many types can stand inside one another; the outermost one counts.
+-- The greatest number of types that can be nested. The outermost one counts.
 abbrev pub type_nesting : ℕ
 type_nesting = 128
 

@@ -1,35 +1,35 @@
--- How a type is written, form by form: its tokens before a rest, the parts it is made of, and what
--- would lengthen it.
+-- The written forms of a type: its tokens before a rest, its parts, and the tokens that would
+-- lengthen it.
 use Rattle.std.specs.Prelude.{◌≡◌, ℕ, ◌-◌, ◌<◌, not, ◌&&◌, ◌||◌, List, [], ◌∷◌, ◌++◌, Bool, true, false, Some, None, codes, bytes_eq}
 use Rattle.logos_lexeme.specs.declared.lexeme.Span.{Span}
 use Rattle.logos_lexeme.specs.declared.lexeme.Spacing.{Spacing}
 use Rattle.logos_lexeme.specs.declared.lexeme.Spacing.TheVariants.{Joint}
 use Rattle.logos_lexeme.specs.declared.lexeme.Delimiter.TheVariants.{Parenthesis, Bracket, Brace}
 use Rattle.logos_token.specs.Tokens.{Token, TokenList, identifier, punctuation, literal, group, none, also}
-use Rattle.logos_type_reader.specs.declared.table.place.PathKind.{PathKind}
-use Rattle.logos_type_reader.specs.declared.table.place.PathKind.TheVariants.{Plain, OfType, OfBound}
+use Rattle.logos_type_reader.specs.declared.table.stage.PathKind.{PathKind}
+use Rattle.logos_type_reader.specs.declared.table.stage.PathKind.TheVariants.{Plain, OfType, OfBound}
 use Rattle.logos_type.specs.Parts.{Tree, sign, name, whole, still, trees, none as no_part, also as and_part, word, mark, colons, arrow, value, opening, closing, reference, other_lifetime}
 use Rattle.logos_type_reader.specs.StillRuns.{still_run}
 use Rattle.logos_type_reader.specs.Table.{is_reserved, goes_on, begins_colons, begins_arrow, begins_mark, begins_bound, typing, argued, argument_lifetime}
 
--- How a type ends.
+-- The ways in which a type ends.
 pub data Ending : Type 0 where
-  -- Whatever follows does not lengthen it.
+  -- No token lengthens it.
   closed : Ending
-  -- In a name of a path: `<`, `::` or parentheses would lengthen it.
+  -- With a name of a path: `<`, `::` or parentheses would lengthen it.
   named : Ending
-  -- In such a name, where `!` would make a macro of the path, too.
+  -- With a name where `!` would also lengthen it, to a macro.
   plain_named : Ending
-  -- In the angle arguments of a path: `::` would.
+  -- With the angle arguments of a path: `::` would lengthen it.
   applied : Ending
-  -- In the parentheses of a path or of a function: `->` would.
+  -- With the parentheses of a path or of a function: `->` would lengthen it.
   taking : Ending
-  -- In a bound that ends so: `+` would, too.
+  -- With a bound that ends in this way: `+` would also lengthen it.
   bounded : Ending → Ending
-  -- In a `+`: another bound would.
+  -- With a `+`: another bound would lengthen it.
   trailing : Ending
 
--- The run does not lengthen a type that ends so.
+-- The run does not lengthen a type that ends in this way.
 abbrev pub may_follow : Ending → TokenList → Bool
 may_follow closed run = true
 may_follow named run = not (goes_on run)
@@ -39,28 +39,28 @@ may_follow taking run = not (begins_arrow run)
 may_follow (bounded e) run = may_follow e run && not (begins_mark 43 run)
 may_follow trailing run = not (begins_bound run)
 
--- How such a path ends in a name.
+-- The ending of a path of this kind whose last token is a name.
 abbrev pub name_ending : PathKind → Ending
 name_ending Plain = plain_named
 name_ending OfType = named
 name_ending OfBound = named
 
--- The word `mut` comes first.
+-- The run begins with the word `mut`.
 abbrev pub begins_mut : TokenList → Bool
 begins_mut (also (identifier text span) rest) = bytes_eq text (codes "mut")
 begins_mut run = false
 
--- A name and `=`, or a name and `:`, come first.
+-- The run begins with a name and `=`, or with a name and `:`.
 abbrev pub begins_named_argument : TokenList → Bool
 begins_named_argument (also (identifier text span) rest) = begins_mark 61 rest || typing rest
 begins_named_argument run = false
 
--- A name and `:` come first, and not `::`.
+-- The run begins with a name and `:`, but not with a name and `::`.
 abbrev pub begins_parameter : TokenList → Bool
 begins_parameter (also (identifier text span) rest) = typing rest
 begins_parameter run = false
 
--- The word `for` comes first.
+-- The run begins with the word `for`.
 abbrev pub begins_for : TokenList → Bool
 begins_for (also (identifier text span) rest) = bytes_eq text (codes "for")
 begins_for run = false
@@ -79,14 +79,13 @@ mutual
         LifetimeList (also (punctuation 39 p s) (also (identifier text t) (also (punctuation 44 q u) run))) (sign (other_lifetime text) ∷ sign (mark 44) ∷ parts) rest
 
 mutual
-  -- The run begins with this type, after which is the rest, and the type ends so. As many types as
-  -- levels may stand inside one another, this one counted; where `plus` does not hold, `+` joins no
-  -- bounds.
+  -- The run begins with this type, followed by the rest, and the type has this ending. At most
+  -- `levels` types are nested, where this one counts. If `plus` does not hold, `+` joins no bounds.
   pub data Written : ℕ → Bool → TokenList → Tree → TokenList → Ending → Type 0 where
     -- `Name`
     a_name : {levels : ℕ} {plus : Bool} {text : List ℕ} {s : Span} {rest : TokenList} → 0 < levels → is_reserved text ≡ false →
         Written levels plus (also (identifier text s) rest) (name text) rest plain_named
-    -- Anything else is a tree of its parts.
+    -- Any other type is a tree of its parts.
     a_form : {levels : ℕ} {plus : Bool} {run rest : TokenList} {parts : List Tree} {e : Ending} → 0 < levels → Form (levels - 1) plus run parts rest e →
         Written levels plus run (whole (trees parts)) rest e
 
@@ -142,7 +141,7 @@ mutual
     mutable : {levels : ℕ} {s : Span} {run rest : TokenList} {t : Tree} {e : Ending} → Written levels false run t rest e →
         Referent levels (also (identifier (codes "mut") s) run) (sign (word (codes "mut")) ∷ t ∷ []) rest e
 
-  -- Types with commas between them, and perhaps one after the last.
+  -- Types with commas between them, with an optional comma after the last.
   pub data Listed : ℕ → TokenList → List Tree → Type 0 where
     nothing : {levels : ℕ} → Listed levels none []
     single : {levels : ℕ} {run : TokenList} {t : Tree} {e : Ending} → Written levels true run t none e → Listed levels run (t ∷ [])
@@ -150,7 +149,7 @@ mutual
         Written levels true run t (also (punctuation 44 p s) others) e → Listed levels others parts →
         Listed levels run (t ∷ sign (mark 44) ∷ parts)
 
-  -- After the `<` with which a type begins: the type stays as it is.
+  -- After the `<` at the start of a type. The type that follows is not replaced.
   pub data Qualified : ℕ → TokenList → List Tree → TokenList → Ending → Type 0 where
     -- `T>::Name`
     of_type : {levels : ℕ} {s t u : Span} {p q : Spacing} {run further rest : TokenList} {self : Tree} {parts : List Tree} {e f : Ending} →
@@ -162,7 +161,7 @@ mutual
         AnyPath levels OfType middle trait (also (punctuation 62 p s) (also (punctuation 58 Joint t) (also (punctuation 58 q u) further))) f → Path levels OfType further parts rest g →
         Qualified levels run (still (and_part self no_part) ∷ sign (word (codes "as")) ∷ (trait ++ (sign (mark 62) ∷ sign colons ∷ parts))) rest g
 
-  -- `Name::Name` or `::Name::Name`, where a path has to stand.
+  -- `Name::Name` or `::Name::Name`, where a path is required.
   pub data AnyPath : ℕ → PathKind → TokenList → List Tree → TokenList → Ending → Type 0 where
     from_name : {levels : ℕ} {kind : PathKind} {run rest : TokenList} {parts : List Tree} {e : Ending} → Path levels kind run parts rest e → AnyPath levels kind run parts rest e
     from_root : {levels : ℕ} {kind : PathKind} {s t : Span} {p : Spacing} {run rest : TokenList} {parts : List Tree} {e : Ending} → Path levels kind run parts rest e →
@@ -175,7 +174,7 @@ mutual
     longer : {levels : ℕ} {kind : PathKind} {text : List ℕ} {s : Span} {run rest : TokenList} {parts : List Tree} {e : Ending} → Longer levels kind run parts rest e →
         Path levels kind (also (identifier text s) run) (sign (word text) ∷ parts) rest e
 
-  -- After a name of a path, where the path does not end in it.
+  -- After a name of a path, if the path does not end with that name.
   pub data Longer : ℕ → PathKind → TokenList → List Tree → TokenList → Ending → Type 0 where
     -- `::Name`
     member : {levels : ℕ} {kind : PathKind} {s t : Span} {p : Spacing} {run rest : TokenList} {parts : List Tree} {e : Ending} → Path levels kind run parts rest e →
@@ -202,7 +201,7 @@ mutual
     turbofish : {levels : ℕ} {kind : PathKind} {s t u : Span} {p q : Spacing} {run rest : TokenList} {parts : List Tree} → Arguments levels kind run parts rest →
         Angled levels kind (also (punctuation 58 Joint s) (also (punctuation 58 p t) (also (punctuation 60 q u) run))) (sign colons ∷ sign (mark 60) ∷ parts) rest
 
-  -- Arguments with commas between them, and perhaps one after the last, up to `>`.
+  -- Arguments with commas between them, with an optional comma after the last, up to `>`.
   pub data Arguments : ℕ → PathKind → TokenList → List Tree → TokenList → Type 0 where
     finished : {levels : ℕ} {kind : PathKind} {s : Span} {p : Spacing} {rest : TokenList} → Arguments levels kind (also (punctuation 62 p s) rest) (sign (mark 62) ∷ []) rest
     final : {levels : ℕ} {kind : PathKind} {s : Span} {p : Spacing} {run rest : TokenList} {parts : List Tree} → Argument levels kind run parts (also (punctuation 62 p s) rest) →
@@ -228,8 +227,8 @@ mutual
     a_binding : {levels : ℕ} {kind : PathKind} {text : List ℕ} {s u : Span} {p : Spacing} {run rest : TokenList} {t : Tree} {e : Ending} → Written levels true run t rest e →
         Argument levels kind (also (identifier text s) (also (punctuation 61 p u) run)) (sign (word text) ∷ sign (mark 61) ∷ t ∷ []) rest
 
-  -- Bounds: one where `plus` does not hold, else some with `+` between them, and perhaps one after
-  -- the last.
+  -- Bounds: one if `plus` does not hold, and otherwise some with `+` between them and an optional
+  -- `+` after the last.
   pub data Bounds : ℕ → Bool → TokenList → List Tree → TokenList → Ending → Type 0 where
     one_bound : {levels : ℕ} {run rest : TokenList} {parts : List Tree} {e : Ending} → Bound levels run parts rest e → Bounds levels false run parts rest e
     last_bound : {levels : ℕ} {run rest : TokenList} {parts : List Tree} {e : Ending} → Bound levels run parts rest e → Bounds levels true run parts rest (bounded e)
@@ -249,13 +248,13 @@ mutual
     enclosed : {levels : ℕ} {s : Span} {inside rest : TokenList} {parts : List Tree} {e : Ending} → Questioned levels inside parts none e →
         Bound levels (also (group Parenthesis s inside) rest) (sign (opening Parenthesis) ∷ (parts ++ (sign (closing Parenthesis) ∷ []))) rest closed
 
-  -- The path of a bound, perhaps with `?` before it.
+  -- The path of a bound, with an optional `?` before it.
   pub data Questioned : ℕ → TokenList → List Tree → TokenList → Ending → Type 0 where
     unquestioned : {levels : ℕ} {run rest : TokenList} {parts : List Tree} {e : Ending} → Trait levels run parts rest e → Questioned levels run parts rest e
     questioned : {levels : ℕ} {s : Span} {p : Spacing} {run rest : TokenList} {parts : List Tree} {e : Ending} → Trait levels run parts rest e →
         Questioned levels (also (punctuation 63 p s) run) (sign (mark 63) ∷ parts) rest e
 
-  -- That path, perhaps with `for<..>` before it.
+  -- The path of a bound, with an optional `for<..>` before it.
   pub data Trait : ℕ → TokenList → List Tree → TokenList → Ending → Type 0 where
     unbound : {levels : ℕ} {run rest : TokenList} {parts : List Tree} {e : Ending} → begins_for run ≡ false → AnyPath levels OfBound run parts rest e → Trait levels run parts rest e
     for_all : {levels : ℕ} {s : Span} {run middle rest : TokenList} {parts others : List Tree} {e : Ending} → Lifetimes run parts middle → AnyPath levels OfBound middle others rest e →
@@ -284,12 +283,12 @@ mutual
   pub data Taking : ℕ → TokenList → List Tree → TokenList → Ending → Type 0 where
     takes_only : {levels : ℕ} {s : Span} {inside rest : TokenList} {parts : List Tree} → Parameters levels inside parts →
         Taking levels (also (group Parenthesis s inside) rest) (sign (opening Parenthesis) ∷ (parts ++ (sign (closing Parenthesis) ∷ []))) rest taking
-    takes_and_gives : {levels : ℕ} {s t u : Span} {p : Spacing} {inside run rest : TokenList} {parts : List Tree} {result : Tree} {e : Ending} →
+    takes_and_yields : {levels : ℕ} {s t u : Span} {p : Spacing} {inside run rest : TokenList} {parts : List Tree} {result : Tree} {e : Ending} →
         Parameters levels inside parts → Written levels false run result rest e →
         Taking levels (also (group Parenthesis s inside) (also (punctuation 45 Joint t) (also (punctuation 62 p u) run)))
         (sign (opening Parenthesis) ∷ (parts ++ (sign (closing Parenthesis) ∷ sign arrow ∷ result ∷ []))) rest e
 
-  -- What a function takes, with commas between, and perhaps one after the last.
+  -- The parameters of a function, with commas between them and an optional comma after the last.
   pub data Parameters : ℕ → TokenList → List Tree → Type 0 where
     no_parameter : {levels : ℕ} → Parameters levels none []
     last_parameter : {levels : ℕ} {run : TokenList} {parts : List Tree} → Parameter levels run parts none → Parameters levels run parts

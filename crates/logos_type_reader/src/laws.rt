@@ -1,11 +1,10 @@
-//! Laws of the reading of types. No code calls these functions: the contract of each is a
-//! proved law.
+//! Laws of reading types. No code calls these functions: the contract of each is a proved law.
 
 ghost use Rattle.std.specs.Prelude.{◌≡◌, ◌<◌, ◌≤◌, ◌⊎◌, ℕ, Bool, true};
-ghost use Rattle.logos_type_reader.specs.Views.{TokenList, IsRestOf, count_of, Tree, depth, Fault, too_deep, IsType, NoType, Ending, Written, may_follow, FaultPlace, IsAt, SameSign, IsTypeExpr, NoTypeExpr};
+ghost use Rattle.logos_type_reader.specs.Views.{TokenList, IsRestOf, count_of, Tree, depth, Fault, too_deep, IsType, NoType, Ending, Written, may_follow, FaultStage, IsAt, SameSign, IsTypeExpr, NoTypeExpr};
 
-/// A run begins with at most one type, which leaves one rest. It has at most one fault, and none if
-/// it begins with a type.
+/// A run begins with at most one type, with one rest after it. It has at most one fault, and none
+/// if it begins with a type.
 pub fn one_outcome()
     ensures one_type { (run rest other : TokenList) (tree different : Tree) →
         IsTypeExpr run tree rest → IsTypeExpr run different other → (tree ≡ different)
@@ -16,14 +15,14 @@ pub fn one_outcome()
         IsTypeExpr run tree rest → NoTypeExpr run fault → ⊥ }
 {}
 
-/// Each run begins with a type, or has a fault.
+/// Each run begins with a type or has a fault.
 pub fn some_outcome()
     ensures { (run : TokenList) → ((tree : Tree) × (rest : TokenList)
         × IsTypeExpr run tree rest) ⊎ ((fault : Fault) × NoTypeExpr run fault) }
 {}
 
-/// A type that is read with two different limits is the same type. If one limit is too small, the
-/// type is deeper.
+/// Reading with two different limits yields the same type, unless one limit is less than the depth
+/// of the type.
 pub fn levels_only_limit()
     ensures one_type { (levels others : ℕ) (plus : Bool) (run rest other : TokenList)
         (tree different : Tree) →
@@ -35,7 +34,7 @@ pub fn levels_only_limit()
         × (levels < others) }
 {}
 
-/// The limit is passed exactly by the types that are deeper.
+/// The types that exceed the limit are exactly the deeper ones.
 pub fn limit_is_depth()
     ensures within { (levels : ℕ) (plus : Bool) (run rest : TokenList) (tree : Tree) →
         IsType levels plus run tree rest → depth tree ≤ levels }
@@ -45,7 +44,7 @@ pub fn limit_is_depth()
         IsType levels plus run tree rest → others < depth tree → NoType others plus run too_deep }
 {}
 
-/// What follows a type is the rest of its run, with fewer tokens.
+/// The tokens after a type are the rest of its run, with fewer tokens.
 pub fn type_is_front()
     ensures rest { (run rest : TokenList) (tree : Tree) → IsTypeExpr run tree rest →
         IsRestOf run rest }
@@ -53,28 +52,28 @@ pub fn type_is_front()
         count_of rest < count_of run }
 {}
 
-/// A written type before something that does not lengthen it is read as that type.
+/// A written type before a rest that does not lengthen it is read as that type.
 pub fn reads_written()
     ensures { (levels : ℕ) (plus : Bool) (run rest : TokenList) (tree : Tree) (ending : Ending) →
         Written levels plus run tree rest ending → may_follow ending rest ≡ true →
         IsType levels plus run tree rest }
 {}
 
-/// What is read as a type is a written type before something that does not lengthen it.
+/// A type that is read is a written type before a rest that does not lengthen it.
 pub fn read_is_written()
     ensures { (levels : ℕ) (plus : Bool) (run rest : TokenList) (tree : Tree) →
         IsType levels plus run tree rest → (ending : Ending)
         × Written levels plus run tree rest ending × (may_follow ending rest ≡ true) }
 {}
 
-/// A fault has a spot in its run, unless types nest too deep. Each run with the same tokens in
-/// front of this spot and the same sign at it has the fault, too, so none of them begins with a
+/// A fault has a spot in its run, unless types are nested too deeply. Each run with the same tokens
+/// before this spot and the same sign at it also has the fault, so none of them begins with a
 /// written type.
-pub fn fault_place()
-    ensures place { (levels : ℕ) (plus : Bool) (run : TokenList) (fault : Fault) →
-        NoType levels plus run fault → (fault ≡ too_deep) ⊎ FaultPlace levels plus run fault }
+pub fn fault_stage()
+    ensures stage { (levels : ℕ) (plus : Bool) (run : TokenList) (fault : Fault) →
+        NoType levels plus run fault → (fault ≡ too_deep) ⊎ FaultStage levels plus run fault }
     ensures no_type { (levels : ℕ) (plus : Bool) (run : TokenList) (fault : Fault)
-        (place : FaultPlace levels plus run fault) (other left rest : TokenList) (tree : Tree)
-        (ending : Ending) → IsAt place.front other left → SameSign place.left left →
+        (stage : FaultStage levels plus run fault) (other left rest : TokenList) (tree : Tree)
+        (ending : Ending) → IsAt stage.front other left → SameSign stage.left left →
         Written levels plus other tree rest ending → may_follow ending rest ≡ true → ⊥ }
 {}

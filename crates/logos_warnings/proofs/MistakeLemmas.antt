@@ -26,7 +26,7 @@ pub no_helper : {run : TokenList} → attribute_in run ≡ None → ¬ HasHelper
 no_helper is (here {split = other} e h) = let gone : None ≡ Some other = sym is ∙ e in cc
 no_helper is (later {split = other} e h) = let gone : None ≡ Some other = sym is ∙ e in cc
 
--- what is known of the rest is known of the run
+-- the facts about the rest is known of the run
 pub helper_turn : {run : TokenList} (split : SplitAttribute) → attribute_in run ≡ Some split → ¬ IsHelper split.attribute → HasHelper run ↔ HasHelper split.rest
 helper_turn {run} split is other = (λ h. go (split_helper split is h), λ h. later is h)
   where
@@ -48,7 +48,7 @@ variants_turn variant more other = (λ h. go (split_variants h), λ h. more_have
 no_variants : ¬ VariantsHave []
 no_variants h = elim h [ ]
 
--- ---- Variants, one after another, as a slice pattern gives them
+-- ---- Variants, one after another, as a slice pattern splits them
 
 pub variants_step : (rest : List Variant) (item : Variant) → 1 ≤ length rest → item ≡ get_or rest 0 item → ¬ HasHelper (tokens_of item.attributes) →
     VariantsHave (map variant_value rest) ↔ VariantsHave (map variant_value (take (length rest - 1) (drop 1 rest)))

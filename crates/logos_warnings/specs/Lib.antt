@@ -1,4 +1,4 @@
 pub mod Helpers
 pub mod Mistakes
-pub mod Words
+pub mod Imports
 pub mod Views

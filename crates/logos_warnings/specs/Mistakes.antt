@@ -20,7 +20,7 @@ abbrev pub begins_with_colon : TokenList → Bool
 begins_with_colon (also (punctuation character spacing span) rest) = character == 58
 begins_with_colon run = false
 
--- The name of an attribute, by what its brackets hold, if its path is one identifier.
+-- The name of an attribute whose path is one identifier, from the run between its brackets.
 abbrev pub name_in : TokenList → Option (List ℕ)
 name_in (also (identifier text span) rest) = if begins_with_colon rest then None else Some text
 name_in run = None
@@ -29,7 +29,7 @@ name_in run = None
 abbrev pub name_of : AttributeValue → Option (List ℕ)
 name_of attribute = option_and_then name_in attribute.inside
 
--- There are tokens after what was asked for, and the test holds of them.
+-- The run exists, and the test holds of it.
 abbrev pub holds_after : (TokenList → Bool) → Option TokenList → Bool
 holds_after test None = false
 holds_after test (Some rest) = test rest
@@ -74,20 +74,20 @@ HasHelpers item = HasHelper item.attributes ⊎ VariantsHave item.variants
 -- ---- Mistakes
 
 pub data MistakeValue : Type 0 where
-  -- The name of the attribute at this span is probably a misspelled one of a helper attribute.
+  -- The name of the attribute at this span is probably a misspelled name of a helper attribute.
   misspelled : (name : List ℕ) (intended : Helper) (span : Span) → MistakeValue
   -- The path of the attribute at this span is `logos::` and the name of a helper attribute.
   qualified : (span : Span) → MistakeValue
-  -- The attribute at this span has no effect where it is.
+  -- The attribute at this span has no effect at its site.
   useless : (span : Span) → MistakeValue
-  -- A variant with a pattern stands under the condition at this span.
+  -- A variant with a pattern is under the condition at this span.
   conditional : (span : Span) → MistakeValue
   -- No variant of the enum whose name has this span has a pattern.
   no_pattern : (span : Span) → MistakeValue
   -- The enum whose name has this span has helper attributes and does not derive `Logos`.
   no_derive : (span : Span) → MistakeValue
 
--- A mistake as a value.
+-- The view of a mistake.
 abbrev pub mistake_value : Mistake → MistakeValue
 mistake_value (Misspelled name intended span) = misspelled name.now intended span
 mistake_value (Qualified span) = qualified span
@@ -96,7 +96,7 @@ mistake_value (Conditional span) = conditional span
 mistake_value (NoPattern span) = no_pattern span
 mistake_value (NoDerive span) = no_derive span
 
--- What a mistake is about.
+-- The span of a mistake.
 abbrev pub span_of : MistakeValue → Span
 span_of (misspelled name intended span) = span
 span_of (qualified span) = span
@@ -105,20 +105,20 @@ span_of (conditional span) = span
 span_of (no_pattern span) = span
 span_of (no_derive span) = span
 
--- Whether an attribute with this name has no effect there: `logos` on a variant.
+-- Whether an attribute with this name has no effect at the site: `logos` on a variant.
 abbrev pub is_useless : AttributeSite → List ℕ → Bool
 is_useless OnEnum name = false
 is_useless OnVariant name = bytes_eq name (codes "logos")
 is_useless OnLeaf name = bytes_eq name (codes "logos")
 
--- Whether an attribute with this name puts a pattern under a condition: `cfg` on a variant with a
+-- Whether an attribute with this name compiles a pattern conditionally: `cfg` on a variant with a
 -- helper attribute.
 abbrev pub is_conditional : AttributeSite → List ℕ → Bool
 is_conditional OnEnum name = false
 is_conditional OnVariant name = false
 is_conditional OnLeaf name = bytes_eq name (codes "cfg")
 
--- What an attribute adds to the mistakes.
+-- The mistakes that an attribute adds.
 pub data AttributeAdds (site : AttributeSite) (attribute : AttributeValue) (before : List MistakeValue) : List MistakeValue → Type 0 where
   unnamed : name_of attribute ≡ None → is_qualified attribute ≡ false → AttributeAdds site attribute before before
   with_path : name_of attribute ≡ None → is_qualified attribute ≡ true → AttributeAdds site attribute before (before ++ qualified attribute.span ∷ [])
@@ -131,48 +131,48 @@ pub data AttributeAdds (site : AttributeSite) (attribute : AttributeValue) (befo
   ill_spelled : {name : List ℕ} {intended : Helper} → name_of attribute ≡ Some name → is_useless site name ≡ false → is_conditional site name ≡ false → Intends name (Some intended) →
       AttributeAdds site attribute before (before ++ misspelled name intended attribute.span ∷ [])
 
--- What the attributes of a run add to the mistakes, in order.
+-- The mistakes that the attributes of a run add, in order.
 pub data RunAdds (site : AttributeSite) : TokenList → List MistakeValue → List MistakeValue → Type 0 where
   no_attribute : {run : TokenList} {before : List MistakeValue} → attribute_in run ≡ None → RunAdds site run before before
   one_attribute : {run : TokenList} {split : SplitAttribute} {before mid after : List MistakeValue} → attribute_in run ≡ Some split →
       AttributeAdds site split.attribute before mid → RunAdds site split.rest mid after → RunAdds site run before after
 
--- What the attributes of a variant add to the mistakes, by whether a helper attribute is among
--- them.
+-- The mistakes that the attributes of a variant add, depending on whether a helper attribute is
+-- among them.
 pub data VariantAdds (run : TokenList) (before after : List MistakeValue) : Type 0 where
   on_leaf : HasHelper run → RunAdds OnLeaf run before after → VariantAdds run before after
   on_other : ¬ HasHelper run → RunAdds OnVariant run before after → VariantAdds run before after
 
--- What the attributes of variants add to the mistakes, in order.
+-- The mistakes that the attributes of variants add, in order.
 pub data VariantsAdd : List VariantValue → List MistakeValue → List MistakeValue → Type 0 where
   no_variant : {before : List MistakeValue} → VariantsAdd [] before before
   one_variant : {variant : VariantValue} {more : List VariantValue} {before mid after : List MistakeValue} →
       VariantAdds variant.attributes before mid → VariantsAdd more mid after → VariantsAdd (variant ∷ more) before after
 
--- The mistakes of the attributes of an enum, and then of those of its variants.
+-- The mistakes in the attributes of an enum, and then those in the attributes of its variants.
 pub record NamesAdd (item : EnumValue) (before after : List MistakeValue) : Type 0 where
   pub mid : List MistakeValue
   pub of_enum : RunAdds OnEnum item.attributes before mid
   pub of_variants : VariantsAdd item.variants mid after
 
--- The mistakes of the names of an enum, and last that it does not derive `Logos`.
+-- The mistakes in the names of an enum, and last that it does not derive `Logos`.
 pub record ForgetsDerive (item : EnumValue) (warnings : List MistakeValue) : Type 0 where
   pub names : List MistakeValue
   pub of_names : NamesAdd item [] names
   pub are : warnings ≡ names ++ no_derive item.name.span ∷ []
 
--- The mistakes of the names of an enum, and last that none of its variants has a pattern.
+-- The mistakes in the names of an enum, and last that none of its variants has a pattern.
 pub record LacksPatterns (item : EnumValue) (mistakes : List MistakeValue) : Type 0 where
   pub names : List MistakeValue
   pub of_names : NamesAdd item [] names
   pub are : mistakes ≡ names ++ no_pattern item.name.span ∷ []
 
--- The mistakes of an enum that derives `Logos`.
+-- The mistakes in an enum that derives `Logos`.
 pub data AreOfLexer (item : EnumValue) (mistakes : List MistakeValue) : Type 0 where
   with_patterns : VariantsHave item.variants → NamesAdd item [] mistakes → AreOfLexer item mistakes
   without : ¬ VariantsHave item.variants → LacksPatterns item mistakes → AreOfLexer item mistakes
 
--- The mistakes of an enum that derives `Logos` or not. An enum without helper attributes that does
+-- The mistakes in an enum, which may derive `Logos`. An enum without helper attributes that does
 -- not derive it has none.
 pub data AreMistakes (item : EnumValue) (derives : Bool) : List MistakeValue → Type 0 where
   of_lexer : {mistakes : List MistakeValue} → derives ≡ true → AreOfLexer item mistakes → AreMistakes item derives mistakes

@@ -1,4 +1,4 @@
-//! Attributes, by their names.
+//! Attributes, classified by their names. Used by `mistakes` and `other_attributes`.
 
 ghost use Rattle.std.specs.Prelude.{◌≡◌, ◌↔◌, IsTrue, MatchOption, None, Some, map};
 ghost use Rattle.logos_warnings.specs.Views.{attribute_value, enum_value, variant_value, tokens_of, begins_with_colon, begins_with_helper, is_helper_path, is_helper_segment, is_qualified, name_in, name_of, HasHelper, HasHelpers, IsHelper, VariantsHave};
@@ -8,7 +8,7 @@ use logos_enum::{Attribute, ItemEnum, Variant, split_attribute};
 use logos_token::token::{TokenTree, Tokens};
 use logos_token::util::{after_path_mark, after_word};
 
-/// Where an attribute is.
+/// The site of an attribute.
 #[derive(Clone, Copy)]
 pub(crate) enum AttributeSite {
     OnEnum,
@@ -28,7 +28,8 @@ fn begins_with_colon(tokens: Tokens<'_, '_>) -> bool
     }
 }
 
-/// Returns the name of an attribute whose path is one identifier, by what its brackets hold.
+/// Returns the name of an attribute whose path is one identifier, from the run between its
+/// brackets.
 fn name_in<'s>(tokens: Tokens<'_, 's>) -> Option<&'s str>
     ensures { MatchOption result (name_in (tokens_of tokens.entry) ≡ None)
         (λ name. name_in (tokens_of tokens.entry) ≡ Some name.now) }

@@ -1,22 +1,22 @@
-//! Mistakes as warnings.
+//! The warnings for mistakes. Used by `logos_causes`, `logos_derive` and `logos_file_warnings`.
 
 ghost use Rattle.std.specs.Prelude.{◌≡◌, IfOk};
 ghost use Rattle.logos_warnings.specs.Views.{mistake_value, span_of};
 
 use crate::mistakes::{Mistake, mistakes_of};
 use crate::origin::{Origin, is_warning};
-use crate::others::add_others;
-use crate::plain::{fixed_warning, plain_warning};
+use crate::other_attributes::add_others;
+use crate::warning_list::{fixed_warning, plain_warning};
 use logos_enum::{ItemEnum, ReadError, read_enum};
 use logos_report::Warning;
 use logos_token::error::Memory;
-use logos_token::token::{TokenError, tokenize};
+use logos_token::token::{TokenError, Tokens, tokenize};
 use std::alloc::{AllocError, Global};
 
-/// Returns the warnings of an enum with this text: those of its own attributes and then those of
-/// its variants', in source order, then that it has no pattern or does not derive `Logos`, and last
-/// those of attributes that its lexer passes over. An enum that cannot be read has none. An active
-/// `cfg` is no mistake in an enum from the derive macro.
+/// Returns the warnings for an enum with this text: those for its own attributes and then those for
+/// its variants' attributes, in source order; then that it has no pattern or does not derive
+/// `Logos`; and last those for attributes that its lexer ignores. An enum that cannot be read has
+/// none. An active `cfg` is not a mistake in an enum from the derive macro.
 ///
 /// # Errors
 ///
@@ -27,19 +27,32 @@ pub fn enum_warnings(
     derives: bool,
     origin: Origin,
 ) -> Result<Vec<Warning>, Memory> {
-    let stream = match tokenize(alloc, text) {
-        Ok(stream) => stream,
-        Err(TokenError::Memory) => return Err(Memory),
-        Err(_) => return Ok(Vec::new(alloc)),
-    };
-    match read_enum(alloc, stream.run()) {
+    match tokenize(alloc, text) {
+        Ok(stream) => token_warnings(alloc, stream.run(), derives, origin),
+        Err(TokenError::Memory) => Err(Memory),
+        Err(_) => Ok(Vec::new(alloc)),
+    }
+}
+
+/// Returns the warnings of `enum_warnings` for an enum with these tokens.
+///
+/// # Errors
+///
+/// Returns `Memory` if memory runs out.
+pub fn token_warnings(
+    alloc: Global,
+    tokens: Tokens<'_, '_>,
+    derives: bool,
+    origin: Origin,
+) -> Result<Vec<Warning>, Memory> {
+    match read_enum(alloc, tokens) {
         Ok(item) => Ok(item_warnings(alloc, &item, derives, origin)?),
         Err(ReadError::Memory) => Err(Memory),
         Err(_) => Ok(Vec::new(alloc)),
     }
 }
 
-/// Returns the same of an enum that was read.
+/// Returns the warnings of `enum_warnings` for an enum that was read.
 ///
 /// # Errors
 ///
@@ -63,7 +76,7 @@ pub fn item_warnings(
     Ok(warnings)
 }
 
-/// Returns the warning about a mistake in the enum with this name.
+/// Returns the warning for a mistake in the enum with this name.
 fn warning_of(alloc: Global, name: &str, mistake: Mistake<'_>) -> Result<Warning, AllocError>
     ensures { IfOk result (λ warning. warning.span ≡ span_of (mistake_value mistake.entry)) }
 {

@@ -1,4 +1,4 @@
-//! Probable mistakes in an enum that are not faults.
+//! Probable mistakes in an enum that are not faults. Used by `messages` and `origin`.
 
 ghost use Rattle.std.specs.Prelude.{◌≡◌, IfOk, None, OnOk, Some, [], map};
 ghost use Rattle.logos_warnings.specs.Views.{attribute_value, enum_value, variant_value, tokens_of, mistake_value, is_conditional, is_useless, name_of, AreMistakes, AreOfLexer, AttributeAdds, LacksPatterns, RunAdds, VariantAdds, VariantsAdd, NamesAdd, ForgetsDerive};
@@ -14,7 +14,7 @@ use std::alloc::{AllocError, Global};
 /// A probable mistake in an enum that is not a fault. Spans are byte offsets in its text.
 #[derive(Clone, Copy, Debug)]
 pub enum Mistake<'s> {
-    /// The name of an attribute is near to that of a helper attribute.
+    /// The name of an attribute is near to the name of a helper attribute.
     Misspelled {
         name: &'s str,
         intended: Helper,
@@ -26,7 +26,7 @@ pub enum Mistake<'s> {
         /// The attribute.
         span: Span,
     },
-    /// An attribute has no effect where it is: `logos` on a variant.
+    /// An attribute has no effect at its site: `logos` on a variant.
     Useless {
         /// The attribute.
         span: Span,
@@ -48,7 +48,7 @@ pub enum Mistake<'s> {
     },
 }
 
-/// Returns the warnings of an enum: those of its own attributes and then those of its variants'
+/// Returns the mistakes in an enum: those of its own attributes and then those of its variants'
 /// attributes, in source order, and last that it does not derive `Logos` although it has helper
 /// attributes. An enum that does not derive `Logos` and has no helper attribute has none.
 ///
@@ -74,7 +74,7 @@ pub fn mistakes_of<'s>(
     Ok(Vec::new(alloc))
 }
 
-/// Returns the mistakes of an enum that derives `Logos`.
+/// Returns the mistakes in an enum that derives `Logos`.
 fn of_lexer<'s>(alloc: Global, item: &ItemEnum<'_, 's>) -> Result<Vec<Mistake<'s>>, AllocError>
     ensures { IfOk result (λ mistakes.
         AreOfLexer (enum_value item.now) (map mistake_value mistakes.items)) }
@@ -87,7 +87,7 @@ fn of_lexer<'s>(alloc: Global, item: &ItemEnum<'_, 's>) -> Result<Vec<Mistake<'s
     Ok(all)
 }
 
-/// Returns the mistakes of an enum without patterns that derives `Logos`.
+/// Returns the mistakes in an enum without patterns that derives `Logos`.
 fn patternless_of<'s>(
     alloc: Global,
     item: &ItemEnum<'_, 's>,
@@ -101,7 +101,7 @@ fn patternless_of<'s>(
     Ok(warnings)
 }
 
-/// Returns the warnings of the attributes of an enum and of its variants.
+/// Returns the mistakes in the attributes of an enum and of its variants.
 fn names_of<'s>(alloc: Global, item: &ItemEnum<'_, 's>) -> Result<Vec<Mistake<'s>>, AllocError>
     ensures { IfOk result (λ warnings.
         NamesAdd (enum_value item.now) [] (map mistake_value warnings.items)) }
@@ -111,7 +111,7 @@ fn names_of<'s>(alloc: Global, item: &ItemEnum<'_, 's>) -> Result<Vec<Mistake<'s
     Ok(warnings)
 }
 
-/// Returns the warnings of an enum that has helper attributes and does not derive `Logos`.
+/// Returns the mistakes in an enum that has helper attributes and does not derive `Logos`.
 fn forgotten_of<'s>(alloc: Global, item: &ItemEnum<'_, 's>) -> Result<Vec<Mistake<'s>>, AllocError>
     ensures { IfOk result (λ warnings.
         ForgetsDerive (enum_value item.now) (map mistake_value warnings.items)) }
@@ -122,7 +122,7 @@ fn forgotten_of<'s>(alloc: Global, item: &ItemEnum<'_, 's>) -> Result<Vec<Mistak
     Ok(warnings)
 }
 
-/// Reports the warnings of the attributes of an enum and of its variants.
+/// Reports the mistakes in the attributes of an enum and of its variants.
 fn report_names<'s>(
     item: &ItemEnum<'_, 's>,
     warnings: &mut Vec<Mistake<'s>>,
@@ -134,7 +134,7 @@ fn report_names<'s>(
     report_variants(item.variants.as_slice(), warnings)
 }
 
-/// Reports the warnings of the attributes of variants.
+/// Reports the mistakes in the attributes of variants.
 fn report_variants<'s>(
     variants: &[Variant<'_, 's>],
     warnings: &mut Vec<Mistake<'s>>,
@@ -150,7 +150,7 @@ fn report_variants<'s>(
     Ok(())
 }
 
-/// Reports the mistakes of the attributes of a variant.
+/// Reports the mistakes in the attributes of a variant.
 fn report_variant<'s>(
     run: Tokens<'_, 's>,
     warnings: &mut Vec<Mistake<'s>>,
@@ -166,7 +166,7 @@ fn report_variant<'s>(
     Ok(())
 }
 
-/// Reports the warnings of the attributes of a run.
+/// Reports the mistakes in the attributes of a run.
 fn report_run<'s>(
     site: AttributeSite,
     run: Tokens<'_, 's>,
@@ -183,7 +183,7 @@ fn report_run<'s>(
     Ok(())
 }
 
-/// Returns whether an attribute with this name has no effect where it is.
+/// Returns whether an attribute with this name has no effect at the site.
 fn is_useless(site: AttributeSite, name: &str) -> bool
     ensures { result ≡ is_useless site name.now }
 {
@@ -194,7 +194,7 @@ fn is_useless(site: AttributeSite, name: &str) -> bool
     }
 }
 
-/// Returns whether an attribute with this name puts a pattern under a condition.
+/// Returns whether an attribute with this name compiles a pattern conditionally.
 fn is_conditional(site: AttributeSite, name: &str) -> bool
     ensures { result ≡ is_conditional site name.now }
 {

@@ -1,8 +1,8 @@
-//! Where an enum comes from, and which mistakes are warnings there.
+//! The origin of an enum, which determines the mistakes that are warnings.
 
 use crate::mistakes::Mistake;
 
-/// Where the text of an enum comes from.
+/// The origin of the text of an enum.
 #[derive(Clone, Copy, Debug, PartialEq, Eq)]
 pub enum Origin {
     /// A file.

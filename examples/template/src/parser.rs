@@ -5,7 +5,7 @@ use crate::place::Error;
 use logos::{Lexer, Logos};
 use std::ops::Range;
 
-/// What is done with a value before it is printed.
+/// A filter that changes a value before it is printed.
 #[derive(Clone, Copy, Debug, PartialEq)]
 pub enum Filter {
     Upper,
@@ -56,7 +56,7 @@ struct Reader<'t> {
     open: Vec<Open<'t>>,
 }
 
-/// What a tag is.
+/// The kinds of tags.
 #[derive(PartialEq)]
 enum Kind {
     Value { is_raw: bool },

@@ -1,4 +1,5 @@
-//! The rules of attributes: those of Rattle go, and a derive loses the names that Rust has not.
+//! Erases attributes: those of Rattle are removed, and a derive loses the names that Rust does not
+//! have.
 
 use crate::Refusal;
 use crate::rules::Step;
@@ -13,17 +14,17 @@ pub(crate) fn attribute(source: &mut Source<'_>, n: usize, added: &mut String) -
     let close = source.closing(open);
     match source.at(open + 1) {
         "derive" if source.at(open + 2) == "(" => derive(source, n, added)?,
-        // For proofs alone, and for the layout of sources.
+        // Only for proofs, and for the layout of sources.
         "tactic" | "cycle" | "rattlefmt" => source.blank(n, close),
-        // The same in Rust.
+        // Equal in Rust.
         "allow" | "cold" | "expect" | "inline" | "must_use" | "repr" | "rustfmt" => {}
         _ => return source.refusal(open + 1, "an unknown attribute"),
     }
     Ok(close)
 }
 
-/// Changes the derive whose `#` is at `n`. `Drop` goes, and the whole derive if it has no other
-/// name. A `Clone` without `Copy` may be refused memory, so Rust cannot derive it.
+/// Erases the derive whose `#` is at `n`. `Drop` is removed, and the whole derive if it has no
+/// other name. A `Clone` without `Copy` can fail in Rattle, so Rust cannot derive it.
 fn derive(source: &mut Source<'_>, n: usize, added: &mut String) -> Result<(), Refusal> {
     let close = source.closing(n + 3);
     let names = (n + 4..close).step_by(2);
@@ -40,7 +41,7 @@ fn derive(source: &mut Source<'_>, n: usize, added: &mut String) -> Result<(), R
             }
             _ => return source.refusal(name, "an unknown name in a derive"),
         }
-        // With the comma before it, or else the one after it.
+        // With the comma before it, or otherwise the one after it.
         let from = if kept > 0 { name - 1 } else { name };
         source.blank(from, if kept == 0 && source.at(name + 1) == "," { name + 1 } else { name });
     }
@@ -50,7 +51,7 @@ fn derive(source: &mut Source<'_>, n: usize, added: &mut String) -> Result<(), R
     Ok(())
 }
 
-/// Returns the `impl` of `Clone` of the struct that begins at `n`, which copies each field.
+/// Returns an `impl` of `Clone` for the struct that begins at `n`. It copies each field.
 fn copy_of(source: &Source<'_>, n: usize) -> Result<String, Refusal> {
     let word = source.find(n, &["struct", "enum", "fn", ";", "{"])?;
     let (name, open) = (source.at(word + 1), word + 2);

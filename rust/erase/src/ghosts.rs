@@ -1,10 +1,10 @@
-//! Finds where ghost items and clauses end. What stands in their braces is antt and not Rust: its
+//! Finds the ends of ghost items and clauses. The content of their braces is antt and not Rust: its
 //! comments begin with `--`, and a quote is a letter.
 
 use crate::Refusal;
 use crate::tokens::{line_end, string_end, word_end};
 
-/// Returns where the blanks and comments end that begin at `at`.
+/// Returns the end of the blanks and comments that begin at `at`.
 fn skip_blanks(bytes: &[u8], mut at: usize) -> usize {
     while at < bytes.len() {
         match bytes[at] {
@@ -16,7 +16,7 @@ fn skip_blanks(bytes: &[u8], mut at: usize) -> usize {
     at
 }
 
-/// Returns the end of the antt braces that come next after `at`, in the clause or item at `item`.
+/// Returns the end of the next antt braces after `at`, in the clause or item at `item`.
 fn braces_after(bytes: &[u8], item: usize, at: usize) -> Result<usize, Refusal> {
     let open = skip_blanks(bytes, at);
     if bytes.get(open) != Some(&b'{') {
@@ -37,13 +37,14 @@ fn braces_after(bytes: &[u8], item: usize, at: usize) -> Result<usize, Refusal> 
     Err(Refusal::new(open, "a brace of a clause or a ghost item that is not closed"))
 }
 
-/// Returns the end of a clause: `requires` or `ensures` at `at..word`, a name or none, and braces.
+/// Returns the end of a clause: `requires` or `ensures` at `at..word`, optionally a name, and
+/// braces.
 pub(crate) fn clause_end(text: &str, at: usize, word: usize) -> Result<usize, Refusal> {
     let bytes = text.as_bytes();
     braces_after(bytes, at, word_end(bytes, skip_blanks(bytes, word)))
 }
 
-/// Returns the end of a ghost item, whose word `ghost` is at `at..word`. These are known:
+/// Returns the end of a ghost item, whose word `ghost` is at `at..word`. The forms are:
 ///
 /// - `ghost use path;`
 /// - `ghost name = {..};`, a member of an `impl`

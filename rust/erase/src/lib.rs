@@ -1,13 +1,13 @@
-//! Takes the contracts out of Rattle sources. What is left is Rust.
+//! Removes the contracts from Rattle sources. The result is Rust.
 //!
-//! Build scripts of the packages beside this one call it, and compile crates as modules.
+//! Called by the build scripts of the packages beside this one, which compile crates as modules.
 //!
-//! - Ghost items, clauses and what else is for proofs alone become blanks. A few names become
-//!   others of the same width. So each token that is left keeps its line and its column, and an
-//!   error of the compiler or a panic names the line of the `.rt` file.
-//! - Lines are only added after the last one: `use` declarations, and copies that Rust cannot
+//! - Ghost items, clauses and everything else that only proofs need become blanks. A few names
+//!   become others of the same width. Thus each remaining token keeps its line and its column, and
+//!   an error of the compiler or a panic names the line of the `.rt` file.
+//! - Lines are added only after the last one: `use` declarations, and copies that Rust cannot
 //!   derive.
-//! - What this library does not know it refuses, by file, line and column.
+//! - Unknown forms are refused, with their file, line and column.
 #![forbid(unsafe_code)]
 
 mod attributes;
@@ -21,12 +21,12 @@ pub use package::{Crates, LIBRARY, Module, build};
 
 use std::fmt;
 
-/// Where the paths of a file lead.
+/// The targets of the paths in a file.
 #[derive(Clone, Default)]
 pub struct Paths<'a> {
-    /// The module of the root that holds the file's crate, such as `logos_hir`.
+    /// The module of the root that contains the file's crate, such as `logos_hir`.
     pub module: &'a str,
-    /// The crates that the file may name, and the module that holds each, such as `crate`.
+    /// The crates that the file may name, each with the module that contains it, such as `crate`.
     pub libraries: Vec<(&'a str, &'a str)>,
 }
 
@@ -35,11 +35,11 @@ pub struct Paths<'a> {
 pub struct Refusal {
     /// The offset in bytes.
     at: usize,
-    /// The line, from 1.
+    /// The line, counted from 1.
     pub line: usize,
-    /// The column in characters, from 1.
+    /// The column in characters, counted from 1.
     pub column: usize,
-    /// What is not known there.
+    /// The unknown form.
     pub message: &'static str,
 }
 
@@ -59,7 +59,7 @@ impl fmt::Display for Refusal {
 ///
 /// # Errors
 ///
-/// Refuses a source with a form that this library does not know.
+/// Returns `Refusal` for a source with a form that this library does not know.
 pub fn erase(text: &str, paths: &Paths<'_>) -> Result<String, Refusal> {
     let erased = source::Source::new(text).and_then(|mut source| {
         let added = rules::apply(&mut source, paths)?;

@@ -1,23 +1,23 @@
-//! Erases the modules of a Rust package. Build scripts call it, in the folder of their package.
+//! Erases the modules of a Rust package. Called by build scripts, in the folder of their package.
 
 use crate::{Paths, erase};
 use std::path::{Path, PathBuf};
 use std::{env, fs, io};
 
-/// The package `logos-codegen` holds these crates and those below them.
-pub const LIBRARY: [&str; 3] = ["logos_codegen", "logos_tables", "logos_derive"];
+/// The package `logos-codegen` contains these crates and those below them.
+pub const LIBRARY: [&str; 4] = ["logos_codegen", "logos_tables", "logos_help", "logos_derive"];
 
 /// A crate or a program that becomes a module of the package's root.
 pub struct Module<'a> {
     pub name: &'a str,
-    /// The folder of its sources, or its one source.
+    /// The folder of its sources, or its single source.
     pub source: PathBuf,
     pub paths: Paths<'a>,
-    /// Lines to add to its root.
+    /// Lines that are added to its root.
     pub added: &'a str,
 }
 
-/// The crates of the repository, and the libraries that each uses, as its `crates.txt` lists them.
+/// The crates of the repository, and the libraries that each uses, from `crates.txt`.
 pub struct Crates {
     folder: &'static Path,
     rows: Vec<(String, Vec<String>)>,
@@ -25,12 +25,12 @@ pub struct Crates {
 
 impl Crates {
     /// Finds the crates. The package has them as `bazel-crates` and `bazel-crates.txt`: symbolic
-    /// links in a clone, and copies where it is vendored. Rattle's gate refuses links with other
+    /// links in a clone, and copies if it is vendored. Rattle's gate refuses links with other
     /// names. In a clone without links the crates are two folders above.
     ///
     /// # Errors
     ///
-    /// Fails if there is no list.
+    /// Returns an error if there is no list.
     pub fn find() -> io::Result<Crates> {
         let is_whole = Path::new("bazel-crates").is_dir();
         let folder = Path::new(if is_whole { "bazel-crates" } else { "../../crates" });
@@ -49,7 +49,7 @@ impl Crates {
         self.rows.iter().map(|(name, _)| name.as_str())
     }
 
-    /// Returns the libraries that a crate uses: none if the list has no such crate.
+    /// Returns the libraries that a crate uses. There are none if the list does not have the crate.
     fn libraries(&self, name: &str) -> impl Iterator<Item = &str> {
         let row = self.rows.iter().find(|(row, _)| row == name);
         row.into_iter().flat_map(|(_, libraries)| libraries).map(String::as_str)
@@ -70,7 +70,7 @@ impl Crates {
     /// Returns a crate as a module.
     pub fn module<'a>(&'a self, name: &'a str) -> Module<'a> {
         let source = self.folder.join(name).join("src");
-        // A library that is not in the list is one of the toolchain.
+        // A library that is not in the list belongs to the toolchain.
         let is_listed = |library| self.names().any(|name| name == library);
         let place = |library| if is_listed(library) { "crate" } else { "std::crates" };
         let libraries = self.libraries(name).map(|library| (library, place(library))).collect();
@@ -79,11 +79,11 @@ impl Crates {
 }
 
 /// Erases modules into the folder `OUT_DIR`, and writes `crates.rs` there, which declares them. A
-/// module is a file with its name and a folder with its modules.
+/// module becomes a file with its name and a folder with its modules.
 ///
 /// # Errors
 ///
-/// Fails if a file cannot be read, erased or written.
+/// Returns an error if a file cannot be read, erased or written.
 pub fn build(modules: &[Module<'_>]) -> io::Result<()> {
     let out = PathBuf::from(env::var_os("OUT_DIR").unwrap_or_default());
     let mut declarations = String::new();
@@ -95,8 +95,8 @@ pub fn build(modules: &[Module<'_>]) -> io::Result<()> {
     write(&out.join("crates.rs"), declarations)
 }
 
-/// Erases the sources of a module: the root into the file `target.rs`, others into the folder
-/// `target`. Modules `laws` are left out.
+/// Erases the sources of a module: the root into the file `target.rs`, the others into the folder
+/// `target`. Modules named `laws` are left out.
 fn erase_module(module: &Module<'_>, target: &Path) -> io::Result<()> {
     let (paths, root) = (&module.paths, target.with_extension("rs"));
     if module.source.is_file() {
@@ -128,7 +128,7 @@ fn erase_file(path: &Path, target: &Path, paths: &Paths<'_>, added: &str) -> io:
     write(target, erased + added)
 }
 
-/// Writes a file, and the folder in which it lies.
+/// Writes a file, and creates its folder.
 fn write(path: &Path, text: String) -> io::Result<()> {
     fs::create_dir_all(path.parent().unwrap_or(path)).map_err(named(path))?;
     fs::write(path, text).map_err(named(path))

@@ -1,13 +1,13 @@
-//! The rules by which code becomes Rust. Each looks at a token and those around it.
+//! The rules that turn code into Rust. Each examines a token and those around it.
 
 use crate::attributes::attribute;
 use crate::source::Source;
 use crate::{Paths, Refusal};
 
-/// The last token that a rule has dealt with.
+/// The last token that a rule has handled.
 pub(crate) type Step = Result<usize, Refusal>;
 
-/// Methods that take an allocator in Rattle and nothing in Rust, and their names with one.
+/// Methods that take an allocator in Rattle and none in Rust, and their names with an allocator.
 const WITH_ALLOCATOR: [(&str, &str); 4] = [
     ("collect", "list_in"),
     ("to_vec", "vec_in"),
@@ -15,7 +15,7 @@ const WITH_ALLOCATOR: [(&str, &str); 4] = [
     ("to_ascii_lowercase", "ascii_lowercase_in"),
 ];
 
-/// What a file names.
+/// The names of a file that rules need.
 #[derive(Default)]
 struct Names<'t> {
     /// The `use` declarations that its paths need, each once.
@@ -52,7 +52,7 @@ pub(crate) fn apply(source: &mut Source<'_>, paths: &Paths<'_>) -> Result<String
     Ok(format!("\nuse std::prelude::*;\n{}{copies}", names.uses))
 }
 
-/// Blanks a declaration of laws, whose names it notes, and of what models alone need.
+/// Blanks a declaration of laws, whose names it records, or of names that only models need.
 fn declaration<'t>(source: &mut Source<'t>, n: usize, names: &mut Names<'t>) -> Step {
     let end = source.find(n, &[";"])?;
     let law = (n..end).find(|&k| source.at(k) == "laws");
@@ -65,7 +65,7 @@ fn declaration<'t>(source: &mut Source<'t>, n: usize, names: &mut Names<'t>) -> 
     Ok(end)
 }
 
-/// Blanks an `impl` of `Model`. A `drop` by code of a type's own is not known.
+/// Blanks an `impl` of `Model`. A type with its own code for `drop` is refused.
 fn implementation(source: &mut Source<'_>, n: usize) -> Step {
     let open = source.find(n, &["{", ";"])?;
     let trait_end = (n..open).find(|&k| source.at(k) == "for").map_or("", |k| source.before(k));
@@ -77,7 +77,7 @@ fn implementation(source: &mut Source<'_>, n: usize) -> Step {
     Ok(source.closing(open))
 }
 
-/// Writes `crate::x` as `krate::x`, where `krate` is the module that holds the crate.
+/// Replaces `crate::x` by `krate::x`, where `krate` is the module that contains the crate.
 fn own_path(source: &mut Source<'_>, n: usize, paths: &Paths<'_>, names: &mut Names<'_>) -> Step {
     match (source.before(n), source.at(n + 1)) {
         (before, "::") if before != "in" && before != "$" => source.rename(n, "krate"),
@@ -88,7 +88,7 @@ fn own_path(source: &mut Source<'_>, n: usize, paths: &Paths<'_>, names: &mut Na
     Ok(n)
 }
 
-/// Notes the library with which a path begins.
+/// Records the library with which a path begins.
 fn note_library(source: &Source<'_>, n: usize, paths: &Paths<'_>, names: &mut Names<'_>) {
     let (before, after) = (source.before(n), source.at(n + 1));
     let is_path = after == "::" || before == "use" && [";", "as"].contains(&after);
@@ -100,7 +100,7 @@ fn note_library(source: &Source<'_>, n: usize, paths: &Paths<'_>, names: &mut Na
     }
 }
 
-/// Changes what a word says of a type or a call.
+/// Erases a keyword of a type or a call.
 fn keyword(source: &mut Source<'_>, n: usize, word: &str, names: &Names<'_>) -> Step {
     let after = source.at(n + 1);
     match word {

@@ -1,4 +1,4 @@
-//! The tokens of a source, with what the rules need to look at them and to change them.
+//! The tokens of a source, with the operations that rules need to examine and to change them.
 
 use crate::Refusal;
 use crate::tokens::{Kind, token_at};
@@ -7,17 +7,17 @@ use crate::tokens::{Kind, token_at};
 struct Token {
     from: usize,
     to: usize,
-    /// The number of the bracket that closes this one, or else 0.
+    /// The number of the bracket that closes this one, otherwise 0.
     closing: usize,
 }
 
-/// A source, and the tokens of its code by number: all but comments, ghost items and clauses.
+/// A source, and the numbered tokens of its code: all except comments, ghost items and clauses.
 pub(crate) struct Source<'t> {
     text: &'t str,
     tokens: Vec<Token>,
-    /// Where each comment begins and ends.
+    /// The ranges of all comments.
     comments: Vec<(usize, usize)>,
-    /// The bytes to change, and the name that comes in their place: none for blanks.
+    /// The bytes to change, and the name that replaces them, which is empty for blanks.
     edits: Vec<(usize, usize, &'static str)>,
 }
 
@@ -46,7 +46,7 @@ impl<'t> Source<'t> {
         }
     }
 
-    /// Adds a token, and pairs it with the last bracket that is open if it closes one.
+    /// Adds a token, and pairs it with the last open bracket if it closes one.
     fn push(&mut self, from: usize, to: usize, open: &mut Vec<usize>) -> Result<(), Refusal> {
         let n = self.tokens.len();
         self.tokens.push(Token { from, to, closing: 0 });
@@ -61,7 +61,7 @@ impl<'t> Source<'t> {
         Ok(())
     }
 
-    /// Returns how many tokens there are.
+    /// Returns the number of tokens.
     pub(crate) fn len(&self) -> usize {
         self.tokens.len()
     }
@@ -76,7 +76,7 @@ impl<'t> Source<'t> {
         n.checked_sub(1).map_or("", |n| self.at(n))
     }
 
-    /// Returns whether these tokens begin at `n`.
+    /// Returns whether the tokens `pattern` begin at `n`.
     pub(crate) fn matches(&self, n: usize, pattern: &[&str]) -> bool {
         pattern.iter().enumerate().all(|(k, text)| self.at(n + k) == *text)
     }
@@ -87,7 +87,7 @@ impl<'t> Source<'t> {
         found.map_or_else(|| self.refusal(n, "an item that does not end"), Ok)
     }
 
-    /// Returns the number of the bracket that closes the one at `n`, or `n` if it is no bracket.
+    /// Returns the number of the bracket that closes the one at `n`, or `n` if it is not a bracket.
     pub(crate) fn closing(&self, n: usize) -> usize {
         self.tokens.get(n).map_or(n, |token| token.closing.max(n))
     }
@@ -96,7 +96,7 @@ impl<'t> Source<'t> {
         Err(Refusal::new(self.tokens.get(n).map_or(self.text.len(), |token| token.from), message))
     }
 
-    /// Writes another name of the same width in the place of a token.
+    /// Replaces a token by another name of the same width.
     pub(crate) fn rename(&mut self, n: usize, name: &'static str) {
         self.edits.push((self.tokens[n].from, self.tokens[n].to, name));
     }
@@ -116,7 +116,8 @@ impl<'t> Source<'t> {
         self.blank_text(self.tokens[start].from, self.tokens[to].to);
     }
 
-    /// Blanks bytes, and the comments on the lines directly above that are not about the file.
+    /// Blanks bytes, and the comments on the lines directly above, except those that document the
+    /// file.
     fn blank_text(&mut self, from: usize, to: usize) {
         let mut start = from;
         let above = self.comments.partition_point(|comment| comment.1 <= from);
@@ -156,8 +157,8 @@ impl<'t> Source<'t> {
     }
 }
 
-/// Appends a blank for each character of a text, or nothing if it has another name. Blanks before
-/// the end of a line go.
+/// Appends a blank for each character of a text, or nothing if it has another name. Trailing blanks
+/// of a line are removed.
 fn push_blanks(output: &mut String, text: &str, name: &str) {
     for character in text.chars().filter(|_| name.is_empty()) {
         if character == '\n' {

@@ -3,7 +3,7 @@
 use crate::Refusal;
 use crate::ghosts::{clause_end, ghost_end};
 
-/// What a token is.
+/// The kind of a token.
 pub(crate) enum Kind {
     /// A word, a number, another literal, `::`, or one character of punctuation.
     Code,
@@ -41,7 +41,8 @@ pub(crate) fn word_end(bytes: &[u8], mut at: usize) -> usize {
     at
 }
 
-/// Reads a word, and what begins with one: a literal with a prefix, a ghost item or a clause.
+/// Reads a word, or a token that begins with one: a literal with a prefix, a ghost item or a
+/// clause.
 fn word_at(text: &str, at: usize) -> Result<(Kind, usize), Refusal> {
     let bytes = text.as_bytes();
     let to = word_end(bytes, at);
@@ -95,7 +96,7 @@ fn quote_end(text: &str, at: usize) -> Result<usize, Refusal> {
     }
 }
 
-/// Returns the end of a comment in `/*` and `*/`, which may hold others.
+/// Returns the end of a comment in `/*` and `*/`, which may be nested.
 fn block_comment_end(bytes: &[u8], at: usize) -> Result<usize, Refusal> {
     let (mut depth, mut end) = (0, at);
     while end + 1 < bytes.len() {

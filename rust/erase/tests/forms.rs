@@ -1,9 +1,9 @@
-//! Each form of the language that the crates use: what goes in, and what comes out.
+//! Each form of the language that the crates use: its input and its output.
 
 use rattle_erase::{Paths, erase};
 
-/// Erases a source that may name the crate `logos_token` and the toolchain's `json`. Returns what
-/// comes out without the line that each file gets at its end.
+/// Erases a source that may name the crate `logos_token` and the toolchain's `json`. Returns the
+/// output without the line that each file gets at its end.
 fn erased(text: &str) -> String {
     let libraries = vec![("logos_token", "crate"), ("json", "std::crates")];
     let paths = Paths { module: "logos_hir", libraries };
@@ -11,7 +11,7 @@ fn erased(text: &str) -> String {
     output.replacen("\nuse std::prelude::*;\n", "", 1)
 }
 
-/// Asserts what comes out of each source.
+/// Asserts the output for each source.
 fn assert_forms(forms: &[(&str, &str)]) {
     for (text, wanted) in forms {
         assert_eq!(erased(text), *wanted, "from: {text}");

@@ -1,4 +1,5 @@
-//! Expands the lexers of a Rust file in a build script. Build scripts call it as `logos_build`.
+//! Expands the lexers of a Rust file in a build script. Build scripts call it under the name
+//! `logos_build`.
 
 // In this package `std` is Rattle's.
 extern crate std as rust_std;
@@ -12,10 +13,10 @@ use rust_std::{env, eprintln, format, println};
 use std::alloc::{AllocError, Global, set_budget_of_program};
 use std::prelude::{HostRuntime, String as Word, Vec as List};
 
-/// The shape of the printed lexers.
+/// The shape of the generated lexers.
 #[derive(Clone, Copy, Debug, Default, PartialEq, Eq)]
 pub enum Shape {
-    /// Tables, and one loop that reads them. It compiles in a second.
+    /// Tables, and one loop that reads them. It takes a second to compile.
     #[default]
     Tables,
     /// A function for each state.
@@ -34,7 +35,7 @@ impl Shape {
     }
 }
 
-/// How files are expanded.
+/// The settings for expanding files.
 #[derive(Clone, Debug, Default)]
 #[must_use = "`expand` expands a file"]
 pub struct Build {
@@ -42,7 +43,7 @@ pub struct Build {
 }
 
 impl Build {
-    /// Returns the way in which [`expand`] expands files.
+    /// Returns the default settings.
     pub fn new() -> Build {
         Build::default()
     }
@@ -54,12 +55,12 @@ impl Build {
     }
 
     /// Expands the lexers of a Rust file of the package into a file of the same name in the folder
-    /// `OUT_DIR`, and returns its path. Everything else in the file stays as it is. The result is
-    /// written whole, or not at all.
+    /// `OUT_DIR`, and returns its path. Everything else in the file stays unchanged. The result is
+    /// written entirely, or not at all.
     ///
-    /// Warnings become warnings of Cargo. If the file has faults, or cannot be read, this prints
-    /// why and ends the build script with status 1. The library uses at most 1 GiB of memory, or
-    /// what the variable `LOGOS_MEMORY` says, such as `4G`.
+    /// Warnings become warnings of Cargo. If the file has faults, or cannot be read, the reason is
+    /// printed and the build script ends with exit status 1. The library uses at most 1 GiB of
+    /// memory, or the value of the variable `LOGOS_MEMORY`, such as `4G`.
     pub fn expand(&self, source: impl AsRef<Path>) -> PathBuf {
         let source = source.as_ref();
         self.try_expand(source).unwrap_or_else(|why| {
@@ -82,7 +83,7 @@ impl Build {
         Ok(output)
     }
 
-    /// Does what `logos_cli` does, and returns its warnings.
+    /// Runs `logos_cli`, and returns its warnings.
     fn run(&self, source: &str, output: &str) -> Result<String, String> {
         let words = [
             source,
@@ -106,12 +107,13 @@ impl Build {
 }
 
 /// Expands the lexers of a Rust file of the package in the shape of tables, and returns the path of
-/// the result, as [`Build::expand`] does.
+/// the result, like [`Build::expand`].
 pub fn expand(source: impl AsRef<Path>) -> PathBuf {
     Build::new().expand(source)
 }
 
-/// Returns a path as a word. Cargo reads paths from lines, so one with a line end is none.
+/// Returns a path as an argument. Cargo reads paths from lines, so a path with a line end is
+/// invalid.
 fn word(path: &Path) -> Result<&str, String> {
     let word = path
         .to_str()
@@ -129,7 +131,7 @@ fn words_of(words: &[&str]) -> Result<List<Word>, AllocError> {
     Ok(list)
 }
 
-/// Returns a text in which control characters but line ends are escaped.
+/// Returns a text in which control characters other than line ends are escaped.
 fn shown(text: &str) -> String {
     let mut shown = String::with_capacity(text.len());
     for c in text.chars() {

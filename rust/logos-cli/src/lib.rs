@@ -1,5 +1,5 @@
-//! For build scripts that keep lexers as a file: `expand` expands a Rust file as the program
-//! `logos_cli` does. The package has the three programs, too.
+//! For build scripts that keep lexers in a file: `expand` expands a Rust file like the program
+//! `logos_cli`. The package has the three programs, too.
 //!
 //! ```no_run
 //! // build.rs
@@ -12,12 +12,12 @@
 //! include!(concat!(env!("OUT_DIR"), "/lexers.rs"));
 //! ```
 //!
-//! The modules `logos_*` are crates of the repository, of which a build script takes the contracts
-//! out, as in the package `logos-codegen`.
+//! The modules `logos_*` are crates of the repository, from which a build script removes the
+//! contracts, as in the package `logos-codegen`.
 
 #![no_std]
 #![forbid(unsafe_code)]
-// Some parameters, imports, labels and braces are there for the contracts alone.
+// Some parameters, imports, labels and braces are needed only by the contracts.
 #![allow(
     dead_code,
     unused_braces,
@@ -26,14 +26,14 @@
     unused_parens,
     unused_variables
 )]
-// The sources follow the rules of Rattle, where a function takes `&Vec<T>`, and loops use indices.
+// The sources follow the rules of Rattle, in which functions take `&Vec<T>`, and loops use indices.
 #![allow(clippy::all, clippy::pedantic)]
 // The docs name items by their Rattle paths.
 #![allow(rustdoc::all)]
 
 extern crate rattle_std as std;
 
-// The crates of the package below are here under the paths that they have there.
+// The crates of the package below are available here under their paths there.
 use ::logos_codegen::*;
 
 mod expand;

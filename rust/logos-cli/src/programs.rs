@@ -1,16 +1,18 @@
-//! Runs a program on the runtime of this process. The programs `logos`, `logos_cli` and
-//! `logos_show` call it.
+//! Runs a program on the runtime of this process, or on another system. Called by the programs
+//! `logos`, `logos_cli` and `logos_show`, and by the playground.
 
-use std::alloc::set_budget_of_program;
-use std::io::Write;
-use std::prelude::HostRuntime;
+use crate::logos_host::ComparableFiles;
+use std::alloc::{Global, set_budget_of_program};
+use std::io::{Input, Write};
+use std::prelude::{HostRuntime, String, Vec};
 use std::process::ExitCode;
+use std::time::Clock;
 
-/// The line that `--version` prints after the version. The programs print none where it names no
+/// The line that `--version` prints after the version. The programs print none if it names no
 /// commit.
 const COMMIT: &str = concat!("commit: ", env!("LOGOS_COMMIT"), "\n");
 
-/// The exit status where an argument or a variable has a form that is not known.
+/// The exit status for an argument or a variable in an unknown form.
 const MISUSE: u8 = 2;
 
 /// Runs a program, which returns its exit status.
@@ -21,4 +23,16 @@ pub fn run(program: fn(&HostRuntime) -> u8) -> ExitCode {
     }
     std::fs::set_program(COMMIT.as_bytes());
     ExitCode::from(program(&HostRuntime))
+}
+
+/// Runs `logos_show` with these arguments, without its name, on other files, another clock and
+/// another standard input. Returns the exit status, and appends its output to `err` and `out`.
+pub fn show<F: ComparableFiles, S: Clock + Input>(
+    arguments: &[String],
+    files: &mut F,
+    system: &S,
+    err: &mut Vec<u8>,
+    out: &mut Vec<u8>,
+) -> u8 {
+    crate::logos_show::run_command(Global, arguments, files, system, err, out)
 }

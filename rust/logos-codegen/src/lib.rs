@@ -1,14 +1,14 @@
-//! The library behind `#[derive(Logos)]`: from the source of an enum to its lexer.
+//! The library that `#[derive(Logos)]` calls: from the source of an enum to its lexer.
 //!
 //! The items at the root are those of the crate `logos_codegen` of the repository. The modules
 //! `logos_*` are its crates. Their sources are written in Rattle, which is Rust with contracts, and
-//! are proved there. A build script takes the contracts out and leaves the rest as it is, so lines
-//! and columns are those of the `.rt` files. That the result does what was proved rests on that
+//! are proved there. A build script removes the contracts and leaves the rest unchanged, so lines
+//! and columns are those of the `.rt` files. That the result behaves as proved depends on that
 //! script, on `rattle-std`, and on the Rust compiler. The tests of the repository run both.
 
 #![no_std]
 #![forbid(unsafe_code)]
-// Some parameters, imports, labels and braces are there for the contracts alone.
+// Some parameters, imports, labels and braces are needed only by the contracts.
 #![allow(
     dead_code,
     unused_braces,
@@ -17,7 +17,7 @@
     unused_parens,
     unused_variables
 )]
-// The sources follow the rules of Rattle, where a function takes `&Vec<T>`, and loops use indices.
+// The sources follow the rules of Rattle, in which functions take `&Vec<T>`, and loops use indices.
 #![allow(clippy::all, clippy::pedantic)]
 // The docs name items by their Rattle paths.
 #![allow(rustdoc::all)]

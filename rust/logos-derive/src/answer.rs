@@ -1,16 +1,16 @@
-//! What the library answers about an enum, in types of Rust's own library.
+//! The library's answers about an enum, in types of Rust's own library.
 
-use crate::packed::packed;
 use crate::question::Question;
 use logos_codegen::logos_codegen::generator::Config;
 use logos_codegen::logos_derive as library;
+use logos_codegen::logos_help::FaultHelps;
 use logos_codegen::logos_tables::Shape;
 use logos_codegen::logos_token::token::Span;
-use rattle_std::alloc::{Global, set_budget_of_program};
+use rattle_std::alloc::{set_budget_of_program, Global};
 use std::ops::Range;
-use std::panic::{AssertUnwindSafe, catch_unwind};
+use std::panic::{catch_unwind, AssertUnwindSafe};
 
-/// What the library answers: the implementation, if the enum is accepted, and faults and warnings.
+/// The library's answer: the implementation, if the enum is accepted, and faults and warnings.
 pub struct Answer {
     pub implementation: Option<Implementation>,
     pub diagnostics: Vec<Diagnostic>,
@@ -24,9 +24,9 @@ pub struct Implementation {
 
 /// A piece of the source that the implementation repeats.
 pub struct Piece {
-    /// Where it is in the implementation, in bytes.
+    /// Its range in the implementation, in bytes.
     pub range: Range<usize>,
-    /// Where its tokens are in the source, in bytes.
+    /// The range of its tokens in the source, in bytes.
     pub source: Range<usize>,
 }
 
@@ -35,25 +35,25 @@ pub struct Diagnostic {
     pub is_error: bool,
     /// The first line, after the code of a fault in brackets.
     pub message: String,
-    /// What it is about, in bytes of the source.
+    /// The primary span, in bytes of the source.
     pub span: Range<usize>,
-    /// The part of a literal that is at fault, if that is not all of `span`.
+    /// The faulty part of a literal, if that is not all of `span`.
     pub carets: Option<Range<usize>>,
     pub labels: Vec<Label>,
     /// Lines that begin with `note: ` or `help: `.
     pub notes: Vec<String>,
 }
 
-/// Another place of a diagnostic, with what is said of it.
+/// Another span of a diagnostic, with its label.
 pub struct Label {
     pub span: Range<usize>,
     pub text: String,
 }
 
-/// Why there is no answer, and what to do.
+/// The reason that there is no answer, and the way to fix it.
 pub struct Failure(pub String);
 
-/// The shape of an implementation, as the variable `LOGOS_SHAPE` names it.
+/// The shape of an implementation, named as in the variable `LOGOS_SHAPE`.
 #[derive(Clone, Copy)]
 pub struct ShapeName(pub &'static str);
 
@@ -75,22 +75,22 @@ impl ShapeName {
     }
 }
 
-/// Sets how much memory the library uses.
+/// Sets the maximum memory that the library uses.
 ///
 /// # Errors
 ///
-/// Returns what to say if the variable `LOGOS_MEMORY` names no number of bytes.
+/// Returns a message if the variable `LOGOS_MEMORY` is not a number of bytes.
 pub fn set_budget() -> Result<(), Failure> {
     set_budget_of_program().map_err(|error| Failure(error.to_string()))
 }
 
-/// Asks the library for the implementation of an enum.
+/// Calls the library for the implementation of an enum.
 ///
 /// # Errors
 ///
-/// Returns what to say if memory is refused, or if the library panics, which is a mistake in it.
+/// Returns a message if memory runs out, or if the library panics, which is a mistake in it.
 pub fn ask(question: &Question, shape: ShapeName) -> Result<Answer, Failure> {
-    let derive = || library::derive(Global, &question.text, shape.shape());
+    let derive = || library::derive(Global, &question.text, shape.shape(), &FaultHelps);
     match catch_unwind(AssertUnwindSafe(derive)) {
         Ok(Ok(derivation)) => Ok(answer(&derivation)),
         Ok(Err(_)) => Err(Failure(format!(
@@ -114,10 +114,9 @@ fn answer(derivation: &library::Derivation) -> Answer {
     }
 }
 
-fn implementation(found: &library::Implementation) -> Implementation {
-    let end = found.pieces.last().map_or(0, |piece| piece.to);
+fn implementation(found: &library::Sink) -> Implementation {
     Implementation {
-        text: packed(found.text.as_str(), end),
+        text: found.text.as_str().into(),
         pieces: found.pieces.iter().map(piece).collect(),
     }
 }

@@ -10,7 +10,7 @@ pub fn failure(failure: &Failure, question: &Question) -> TokenStream {
     error_at(&failure.0, question.name())
 }
 
-/// Returns the error for a fault, under the tokens that it is about.
+/// Returns the error for a fault, at its tokens.
 pub fn error(fault: &Diagnostic, question: &Question) -> TokenStream {
     error_at(&text(fault, question), question.place(&fault.span))
 }
@@ -36,14 +36,14 @@ pub fn text(found: &Diagnostic, question: &Question) -> String {
     lines.join("\n")
 }
 
-/// Returns the note for another place: what is said of it, and its tokens.
+/// Returns the note for another span: its label, and its tokens.
 fn other(label: &Label, question: &Question) -> Option<String> {
     let tokens = question.text.get(label.span.clone())?;
     Some(format!("note: {}: `{}`", label.text, shortened(tokens)))
 }
 
 /// Returns the note for a part of a literal: the line of the literal with carets under the part. A
-/// line that cannot be shown so is named by its number.
+/// line that cannot be shown with carets is named by its number.
 fn in_literal(found: &Diagnostic, question: &Question) -> Option<String> {
     let part = found.carets.as_ref().unwrap_or(&found.span);
     let literal = question.place(part)?.literal?;
@@ -78,15 +78,16 @@ fn marked(part: &Range<usize>, question: &Question) -> usize {
     first.map_or(1, |text| text.chars().count().max(1))
 }
 
-/// Returns whether a character has one column in each terminal: whether carets below it are right.
+/// Returns whether a character has one column in each terminal, so that carets below it are
+/// aligned.
 fn has_one_column(c: char) -> bool {
     matches!(c, ' '..='~' | '\u{a1}'..='\u{2ff}' | '\u{370}'..='\u{52f}') && c != '\u{ad}'
 }
 
-/// The longest line that is shown as a whole, in characters.
+/// The maximum length of a line that is shown entirely, in characters.
 const LONG: usize = 80;
 
-/// Returns a text of one line, cut where it is long.
+/// Returns a text on one line, cut if it is long.
 fn shortened(text: &str) -> String {
     let line: String = text
         .trim()

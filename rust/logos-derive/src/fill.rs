@@ -6,8 +6,8 @@ use proc_macro::{Delimiter, Group, Span, TokenStream, TokenTree};
 use std::ops::Range;
 use std::vec::IntoIter;
 
-/// What precedes an implementation: what clippy says of text that is not the user's. Of the user's
-/// tokens clippy sees that they come from a macro.
+/// The attributes before an implementation: they silence lints of clippy for generated code. Clippy
+/// detects by itself that the user's tokens come from a macro.
 const LINTS: &str = "#[allow(clippy::manual_range_contains, clippy::question_mark)] ";
 
 /// The user's tokens for a part of an implementation.
@@ -15,10 +15,11 @@ struct Filling {
     /// The part of the implementation, in bytes.
     range: Range<usize>,
     tokens: Vec<TokenTree>,
-    /// The place of a piece of an attribute, such as a callback. What the implementation says of it
-    /// right after it is shown there, too.
+    /// The span of a piece of an attribute, such as a callback. Errors in the generated code right
+    /// after it are shown there, too.
     anchor: Option<Span>,
-    /// The type of the field, first and last token, if this is the name of a variant that has one.
+    /// The first and last token of the type of the field, if this is the name of a variant that has
+    /// one.
     field: Option<(Span, Span)>,
 }
 
@@ -27,7 +28,7 @@ struct Filling {
 ///
 /// # Errors
 ///
-/// Returns what to say if the implementation is no Rust.
+/// Returns a message if the implementation is not Rust.
 pub fn tokens(
     implementation: &Implementation,
     question: &Question,
@@ -44,7 +45,8 @@ pub fn tokens(
     Ok(Rest { name, fillings }.fill(stream, None).0)
 }
 
-/// Returns the tokens of a piece. It stays as it is printed where the source has no whole tokens.
+/// Returns the tokens of a piece. The piece keeps its printed form if the source has no whole
+/// tokens there.
 fn filling(piece: &Piece, question: &Question) -> Option<Filling> {
     let tokens = question.cut(&piece.source)?;
     let is_in_attribute = question.is_in_attribute(piece.source.start);
@@ -56,7 +58,7 @@ fn filling(piece: &Piece, question: &Question) -> Option<Filling> {
     })
 }
 
-/// Returns the span of the last token, if that is a name, else of the first.
+/// Returns the span of the last token, if that is a name, otherwise of the first.
 fn anchor(tokens: &[TokenTree]) -> Option<Span> {
     match tokens {
         [.., TokenTree::Ident(name)] => Some(name.span()),
@@ -64,7 +66,7 @@ fn anchor(tokens: &[TokenTree]) -> Option<Span> {
     }
 }
 
-/// Returns a name that is not in a text.
+/// Returns a name that does not occur in a text.
 fn new_name(text: &str) -> String {
     let mut name = String::from("logos_piece");
     while text.contains(&name) {
@@ -73,7 +75,7 @@ fn new_name(text: &str) -> String {
     name
 }
 
-/// Returns the text of an implementation with a name in the place of each piece that is filled in.
+/// Returns the text of an implementation with a name instead of each piece that is filled in.
 fn with_name(text: &str, fillings: &[Filling], name: &str) -> String {
     let mut named = String::with_capacity(LINTS.len() + text.len());
     named.push_str(LINTS);
@@ -87,16 +89,16 @@ fn with_name(text: &str, fillings: &[Filling], name: &str) -> String {
     named
 }
 
-/// What is still to be filled in where the name is.
+/// The fillings that remain for the occurrences of the name.
 struct Rest {
     name: String,
     fillings: IntoIter<Filling>,
 }
 
 impl Rest {
-    /// Fills the pieces of a group in. The other tokens are shown at the anchor that precedes them
-    /// there: one of the group itself, or of a group in it. Parentheses begin with the anchor
-    /// before them. Returns the last anchor of the group itself, too.
+    /// Fills in the pieces of a group. Each other token is shown at the anchor before it: one of
+    /// the group itself, or of a group in it. Parentheses begin with the anchor before them.
+    /// Returns the last anchor of the group itself, too.
     fn fill(&mut self, stream: TokenStream, before: Option<Span>) -> (TokenStream, Option<Span>) {
         if self.is_done() && before.is_none() {
             return (stream, None);
@@ -124,7 +126,7 @@ impl Rest {
         self.fillings.as_slice().is_empty()
     }
 
-    /// Returns what a token stands for, if it is the name.
+    /// Returns the filling for a token, if it is the name.
     fn filling_at(&mut self, tree: &TokenTree) -> Option<Filling> {
         match tree {
             TokenTree::Ident(word) if !self.is_done() && word.to_string() == self.name => {

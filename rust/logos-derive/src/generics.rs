@@ -1,4 +1,4 @@
-//! The generic parameters of an enum that is refused, for the implementation in its place.
+//! The generic parameters of a refused enum, for the implementation that replaces its lexer.
 
 use crate::stub::{Trees, is_punct};
 use proc_macro::{Delimiter, Group, Ident, Span, TokenStream, TokenTree};
@@ -11,18 +11,18 @@ use std::iter::from_fn;
 pub struct Generics {
     pub parameters: TokenStream,
     pub arguments: TokenStream,
-    /// The clause `where`.
+    /// The `where` clause.
     pub bounds: TokenStream,
 }
 
 /// The types that an enum names for its type parameters.
 pub type Types = HashMap<String, TokenStream>;
 
-/// Reads the generic parameters of an enum, and its clause `where`.
+/// Reads the generic parameters of an enum, and its `where` clause.
 ///
-/// In the place of a type parameter is the type that the enum names for it, and `()` where it names
-/// none: rustc would not know which type is meant in `Token::lexer(text)`. A parameter with bounds
-/// of which nothing is known stays one.
+/// A type parameter is replaced by the type that the enum names for it, or by `()` if it names
+/// none: rustc could not infer the type in `Token::lexer(text)`. A parameter with bounds stays if
+/// the enum names no type for it.
 pub fn read_generics(trees: &mut Trees, types: &Types) -> Generics {
     let mut generics = Generics::default();
     let parameters = match is_punct(trees.peek(), '<') {
@@ -71,7 +71,7 @@ fn is_brace(tree: &TokenTree) -> bool {
     matches!(tree, TokenTree::Group(group) if group.delimiter() == Delimiter::Brace)
 }
 
-/// Reads parameters between angles, up to the one that closes them.
+/// Reads parameters between angle brackets, up to the closing one.
 fn read_parameters(trees: &mut Trees) -> Vec<Vec<TokenTree>> {
     let (mut found, mut depth, mut after_minus) = (vec![Vec::new()], 0, false);
     for tree in trees.by_ref() {
@@ -93,8 +93,8 @@ fn read_parameters(trees: &mut Trees) -> Vec<Vec<TokenTree>> {
     found
 }
 
-/// Returns tokens in which all lifetimes but `'static` are `'s`, also those that are left out after
-/// `&`.
+/// Returns tokens in which all lifetimes except `'static` are `'s`, including those that are left
+/// out after `&`.
 pub fn with_lifetime(tokens: TokenStream) -> TokenStream {
     let mut renamed = Vec::new();
     let mut before = ' ';
@@ -124,7 +124,7 @@ fn lifetime(tree: TokenTree) -> TokenTree {
     }
 }
 
-/// Returns a token with the lifetimes in it.
+/// Returns a token with its lifetimes replaced.
 fn inner(tree: TokenTree) -> TokenTree {
     match &tree {
         TokenTree::Group(group) => {

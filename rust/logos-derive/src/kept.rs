@@ -1,9 +1,10 @@
-//! Answers that are kept from one build to the next.
+//! A cache of answers from one build to the next.
 //!
-//! rustc expands a macro again in each build of its crate. An answer depends on the enum, the shape
-//! and the library alone, so it is kept in the folder that Cargo gives the macro. A file holds what
-//! was asked, which is compared before the answer is used. Files are written beside and renamed, so
-//! that none is ever seen in part. Where the folder cannot be written nothing is kept.
+//! rustc expands a macro again in each build of its crate. An answer depends only on the enum, the
+//! shape and the library, so it is kept in the folder that Cargo provides to the macro. A file
+//! contains the question, which is compared before the answer is used. Files are written under
+//! another name and renamed, so that no partial file is ever read. If the folder cannot be written,
+//! nothing is kept.
 
 use crate::answer::{Answer, ShapeName};
 use crate::record;
@@ -13,29 +14,29 @@ use std::hash::{Hash, Hasher};
 use std::io::{self, Write};
 use std::path::{Path, PathBuf};
 
-/// The folder of the macro. It is there where Cargo builds.
+/// The folder of the macro. It exists where Cargo builds.
 const FOLDER: &str = env!("OUT_DIR");
 
-/// What tells this library from others: the sum of its sources.
+/// The identity of this version of the library: a checksum of its sources.
 const LIBRARY: &str = env!("LOGOS_LIBRARY");
 
-/// The most bytes of one file.
+/// The maximum length of a file, in bytes.
 const LONGEST: usize = 8 << 20;
 
-/// The most bytes of all files. Past it all are removed.
+/// The maximum length of all files, in bytes. Beyond it all are removed.
 const MOST: u64 = 128 << 20;
 
-/// What a file counts at least, in bytes, so that there are not too many.
+/// The minimum length for which a file counts, in bytes, which bounds their number.
 const LEAST: u64 = 32 << 10;
 
-/// The place of an answer.
+/// The location of an answer in the cache.
 pub struct Place {
     asked: String,
     path: PathBuf,
 }
 
 impl Place {
-    /// Returns the place of the answer about an enum.
+    /// Returns the location of the answer about an enum.
     pub fn new(text: &str, shape: ShapeName) -> Place {
         let asked = format!("{LIBRARY} {} {text}", shape.0);
         let mut sum = DefaultHasher::new();
@@ -44,17 +45,17 @@ impl Place {
         Place { asked, path }
     }
 
-    /// Returns the answer that is kept, if there is one.
+    /// Returns the stored answer, if there is one.
     pub fn find(&self) -> Option<Answer> {
         let bytes = fs::read(&self.path).ok()?;
         record::read(&bytes, &self.asked)
     }
 
-    /// Keeps the answer about an enum that is accepted.
+    /// Stores the answer about an accepted enum.
     pub fn keep(&self, answer: &Answer) {
         let bytes = record::written(answer, &self.asked);
         if let Some(bytes) = bytes.filter(|bytes| bytes.len() <= LONGEST) {
-            // Without it the next build asks again.
+            // Without it the next build calls the library again.
             let _ = self.write(&bytes);
         }
     }
@@ -80,7 +81,7 @@ fn folder() -> PathBuf {
     Path::new(FOLDER).join("answers")
 }
 
-/// Makes the folder, and removes its files if there would be too many bytes with another one.
+/// Creates the folder, and removes its files if they would have too many bytes with another one.
 fn make_room(more: u64) -> io::Result<()> {
     if !folder().is_dir() {
         fs::create_dir(folder())?;

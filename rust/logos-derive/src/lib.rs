@@ -1,21 +1,21 @@
 //! The macro `#[derive(Logos)]`.
 //!
-//! Programs use it by the crate `logos`, which hands it on. It calls the library `logos-codegen` in
-//! the same process, and puts the implementation that the library makes in the place of the derive.
+//! Programs use it through the crate `logos`, which re-exports it. It calls the library
+//! `logos-codegen` in the same process, and expands to the implementation that the library returns.
 //!
-//! What you wrote in the enum keeps its places, so the compiler points into your callbacks and
-//! types where you wrote them. A fault of the enum is an error under the tokens that it is about,
-//! with its code in brackets. Stable Rust has no places inside of a literal: there a copy of the
-//! line with carets is part of the message. It has no warnings of macros either: they come as uses
-//! of a deprecated constant named `logos`, and `#[allow(deprecated)]` on the enum silences them.
+//! Your tokens keep their spans, so errors in your callbacks and types point into the enum. A fault
+//! of the enum is an error at its tokens, with its code in brackets. Stable Rust has no spans
+//! inside a literal: for those the message contains a copy of the line with carets. It has no
+//! warnings from macros either: they are reported as uses of a deprecated constant named `logos`,
+//! and `#[allow(deprecated)]` on the enum silences them.
 //!
-//! # Variables of the environment
+//! # Environment variables
 //!
 //! - `LOGOS_SHAPE`: the shape of the implementation: `tables`, the default, `tailcall` or
-//!   `state_machine`. With the feature `state_machine_codegen` that one is the default. Cargo
-//!   builds a package anew if the variable has changed.
-//! - `LOGOS_MEMORY`: the most memory that the library uses, such as `500M` or `4G`. 1 GiB without
-//!   it.
+//!   `state_machine`. With the feature `state_machine_codegen` the default is that one. Cargo
+//!   rebuilds a package if the variable has changed.
+//! - `LOGOS_MEMORY`: the maximum memory that the library uses, such as `500M` or `4G`. The
+//!   default is 1 GiB.
 
 #![forbid(unsafe_code)]
 #![warn(missing_docs)]
@@ -25,7 +25,6 @@ mod fault;
 mod fill;
 mod generics;
 mod kept;
-mod packed;
 mod question;
 mod record;
 mod stub;
@@ -75,30 +74,32 @@ use question::Question;
 /// A variant may have several. After the literal both take:
 ///
 /// - a callback, or `callback = ..`: a path, or a closure of one parameter. It is called with the
-///   lexer at each match. A variant without a field has no value; the value of a field is what the
-///   callback returns, and the slice without a callback. A callback may also return `bool`,
-///   `Option` or `Result` of the value, `Skip`, `Filter`, `FilterResult` or the token.
-/// - `priority = 3`: of matches of the same length the one with the highest priority is taken. By
-///   default it grows with the number of bytes that a pattern matches at least.
-/// - `ignore(case)`: letters in both cases.
-/// - `allow_greedy = true`, of a `regex`: lets it end in `.*` or the like, which takes all that is
-///   left of the input or the line.
+///   lexer at each match. A variant without a field has no value; the value of a field is the one
+///   that the callback returns, and the slice without a callback. A callback may also return
+///   `bool`, `Option` or `Result` of the value, `Skip`, `Filter`, `FilterResult` or the token.
+/// - `priority = 3`: among matches of the same length the one with the highest priority is taken.
+///   By default it grows with the minimum number of bytes that the pattern matches.
+/// - `ignore(case)`: letters match in both cases.
+/// - `allow_greedy = true`, for a `regex`: permits a final `.*` or similar, which matches the rest
+///   of the input or of the line.
 ///
 /// # Attributes of the enum
 ///
-/// `#[logos(..)]` takes, any of them also several times if that is said:
+/// `#[logos(..)]` takes these options. Those marked "repeatable" may occur several times.
 ///
-/// - `skip literal` or `skip(literal, callback, priority = 3, ..)`, several times: a regular
-///   expression whose matches are left out.
-/// - `subpattern name = literal`, several times: a part of patterns, as `(?&name)`.
+/// - `skip literal` or `skip(literal, callback, priority = 3, ..)`, repeatable: a regular
+///   expression whose matches are skipped.
+/// - `subpattern name = literal`, repeatable: a part of patterns, used as `(?&name)`.
 /// - `extras = Type`: the state of the lexer, `extras`, which callbacks read and change. `()` by
 ///   default.
 /// - `error = Type` or `error(Type, callback)`: the type of errors, which has to be
-///   `Default + Clone + PartialEq + Debug`, and what makes one from the lexer. `()` by default.
-/// - `type T = Type`, several times: the type of a type parameter.
-/// - `utf8 = false`: inputs are `[u8]`, and not `str`.
-/// - `crate = path`: where the crate `logos` is, if it has another name.
-/// - `export_dir = "path"`: accepted, and without effect here. `logos export` writes charts.
+///   `Default + Clone + PartialEq + Debug`, and the function that makes one from the lexer. `()`
+///   by default.
+/// - `type T = Type`, repeatable: the type for a type parameter.
+/// - `utf8 = false`: inputs are `[u8]` instead of `str`.
+/// - `crate = path`: the path of the crate `logos`, if it has another name.
+/// - `export_dir = "path"`: accepted, but without effect here. `logos export` writes state
+///   diagrams.
 #[proc_macro_derive(Logos, attributes(logos, extras, error, end, token, regex))]
 pub fn derive(item: TokenStream) -> TokenStream {
     let question = Question::new(item.clone());
@@ -118,7 +119,7 @@ pub fn derive(item: TokenStream) -> TokenStream {
     tokens
 }
 
-/// Returns the answer about an enum: the one that is kept, or else the library's.
+/// Returns the answer about an enum: the stored one, otherwise the library's.
 fn answer_to(question: &Question, shape: ShapeName) -> Result<Answer, Failure> {
     let place = kept::Place::new(&question.text, shape);
     let answer = match place.find() {
@@ -156,7 +157,7 @@ fn implementation(
     Ok((tokens, false))
 }
 
-/// Returns the shape of the implementation. A variable without a text counts as not set.
+/// Returns the shape of the implementation. An empty variable counts as not set.
 fn shape() -> Result<ShapeName, Failure> {
     let word = std::env::var("LOGOS_SHAPE").unwrap_or_default();
     if word.is_empty() {
@@ -170,8 +171,8 @@ fn shape() -> Result<ShapeName, Failure> {
     })
 }
 
-/// Returns an item that reads the variable, so that Cargo builds the package anew where it has
-/// changed. A function that nobody calls leaves no trace in what the compiler writes.
+/// Returns an item that reads the variable, so that Cargo rebuilds the package if it has changed. A
+/// function that is never called leaves no trace in the compiler's output.
 fn tracked() -> TokenStream {
     "const _: () = { #[allow(dead_code)] fn tracked() { \
      let _ = ::core::option_env!(\"LOGOS_SHAPE\"); } };"

@@ -1,4 +1,4 @@
-//! The enum as a text, and where its tokens stand there.
+//! The enum as a text, and the ranges of its tokens there.
 
 use proc_macro::{Delimiter, Group, Ident, Literal, Spacing, Span, TokenStream, TokenTree};
 use std::ops::Range;
@@ -27,11 +27,11 @@ struct Token {
     is_literal: bool,
 }
 
-/// The tokens over which a byte range reaches.
+/// The tokens in a byte range.
 pub struct Place {
     pub first: Span,
     pub last: Span,
-    /// The byte range of the literal in which the place lies, if it is a part of one.
+    /// The byte range of the literal, if the range is a part of one.
     pub literal: Option<Range<usize>>,
 }
 
@@ -44,12 +44,12 @@ impl Question {
         question
     }
 
-    /// Returns the token trees of a byte range, if each of them lies there as a whole.
+    /// Returns the token trees of a byte range, if it contains each of them entirely.
     pub fn cut(&self, range: &Range<usize>) -> Option<Vec<TokenTree>> {
         cut(&self.nodes, range.start, range.end)
     }
 
-    /// Returns the places of the first and the last token of the type of a field, if a variant with
+    /// Returns the spans of the first and the last token of the type of a field, if a variant with
     /// one field has the name that ends at a byte offset.
     pub fn field_after(&self, end: usize) -> Option<(Span, Span)> {
         let variants = self.nodes.last()?;
@@ -64,18 +64,18 @@ impl Question {
         (name.to == end).then_some((first.tree.span(), last.tree.span()))
     }
 
-    /// Returns whether a byte offset lies in an attribute.
+    /// Returns whether a byte offset is in an attribute.
     pub fn is_in_attribute(&self, at: usize) -> bool {
         is_in_attribute(&self.nodes, at)
     }
 
-    /// Returns the place of the enum's name.
+    /// Returns the tokens of the enum's name.
     pub fn name(&self) -> Option<Place> {
         let name = self.name_node()?;
         self.place(&(name.from..name.to))
     }
 
-    /// Returns how the enum is called in a message.
+    /// Returns the description of the enum in a message.
     pub fn described(&self) -> String {
         match self.name_node() {
             Some(name) => format!("the enum `{}`", name.tree),
@@ -90,7 +90,7 @@ impl Question {
         self.nodes.get(self.nodes.iter().position(is_enum)? + 1)
     }
 
-    /// Returns the place of the tokens that a byte range meets.
+    /// Returns the tokens that overlap a byte range.
     pub fn place(&self, range: &Range<usize>) -> Option<Place> {
         let from = range.start;
         let to = range.end.max(from.saturating_add(1));
@@ -138,10 +138,10 @@ impl Question {
         }
     }
 
-    /// Appends a group, and returns what is in it and where it ends.
+    /// Appends a group, and returns its content and its end.
     fn print_group(&mut self, group: &Group) -> (Vec<Node>, usize) {
         let Some((open, close)) = delimiters(group.delimiter()) else {
-            // What a macro hands on of its argument has no delimiters.
+            // A group from the argument of another macro has no delimiters.
             let inner = self.print(group.stream());
             let to = inner.last().map_or(self.text.len(), |node| node.to);
             return (inner, to);
@@ -151,8 +151,8 @@ impl Question {
         (inner, self.push(close, group.span_close()))
     }
 
-    /// Appends a token, and returns where it ends. A blank follows it, or a line end where that
-    /// keeps lines short.
+    /// Appends a token, and returns its end. A blank follows it, or a line end if that keeps lines
+    /// short.
     fn push(&mut self, text: &str, span: Span) -> usize {
         let from = self.text.len();
         let to = from + text.len();
@@ -177,7 +177,7 @@ impl Question {
     }
 }
 
-/// Returns how a name is printed. `$crate` is no name that a source can hold.
+/// Returns the printed form of a name. A source cannot contain `$crate`.
 fn printed(name: &Ident) -> String {
     name.to_string().trim_start_matches('$').into()
 }
@@ -191,7 +191,7 @@ fn delimiters(delimiter: Delimiter) -> Option<(&'static str, &'static str)> {
     }
 }
 
-/// Returns the trees of a range that begins and ends where trees do, on one level.
+/// Returns the trees of a range that begins and ends with trees of one level.
 fn cut(nodes: &[Node], from: usize, to: usize) -> Option<Vec<TokenTree>> {
     let first = nodes.partition_point(|node| node.to <= from);
     let end = nodes.partition_point(|node| node.from < to);
@@ -208,7 +208,7 @@ fn is_parenthesized(node: &Node) -> bool {
     matches!(&node.tree, TokenTree::Group(group) if group.delimiter() == Delimiter::Parenthesis)
 }
 
-/// Returns how many trees precede the type of a field: its attributes.
+/// Returns the number of trees before the type of a field: its attributes.
 fn field_start(nodes: &[Node]) -> usize {
     let is_hash = |node: &Node| matches!(&node.tree, TokenTree::Punct(p) if p.as_char() == '#');
     2 * nodes.chunks(2).take_while(|pair| is_hash(&pair[0])).count()

@@ -1,13 +1,13 @@
-//! Answers as bytes. Numbers have eight bytes, the lowest first; before a text or a list stands its
-//! length.
+//! Answers as bytes. Numbers have eight bytes, the lowest first; a text or a list is preceded by
+//! its length.
 
 use crate::answer::{Answer, Diagnostic, Implementation, Label, Piece};
 use std::ops::Range;
 
-/// What a whole record ends with.
+/// The end of a complete record.
 const END: &str = "end of the answer";
 
-/// Returns the bytes of an answer about an enum that is accepted, after what was asked.
+/// Returns the bytes of an answer about an accepted enum, after the question.
 pub fn written(answer: &Answer, asked: &str) -> Option<Vec<u8>> {
     let implementation = answer.implementation.as_ref()?;
     let mut out = Vec::with_capacity(asked.len() + implementation.text.len() + (4 << 10));
@@ -22,7 +22,7 @@ pub fn written(answer: &Answer, asked: &str) -> Option<Vec<u8>> {
     Some(out)
 }
 
-/// Returns the answer of a record, if it is whole and answers what is asked.
+/// Returns the answer of a record, if it is complete and has this question.
 pub fn read(bytes: &[u8], asked: &str) -> Option<Answer> {
     let mut rest = bytes;
     let rest = &mut rest;

@@ -1,20 +1,20 @@
-//! The implementation for an enum that is refused. It finds nothing; it is there so that the uses
-//! of the enum as a lexer are no errors beside the faults.
+//! The implementation for a refused enum. It finds nothing, and exists so that uses of the enum as
+//! a lexer are not errors in addition to the faults.
 
-use crate::generics::{Generics, Types, read_generics, with_lifetime};
+use crate::generics::{read_generics, with_lifetime, Generics, Types};
 use crate::type_syntax::{is_path, is_type};
 use proc_macro::{Delimiter, Group, TokenStream, TokenTree};
 use std::collections::HashMap;
 use std::iter::Peekable;
 
-/// What the implementation names.
+/// The names for the implementation.
 struct Head {
     name: TokenTree,
     generics: Generics,
     options: Options,
 }
 
-/// The options of `#[logos(..)]` that the implementation shows.
+/// The options of `#[logos(..)]` that the implementation needs.
 struct Options {
     path: TokenStream,
     source: TokenStream,
@@ -24,10 +24,10 @@ struct Options {
     types: Types,
 }
 
-/// The tokens of an item that are still to be read.
+/// The remaining tokens of an item.
 pub type Trees = Peekable<proc_macro::token_stream::IntoIter>;
 
-/// What is written in place of the words that begin with `logos_`.
+/// The template, in which words that begin with `logos_` are replaced.
 const TEXT: &str = "\
 impl<'s, logos_parameters> logos_path::Logos<'s> for logos_name<logos_arguments> logos_where {
     type Error = logos_error;
@@ -38,18 +38,19 @@ impl<'s, logos_parameters> logos_path::Logos<'s> for logos_name<logos_arguments>
 }
 impl<'s, logos_parameters> logos_path::internal::Tables<'s> for logos_name<logos_arguments>
 logos_where {
-    const BY_BYTES: bool = false;
-    type Rows = [::core::primitive::u32; 0];
-    const ROWS: &'static [::core::primitive::u32; 0] = &[];
+    const DATA: logos_path::internal::_Data = logos_path::internal::_Data::NOTHING;
+    type Unpacked = ();
+    const UNPACKED: &'static () = &();
+    const ROWS: &'static [::core::primitive::u32] = &[];
+    const LASTS: &'static [::core::primitive::u32] = &[];
+    const MASKS: &'static [[[::core::primitive::u8; 8]; 256]] = &[];
+    const RANGES: &'static [logos_path::internal::_Ranges] = &[];
+    const FOLDED: &'static [::core::primitive::u32] = &[];
     fn bytes(_: &'s logos_source) -> &'s [::core::primitive::u8] { &[] }
     fn plain(_: ::core::primitive::usize) -> ::core::option::Option<Self> { loop {} }
-    fn act(
-        _: &mut logos_path::Lexer<'s, Self>,
-        _: ::core::primitive::usize,
-        _: ::core::primitive::usize,
-    ) -> ::core::option::Option<::core::result::Result<Self, logos_error>> { loop {} }
-    fn again(_: &[::core::primitive::u8], _: ::core::primitive::usize)
-        -> (::core::primitive::usize, ::core::primitive::usize) { loop {} }
+    fn act(_: &mut logos_path::Lexer<'s, Self>, _: ::core::primitive::usize)
+        -> logos_path::internal::CallbackResult<'s, Self> { loop {} }
+    fn error(_: &mut logos_path::Lexer<'s, Self>) -> logos_error { loop {} }
 }";
 
 /// Returns the implementation, if the item is an enum.
@@ -72,7 +73,7 @@ pub fn stub(item: TokenStream) -> Option<TokenStream> {
     Some(replace(TEXT.parse().ok()?, &HashMap::from(words)))
 }
 
-/// Puts tokens in the place of words.
+/// Replaces words by tokens.
 fn replace(text: TokenStream, words: &HashMap<&str, TokenStream>) -> TokenStream {
     let replaced = |tree| match &tree {
         TokenTree::Ident(word) => match words.get(word.to_string().as_str()) {
@@ -138,7 +139,7 @@ fn attribute(trees: &mut Trees, options: &mut Options) -> Option<()> {
 }
 
 /// Takes an option: `name = value`, `error(type, ..)` or `type name = value`. Faulty values are
-/// passed over.
+/// ignored.
 fn take(option: &[TokenTree], options: &mut Options) {
     let [TokenTree::Ident(name), rest @ ..] = option else {
         return;
@@ -171,7 +172,7 @@ fn take(option: &[TokenTree], options: &mut Options) {
     }
 }
 
-/// Takes the type of a type parameter.
+/// Takes the type for a type parameter.
 fn take_type(parameter: &str, value: &[TokenTree], options: &mut Options) {
     if is_type(value) {
         let tokens = value.iter().cloned().collect();

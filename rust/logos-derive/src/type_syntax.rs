@@ -1,12 +1,12 @@
-//! Tells whether tokens are a type, of the kinds that options mostly have: paths, references,
+//! Tests whether tokens are a type, of the kinds that options usually have: paths, references,
 //! tuples, slices and arrays.
 
 use proc_macro::{Delimiter, Group, TokenTree};
 
-/// Tokens that are still to be read.
+/// The remaining tokens.
 struct Rest<'a>(&'a [TokenTree]);
 
-/// Returns whether the tokens are one type. Kinds that are left out are none.
+/// Returns whether the tokens are one type. Other kinds of types are not recognized.
 pub fn is_type(trees: &[TokenTree]) -> bool {
     let mut rest = Rest(trees);
     rest.type_() && rest.0.is_empty()
@@ -19,7 +19,7 @@ pub fn is_path(trees: &[TokenTree]) -> bool {
 }
 
 impl Rest<'_> {
-    /// Takes a punctuation.
+    /// Takes a character of punctuation.
     fn punct(&mut self, c: char) -> bool {
         let found = matches!(self.0, [TokenTree::Punct(punct), ..] if punct.as_char() == c);
         self.skip_if(found)
@@ -68,7 +68,7 @@ impl Rest<'_> {
         }
     }
 
-    /// Takes lifetimes and types with commas between, and the angle that closes them.
+    /// Takes lifetimes and types with commas between them, and the closing angle bracket.
     fn arguments(&mut self) -> bool {
         while !self.punct('>') {
             let fits = if self.punct('\'') {
@@ -89,7 +89,7 @@ fn is_group_type(group: &Group) -> bool {
     let trees: Vec<TokenTree> = group.stream().into_iter().collect();
     let is = |tree: &TokenTree, c| matches!(tree, TokenTree::Punct(punct) if punct.as_char() == c);
     match group.delimiter() {
-        // What a macro hands on as a type.
+        // A type that another macro passes on.
         Delimiter::None => true,
         Delimiter::Parenthesis => {
             trees.is_empty() || trees.split(|tree| is(tree, ',')).all(is_type)

@@ -1,14 +1,14 @@
-//! Warnings, as uses of a deprecated constant: stable Rust has none for macros.
+//! Warnings, as uses of a deprecated constant, since stable Rust has no warnings from macros.
 
 use crate::answer::Diagnostic;
 use crate::fault::text;
 use crate::question::Question;
 use proc_macro::{Delimiter, Group, Ident, Literal, Span, TokenStream, TokenTree};
 
-/// Returns the items that let the compiler warn at the first token of the place, or at the name of
-/// the enum. It does not warn at the derive, which is no token of the user's.
+/// Returns the items that make the compiler warn at the first token of the span, or at the name of
+/// the enum. It would not warn at the derive, which is not one of the user's tokens.
 ///
-/// Lint levels of the enum that are `allow` hold for its warnings, too.
+/// Lints that the enum allows are allowed for its warnings, too.
 pub fn warning(found: &Diagnostic, question: &Question, item: &TokenStream) -> TokenStream {
     let note = Literal::string(&text(found, question));
     let place = question.place(&found.span).or_else(|| question.name());
@@ -27,7 +27,7 @@ pub fn warning(found: &Diagnostic, question: &Question, item: &TokenStream) -> T
     tokens
 }
 
-/// Returns the attributes `#[allow(..)]` in front of an item.
+/// Returns the attributes `#[allow(..)]` before an item.
 fn allowed(item: TokenStream) -> TokenStream {
     let mut found = TokenStream::new();
     let mut trees = item.into_iter();

@@ -1,49 +1,49 @@
-//! A chunk of an input, walked over by folded tables.
+//! The entries for a chunk of an input, computed with folded tables. Called by `walk`.
 
-use crate::folded::{leaf_of, Rows, ENDED, PLACE};
+use crate::folded::{leaf_of, Folded, ENDED, OFFSET_MASK};
 use crate::internal::Tables;
 use crate::Span;
 
-/// The bytes of a block, and those of a chunk: as many blocks are walked at once.
+/// The number of bytes of a block, and of a chunk, whose blocks are processed at once.
 const BLOCK: usize = 768;
 const BLOCKS: usize = 6;
-/// The bytes of a block that are walked over in one go.
+/// The number of bytes of a block that are processed in one step.
 const STEPS: usize = 6;
 const _: () = assert!(BLOCK % STEPS == 0);
 pub(crate) const CHUNK: usize = BLOCKS * BLOCK;
-/// The bytes of a word, which has a bit for each of them, and the words of a chunk.
+/// The number of bytes of a word, which has a bit for each of them, and the number of words of a
+/// chunk.
 pub(crate) const WORD: usize = 64;
 const WORDS: usize = CHUNK / WORD;
-/// Fewer bytes than these are not worth a walk.
-pub(crate) const FEWEST: usize = 256;
-/// So many bytes before a block are looked at to guess its place, and so many for a line end.
+/// The numbers of bytes before a block that are examined: to guess its row, and to find a line end.
 const NEAR: usize = 32;
 const FAR: usize = 384;
+/// Fewer bytes than these are not worth a part of their own.
+const LEAST_PART: usize = 2 * NEAR;
 
-/// What the walk over a chunk has found.
-#[derive(Clone)]
+/// The matches that a walk over a chunk has found.
 pub(crate) struct Chunk {
     /// The entry of each byte.
     trace: [u32; CHUNK],
     /// A bit for each byte before which a match ends, and for each before which a token does. A bit
-    /// in `tokens` alone is that of a byte which needs a try by itself.
+    /// that is set only in `tokens` marks a byte that needs a separate match attempt.
     ends: [u64; WORDS],
     tokens: [u64; WORDS],
 }
 
-/// What a walk over a whole chunk comes to.
+/// The result of a walk over a whole chunk.
 pub(crate) struct Walked {
-    /// The place after the chunk.
-    pub(crate) place: u32,
-    /// How many bytes were walked over again.
+    /// The row offset after the chunk.
+    pub(crate) row_start: u32,
+    /// The number of bytes that were processed again.
     pub(crate) again: usize,
-    /// How many bytes guesses by lines looked at.
+    /// The number of bytes that guesses by lines examined.
     pub(crate) looked: usize,
-    /// A guess was wrong to the end of its block.
+    /// Whether a guess was wrong up to the end of its block.
     pub(crate) missed: bool,
 }
 
-/// Guesses at the places of blocks, and how many bytes were looked at by lines.
+/// Guesses of the row offsets of blocks, and the number of bytes that were examined for line ends.
 type Guesses = ([u32; BLOCKS], usize);
 
 impl Chunk {
@@ -53,21 +53,15 @@ impl Chunk {
         tokens: [0; WORDS],
     };
 
-    /// Returns the entries from a byte on.
-    #[inline(always)]
-    pub(crate) fn entries(&self, at: usize) -> &[u32] {
-        self.trace.get(at..).unwrap_or_default()
-    }
-
     /// Returns the leaf of the entry of a byte.
     #[inline(always)]
     pub(crate) fn leaf(&self, at: usize) -> Option<usize> {
         Some(leaf_of(*self.trace.get(at)?))
     }
 
-    /// Returns the place after a byte.
-    pub(crate) fn place(&self, at: usize) -> u32 {
-        self.trace[at] & PLACE
+    /// Returns the row offset after a byte.
+    pub(crate) fn row_start(&self, at: usize) -> u32 {
+        self.trace[at] & OFFSET_MASK
     }
 
     /// Returns the bits of the word that begins at a byte: those of ends, and those of tokens.
@@ -90,7 +84,7 @@ impl Chunk {
         }
     }
 
-    /// Sets the bits of some bytes, which are few.
+    /// Sets the bits of a few bytes.
     pub(crate) fn set_few_bits(&mut self, from: usize, to: usize) {
         for (at, entry) in self.trace[..to].iter().enumerate().skip(from) {
             let (word, bit) = (at / WORD, at % WORD);
@@ -100,93 +94,120 @@ impl Chunk {
         }
     }
 
-    /// Walks over all bytes of a chunk from a place on. The blocks but the first begin where it is
-    /// guessed: by lines or by few bytes, and from `start` on after a line end.
+    /// Walks over all bytes of a chunk, from a row on. The other blocks begin in guessed rows: by
+    /// lines or by a few bytes, and from `start` on after a line end.
+    #[inline]
     pub(crate) fn walk<'s, T: Tables<'s>>(
         &mut self,
         input: &[u8; CHUNK],
-        place: u32,
+        row_start: u32,
         start: u32,
         by_lines: bool,
     ) -> Walked {
         let (mut guesses, looked) = if by_lines {
-            guess_by_lines::<T>(input, start)
+            T::guess_by_lines(input, start)
         } else {
-            (guess_places::<T>(input, BLOCK - NEAR, start), 0)
+            (guess_row_offsets::<T>(input, BLOCK - NEAR, start), 0)
         };
-        guesses[0] = place;
-        let places = walk_blocks::<T>(input, &mut self.trace, guesses);
-        let walked = self.repair::<T>(input, guesses, places);
+        guesses[0] = row_start;
+        let row_starts = T::walk_blocks(input, &mut self.trace, guesses);
+        let walked = self.repair::<T>(input, BLOCK, guesses, row_starts);
         self.set_bits(0, CHUNK);
         Walked { looked, ..walked }
     }
 
-    /// Walks again over the blocks whose places were not guessed, as far as that changes something.
+    /// Walks again over the blocks, of `size` bytes each, whose rows were guessed wrong, as far as
+    /// that changes entries.
+    #[inline]
     fn repair<'s, T: Tables<'s>>(
         &mut self,
-        input: &[u8; CHUNK],
+        input: &[u8],
+        size: usize,
         guesses: [u32; BLOCKS],
-        places: [u32; BLOCKS],
+        row_starts: [u32; BLOCKS],
     ) -> Walked {
         let mut walked = Walked {
-            place: places[0],
+            row_start: row_starts[0],
             again: 0,
             looked: 0,
             missed: false,
         };
         for k in 1..BLOCKS {
-            let (from, to) = (k * BLOCK, (k + 1) * BLOCK);
-            let mut place = places[k];
-            if walked.place != guesses[k] {
-                let (at, there) = self.walk_again::<T>(input, from..to, walked.place);
+            let (from, to) = (k * size, (k + 1) * size);
+            let mut row_start = row_starts[k];
+            if walked.row_start != guesses[k] {
+                let (at, there) = self.walk_again::<T>(input, from..to, walked.row_start);
                 walked.again += at - from;
                 if at == to {
-                    place = there;
+                    row_start = there;
                     walked.missed = true;
                 }
             }
-            walked.place = place;
+            walked.row_start = row_start;
         }
         walked
     }
 
-    /// Walks over the last bytes of an input, fewer than a chunk has, and returns the place after
-    /// them.
-    pub(crate) fn walk_rest<'s, T: Tables<'s>>(&mut self, rest: &[u8], place: u32) -> u32 {
-        let mut place = place;
-        for (entry, byte) in self.trace.iter_mut().zip(rest) {
-            *entry = step::<T>(*byte, place);
-            place = *entry & PLACE;
+    /// Walks over fewer bytes than a chunk has: in parallel parts, and over the last bytes one by
+    /// one.
+    #[inline]
+    pub(crate) fn walk_rest<'s, T: Tables<'s>>(&mut self, rest: &[u8], row_start: u32) -> Walked {
+        let size = rest.len() / BLOCKS;
+        let mut walked = Walked {
+            row_start,
+            again: 0,
+            looked: 0,
+            missed: false,
+        };
+        let mut done = 0;
+        if size >= LEAST_PART {
+            let guesses = guess_parts::<T>(rest, size, row_start);
+            let row_starts = T::walk_parts(rest, &mut self.trace, size, guesses);
+            walked = self.repair::<T>(rest, size, guesses, row_starts);
+            done = BLOCKS * size;
+        }
+        for (entry, byte) in self.trace.iter_mut().zip(rest).skip(done) {
+            *entry = step::<T>(*byte, walked.row_start);
+            walked.row_start = *entry & OFFSET_MASK;
         }
         let end = rest.len().next_multiple_of(WORD).min(CHUNK);
         self.trace[rest.len().min(end)..end].fill(0);
         self.set_bits(0, rest.len());
-        place
+        walked
     }
 
-    /// Walks over some bytes again from a place, until the trace has the same place. Returns where,
-    /// and the place there.
+    /// Walks over some bytes again from another row, until it reaches the row that the trace has.
+    /// Returns the offset there, and the row.
+    #[inline]
     pub(crate) fn walk_again<'s, T: Tables<'s>>(
         &mut self,
         input: &[u8],
         range: Span,
-        place: u32,
+        row_start: u32,
     ) -> (usize, u32) {
-        let mut place = place;
+        let mut row_start = row_start;
         for at in range.clone() {
-            let entry = step::<T>(input[at], place);
-            place = entry & PLACE;
-            let same = self.trace[at] & PLACE == place;
+            let entry = step::<T>(input[at], row_start);
+            row_start = entry & OFFSET_MASK;
+            let same = self.trace[at] & OFFSET_MASK == row_start;
             self.trace[at] = entry;
             if same {
-                return (at + 1, place);
+                return (at + 1, row_start);
             }
         }
-        (range.end, place)
+        (range.end, row_start)
     }
 
-    /// Counts, in one of so many words up to a byte: the bytes of these words, the matches that end
-    /// there, and the states that are entered.
+    /// Returns the number of bytes up to an offset that need a separate match attempt.
+    pub(crate) fn undecided(&self, to: usize) -> usize {
+        let words = self.ends.iter().zip(&self.tokens).take(to.div_ceil(WORD));
+        words
+            .map(|(ends, tokens)| (tokens & !ends).count_ones() as usize)
+            .sum()
+    }
+
+    /// Samples one of every `one_of` words up to a byte, and returns three counts: their bytes, the
+    /// matches that end there, and the states that are entered.
     pub(crate) fn sample(&self, to: usize, one_of: usize) -> [usize; 3] {
         let mut sums = [0; 3];
         for word in (0..(to / WORD).min(WORDS)).step_by(one_of) {
@@ -199,18 +220,88 @@ impl Chunk {
     }
 }
 
-/// Returns how often a state is entered in a word, but for its first byte.
+/// Returns how often a state is entered in a word, not counting its first byte.
 fn entered(trace: &[u32; WORD]) -> usize {
     let mut entered = 0;
     for at in 1..WORD {
-        let other = (trace[at - 1] ^ trace[at]) & PLACE | trace[at] & ENDED;
+        let other = (trace[at - 1] ^ trace[at]) & OFFSET_MASK | trace[at] & ENDED;
         entered += (other != 0) as u32;
     }
     entered as usize
 }
 
-/// Gathers the flags of the entries of a word: of each half those of every fourth entry stand in a
-/// number, four bits apart. It is called and writes to memory, so that the compiler makes vectors.
+/// The functions that are called out of line. They are functions of the enum, so that the compiler
+/// places them next to its `lex`, and each table once in a program.
+trait Blocks<'source>: Tables<'source> {
+    /// Walks over all blocks in parallel, each from its row, and returns the row offsets after
+    /// them.
+    #[inline(never)]
+    fn walk_blocks(
+        input: &[u8; CHUNK],
+        trace: &mut [u32; CHUNK],
+        row_starts: [u32; BLOCKS],
+    ) -> [u32; BLOCKS] {
+        let mut row_starts = row_starts;
+        let blocks: [&[u8; BLOCK]; BLOCKS] =
+            core::array::from_fn(|k| input[k * BLOCK..].first_chunk().expect("a block"));
+        for at in (0..BLOCK).step_by(STEPS) {
+            let part: Option<&mut [u32; CHUNK - BLOCK + STEPS]> = trace[at..].first_chunk_mut();
+            // The compiler does not see where the part begins: so each store is at a fixed distance
+            // from it. Many processors have more units for these than for stores with an index.
+            let part = core::hint::black_box(part.expect("a part"));
+            for n in 0..STEPS {
+                for k in 0..BLOCKS {
+                    let entry = step::<Self>(blocks[k][at + n], row_starts[k]);
+                    part[k * BLOCK + n] = entry;
+                    row_starts[k] = entry;
+                }
+            }
+        }
+        row_starts.map(|row_start| row_start & OFFSET_MASK)
+    }
+
+    /// Walks over parts of `size` bytes in parallel, each from its row, and returns the row offsets
+    /// after them.
+    #[inline(never)]
+    fn walk_parts(
+        rest: &[u8],
+        trace: &mut [u32; CHUNK],
+        size: usize,
+        row_starts: [u32; BLOCKS],
+    ) -> [u32; BLOCKS] {
+        let mut row_starts = row_starts;
+        let parts: [&[u8]; BLOCKS] = core::array::from_fn(|k| &rest[k * size..(k + 1) * size]);
+        let mut traces = trace.chunks_exact_mut(size);
+        let traces: [&mut [u32]; BLOCKS] = core::array::from_fn(|_| traces.next().expect("a part"));
+        for at in 0..size {
+            for k in 0..BLOCKS {
+                let entry = step::<Self>(parts[k][at], row_starts[k]);
+                traces[k][at] = entry;
+                row_starts[k] = entry;
+            }
+        }
+        row_starts.map(|row_start| row_start & OFFSET_MASK)
+    }
+
+    /// Guesses the row offsets by more bytes: from the last line end before each block.
+    #[cold]
+    #[inline(never)]
+    fn guess_by_lines(input: &[u8; CHUNK], start: u32) -> Guesses {
+        let mut from = BLOCK - NEAR;
+        for k in 1..BLOCKS {
+            let window = input[k * BLOCK - FAR..].first_chunk();
+            from = from.min(BLOCK - FAR + last_line_end(window.expect("a window")));
+        }
+        let looked = (BLOCKS - 1) * (BLOCK - from);
+        (guess_row_offsets::<Self>(input, from, start), looked)
+    }
+}
+
+impl<'source, T: Tables<'source>> Blocks<'source> for T {}
+
+/// Gathers the flags of the entries of a word: the flags of every fourth entry of each half are in
+/// one number, four bits apart. The function is not inlined and writes to memory, so that the
+/// compiler makes vectors.
 #[inline(never)]
 fn gather(trace: &[u32; WORD], to: &mut [u32; 8]) {
     let (low, high) = trace.split_at(WORD / 2);
@@ -237,70 +328,47 @@ fn bits_of(flags: &[u32; 8]) -> (u64, u64) {
     (ends, tokens)
 }
 
-/// Returns the entry of a byte in the row at a place, or at the place of an entry.
+/// Returns the entry of a byte in the row at an offset. The offset may have the upper bits of an
+/// entry.
 #[inline(always)]
-fn step<'s, T: Tables<'s>>(byte: u8, place: u32) -> u32 {
-    let column = if T::BY_BYTES {
-        byte
-    } else {
-        T::ROWS.column(byte)
-    };
-    T::ROWS.entry(column as usize, place)
+fn step<'s, T: Tables<'s>>(byte: u8, row_start: u32) -> u32 {
+    T::entry_of(byte, row_start)
 }
 
-/// Walks over all blocks at once, each from its place, and returns the places after them.
-#[inline(never)]
-fn walk_blocks<'s, T: Tables<'s>>(
-    input: &[u8; CHUNK],
-    trace: &mut [u32; CHUNK],
-    places: [u32; BLOCKS],
-) -> [u32; BLOCKS] {
-    let mut places = places;
-    let blocks: [&[u8; BLOCK]; BLOCKS] =
-        core::array::from_fn(|k| input[k * BLOCK..].first_chunk().expect("a block"));
-    for at in (0..BLOCK).step_by(STEPS) {
-        let part: Option<&mut [u32; CHUNK - BLOCK + STEPS]> = trace[at..].first_chunk_mut();
-        // The compiler does not see where the part begins: so each store is at a fixed distance
-        // from it. Many processors have more units for these than for stores with an index.
-        let part = core::hint::black_box(part.expect("a part"));
-        for n in 0..STEPS {
-            for k in 0..BLOCKS {
-                let entry = step::<T>(blocks[k][at + n], places[k]);
-                part[k * BLOCK + n] = entry;
-                places[k] = entry;
-            }
+/// Guesses the row offsets of all parts of `size` bytes but the first, as [`guess_row_offsets`]
+/// does.
+#[inline]
+fn guess_parts<'s, T: Tables<'s>>(rest: &[u8], size: usize, first: u32) -> [u32; BLOCKS] {
+    let mut row_starts = [T::ROOT; BLOCKS];
+    for at in size - NEAR..size {
+        for k in 1..BLOCKS {
+            let byte = rest[(k - 1) * size + at];
+            let entry = step::<T>(byte, row_starts[k]);
+            row_starts[k] = if byte == b'\n' { T::ROOT } else { entry };
         }
     }
-    places.map(|place| place & PLACE)
+    row_starts[0] = first;
+    row_starts.map(|row_start| row_start & OFFSET_MASK)
 }
 
-/// Guesses the places of the blocks but the first: those to which the bytes after the last line end
-/// lead, of those before each block that are in a block from `from` on. All are guessed at once, as
-/// blocks are walked.
+/// Guesses the row offsets of all blocks but the first: those after the bytes that follow the last
+/// line end, from byte `from` of the previous block on. All guesses are made in parallel, as blocks
+/// are walked.
 #[inline(always)]
-fn guess_places<'s, T: Tables<'s>>(input: &[u8; CHUNK], from: usize, start: u32) -> [u32; BLOCKS] {
-    let mut places = [start; BLOCKS];
+fn guess_row_offsets<'s, T: Tables<'s>>(
+    input: &[u8; CHUNK],
+    from: usize,
+    start: u32,
+) -> [u32; BLOCKS] {
+    let mut row_starts = [start; BLOCKS];
     for at in from..BLOCK {
         for k in 1..BLOCKS {
             let byte = input[(k - 1) * BLOCK + at];
-            let entry = step::<T>(byte, places[k]);
-            places[k] = if byte == b'\n' { start } else { entry };
+            let entry = step::<T>(byte, row_starts[k]);
+            row_starts[k] = if byte == b'\n' { start } else { entry };
         }
     }
-    places.map(|place| place & PLACE)
-}
-
-/// Guesses those places by more bytes: from the last line end on before each block.
-#[cold]
-#[inline(never)]
-fn guess_by_lines<'s, T: Tables<'s>>(input: &[u8; CHUNK], start: u32) -> Guesses {
-    let mut from = BLOCK - NEAR;
-    for k in 1..BLOCKS {
-        let window = input[k * BLOCK - FAR..].first_chunk();
-        from = from.min(BLOCK - FAR + last_line_end(window.expect("a window")));
-    }
-    let looked = (BLOCKS - 1) * (BLOCK - from);
-    (guess_places::<T>(input, from, start), looked)
+    row_starts.map(|row_start| row_start & OFFSET_MASK)
 }
 
 /// Returns which byte of a window is the last line end, or the first of the last few bytes if none
@@ -315,7 +383,7 @@ fn last_line_end(window: &[u8; FAR]) -> usize {
     FAR - NEAR
 }
 
-/// Returns which of eight bytes are line ends: their upper bits.
+/// Returns which of eight bytes are line ends, in their upper bits.
 fn line_ends(eight: &[u8]) -> u64 {
     const ONES: u64 = 0x7F7F_7F7F_7F7F_7F7F;
     let eight = u64::from_le_bytes([

@@ -1,26 +1,29 @@
-//! What printed texts call. Programs have no need of it.
+//! The interface between generated code and the runtime. Programs do not need it.
 
-use crate::folded::Rows;
-pub use crate::folded::{fold as _fold, size as _size};
+pub use crate::data::Data;
+pub use crate::data::{Data as _Data, Unpacked as _Unpacked};
+pub use crate::loops::Ranges as _Ranges;
+use crate::loops::{Mask, Ranges};
+use crate::run::Run;
 use crate::source::Chunk;
-use crate::{Filter, FilterResult, Lexer, Logos, Skip, Source};
+use crate::{Filter, FilterResult, Lexer, Logos, Skip, Source, Way};
 pub use Tables as _Tables;
 
-/// What a text calls on its lexer.
+/// The methods of a lexer that generated code calls.
 pub trait LexerInternal<'source> {
-    /// Returns what stands at the byte offset.
+    /// Returns the bytes at the byte offset.
     fn read<C: Chunk<'source>>(&self, offset: usize) -> Option<C>;
 
-    /// Returns where the token begins.
+    /// Returns the byte offset at which the token begins.
     fn offset(&self) -> usize;
 
     /// Ends the token at the byte offset.
     fn end(&mut self, offset: usize);
 
-    /// Ends the token at the first boundary from the byte offset on.
+    /// Ends the token at the first boundary at or after the byte offset.
     fn end_to_boundary(&mut self, offset: usize);
 
-    /// Leaves the token out: the next one begins where it ends.
+    /// Skips the token: the next one begins where it ends.
     fn trivia(&mut self);
 }
 
@@ -52,34 +55,57 @@ impl<'source, Token: Logos<'source>> LexerInternal<'source> for Lexer<'source, T
     }
 }
 
-/// What a text whose lexer is tables says of it, for `Scan`.
+/// The tables of a lexer in the form of generated code.
 pub trait Tables<'source>: Logos<'source> {
-    /// The rows have an entry for each byte, and not for each class of bytes.
-    const BY_BYTES: bool;
+    /// The tables.
+    const DATA: Data;
 
-    /// The folded tables.
-    type Rows: Rows;
-    const ROWS: &'static Self::Rows;
+    /// The unpacked tables, for the constants that follow.
+    type Unpacked: 'static;
+    const UNPACKED: &'static Self::Unpacked;
+
+    /// The rows that `lex` reads: see [`_Unpacked::rows`].
+    const ROWS: &'static [u32];
+
+    /// The last match in each state: see [`_Unpacked::lasts`].
+    const LASTS: &'static [u32];
+
+    /// The loops over bytes that stay in a state, and their ranges.
+    const MASKS: &'static [Mask];
+    const RANGES: &'static [Ranges];
+
+    /// The tables that `scan` reads: see [`_Unpacked::folded`].
+    const FOLDED: &'static [u32];
 
     /// Returns the bytes of an input.
     fn bytes(source: &'source Self::Source) -> &'source [u8];
 
-    /// Returns the token of a leaf for which nothing is called, and which has no value.
+    /// Returns the token of a leaf that has no callback and no value.
     fn plain(leaf: usize) -> Option<Self>;
 
-    /// Returns what becomes of a match of the leaf, or of an error where no leaf has the number.
-    /// `None` means that nothing does.
-    fn act(
-        lexer: &mut Lexer<'source, Self>,
-        leaf: usize,
-        end: usize,
-    ) -> Option<Result<Self, Self::Error>>;
+    /// Returns the outcome of a match of another leaf.
+    fn act(lexer: &mut Lexer<'source, Self>, leaf: usize) -> CallbackResult<'source, Self>;
 
-    /// Makes a try from a byte offset, and returns its leaf and where it ends.
-    fn again(bytes: &[u8], start: usize) -> (usize, usize);
+    /// Returns the error for unmatched input.
+    fn error(lexer: &mut Lexer<'source, Self>) -> Self::Error;
+
+    /// Finds the next token, or the error instead of it, with these tables.
+    #[inline(always)]
+    fn run(lexer: &mut Lexer<'source, Self>) -> Option<Result<Self, Self::Error>> {
+        Self::lex_on(lexer)
+    }
 }
 
-/// What becomes of a match.
+/// Returns the lexer as one that looks ahead everywhere, or nowhere. Tests compare these.
+pub fn looking<'source, Token: Tables<'source>>(
+    mut lexer: Lexer<'source, Token>,
+    everywhere: bool,
+) -> Lexer<'source, Token> {
+    lexer.set_way(if everywhere { Way::Always } else { Way::Never });
+    lexer
+}
+
+/// The outcome of a match.
 pub enum CallbackResult<'source, Token: Logos<'source>> {
     Emit(Token),
     Error(Token::Error),
@@ -87,7 +113,7 @@ pub enum CallbackResult<'source, Token: Logos<'source>> {
     Skip,
 }
 
-/// What becomes of a match of a skip.
+/// The outcome of a match of a skip.
 pub enum SkipResult<'source, Token: Logos<'source>> {
     Skip,
     Error(Token::Error),
@@ -104,9 +130,9 @@ impl<'source, Token: Logos<'source>> From<SkipResult<'source, Token>>
     }
 }
 
-/// What a callback may return whose token has such a value.
+/// A type that a callback may return if its token has such a value.
 pub trait CallbackRetVal<'source, Value, Token: Logos<'source>> {
-    /// Returns what becomes of the match; `constructor` makes the token of its value.
+    /// Returns the outcome of the match; `constructor` makes the token from its value.
     fn construct<Constructor: FnOnce(Value) -> Token>(
         self,
         constructor: Constructor,
@@ -217,9 +243,9 @@ where
     }
 }
 
-/// What a callback of a skip may return.
+/// A type that a callback of a skip may return.
 pub trait SkipRetVal<'source, Token: Logos<'source>> {
-    /// Returns what becomes of the match.
+    /// Returns the outcome of the match.
     fn construct(self) -> SkipResult<'source, Token>;
 }
 

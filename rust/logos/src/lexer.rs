@@ -1,5 +1,9 @@
-//! Lexers: runs of a printed text over an input.
+//! Lexers: runs of generated code over an input.
 
+#[cfg(feature = "std")]
+use crate::ahead::Ahead;
+#[cfg(not(feature = "std"))]
+use crate::alone::Ahead;
 use crate::scan::{Scan, Scanner};
 use crate::{Logos, Source};
 use core::fmt;
@@ -8,23 +12,32 @@ use core::ops::{Deref, DerefMut, Range};
 /// A part of an input, in byte offsets.
 pub type Span = Range<usize>;
 
-/// A run of a lexer over an input. As an iterator it yields each token, or the error that stands in
-/// its place.
+/// The setting when a lexer looks ahead.
+#[derive(Clone, Copy, Debug, PartialEq, Eq)]
+pub enum Way {
+    /// If that saves time.
+    ByRule,
+    /// Nowhere.
+    Never,
+    /// Everywhere.
+    Always,
+    /// Everywhere, and it finds only the items that do not depend on the bytes after the input.
+    Part,
+}
+
+/// A run of a lexer over an input. As an iterator it yields each token, or an error for unmatched
+/// input.
 pub struct Lexer<'source, Token: Logos<'source>> {
     source: &'source Token::Source,
     start: usize,
     end: usize,
+    pub(crate) ahead: Ahead,
     /// The state that callbacks can read and change.
     pub extras: Token::Extras,
 }
 
 impl<'source, Token: Logos<'source>> Lexer<'source, Token> {
-    /// Whether the compiler makes vectors of loops over 16 bytes. Printed texts ask.
-    #[doc(hidden)]
-    pub const VECTORS: bool = option_env!("LOGOS_VECTORS").is_some()
-        && cfg!(any(target_feature = "sse2", target_feature = "neon"));
-
-    /// Returns a lexer at the start of an input, with extras of their default value.
+    /// Returns a lexer at the start of an input, with default extras.
     pub fn new(source: &'source Token::Source) -> Self
     where
         Token::Extras: Default,
@@ -38,6 +51,7 @@ impl<'source, Token: Logos<'source>> Lexer<'source, Token> {
             source,
             start: 0,
             end: 0,
+            ahead: Ahead::new(0, source.len()),
             extras,
         }
     }
@@ -47,7 +61,7 @@ impl<'source, Token: Logos<'source>> Lexer<'source, Token> {
         self.source
     }
 
-    /// Returns the place of the last token.
+    /// Returns the span of the last token.
     pub fn span(&self) -> Span {
         self.start..self.end
     }
@@ -66,15 +80,16 @@ impl<'source, Token: Logos<'source>> Lexer<'source, Token> {
     ///
     /// # Panics
     ///
-    /// Panics if the token would end after the input, or inside a character. The lexer is then as
-    /// it was before the call.
+    /// Panics if the token would end after the input, or inside a character. The lexer is unchanged
+    /// then.
     pub fn bump(&mut self, n: usize) {
         let end = self.end.checked_add(n);
         let is_end = |end: &usize| *end <= self.source.len() && self.source.is_boundary(*end);
         self.end = end.filter(is_end).expect("Invalid Lexer bump");
+        self.ahead.forget();
     }
 
-    /// Returns a lexer for another enum at the same place of the same input.
+    /// Returns a lexer for another enum at the same offset of the same input.
     pub fn morph<Other>(self) -> Lexer<'source, Other>
     where
         Other: Logos<'source, Source = Token::Source>,
@@ -84,37 +99,48 @@ impl<'source, Token: Logos<'source>> Lexer<'source, Token> {
             source: self.source,
             start: self.start,
             end: self.end,
+            ahead: self.ahead.anew(self.end, self.source.len()),
             extras: self.extras.into(),
         }
     }
 
-    /// Returns an iterator over tokens with their places.
+    /// Returns an iterator over tokens with their spans.
     pub fn spanned(self) -> SpannedIter<'source, Token> {
         SpannedIter { lexer: self }
     }
 
-    /// Returns an iterator over the tokens that follow, with their places, by chunks of the input:
-    /// the items of [`Lexer::spanned`]. [`Iterator::for_each`] and [`Iterator::fold`] are mostly
-    /// faster than calls of `next`.
+    /// Returns an iterator over the tokens that follow, with their spans: the items of
+    /// [`Lexer::spanned`].
     pub fn scan(self) -> Scanner<'source, Token>
     where
         Token: Scan<'source>,
     {
-        Scanner::new(self, false)
+        Scanner::new(self)
     }
 
-    /// Returns an iterator over those items that are the same whatever follows the input, of which
-    /// more is to come. At its end [`Lexer::remainder`] is what the next part has to begin with.
+    /// Returns an iterator over the items that do not depend on the bytes after this part of the
+    /// input. At its end [`Lexer::remainder`] is the text with which the next part has to begin.
     ///
-    /// That holds for callbacks that read their match alone: others see the part and not the rest.
-    pub fn scan_part(self) -> Scanner<'source, Token>
+    /// Callbacks must read only their match: other text that they read is that of the part, not of
+    /// the whole input.
+    pub fn scan_part(mut self) -> Scanner<'source, Token>
     where
         Token: Scan<'source>,
     {
-        Scanner::new(self, true)
+        self.set_way(Way::Part);
+        Scanner::new(self)
     }
 
-    /// Sets where the token begins to where the last one ended.
+    /// Changes when the lexer looks ahead.
+    pub(crate) fn set_way(&mut self, way: Way) {
+        self.ahead = match way {
+            Way::ByRule => Ahead::new(self.end, self.source.len()),
+            Way::Never => Ahead::NONE,
+            Way::Always | Way::Part => Ahead::by_way(way),
+        };
+    }
+
+    /// Sets the start of the token to the end of the last one.
     pub(crate) fn begin(&mut self) {
         self.start = self.end;
     }
@@ -127,6 +153,7 @@ impl<'source, Token: Logos<'source>> Lexer<'source, Token> {
         self.end
     }
 
+    #[cfg(feature = "std")]
     pub(crate) fn set_span(&mut self, span: Span) {
         (self.start, self.end) = (span.start, span.end);
     }
@@ -146,6 +173,7 @@ impl<'source, Token: Logos<'source>> Lexer<'source, Token> {
 impl<'source, Token: Logos<'source>> Iterator for Lexer<'source, Token> {
     type Item = Result<Token, Token::Error>;
 
+    #[inline]
     fn next(&mut self) -> Option<Self::Item> {
         self.begin();
         Token::lex(self)
@@ -161,6 +189,7 @@ where
             source: self.source,
             start: self.start,
             end: self.end,
+            ahead: self.ahead.anew(self.end, self.source.len()),
             extras: self.extras.clone(),
         }
     }
@@ -180,7 +209,7 @@ where
     }
 }
 
-/// An iterator over tokens with their places.
+/// An iterator over tokens with their spans.
 pub struct SpannedIter<'source, Token: Logos<'source>> {
     lexer: Lexer<'source, Token>,
 }
@@ -188,6 +217,7 @@ pub struct SpannedIter<'source, Token: Logos<'source>> {
 impl<'source, Token: Logos<'source>> Iterator for SpannedIter<'source, Token> {
     type Item = (Result<Token, Token::Error>, Span);
 
+    #[inline]
     fn next(&mut self) -> Option<Self::Item> {
         let item = self.lexer.next()?;
         Some((item, self.lexer.span()))

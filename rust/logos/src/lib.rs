@@ -1,15 +1,16 @@
-//! Lexers from enums: `#[derive(Logos)]`, and the runtime of the lexers that it makes.
+//! Lexers from enums: `#[derive(Logos)]`, and the runtime of the generated lexers.
 //!
 //! An enum implements [`Logos`] by the derive macro, or by generated code that the program
 //! `logos_cli` prints. [`Logos::lexer`] begins a run over an input, and the run is an iterator over
-//! tokens. [`Scan::scan`], for lexers that are tables, is one over tokens with their places, by
-//! chunks of the input.
+//! tokens. Where the lexer is tables, the run looks ahead by chunks of the input where that pays.
+//! A `for` loop is as fast as `for_each` if the run stays in registers: if there is one call of
+//! `next`, and each function that takes the run is inlined.
 //!
 //! # Features
 //!
 //! - `export_derive`, on by default: the derive macro.
-//! - `std`, on by default: a [`Scanner`] keeps what it looked ahead in a box, and not in itself.
-//!   Nothing else asks for more than `core`.
+//! - `std`, on by default: a [`Lexer`] looks ahead, and stores the items that it found in a box.
+//!   Everything except this needs only `core`.
 //! - `state_machine_codegen`: the derive macro prints the shape `state_machine`, not `tables`.
 //! - `debug`: the derive macro prints the implementations on standard error.
 //! - `forbid_unsafe`: [`Source`] has no unsafe methods. This crate has no unsafe code either way.
@@ -22,15 +23,29 @@
 #[cfg(feature = "std")]
 extern crate std;
 
+#[cfg(feature = "std")]
+mod ahead;
+#[cfg(not(feature = "std"))]
+mod alone;
+#[cfg(feature = "std")]
 mod chunk;
+mod data;
+#[cfg_attr(not(feature = "std"), allow(dead_code))]
 mod folded;
 #[allow(missing_docs)]
 pub mod internal;
 mod lexer;
+mod loops;
+mod rows;
+mod run;
 mod scan;
 pub mod source;
+#[cfg(feature = "std")]
 mod walk;
+#[cfg(feature = "std")]
+mod word;
 
+pub(crate) use lexer::Way;
 pub use lexer::{Lexer, Span, SpannedIter};
 #[cfg(feature = "export_derive")]
 pub use logos_derive::Logos;
@@ -42,13 +57,13 @@ pub trait Logos<'source>: Sized {
     /// The state that callbacks can read and change.
     type Extras;
 
-    /// What is read: `str`, or `[u8]` where inputs are bytes.
+    /// The type of inputs: `str`, or `[u8]` for bytes.
     type Source: Source + ?Sized + 'source;
 
-    /// What stands in place of a token where nothing matches.
+    /// The type of the error for unmatched input.
     type Error: Default + Clone + PartialEq + core::fmt::Debug + 'source;
 
-    /// Reads the next token. Printed texts implement it; programs iterate over a [`Lexer`].
+    /// Reads the next token. Generated code implements it; programs iterate over a [`Lexer`].
     fn lex(lexer: &mut Lexer<'source, Self>) -> Option<Result<Self, Self::Error>>;
 
     /// Returns a lexer at the start of an input.
@@ -68,32 +83,32 @@ pub trait Logos<'source>: Sized {
     }
 }
 
-/// A callback that leaves the match out, as in `#[regex(" +", logos::skip)]`.
+/// A callback that skips the match, such as in `#[regex(" +", logos::skip)]`.
 #[inline]
 pub fn skip<'source, Token: Logos<'source>>(_lexer: &mut Lexer<'source, Token>) -> Skip {
     Skip
 }
 
-/// The answer of a callback: the match is left out.
+/// The answer of a callback: the match is skipped.
 #[derive(Clone, Copy, Debug, PartialEq, Eq)]
 pub struct Skip;
 
-/// The answer of a callback: the match is a token of this value, or is left out.
+/// The answer of a callback: the match is a token with this value, or is skipped.
 #[derive(Clone, Copy, Debug, PartialEq, Eq)]
 pub enum Filter<Value> {
-    /// A token of this value.
+    /// A token with this value.
     Emit(Value),
     /// No token.
     Skip,
 }
 
-/// The answer of a callback: the match is a token of this value, is left out, or is an error.
+/// The answer of a callback: the match is a token with this value, is skipped, or is an error.
 #[derive(Clone, Copy, Debug, PartialEq, Eq)]
 pub enum FilterResult<Value, Error> {
-    /// A token of this value.
+    /// A token with this value.
     Emit(Value),
     /// No token.
     Skip,
-    /// An error in its place.
+    /// An error instead of a token.
     Error(Error),
 }

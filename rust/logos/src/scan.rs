@@ -1,31 +1,22 @@
-//! Lexing by chunks of the input: [`Scan::scan`], for lexers that are tables.
+//! [`Scan::scan`] and [`Scan::scan_part`], for lexers that are tables.
 
-use crate::chunk::{FEWEST, WORD};
-use crate::folded::{leaf_of, Rows};
 use crate::internal::Tables;
-use crate::walk::{new_room, Room, Word};
-use crate::{Lexer, Logos, Span};
+use crate::{Lexer, Span, Way};
 use core::fmt;
 use core::ops::{Deref, DerefMut};
 
-/// What comes next.
-enum Next<Item> {
-    Again,
-    Item(Item),
-    End,
-}
-
-/// An enum whose lexer is tables, and can walk over the input by chunks.
+/// An enum whose lexer is tables.
 ///
-/// The derive macro, and `logos_cli`, implement it with [`Logos`] in the shape `tables`.
+/// The derive macro, and `logos_cli`, implement it with [`Logos`](crate::Logos) in the shape
+/// `tables`.
 #[diagnostic::on_unimplemented(
     message = "`{Self}` has no lexer that scans",
     label = "its lexer is no table",
     note = "`scan` is there for lexers in the shape `tables`, which is the default one"
 )]
 pub trait Scan<'source>: Tables<'source> {
-    /// Returns an iterator over the tokens of an input, with their places: the items of
-    /// [`Lexer::spanned`], found by walks over chunks of the input.
+    /// Returns an iterator over the tokens of an input, with their spans. It is another name of
+    /// `Token::lexer(source).spanned()`, and equally fast.
     fn scan(source: &'source Self::Source) -> Scanner<'source, Self>
     where
         Self::Extras: Default,
@@ -33,8 +24,8 @@ pub trait Scan<'source>: Tables<'source> {
         Lexer::new(source).scan()
     }
 
-    /// Returns an iterator over those items of an input of which this is the first part that are
-    /// the same whatever follows. See [`Lexer::scan_part`].
+    /// Returns an iterator over the items of an input that do not depend on the bytes after this
+    /// first part. See [`Lexer::scan_part`].
     fn scan_part(source: &'source Self::Source) -> Scanner<'source, Self>
     where
         Self::Extras: Default,
@@ -45,370 +36,31 @@ pub trait Scan<'source>: Tables<'source> {
 
 impl<'source, T: Tables<'source>> Scan<'source> for T {}
 
-type Found<'source, Token> = Result<Token, <Token as Logos<'source>>::Error>;
-type Item<'source, Token> = (Found<'source, Token>, Span);
-
-/// What `next` calls where it cannot take a token of the word. The places of the items are those of
-/// the lexer. These are functions of the enum: so the compiler puts them beside its `lex`, and can
-/// make that a part of the one which calls it.
-trait Apart<'source>: Scan<'source> {
-    /// See [`Scanner::act_on_token`].
-    fn act_on_token(scanner: &mut Scanner<'source, Self>) -> Option<Found<'source, Self>>;
-
-    /// See [`Scanner::find_item`].
-    fn find_item(scanner: &mut Scanner<'source, Self>) -> Option<Found<'source, Self>>;
-}
-
-impl<'source, T: Scan<'source>> Apart<'source> for T {
-    #[inline(never)]
-    fn act_on_token(scanner: &mut Scanner<'source, T>) -> Option<Found<'source, T>> {
-        scanner.act_on_token()
-    }
-
-    #[inline(never)]
-    fn find_item(scanner: &mut Scanner<'source, T>) -> Option<Found<'source, T>> {
-        scanner.find_item()
-    }
-}
-
-/// An iterator over tokens with their places, by chunks of the input.
-///
-/// It dereferences to the lexer, which stands behind the last token. `fold`, and so `for_each`, is
-/// mostly faster than a loop, and that can be slower than a lexer where tokens are long, or of one
-/// byte.
+/// An iterator over tokens with their spans. It dereferences to its lexer.
 pub struct Scanner<'source, Token: Scan<'source>> {
     lexer: Lexer<'source, Token>,
-    word: Word,
-    /// Up to here `Logos::lex` finds the items.
-    plain_to: usize,
-    walk: Option<Room>,
-    /// More of the input may follow.
-    is_part: bool,
-    /// The lexer may have been moved.
-    is_moved: bool,
-    /// The items are folded.
-    folds: bool,
 }
 
 impl<'source, Token: Scan<'source>> Scanner<'source, Token> {
-    pub(crate) fn new(lexer: Lexer<'source, Token>, is_part: bool) -> Self {
-        Scanner {
-            word: Word::empty(lexer.span().end),
-            lexer,
-            plain_to: 0,
-            walk: None,
-            is_part,
-            is_moved: true,
-            folds: false,
-        }
+    pub(crate) fn new(lexer: Lexer<'source, Token>) -> Self {
+        Scanner { lexer }
     }
 
-    /// Returns the lexer, which stands behind the last token.
+    /// Returns the lexer, positioned after the last token.
     pub fn into_lexer(self) -> Lexer<'source, Token> {
-        self.lexer
+        let mut lexer = self.lexer;
+        lexer.set_way(Way::ByRule);
+        lexer
     }
-
-    /// Returns whether `Logos::lex` finds the next item. Then the word is empty.
-    #[inline(always)]
-    fn is_plain(&self) -> bool {
-        self.lexer.end() < self.plain_to
-    }
-
-    /// Takes the next token of the word, if there is one for which nothing is called. It is made
-    /// before its place is found, so that few values outlive the call.
-    #[inline(always)]
-    fn take_plain(&mut self) -> Option<Item<'source, Token>> {
-        let tokens = self.word.tokens;
-        if tokens == 0 {
-            return None;
-        }
-        let leaf = self.walk.as_ref()?.leaf_of(&self.word, tokens)?;
-        let token = Token::plain(leaf)?;
-        let span = self.word.span_of(tokens);
-        self.word.tokens = tokens & (tokens - 1);
-        self.lexer.set_span(span.clone());
-        Some((Ok(token), span))
-    }
-
-    /// Goes on to the next word of the walk, if there is one.
-    #[inline(never)]
-    fn next_word(&mut self) -> bool {
-        match &mut self.walk {
-            Some(walk) => walk.next_word(&mut self.word),
-            None => false,
-        }
-    }
-
-    /// Takes the next token of the word, for which something is called. Returns nothing if nothing
-    /// becomes of it.
-    #[inline(always)]
-    fn act_on_token(&mut self) -> Option<Found<'source, Token>> {
-        let tokens = self.word.tokens;
-        let span = self.word.span_of(tokens);
-        self.word.tokens = tokens & (tokens - 1);
-        let leaf = self.walk.as_ref()?.leaf_of(&self.word, tokens)?;
-        self.act((leaf, span.end), span.start, span.end)
-    }
-
-    /// Finds an item after the last word of the walk, or one of `Logos::lex`. Returns nothing at
-    /// the end.
-    #[inline(always)]
-    fn find_item(&mut self) -> Option<Found<'source, Token>> {
-        loop {
-            if self.is_plain() {
-                return self.lexer.next();
-            }
-            match self.go_on() {
-                Next::Again => {}
-                Next::Item(item) => return Some(item),
-                Next::End => return None,
-            }
-            while self.plain_to == 0 {
-                if let Some((item, _)) = self.take_plain() {
-                    return Some(item);
-                }
-                if self.word.tokens != 0 {
-                    if let Some(item) = Token::act_on_token(self) {
-                        return Some(item);
-                    }
-                } else if !self.next_word() {
-                    break;
-                }
-            }
-        }
-    }
-
-    /// Returns what becomes of a leaf and the end of its match, which begins at a byte offset. The
-    /// walk goes on from another one.
-    #[inline(always)]
-    fn act(
-        &mut self,
-        found: (usize, usize),
-        start: usize,
-        next: usize,
-    ) -> Option<Found<'source, Token>> {
-        let (leaf, end) = found;
-        self.lexer.set_span(start..end);
-        let source = self.lexer.source();
-        let item = Token::act(&mut self.lexer, leaf, end);
-        self.follow(source, next);
-        item
-    }
-
-    /// Goes on from where the lexer stands, if that is not this byte offset of the source.
-    #[inline]
-    fn follow(&mut self, source: &'source Token::Source, end: usize) {
-        let start = self.lexer.span().end;
-        if !core::ptr::eq(self.lexer.source(), source) {
-            self.is_moved = true;
-            self.forget();
-        } else if start != end {
-            self.begin_at(start);
-        }
-    }
-
-    #[cold]
-    fn begin_at(&mut self, start: usize) {
-        self.plain_to = 0;
-        self.word = match &mut self.walk {
-            Some(walk) => walk.begin_at::<Token>(Token::bytes(self.lexer.source()), start),
-            None => Word::empty(start),
-        };
-    }
-
-    /// Forgets what was found.
-    fn forget(&mut self) {
-        self.plain_to = 0;
-        let start = self.word.start;
-        self.word = match &mut self.walk {
-            Some(walk) => walk.begin_anew(start, Token::ROWS.root()),
-            None => Word::empty(start),
-        };
-    }
-
-    /// Finds the item of the entry before which the word is cut, or walks on after the last word.
-    #[inline(always)]
-    fn go_on(&mut self) -> Next<Found<'source, Token>> {
-        match self.walk.as_ref().and_then(|walk| walk.cut()) {
-            Some(cut) => self.answer(cut).map_or(Next::Again, Next::Item),
-            None if self.refill() => Next::Again,
-            None => Next::End,
-        }
-    }
-
-    /// Finds the item of an entry that asks.
-    #[inline(never)]
-    fn answer(&mut self, cut: usize) -> Option<Found<'source, Token>> {
-        let start = self.word.last_end();
-        self.word = self.word.passed();
-        let bytes = Token::bytes(self.lexer.source());
-        let found = self.walk.as_mut()?.found_at::<Token>(bytes, cut, start);
-        self.act(found, start, usize::MAX)
-    }
-
-    /// Finds the first word of the next chunk, or has `Logos::lex` find items. Returns whether more
-    /// of the input is there.
-    #[cold]
-    #[inline(never)]
-    fn refill(&mut self) -> bool {
-        if self.is_moved || self.plain_to != 0 {
-            self.is_moved = false;
-            self.word.start = self.lexer.span().end;
-            self.forget();
-        }
-        let bytes = Token::bytes(self.lexer.source());
-        let start = self.word.last_end();
-        self.word = self.word.passed();
-        let next = self.walk.as_ref().map_or(start, |walk| walk.end());
-        // From here on the lexer goes on by itself, if no walk does.
-        self.lexer.set_span(start..start);
-        let left = bytes.len().saturating_sub(next);
-        if self.is_part && (left == 0 || !Token::Rows::ARE_THERE) {
-            return false;
-        }
-        if !self.is_part && (left < FEWEST || !Token::Rows::ARE_THERE) {
-            self.plain_to = usize::MAX;
-        } else {
-            self.walk_on(bytes, start);
-        }
-        true
-    }
-
-    /// Walks over the next chunk, or has `Logos::lex` find items where walks are not worth their
-    /// time.
-    fn walk_on(&mut self, bytes: &[u8], start: usize) {
-        let is_part = self.is_part;
-        let room = || new_room(start, Token::ROWS.root());
-        let walk = self.walk.get_or_insert_with(room);
-        match walk.plain_to(self.folds) {
-            Some(to) if !is_part => self.plain_to = to,
-            _ => self.word = walk.walk::<Token>(bytes, start),
-        }
-    }
-
-    /// Folds the items of words, up to one for which something is called, or the last word.
-    #[inline(always)]
-    fn fold_words<B, F>(&mut self, init: B, f: &mut F) -> B
-    where
-        F: FnMut(B, Item<'source, Token>) -> B,
-    {
-        let mut folded = init;
-        let Some(walk) = &mut self.walk else {
-            return folded;
-        };
-        let mut word = self.word;
-        loop {
-            (folded, word.tokens) = fold_word(walk.entries(&word), &word, folded, f);
-            if word.tokens != 0 {
-                break;
-            }
-            if !walk.next_word(&mut word) {
-                break;
-            }
-        }
-        self.word = word;
-        folded
-    }
-
-    /// Folds the items that `Logos::lex` finds, as far as these are wanted. Returns no scanner if
-    /// the last item was among them.
-    #[inline(always)]
-    fn fold_plain<B, F>(self, init: B, f: &mut F) -> (Option<Self>, B)
-    where
-        F: FnMut(B, Item<'source, Token>) -> B,
-    {
-        let Scanner {
-            mut lexer,
-            plain_to,
-            ..
-        } = self;
-        let mut folded = init;
-        loop {
-            let Some(item) = lexer.next() else {
-                return (None, folded);
-            };
-            let span = lexer.span();
-            let end = span.end;
-            folded = f(folded, (item, span));
-            if end >= plain_to {
-                return (Some(Scanner { lexer, ..self }), folded);
-            }
-        }
-    }
-}
-
-/// Folds the items of a word, up to one for which something is called. Returns also the tokens that
-/// are left. As in `take_plain`, a token is made first.
-#[inline(always)]
-fn fold_word<'source, Token, B, F>(entries: &[u32], word: &Word, init: B, f: &mut F) -> (B, u64)
-where
-    Token: Scan<'source>,
-    F: FnMut(B, Item<'source, Token>) -> B,
-{
-    let (mut folded, mut tokens) = (init, word.tokens);
-    let Some(entries) = entries.first_chunk::<WORD>() else {
-        return (folded, tokens);
-    };
-    while tokens != 0 {
-        let entry = entries[tokens.trailing_zeros() as usize % WORD];
-        let Some(token) = Token::plain(leaf_of(entry)) else {
-            break;
-        };
-        let span = word.span_of(tokens);
-        tokens &= tokens - 1;
-        folded = f(folded, (Ok(token), span));
-    }
-    (folded, tokens)
 }
 
 impl<'source, Token: Scan<'source>> Iterator for Scanner<'source, Token> {
     type Item = (Result<Token, Token::Error>, Span);
 
-    // What stays in memory between calls of `next` can be in registers here.
     #[inline]
-    fn fold<B, F>(mut self, init: B, mut f: F) -> B
-    where
-        F: FnMut(B, Self::Item) -> B,
-    {
-        self.folds = true;
-        let mut folded = init;
-        loop {
-            if self.is_plain() {
-                let (rest, after) = self.fold_plain(folded, &mut f);
-                let Some(rest) = rest else { return after };
-                (self, folded) = (rest, after);
-            }
-            folded = self.fold_words(folded, &mut f);
-            let next = match self.word.tokens {
-                0 => self.go_on(),
-                _ => self.act_on_token().map_or(Next::Again, Next::Item),
-            };
-            match next {
-                Next::Again => {}
-                Next::Item(item) => folded = f(folded, (item, self.lexer.span())),
-                Next::End => return folded,
-            }
-        }
-    }
-
-    // What is called has no argument but the scanner: so the caller's values stay in registers.
-    #[inline(always)]
     fn next(&mut self) -> Option<Self::Item> {
-        loop {
-            if let Some(item) = self.take_plain() {
-                return Some(item);
-            }
-            let item = if self.word.tokens != 0 {
-                Token::act_on_token(self)
-            } else if self.plain_to == 0 && self.next_word() {
-                None
-            } else {
-                Some(Token::find_item(self)?)
-            };
-            if let Some(item) = item {
-                return Some((item, self.lexer.span()));
-            }
-        }
+        let item = self.lexer.next()?;
+        Some((item, self.lexer.span()))
     }
 }
 
@@ -419,8 +71,6 @@ where
     fn clone(&self) -> Self {
         Scanner {
             lexer: self.lexer.clone(),
-            walk: self.walk.clone(),
-            ..*self
         }
     }
 }
@@ -447,8 +97,6 @@ impl<'source, Token: Scan<'source>> Deref for Scanner<'source, Token> {
 
 impl<'source, Token: Scan<'source>> DerefMut for Scanner<'source, Token> {
     fn deref_mut(&mut self) -> &mut Self::Target {
-        self.is_moved = true;
-        self.forget();
         &mut self.lexer
     }
 }

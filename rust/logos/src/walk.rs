@@ -1,181 +1,145 @@
-//! The walk over an input, chunk by chunk. `scan` takes its tokens.
+//! The walk over an input, chunk by chunk. A lexer takes its tokens.
 
 use crate::chunk::{Chunk, CHUNK, WORD};
-use crate::folded::{Last, Rows};
+use crate::folded::{Folded, Last};
 use crate::internal::Tables;
-use crate::Span;
+use crate::run::Run;
+use crate::word::Word;
+use crate::{Span, Way};
 
-/// What things cost: for a walk each byte, each byte that is walked over again, each that a guess
-/// by lines looks at, each entry that asks, and each try again; for `Logos::lex` each match and
-/// each state that it enters. The numbers are no times: they were chosen so that they tell apart
-/// measured texts on which walks win and lose.
+/// The costs: for a walk of each byte, each byte that is processed again, each that a guess by
+/// lines examines, each undecided entry, and each repeated attempt; for `Logos::lex` of each match
+/// and each state that it enters. The numbers are not times: they were chosen to separate measured
+/// texts on which walks are faster from those on which they are slower.
 const STEP: usize = 6;
 const AGAIN: usize = 24;
-const LOOK: usize = 10;
-const ASK: usize = 400;
-const TRY: usize = 400;
+const EXAMINE: usize = 10;
+const UNDECIDED: usize = 400;
+const ATTEMPT: usize = 400;
 const MATCH: usize = 39;
 const ENTER: usize = 19;
-/// Walks whose items are folded lose where matches have fewer bytes in the mean.
+/// The mean length of matches, in bytes, below which walks are slower than match attempts.
 const SHORTEST: usize = 2;
-/// The bits of so many bytes are set one by one.
+/// The numbers of chunks that match attempts process if walks do not save time: the least, and the
+/// greatest after several such decisions in a row.
+const FEWEST_PLAIN: usize = 4;
+const MOST_PLAIN: usize = 64;
+/// The greatest number of bytes whose bits are set one by one.
 const FEW: usize = 6;
-/// One of so many words is looked at to tell whether walks are worth their time.
+/// One of this many words is examined to decide whether walks pay off.
 const SAMPLED: usize = 18;
 
-/// What is left of a word of a chunk.
-#[derive(Clone, Copy)]
-pub(crate) struct Word {
-    ends: u64,
-    pub(crate) tokens: u64,
-    /// Where the word begins, in the input and in the chunk.
-    here: usize,
-    pub(crate) at: usize,
-    /// Where the last match ended that is not among `ends`.
-    pub(crate) start: usize,
-}
-
-impl Word {
-    /// Returns the word in which nothing is left, where the next match begins at a byte offset.
-    pub(crate) const fn empty(start: usize) -> Word {
-        Word {
-            ends: 0,
-            tokens: 0,
-            here: start,
-            at: 0,
-            start,
-        }
-    }
-
-    /// Returns the place of the first of some tokens, of which there is one.
-    #[inline(always)]
-    pub(crate) fn span_of(&self, tokens: u64) -> Span {
-        let end = self.here + tokens.trailing_zeros() as usize;
-        self.after(self.ends & !tokens & tokens.wrapping_sub(1))..end
-    }
-
-    /// Returns where the last match ended.
-    #[inline(always)]
-    pub(crate) fn last_end(&self) -> usize {
-        self.after(self.ends)
-    }
-
-    /// Returns the word in which nothing is left.
-    pub(crate) fn passed(&self) -> Word {
-        Word {
-            ends: 0,
-            tokens: 0,
-            start: self.last_end(),
-            ..*self
-        }
-    }
-
-    /// Returns where the last match ended, after some of the ends.
-    #[inline(always)]
-    fn after(&self, ends: u64) -> usize {
-        if ends == 0 {
-            return self.start;
-        }
-        self.here + (63 - ends.leading_zeros() as usize)
-    }
-}
+/// The number of bytes that are walked over after match attempts, to determine whether walks save
+/// time.
+const TRIAL: usize = 768;
 
 /// A walk over an input.
-#[derive(Clone)]
 pub(crate) struct Walk {
     chunk: Chunk,
-    /// The byte of the chunk before which the word is cut, since its entry asks.
+    /// The word whose tokens the lexer takes.
+    pub(crate) word: Word,
+    /// The word does not follow the last item.
+    pub(crate) is_moved: bool,
+    pub(crate) way: Way,
+    /// The byte of the chunk before which the word is cut, since its entry needs a match attempt.
     cut: Option<usize>,
-    /// Where the chunk begins and how many bytes it has, and the places before and after it.
+    /// The offset and the length of the chunk, and the row offsets before and after it.
     base: usize,
     len: usize,
     first: u32,
-    place: u32,
-    /// What was to be done twice in the chunk, and what the last walks gained.
+    row_start: u32,
+    /// The number of steps that were repeated in the chunk, the cost of moves of the lexer since
+    /// the walk over it, and the time that the last walks saved.
     cost: usize,
+    moves: usize,
     gain: isize,
-    /// How many chunks are not walked where walks are not worth their time.
+    /// The number of chunks that are not walked if walks do not pay off.
     plain: usize,
-    /// A guess was wrong to the end of its block.
+    /// Whether a guess was wrong up to the end of its block.
     missed: bool,
-    /// What guesses by few bytes cost of late in a chunk, and guesses by lines.
+    /// Fewer bytes than a chunk has are walked over next.
+    tries: bool,
+    /// The recent costs, in a chunk, of guesses by few bytes and of guesses by lines.
     guesses: [usize; 2],
 }
 
-#[cfg(feature = "std")]
 pub(crate) type Room = std::boxed::Box<Walk>;
-#[cfg(not(feature = "std"))]
-pub(crate) type Room = Walk;
 
-/// Returns a walk from a byte offset on.
+/// Returns a walk that has not begun.
 #[cold]
-pub(crate) fn new_room(start: usize, root: u32) -> Room {
+pub(crate) fn new_room(way: Way) -> Room {
     const NEW: Walk = Walk {
         chunk: Chunk::NEW,
+        word: Word::empty(0),
+        is_moved: true,
+        way: Way::ByRule,
         cut: None,
         base: 0,
         len: 0,
         first: 0,
-        place: 0,
+        row_start: 0,
         cost: 0,
+        moves: 0,
         gain: 0,
         plain: 0,
         missed: false,
+        tries: false,
         guesses: [0; 2],
     };
-    #[cfg(feature = "std")]
     let mut room = std::boxed::Box::new(NEW);
-    #[cfg(not(feature = "std"))]
-    let mut room = NEW;
-    (room.base, room.place, room.guesses[1]) = (start, root, LOOK * 500);
+    (room.way, room.guesses[1]) = (way, EXAMINE * 500);
+    room.tries = way == Way::ByRule;
     room
 }
 
 impl Walk {
-    /// Returns the entries of a word.
+    /// Returns the leaf and the span of the first of some tokens of the word.
     #[inline(always)]
-    pub(crate) fn entries(&self, word: &Word) -> &[u32] {
-        self.chunk.entries(word.at)
+    pub(crate) fn token(&self, tokens: u64) -> Option<(usize, Span)> {
+        let word = &self.word;
+        let leaf = self
+            .chunk
+            .leaf(word.at + tokens.trailing_zeros() as usize)?;
+        Some((leaf, word.span_of(tokens)))
     }
 
-    /// Returns the leaf of the first of some tokens of a word.
+    /// Moves to the next word of the chunk, if there is one, and returns its tokens.
     #[inline(always)]
-    pub(crate) fn leaf_of(&self, word: &Word, tokens: u64) -> Option<usize> {
-        self.chunk.leaf(word.at + tokens.trailing_zeros() as usize)
-    }
-
-    /// Goes on to the next word of the chunk, if there is one.
-    #[inline(always)]
-    pub(crate) fn next_word(&mut self, word: &mut Word) -> bool {
+    pub(crate) fn next_word(&mut self) -> Option<u64> {
+        let word = &self.word;
         let at = word.at + WORD;
-        if self.cut.is_some() || at >= self.len {
-            return false;
+        if self.is_moved || self.cut.is_some() || at >= self.len {
+            return None;
         }
-        *word = self.word(at, word.here + WORD, !0, word.last_end());
-        true
+        Some(self.begin_word(at, word.here + WORD, !0, word.last_end()))
     }
 
-    /// Returns what is left in the word that begins at a byte of the chunk, and of the input: the
-    /// bits `from`, up to an entry that asks.
+    /// Moves to the word that begins at a byte of the chunk, and of the input, and returns its
+    /// tokens: of the bits `from`, up to an entry that needs a match attempt.
     #[inline(always)]
-    fn word(&mut self, at: usize, here: usize, from: u64, start: usize) -> Word {
+    fn begin_word(&mut self, at: usize, here: usize, from: u64, start: usize) -> u64 {
         let (ends, tokens) = self.chunk.bits(at);
-        let asks = tokens & !ends & from;
+        let undecided = tokens & !ends & from;
         let mut left = from;
-        if asks != 0 {
-            left &= (asks - 1) & !asks;
-            self.cut = Some(at + asks.trailing_zeros() as usize);
+        if undecided != 0 {
+            left &= (undecided - 1) & !undecided;
+            self.cut = Some(at + undecided.trailing_zeros() as usize);
         }
-        Word {
+        self.word = Word {
             ends: ends & left,
-            tokens: tokens & left,
             here,
             at,
             start,
-        }
+        };
+        tokens & left
     }
 
-    /// Returns where the bytes begin that are not walked over.
+    /// Returns whether no byte is walked over.
+    pub(crate) fn is_empty(&self) -> bool {
+        self.len == 0
+    }
+
+    /// Returns the offset of the bytes that are not walked.
     pub(crate) fn end(&self) -> usize {
         self.base + self.len
     }
@@ -185,79 +149,99 @@ impl Walk {
         self.cut
     }
 
-    /// Walks over the next chunk, after the match that ended at a byte offset.
-    pub(crate) fn walk<'s, T: Tables<'s>>(&mut self, bytes: &[u8], start: usize) -> Word {
+    /// Walks over the next chunk, after the match that ended at a byte offset. Returns the tokens
+    /// of its first word.
+    #[inline]
+    pub(crate) fn walk<'s, T: Tables<'s>>(&mut self, bytes: &[u8], start: usize) -> u64 {
         self.base += self.len;
-        self.first = self.place;
-        let rest = bytes.get(self.base..).unwrap_or_default();
+        self.first = self.row_start;
+        let mut rest = bytes.get(self.base..).unwrap_or_default();
+        if core::mem::take(&mut self.tries) {
+            rest = rest.get(..TRIAL).unwrap_or(rest);
+        }
         if let Some(input) = rest.first_chunk::<CHUNK>() {
             self.walk_chunk::<T>(input);
         } else {
-            self.len = rest.len();
-            self.place = self.chunk.walk_rest::<T>(rest, self.place);
+            self.walk_rest::<T>(rest);
         }
-        self.word(0, self.base, !0, start)
+        self.begin_word(0, self.base, !0, start)
     }
 
-    /// Walks over a whole chunk. Of both kinds of guesses the one is made that costs less. What is
-    /// known of the other gets less, so that it is made again at times.
+    /// Walks over a whole chunk with the kind of guesses that costs less. The recorded cost of the
+    /// other kind decreases, so that it is tried again at times.
+    #[inline]
     fn walk_chunk<'s, T: Tables<'s>>(&mut self, input: &[u8; CHUNK]) {
         let start = if self.missed {
-            self.place
+            self.row_start
         } else {
-            T::ROWS.root()
+            <T as Folded>::ROOT
         };
         let by_lines = self.guesses[1] < self.guesses[0];
-        let walked = self.chunk.walk::<T>(input, self.place, start, by_lines);
-        (self.len, self.place, self.missed) = (CHUNK, walked.place, walked.missed);
-        self.cost = AGAIN * walked.again + LOOK * walked.looked;
+        let walked = self.chunk.walk::<T>(input, self.row_start, start, by_lines);
+        (self.len, self.row_start, self.missed) = (CHUNK, walked.row_start, walked.missed);
+        self.cost = AGAIN * walked.again + EXAMINE * walked.looked;
         let (this, other) = (by_lines as usize, !by_lines as usize);
         self.guesses[this] = (3 * self.guesses[this] + self.cost) / 4;
         self.guesses[other] -= self.guesses[other] / 16;
     }
 
-    /// Returns the leaf of the try that is over at a byte of the chunk and began at a byte offset,
-    /// and where its match ends; or a number that no leaf has, and where the try is over.
+    /// Walks over fewer bytes than a chunk has.
+    #[inline]
+    fn walk_rest<'s, T: Tables<'s>>(&mut self, rest: &[u8]) {
+        let walked = self.chunk.walk_rest::<T>(rest, self.row_start);
+        (self.len, self.row_start) = (rest.len(), walked.row_start);
+        self.cost = AGAIN * walked.again;
+    }
+
+    /// Returns the leaf of the match attempt that ended at a byte of the chunk and began at a byte
+    /// offset, and the end of its match; or a number that no leaf has, and the offset at which the
+    /// attempt ended.
+    #[inline]
     pub(crate) fn found_at<'s, T: Tables<'s>>(
         &mut self,
         bytes: &[u8],
         cut: usize,
         start: usize,
     ) -> (usize, usize) {
-        self.cost += ASK;
         let end = self.base + cut;
         let leaf = self.chunk.leaf(cut).unwrap_or_default();
         if leaf != 0 {
             return (leaf - 1, end);
         }
-        let place = match cut.checked_sub(1) {
-            _ if end == start => T::ROWS.root(),
-            Some(before) => self.chunk.place(before),
+        let row_start = match cut.checked_sub(1) {
+            _ if end == start => <T as Folded>::ROOT,
+            Some(before) => self.chunk.row_start(before),
             None => self.first,
         };
-        match T::ROWS.last(place) {
+        match T::last(row_start) {
             Last::Never => (usize::MAX, end),
             Last::Back(leaf, bytes) => (leaf, end - bytes),
             Last::Varies => {
-                self.cost += TRY;
-                T::again(bytes, start)
+                self.moves += ATTEMPT;
+                T::try_again(bytes, start)
             }
         }
     }
 
-    /// Lets the next match begin at a byte offset.
-    pub(crate) fn begin_at<'s, T: Tables<'s>>(&mut self, bytes: &[u8], start: usize) -> Word {
-        let root = T::ROWS.root();
+    /// Lets the next match begin at a byte offset. Returns the tokens of its word.
+    #[inline]
+    pub(crate) fn begin_at<'s, T: Tables<'s>>(&mut self, bytes: &[u8], start: usize) -> u64 {
+        let root = <T as Folded>::ROOT;
         let at = start.wrapping_sub(self.base);
         if at >= self.len {
-            return self.begin_anew(start, root);
+            self.begin_anew(start, root);
+            self.tries = self.way == Way::ByRule;
+            return 0;
         }
         let input = &bytes[self.base..];
-        let (to, place) = self.chunk.walk_again::<T>(input, at..self.len, root);
+        let (to, row_start) = self.chunk.walk_again::<T>(input, at..self.len, root);
         if to == self.len {
-            self.place = place;
+            self.row_start = row_start;
         }
-        self.cost += AGAIN * (to - at);
+        self.moves += AGAIN * (to - at);
+        if self.cut.is_none() {
+            self.moves += UNDECIDED;
+        }
         if to - at <= FEW {
             self.chunk.set_few_bits(at, to);
         } else {
@@ -265,35 +249,41 @@ impl Walk {
         }
         self.cut = None;
         let begun = at % WORD;
-        self.word(at - begun, start - begun, !0 << begun, start)
+        self.is_moved = false;
+        self.begin_word(at - begun, start - begun, !0 << begun, start)
     }
 
     /// Forgets the chunk, and lets the next match begin at a byte offset.
-    pub(crate) fn begin_anew(&mut self, start: usize, root: u32) -> Word {
-        (self.cut, self.len, self.base, self.place) = (None, 0, start, root);
-        Word::empty(start)
+    pub(crate) fn begin_anew(&mut self, start: usize, root: u32) {
+        (self.cut, self.len, self.base, self.row_start) = (None, 0, start, root);
+        (self.word, self.is_moved) = (Word::empty(start), false);
     }
 
-    /// Tells by the walk over the chunk, and by those before, whether walks are worth their time,
-    /// where the items are folded or not. If they are not, returns up to which byte offset
-    /// `Logos::lex` is to find the items.
-    pub(crate) fn plain_to(&mut self, folds: bool) -> Option<usize> {
-        if self.len == 0 {
-            return None;
-        }
-        let [bytes, ends, entered] = self.chunk.sample(self.len, SAMPLED);
-        let lexer = match ends {
-            _ if folds && ends > bytes / SHORTEST => 0,
-            _ => SAMPLED * (MATCH * ends + ENTER * entered),
+    /// Decides from the walks over this chunk and the ones before whether taking the tokens of this
+    /// one saves time. If it does not, returns the byte offset up to which match attempts find the
+    /// items.
+    pub(crate) fn plain_to(&mut self) -> Option<usize> {
+        let sampled = if self.len < CHUNK {
+            SAMPLED / 6
+        } else {
+            SAMPLED
         };
-        let walk = SAMPLED * STEP * bytes + self.cost;
+        let [bytes, ends, entered] = self.chunk.sample(self.len, sampled);
+        let lexer = if ends > bytes / SHORTEST {
+            0
+        } else {
+            sampled * (MATCH * ends + ENTER * entered)
+        };
+        let undecided = UNDECIDED * self.chunk.undecided(self.len);
+        let walk =
+            sampled * STEP * bytes + self.cost + undecided + core::mem::take(&mut self.moves);
         self.gain = self.gain / 8 * 7 + lexer as isize - walk as isize;
         if self.gain > 0 {
             self.plain /= 2;
             return None;
         }
-        self.gain = 0;
-        self.plain = (2 * self.plain).clamp(2, 64);
+        (self.gain, self.tries) = (0, true);
+        self.plain = (2 * self.plain).clamp(FEWEST_PLAIN, MOST_PLAIN);
         Some(self.end() + self.plain * CHUNK)
     }
 }

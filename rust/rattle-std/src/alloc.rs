@@ -1,4 +1,4 @@
-//! Stands in for Rattle's `std::alloc`: the allocator, its errors, and the budget of memory.
+//! Replaces Rattle's `std::alloc`: the allocator, its errors, and the budget of memory.
 
 mod budget;
 
@@ -57,7 +57,7 @@ impl From<AllocError> for fmt::Error {
 }
 
 /// Returns the capacity to which a block with `capacity` items of `size` bytes grows so that
-/// `additional` items fit after the first `len`, and claims the bytes that are added.
+/// `additional` items fit after the first `len`, and claims the additional bytes.
 ///
 /// The capacity at least doubles, so that adding items one by one takes linear time.
 ///

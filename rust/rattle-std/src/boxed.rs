@@ -1,14 +1,14 @@
-//! Stands in for Rattle's `std::boxed`.
+//! Replaces Rattle's `std::boxed`.
 
 use crate::alloc::{AllocError, AllocFailed, Global, claim, release};
 use crate::clone::Clone;
 use core::fmt;
 use core::ops::{Deref, DerefMut};
 
-/// A value in an allocation of its own.
+/// A value in a separate allocation.
 ///
-/// Stable Rust has no box whose memory may be refused, but vectors whose memory may be, and a
-/// vector of one becomes a box of an array of one. There is one until [`Box::into_inner`].
+/// Stable Rust has no fallible allocation of boxes, but one of vectors, and a vector with one value
+/// becomes a box of an array with one value. It is `Some` until [`Box::into_inner`].
 #[derive(PartialEq, Eq, PartialOrd, Ord, Hash)]
 pub struct Box<T>(Option<std::boxed::Box<[T; 1]>>);
 

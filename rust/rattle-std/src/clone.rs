@@ -1,12 +1,12 @@
-//! Stands in for Rattle's `std::clone`: copies that may be refused memory.
+//! Replaces Rattle's `std::clone`: copies whose allocation may fail.
 //!
-//! A derive of `Clone` in an erased file is Rust's, and stands beside one of `Copy`.
+//! A derive of `Clone` in an erased file is Rust's, and is always combined with one of `Copy`.
 
 use crate::alloc::AllocError;
 use crate::rt::HostRuntime;
 use core::ops::RangeInclusive;
 
-/// A value that can be copied where there is memory.
+/// A value that can be copied if memory suffices.
 pub trait Clone: Sized {
     /// Returns a copy.
     ///
@@ -48,7 +48,7 @@ impl<T: Copy> Clone for RangeInclusive<T> {
     }
 }
 
-/// Copies of referenced values, as `cloned()` makes them in Rattle.
+/// Copies of referenced values, made by `cloned()` in Rattle.
 pub trait Clones<T> {
     /// Returns the copy, if there is a value.
     ///

@@ -1,7 +1,7 @@
-//! Stands in for Rattle's `std::collections`: sets and maps whose growth may be refused memory.
+//! Replaces Rattle's `std::collections`: sets and maps whose growth may fail.
 //!
-//! Rust's `BTreeSet` cannot be refused memory, and its hash tables grow past the budget of this
-//! crate. So the first is made of [`Vec`](crate::vec::Vec), and the others are those of
+//! Rust's `BTreeSet` has no fallible growth, and its hash tables grow beyond the budget of this
+//! crate. Therefore the first is made of [`Vec`](crate::vec::Vec), and the others are those of
 //! [`crate::crates::indexmap`].
 
 mod btree_set;

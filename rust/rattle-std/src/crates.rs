@@ -1,4 +1,4 @@
-//! Stands in for the crates of the toolchain's kit that the erased crates use.
+//! Replaces the crates of the toolchain's kit that the erased crates use.
 
 pub mod indexmap;
 pub mod itoa;

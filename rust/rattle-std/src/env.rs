@@ -1,4 +1,4 @@
-//! Stands in for Rattle's `std::env`: the arguments by which a program was called.
+//! Replaces Rattle's `std::env`: the arguments with which a program was called.
 
 use crate::alloc::Global;
 use crate::io;
@@ -6,9 +6,9 @@ use crate::rt::HostRuntime;
 use crate::string::String;
 use crate::vec::{IntoIter, Vec};
 
-/// A system that knows the arguments by which the program was called.
+/// A system that knows the arguments with which the program was called.
 pub trait Env {
-    /// Writes the argument with an index to the front of `buf`, and returns its length.
+    /// Writes the argument with index `i` to the beginning of `buf`, and returns its length.
     ///
     /// # Errors
     ///
@@ -16,12 +16,12 @@ pub trait Env {
     fn arg(&self, i: usize, buf: &mut [u8]) -> Result<usize, FillError>;
 }
 
-/// Why an argument was not written.
+/// The reasons why an argument was not written.
 #[derive(Clone, Copy, Debug, PartialEq, Eq)]
 pub enum FillError {
-    /// There is none with this index.
+    /// There is no argument with this index.
     Missing,
-    /// It has more bytes than there is room for.
+    /// The argument is longer than the buffer.
     TooLong,
 }
 
@@ -35,7 +35,7 @@ impl Env for HostRuntime {
     }
 }
 
-/// Returns the arguments by which the program was called, its name first.
+/// Returns the arguments with which the program was called, its name first.
 ///
 /// # Errors
 ///

@@ -1,8 +1,8 @@
-//! Stands in for Rattle's `std::fs`.
+//! Replaces Rattle's `std::fs`.
 //!
-//! Paths are texts as Unix has them. Elsewhere some paths of Linux that the crates name have their
-//! meaning too: `/dev/stdin` is standard input, and `/proc/self` leads to the number of the
-//! process.
+//! Paths are texts in the form of Unix. On other systems some paths of Linux that the crates use
+//! have their meaning too: `/dev/stdin` is standard input, and `/proc/self` is a link to the
+//! process id.
 
 mod metadata;
 
@@ -15,29 +15,29 @@ use std::sync::OnceLock;
 
 pub use metadata::{Metadata, MetadataExt, Permissions, PermissionsExt, metadata, set_permissions};
 
-/// The path by which the crates name standard input.
+/// The path of standard input in the crates.
 const STANDARD_INPUT: &str = "/dev/stdin";
 
-/// The link by which the crates find the number of the process.
+/// The link from which the crates read the process id.
 const OWN_PROCESS: &str = "/proc/self";
 
-/// The path by which the crates read the program itself.
+/// The path from which the crates read the program itself.
 const PROGRAM: &str = "/proc/self/exe";
 
-/// What is read as the program itself.
+/// The bytes that are read as the program itself.
 static PROGRAM_BYTES: OnceLock<&'static [u8]> = OnceLock::new();
 
-/// Sets the bytes that are read in place of the file of the program, at `/proc/self/exe`.
+/// Sets the bytes that are read instead of the file of the program, at `/proc/self/exe`.
 ///
-/// The programs look there for the commit that they are built from. They call this first, and only
-/// the first call has an effect.
+/// The programs search them for the commit from which they were built. They call this first, and
+/// only the first call has an effect.
 pub fn set_program(bytes: &'static [u8]) {
     let _ = PROGRAM_BYTES.set(bytes);
 }
 
 /// A system with files.
 pub trait Files {
-    /// Sets the owner and the group of a file, where the system has them.
+    /// Sets the owner and the group of a file, if the system has them.
     ///
     /// # Errors
     ///
@@ -57,7 +57,7 @@ impl Files for HostRuntime {
     }
 }
 
-/// A path that the system gave.
+/// A path from the system.
 pub struct PathBuf(String);
 
 impl PathBuf {
@@ -87,7 +87,7 @@ impl PathBuf {
 pub fn read<R: Files>(rt: &R, path: &str) -> io::Result<Vec<u8>> {
     let mut bytes = Vec::new(Global);
     let mut file = File::open(rt, path)?;
-    // One byte more, in which the end is found.
+    // One more byte, in which the end is detected.
     bytes.reserve(file.len_hint() + 1)?;
     file.read_to_end(&mut bytes)?;
     Ok(bytes)
@@ -103,7 +103,7 @@ pub fn read_to_string<R: Files>(rt: &R, path: &str) -> io::Result<String> {
     String::from_utf8(read(rt, path)?).map_err(|_| Error::from(ErrorKind::InvalidData))
 }
 
-/// Writes a file: it is made, or what it has is replaced.
+/// Writes a file: creates it, or replaces its content.
 ///
 /// # Errors
 ///
@@ -112,7 +112,7 @@ pub fn write<R: Files>(_rt: &R, path: &str, bytes: &[u8]) -> io::Result<()> {
     Ok(std::fs::write(path, bytes)?)
 }
 
-/// Returns where a link leads.
+/// Returns the target of a link.
 ///
 /// # Errors
 ///
@@ -125,7 +125,7 @@ pub fn read_link<R: Files>(_rt: &R, path: &str) -> io::Result<PathBuf> {
     PathBuf::of(&std::fs::read_link(path)?)
 }
 
-/// Returns the whole path of a file, without links.
+/// Returns the absolute path of a file, with all links resolved.
 ///
 /// # Errors
 ///
@@ -134,7 +134,7 @@ pub fn canonicalize<R: Files>(_rt: &R, path: &str) -> io::Result<PathBuf> {
     PathBuf::of(&std::fs::canonicalize(path)?)
 }
 
-/// Gives a file another path, in place of a file that is there.
+/// Renames a file, and replaces a file that has the new path.
 ///
 /// # Errors
 ///
@@ -152,13 +152,13 @@ pub fn remove_file<R: Files>(_rt: &R, path: &str) -> io::Result<()> {
     Ok(std::fs::remove_file(path)?)
 }
 
-/// Makes a folder, and those on the way to it.
+/// Creates a folder, and the missing folders of its path.
 ///
 /// # Errors
 ///
 /// Returns the error of the system.
 pub fn create_dir_all<R: Files>(_rt: &R, path: &str) -> io::Result<()> {
-    // Rust makes nothing of a path that ends with `.`, so its last components are taken.
+    // Rust creates nothing for a path that ends with `.`, so its last components are taken.
     let folder = std::path::Path::new(path).components();
     Ok(std::fs::create_dir_all(folder.as_path())?)
 }
@@ -222,13 +222,13 @@ impl File {
         }
         match std::fs::File::open(path) {
             Ok(file) => Ok(File(Opened::File(file))),
-            // Not each system has it as a file, and nowhere can it be opened where it is a socket.
+            // Not every system has it as a file, and on none can it be opened if it is a socket.
             Err(_) if path == STANDARD_INPUT => Ok(File(Opened::StandardInput(std::io::stdin()))),
             Err(error) => Err(Error::from(error)),
         }
     }
 
-    /// Makes a file that is not there, to write it.
+    /// Creates a file that does not exist, to write it.
     ///
     /// # Errors
     ///
@@ -237,7 +237,7 @@ impl File {
         Ok(File(Opened::File(std::fs::File::create_new(path)?)))
     }
 
-    /// Returns the length that the system gives for the file, up to a bound.
+    /// Returns the length that the system reports for the file, up to a bound.
     fn len_hint(&self) -> usize {
         const MOST: u64 = 1 << 26;
         match &self.0 {

@@ -1,4 +1,4 @@
-//! Stands in for Rattle's `std::io`: reading into vectors that may be refused memory, and writing.
+//! Replaces Rattle's `std::io`: reading into vectors whose growth may fail, and writing.
 
 mod buffered;
 mod error;
@@ -13,28 +13,27 @@ pub use buffered::BufWriter;
 pub use error::{Error, ErrorKind, Result};
 pub use standard::{Input, IsTerminal, Print, Stderr, Stdin, Stdout};
 
-/// The bytes for which room is made at first.
+/// The number of bytes that are reserved at first.
 const FIRST_BLOCK: usize = 8192;
 
-/// The most bytes that are read at once.
+/// The maximum number of bytes that are read at once.
 const LARGEST_BLOCK: usize = 1 << 20;
 
-/// Something that bytes are read from.
+/// A source of bytes.
 pub trait Read {
-    /// Reads bytes, and returns how many. None are left where the number is 0 and `buf` is not
-    /// empty.
+    /// Reads bytes, and returns their number. If it is 0 and `buf` is not empty, no bytes are left.
     ///
     /// # Errors
     ///
     /// Returns the error of the system. Then nothing was read.
     fn read(&mut self, buf: &mut [u8]) -> Result<usize>;
 
-    /// Appends all bytes that are left to a vector, and returns how many.
+    /// Appends all remaining bytes to a vector, and returns their number.
     ///
     /// # Errors
     ///
-    /// Returns the error of the system, or one of the kind `OutOfMemory` if memory is refused. Then
-    /// what was read before is appended.
+    /// Returns the error of the system, or one of the kind `OutOfMemory` if memory is refused. The
+    /// bytes that were read before are appended.
     fn read_to_end(&mut self, buf: &mut Vec<u8>) -> Result<usize> {
         let start = buf.len();
         let mut end = start;
@@ -64,8 +63,8 @@ pub trait Read {
     }
 }
 
-/// Appends zeros to a vector, in whose place bytes are read: as many as there is room for, or as
-/// the vector has.
+/// Appends zeros to a vector, which are then replaced by the bytes that are read. Their number is
+/// the free capacity, or the length of the vector.
 fn lengthen(buf: &mut Vec<u8>) -> core::result::Result<(), AllocError> {
     let len = buf.len();
     let room = match buf.capacity() - len {
@@ -108,7 +107,7 @@ impl<R: Read> Read for Take<R> {
     }
 }
 
-/// Returns all text that a reader has left.
+/// Returns the remaining text of a reader.
 ///
 /// # Errors
 ///
@@ -120,16 +119,16 @@ pub fn read_to_string<R: Read>(alloc: Global, mut reader: R) -> Result<String> {
     String::from_utf8(bytes).map_err(|_| Error::from(ErrorKind::InvalidData))
 }
 
-/// Something that bytes are written to.
+/// A destination of bytes.
 pub trait Write {
-    /// Writes bytes, and returns how many.
+    /// Writes bytes, and returns their number.
     ///
     /// # Errors
     ///
     /// Returns the error of the system. Then nothing was written.
     fn write(&mut self, buf: &[u8]) -> Result<usize>;
 
-    /// Writes what is held back.
+    /// Writes the buffered bytes.
     ///
     /// # Errors
     ///
@@ -153,11 +152,11 @@ pub trait Write {
         Ok(())
     }
 
-    /// Writes what is formatted: `write!` calls it.
+    /// Writes formatted text. Called by `write!`.
     ///
     /// # Errors
     ///
-    /// Returns the error of the system. Then a part may be written.
+    /// Returns the error of the system. Then a part of the text may be written.
     fn write_fmt(&mut self, text: fmt::Arguments<'_>) -> Result<()> {
         let mut pieces = Pieces {
             to: self,
@@ -170,7 +169,7 @@ pub trait Write {
     }
 }
 
-/// A writer to which what is formatted comes in pieces.
+/// A writer that receives formatted text in pieces.
 struct Pieces<'w, W: ?Sized> {
     to: &'w mut W,
     error: Option<Error>,

@@ -1,10 +1,11 @@
 //! The part of Rattle's standard library that the erased crates use, over Rust's.
 //!
-//! Rattle is Rust with contracts. Its library differs from Rust's where memory may be refused: what
+//! Rattle is Rust with contracts. Its library differs from Rust's in allocation: a function that
 //! allocates takes an allocator and returns a `Result`. Erased crates name this crate `std`, and
 //! each of their files imports the [`prelude`].
 //!
-//! Modules that are as in Rust are re-exported. Each other module says which one it stands in for.
+//! Modules that are equal in Rust are re-exported. Each other module names the one that it
+//! replaces.
 
 #![deny(unsafe_code)]
 #![warn(missing_docs)]
@@ -46,7 +47,7 @@ pub mod prelude {
     pub use crate::{eprint, eprintln, format, print, println, vec};
 }
 
-/// What the macros of this crate call.
+/// The functions that the macros of this crate call.
 #[doc(hidden)]
 pub mod called_by_macros {
     pub use crate::methods::{formatted, listed, repeated};

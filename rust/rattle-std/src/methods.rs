@@ -1,12 +1,12 @@
-//! Methods of Rust's own types that take an allocator in Rattle. Erased files have them under
-//! another name of the same width.
+//! Methods of Rust's own types that take an allocator in Rattle. In erased files they have another
+//! name of the same width.
 
 use crate::alloc::{AllocError, Global};
 use crate::string::String;
 use crate::vec::Vec;
 use core::fmt;
 
-/// Rattle's `collect`.
+/// Replaces Rattle's `collect`.
 pub trait ListIn: Iterator + Sized {
     /// Returns a collection of all items.
     ///
@@ -20,7 +20,7 @@ pub trait ListIn: Iterator + Sized {
 
 impl<I: Iterator> ListIn for I {}
 
-/// A collection that is made of items.
+/// A collection that is made from items.
 pub trait FromItems<T>: Sized {
     /// Returns the collection of all items.
     ///
@@ -48,7 +48,7 @@ impl FromItems<char> for String {
     }
 }
 
-/// Rattle's `to_vec`.
+/// Replaces Rattle's `to_vec`.
 pub trait VecIn<T> {
     /// Returns a vector of copies.
     ///
@@ -64,7 +64,7 @@ impl<T: Copy> VecIn<T> for [T] {
     }
 }
 
-/// Rattle's `to_string`.
+/// Replaces Rattle's `to_string`.
 pub trait StringIn: fmt::Display {
     /// Returns the text of a value.
     ///
@@ -78,9 +78,9 @@ pub trait StringIn: fmt::Display {
 
 impl<T: fmt::Display + ?Sized> StringIn for T {}
 
-/// Rattle's `to_ascii_lowercase`.
+/// Replaces Rattle's `to_ascii_lowercase`.
 pub trait AsciiLowercaseIn {
-    /// Returns a copy in which the capital letters of ASCII are small.
+    /// Returns a copy with ASCII letters in lower case.
     ///
     /// # Errors
     ///
@@ -99,7 +99,7 @@ impl AsciiLowercaseIn for str {
     }
 }
 
-/// Returns what is formatted. `format!` calls it.
+/// Returns formatted text. Called by `format!`.
 ///
 /// # Errors
 ///
@@ -110,7 +110,7 @@ pub fn formatted(alloc: Global, text: fmt::Arguments<'_>) -> Result<String, Allo
     Ok(made)
 }
 
-/// Returns a vector of `count` copies of a value. `vec!` calls it.
+/// Returns a vector of `count` copies of a value. Called by `vec!`.
 ///
 /// # Errors
 ///
@@ -121,7 +121,7 @@ pub fn repeated<T: Clone>(alloc: Global, value: T, count: usize) -> Result<Vec<T
     Ok(values)
 }
 
-/// Returns a vector of values. `vec!` calls it.
+/// Returns a vector of values. Called by `vec!`.
 ///
 /// # Errors
 ///

@@ -1,6 +1,6 @@
-//! Stands in for Rattle's `std::os`.
+//! Replaces Rattle's `std::os`.
 
-/// What is Rattle's for Unix. Elsewhere its traits have values that change nothing.
+/// Rattle's traits for Unix. On other systems they have values without effect.
 pub mod unix {
     /// Files.
     pub mod fs {

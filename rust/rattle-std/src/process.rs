@@ -1,3 +1,3 @@
-//! Stands in for Rattle's `std::process`.
+//! Replaces Rattle's `std::process`.
 
 pub use std::process::{ExitCode, Termination};

@@ -1,4 +1,4 @@
-//! Stands in for Rattle's `std::rt`: the system that a program runs on.
+//! Replaces Rattle's `std::rt`: the system on which a program runs.
 
 use crate::alloc::Global;
 use crate::io::{Stderr, Stdin};
@@ -12,7 +12,7 @@ pub trait AllocGlobal {
     fn alloc(&self) -> Global;
 }
 
-/// The system that this program runs on.
+/// The system on which this program runs.
 #[derive(Clone, Copy, Debug, Default)]
 pub struct HostRuntime;
 

@@ -1,7 +1,8 @@
-//! Stands in for Rattle's `std::simd`, which is Rust's portable one: vectors of bytes.
+//! Replaces Rattle's `std::simd`, which is Rust's portable one: vectors of bytes.
 //!
-//! A vector is an array. What loops would make slow is done for 16 bytes at a time by a function of
-//! `blocks`, which has the instructions of x86-64 and of 64-bit ARM, and loops for other machines.
+//! A vector is an array. Operations for which loops would be slow call functions of `blocks` for 16
+//! bytes at a time, which use instructions of x86-64 and of 64-bit ARM, and loops on other
+//! machines.
 
 mod blocks;
 
@@ -32,12 +33,12 @@ pub type u8x64 = Simd<u8, 64>;
 #[allow(non_camel_case_types)]
 pub type u32x16 = Simd<u32, 16>;
 
-/// For which of at most 64 entries of two vectors a comparison holds.
+/// The set of entries, of at most 64, for which a comparison of two vectors holds.
 #[derive(Clone, Copy, Debug, PartialEq, Eq)]
 pub struct Mask<const N: usize>(u64);
 
 impl<const N: usize> Mask<N> {
-    /// Returns the number whose bit `k` is set if it holds for entry `k`.
+    /// Returns the number in which bit `k` is set if the comparison holds for entry `k`.
     #[inline(always)]
     pub fn to_bitmask(self) -> u64 {
         self.0
@@ -55,7 +56,7 @@ impl<T: Copy, const N: usize> Simd<T, N> {
     ///
     /// # Panics
     ///
-    /// Panics if the slice has fewer than `N`.
+    /// Panics if the slice has fewer than `N` numbers.
     #[inline(always)]
     pub fn from_slice(slice: &[T]) -> Self {
         match slice.first_chunk::<N>() {
@@ -64,7 +65,7 @@ impl<T: Copy, const N: usize> Simd<T, N> {
         }
     }
 
-    /// Returns the vector of `N` times one number.
+    /// Returns the vector with one number `N` times.
     #[inline(always)]
     pub fn splat(value: T) -> Self {
         Simd([value; N])
@@ -76,10 +77,11 @@ impl<T: Copy, const N: usize> Simd<T, N> {
         self.0
     }
 
-    /// Returns the vector of the numbers at indices of this one followed by another one.
+    /// Returns the vector of the numbers at `indices` in the concatenation of this vector and
+    /// another one.
     #[inline(always)]
     pub fn shuffle<const M: usize>(self, other: Self, indices: [usize; M]) -> Simd<T, M> {
-        // Known when it is compiled, so one of the two is left.
+        // Known at compile time, so one of the two branches remains.
         if M == 2 * N && have_steps(&indices, 0, 1) {
             let mut both = [self.0[0]; M];
             both[..N].copy_from_slice(&self.0);
@@ -93,9 +95,9 @@ impl<T: Copy, const N: usize> Simd<T, N> {
     }
 }
 
-/// Returns whether 16, 32 or 64 indices begin with one number, and each is above the last one by
-/// another number. The compiler knows the result where it knows the indices, but through no loop in
-/// a loop.
+/// Returns whether 16, 32 or 64 indices begin with `first`, and each is `step` above its
+/// predecessor. The compiler knows the result if it knows the indices, but not through nested
+/// loops.
 #[inline(always)]
 fn have_steps<const M: usize>(indices: &[usize; M], first: usize, step: usize) -> bool {
     const { assert!(M == 16 || M == 32 || M == 64) };
@@ -105,7 +107,7 @@ fn have_steps<const M: usize>(indices: &[usize; M], first: usize, step: usize) -
         && (M < 64 || have_16_steps(indices, 48, first, step))
 }
 
-/// Returns whether the 16 indices from `at` on are as they are wanted.
+/// Returns whether the 16 indices from `at` on begin with `first` and have this step.
 #[inline(always)]
 fn have_16_steps(indices: &[usize], at: usize, first: usize, step: usize) -> bool {
     let mut have = true;
@@ -125,7 +127,7 @@ impl<const N: usize> Simd<u8, N> {
         }
     }
 
-    /// Makes a vector of what a function returns for blocks of 16 bytes of two vectors.
+    /// Returns the vector of the results of a function for blocks of 16 bytes of two vectors.
     #[inline(always)]
     fn by_blocks(self, other: Self, f: impl Fn([u8; 16], [u8; 16]) -> [u8; 16]) -> Self {
         let mut made = [0; N];
@@ -152,14 +154,14 @@ impl<const N: usize> Simd<u8, N> {
         Mask(self.simd_eq(other).0 ^ (u64::MAX >> (64 - N)))
     }
 
-    /// Returns the vector of the bytes at indices of this one, which are below 16.
+    /// Returns the vector of the bytes at `indices` in this one. The indices are below 16.
     #[inline(always)]
     pub fn swizzle_dyn_within<const M: usize>(self, indices: Self) -> Self {
         const { assert!(N == 16 && M == 16) };
         self.by_blocks(indices, blocks::at)
     }
 
-    /// Returns the vector of the bytes at indices of this one.
+    /// Returns the vector of the bytes at `indices` in this one.
     #[inline(always)]
     pub fn swizzle<const M: usize>(self, indices: [usize; M]) -> Simd<u8, M> {
         Simd(indices.map(|k| self.0[k]))
@@ -182,7 +184,7 @@ impl WordBytes {
     /// Returns the vector of the bytes at indices.
     #[inline(always)]
     pub fn swizzle(self, indices: [usize; 16]) -> Simd<u8, 16> {
-        // Known when it is compiled, so one of the two is left.
+        // Known at compile time, so one of the two branches remains.
         if have_steps(&indices, 3, 4) {
             return Simd(blocks::tops(self.0));
         }

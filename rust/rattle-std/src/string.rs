@@ -1,4 +1,4 @@
-//! Stands in for Rattle's `std::string`: a text whose growth may be refused memory.
+//! Replaces Rattle's `std::string`: a text whose growth may fail.
 
 use crate::alloc::{AllocError, Global, grown, release};
 use crate::clone::Clone;
@@ -31,11 +31,11 @@ impl String {
         Ok(copy)
     }
 
-    /// Returns the text that bytes are.
+    /// Returns bytes as a text.
     ///
     /// # Errors
     ///
-    /// Returns an error, which holds the bytes, if they are not UTF-8.
+    /// Returns an error, which contains the bytes, if they are not UTF-8.
     pub fn from_utf8(mut bytes: Vec<u8>) -> Result<String, FromUtf8Error> {
         match std::string::String::from_utf8(bytes.take_claimed()) {
             Ok(text) => Ok(String(text)),
@@ -46,7 +46,7 @@ impl String {
         }
     }
 
-    /// Makes room for `additional` bytes after the text, by a new block.
+    /// Makes room for `additional` bytes after the text, in a new block.
     #[cold]
     fn grow(&mut self, additional: usize) -> Result<(), AllocError> {
         let before = self.0.capacity();
@@ -103,7 +103,7 @@ impl String {
         self.0.pop()
     }
 
-    /// Keeps the first `n` bytes.
+    /// Removes all except the first `n` bytes.
     pub fn truncate(&mut self, n: usize) {
         self.0.truncate(n);
     }
@@ -124,11 +124,11 @@ impl String {
         Vec::from_claimed(core::mem::take(&mut self.0).into_bytes())
     }
 
-    /// Appends what is formatted: `write!` calls it.
+    /// Appends formatted text. Called by `write!`.
     ///
     /// # Errors
     ///
-    /// Returns `AllocError` if memory is refused. Then a part may be appended.
+    /// Returns `AllocError` if memory is refused. Then a part of the text may be appended.
     pub fn write_fmt(&mut self, text: fmt::Arguments<'_>) -> Result<(), AllocError> {
         fmt::Write::write_fmt(self, text).map_err(|_| AllocError)
     }
@@ -180,7 +180,7 @@ impl Clone for String {
     }
 }
 
-/// The error of bytes that are not UTF-8.
+/// The error for bytes that are not UTF-8.
 #[derive(Debug)]
 pub struct FromUtf8Error {
     bytes: Vec<u8>,
@@ -188,7 +188,7 @@ pub struct FromUtf8Error {
 }
 
 impl FromUtf8Error {
-    /// Returns where and why the bytes are not UTF-8.
+    /// Returns the offset of the first invalid byte, and the kind of the error.
     pub fn utf8_error(&self) -> Utf8Error {
         self.error
     }

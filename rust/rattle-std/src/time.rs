@@ -1,4 +1,4 @@
-//! Stands in for Rattle's `std::time`.
+//! Replaces Rattle's `std::time`.
 
 use crate::io;
 use crate::rt::HostRuntime;
@@ -7,7 +7,7 @@ pub use core::time::Duration;
 
 /// A system with a clock.
 pub trait Clock {
-    /// Returns the time since a point that stays the same while the program runs.
+    /// Returns the time since a point that is fixed while the program runs.
     ///
     /// # Errors
     ///
@@ -28,7 +28,7 @@ impl Clock for HostRuntime {
 pub struct Instant(Duration);
 
 impl Instant {
-    /// Returns the present.
+    /// Returns the current time.
     ///
     /// # Errors
     ///

@@ -1,4 +1,4 @@
-//! Stands in for Rattle's `std::vec`: a vector whose growth may be refused memory.
+//! Replaces Rattle's `std::vec`: a vector whose growth may fail.
 
 mod traits;
 
@@ -7,7 +7,7 @@ use core::ops::RangeBounds;
 
 pub use std::vec::IntoIter;
 
-/// A vector. Its growth asks the budget first.
+/// A vector whose growth is limited by the budget.
 #[derive(PartialEq, Eq, PartialOrd, Ord, Hash)]
 pub struct Vec<T>(std::vec::Vec<T>);
 
@@ -49,7 +49,7 @@ impl<T> Vec<T> {
         self.take_claimed()
     }
 
-    /// Takes the values out. Their bytes stay claimed.
+    /// Takes the values out. Their bytes remain claimed.
     pub(crate) fn take_claimed(&mut self) -> std::vec::Vec<T> {
         core::mem::take(&mut self.0)
     }
@@ -59,14 +59,15 @@ impl<T> Vec<T> {
         Vec(values)
     }
 
-    /// Makes room for `additional` values after the first `len`, by a new block.
+    /// Makes room for `additional` values after the first `len`, in a new block.
     #[cold]
     fn grow(&mut self, additional: usize) -> Result<(), AllocError> {
         let (len, size) = (self.0.len(), size_of::<T>());
         let before = self.0.capacity();
         let capacity = grown(len, before, additional, size)?;
         let done = self.0.try_reserve_exact(capacity - len);
-        // Rust may allocate more than was wanted, and what was not allocated is released.
+        // The allocation may fail, and Rust may allocate more than requested. Claimed bytes that
+        // were not allocated are released.
         let after = self.0.capacity();
         release(capacity.saturating_sub(after) * size);
         done.map_err(|_| AllocError)
@@ -90,7 +91,7 @@ impl<T> Vec<T> {
         &Global
     }
 
-    /// Returns for how many values there is room.
+    /// Returns the number of values for which there is room.
     #[inline]
     pub fn capacity(&self) -> usize {
         self.0.capacity()
@@ -141,13 +142,13 @@ impl<T> Vec<T> {
         self.0.clear();
     }
 
-    /// Keeps the first `n` values.
+    /// Removes all except the first `n` values.
     #[inline]
     pub fn truncate(&mut self, n: usize) {
         self.0.truncate(n);
     }
 
-    /// Removes all but the first of consecutive equal values.
+    /// Removes all except the first of consecutive equal values.
     pub fn dedup(&mut self)
     where
         T: PartialEq,
@@ -155,7 +156,8 @@ impl<T> Vec<T> {
         self.0.dedup();
     }
 
-    /// Makes the vector `n` values long: it is cut, or filled up with copies of a value.
+    /// Sets the length of the vector to `n`: removes values at its end, or appends copies of
+    /// `value`.
     ///
     /// # Errors
     ///
@@ -211,7 +213,7 @@ impl<T> Vec<T> {
     ///
     /// # Errors
     ///
-    /// Returns `AllocError` if memory is refused. Then items that came before are appended.
+    /// Returns `AllocError` if memory is refused. The items before the failure are appended.
     pub fn extend<I: IntoIterator<Item = T>>(&mut self, items: I) -> Result<(), AllocError> {
         let items = items.into_iter();
         self.reserve(items.size_hint().0)?;
@@ -221,7 +223,7 @@ impl<T> Vec<T> {
         Ok(())
     }
 
-    /// Replaces the values in a range by the items of an iterator, and returns the former ones.
+    /// Replaces the values in a range by the items of an iterator, and returns the replaced ones.
     ///
     /// # Errors
     ///
@@ -236,7 +238,7 @@ impl<T> Vec<T> {
         new.extend(items)?;
         let mut removed = Vec::with_capacity(Global, self.0[range].len())?;
         self.reserve(new.len())?;
-        // There is room for all, so that Rust's own has nothing to allocate.
+        // There is room for all, so that Rust's `splice` allocates nothing.
         removed.0.extend(self.0.splice(range, new.into_std()));
         Ok(removed.into_iter())
     }

@@ -1,8 +1,8 @@
-//! Refused memory is answered, and leaves everything as it was.
+//! A call whose request for memory is refused returns an error and changes nothing.
 //!
 //! The allocator of this program refuses one request of a thread: the first one, the second one and
-//! so on, until a call makes fewer. Each call has to return an error then, and its vector, text or
-//! set has to be as it was.
+//! so on, until a call makes fewer. Then each call must return an error, and its vector, text or
+//! set must be unchanged.
 
 use rattle_std::alloc::{AllocError, Global};
 use rattle_std::boxed::Box;
@@ -35,7 +35,7 @@ fn is_refused() -> bool {
     left == 0
 }
 
-// SAFETY: each request is refused or handed on to the system's allocator.
+// SAFETY: each request is refused or passed to the system's allocator.
 unsafe impl GlobalAlloc for Refusing {
     unsafe fn alloc(&self, layout: Layout) -> *mut u8 {
         if is_refused() {
@@ -164,7 +164,7 @@ fn texts() {
 }
 
 /// Adds numbers to something until memory is refused, for each request that can be refused, and
-/// tests that it has those that it said were added, and no others.
+/// tests that it has exactly those that it reported as added.
 fn fill<T>(
     new: impl Fn() -> T,
     insert: impl Fn(&mut T, u32) -> bool,

@@ -2,7 +2,7 @@
 
 #![no_std]
 #![forbid(unsafe_code)]
-// Some parameters, imports, labels and braces are there for the contracts alone.
+// Some parameters, imports, labels and braces are needed only by the contracts.
 #![allow(
     dead_code,
     for_loops_over_fallibles,
@@ -17,7 +17,7 @@
 
 extern crate rattle_std as std;
 
-// The crates of the packages below are here under the paths that they have there.
+// The crates of the packages below are available here under their paths there.
 use ::logos_build::*;
 use ::logos_codegen::*;
 

@@ -1,4 +1,4 @@
--- Numbers that stand for the variants of leaves, by a table of names.
+-- Numbers for the variants of leaves, according to a table of names.
 use Rattle.std.specs.Prelude.{◌≡◌, ◌<◌, ◌+◌, ℕ, List, Option, Some, None, bytes_eq, length, slice_get, slice_index}
 use Rattle.std.specs.List.{IsDistinct}
 use denote.Ref.{Bor}
@@ -8,21 +8,20 @@ use Rattle.logos_answers.specs.Names.{variant_name}
 abbrev pub Table : Type 0
 Table = List (Bor (List ℕ))
 
--- No name stands twice in the table.
+-- No name occurs twice in the table.
 abbrev pub AreDistinct : Table → Type 0
 AreDistinct table = IsDistinct (λ (one other : Bor (List ℕ)). bytes_eq one.now other.now) table
 
--- A number stands for a variant: 0 for a skip, and the index of its name and one more for another
--- one.
+-- The number of a variant: 0 for a skip, and the index of its name plus 1 for another one.
 abbrev pub IsNumberOf : Table → Option (List ℕ) → ℕ → Type 0
 IsNumberOf table None number = number ≡ 0
 IsNumberOf table (Some name) number = (index : ℕ) × (key : Bor (List ℕ)) × (number ≡ index + 1) × (slice_get table index ≡ Some key) × (key.now ≡ name)
 
--- These numbers stand for the variants of the first leaves.
+-- These are the numbers of the variants of the first leaves.
 pub record AreNumbers (table : Table) (leaves : List Leaf) (count : ℕ) (numbers : List ℕ) : Type 0 where
   pub long : length numbers ≡ count
   pub each : (k : ℕ) (leaf : Leaf) → k < count → slice_get leaves k ≡ Some leaf → IsNumberOf table (variant_name leaf.kind) (slice_index numbers k)
 
--- What stands in a table stands at the same index in another one.
+-- The entries of a table have the same indices in another one.
 abbrev pub Grows : Table → Table → Type 0
 Grows old new = (index : ℕ) (key : Bor (List ℕ)) → slice_get old index ≡ Some key → slice_get new index ≡ Some key

@@ -1,4 +1,4 @@
--- Ascending lists with the same members are the same.
+-- Ascending lists with the same members are equal.
 use Rattle.std.proofs.Common.{◌≡◌, ℕ, zero, suc, ◌+◌, ◌<◌, ◌⊎◌, inl, inr, List, [], ◌∷◌, length, get_or, Contains, refl, sym, ◌∙◌, ap, subst, arith}
 use Rattle.std.specs.List.Sorted.{IsStrictlyIncreasing}
 use Rattle.logos_automaton.specs.Faults.{IsBefore, Ascends}

@@ -1,16 +1,16 @@
 -- Bytes that a pattern does not distinguish.
 use Rattle.std.proofs.Common.{◌≡◌, ℕ, zero, suc, ◌+◌, ◌-◌, ◌<◌, ◌≤◌, ◌↔◌, ◌⊎◌, Bool, true, false, IsTrue, List, [], ◌∷◌, length, map, drop, slice_index, slice_index_or, refl, sym, ◌∙◌, subst, inl, inr, ⊎_elim, true≢false, arith}
 use Rattle.logos_automaton.specs.inside.Alike.{MayPass, MayLeave, OpensAlike, GoesAlike, AreReadAlike}
-use Rattle.logos_places.specs.Core.{Core, void, empty, byte_in, character, look, cat, alt, plus, width, Exits, Steps}
-use Rattle.logos_places.specs.Marks.{Has}
-use Rattle.logos_places.specs.Node.{core_of}
-use Rattle.logos_places.specs.Run.{StepsIn}
-use Rattle.logos_places.specs.Several.{AreStarts}
-use Rattle.logos_places.specs.declared.node.Node.{Node}
+use Rattle.logos_positions.specs.Core.{Core, void, empty, byte_in, character, look, cat, alt, plus, width, Exits, Steps}
+use Rattle.logos_positions.specs.Marks.{Has}
+use Rattle.logos_positions.specs.Node.{core_of}
+use Rattle.logos_positions.specs.Run.{StepsIn}
+use Rattle.logos_positions.specs.Several.{AreStarts}
+use Rattle.logos_positions.specs.declared.node.Node.{Node}
 use Rattle.logos_hir.specs.declared.hir.Look.{Look}
-use Rattle.logos_places.proofs.steps.PlaceLemmas.{Steps-map}
-use Rattle.logos_places.proofs.steps.SeveralLemmas.{StepsIn-map, node_at, first_start, next_start, Unmarked, none_in, passed_to, next_core}
-use Rattle.logos_places.proofs.steps.SteppedLemmas.{Steps-void}
+use Rattle.logos_positions.proofs.steps.PositionLemmas.{Steps-map}
+use Rattle.logos_positions.proofs.steps.SeveralLemmas.{StepsIn-map, node_at, first_start, next_start, Unmarked, none_in, passed_to, next_core}
+use Rattle.logos_positions.proofs.steps.SteppedLemmas.{Steps-void}
 
 -- a pattern that is left was entered or has a mark from which it is left
 leaves_or_passes : (t : Core) (test : Look → Bool) (M : ℕ → Type 0) (d : Type 0) → Exits t test M d → MayLeave t M ⊎ (d × MayPass t)

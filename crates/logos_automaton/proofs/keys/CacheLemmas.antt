@@ -8,17 +8,17 @@ use denote.Enum.Bare.{sameb, same_true}
 use Rattle.logos_automaton.specs.declared.tree_steps.TreeState.{TreeState}
 use Rattle.logos_automaton.specs.declared.tree_steps.TreeSteps.{TreeSteps}
 use Rattle.logos_automaton.specs.inside.Steps.{AreAlmostCached, AreCached, AreStepsFrom, HasSteps, IsTreeState, LacksLast, tree_view}
-use Rattle.logos_places.specs.contracts.places.look.ByteKind.{the_type}
-use Rattle.logos_places.specs.declared.node.Node.{Node}
+use Rattle.logos_positions.specs.contracts.positions.look.ByteKind.{the_type}
+use Rattle.logos_positions.specs.declared.node.Node.{Node}
 
-pub same_tree : (a b : TreeState) → (eqb a.tree b.tree && (pointwise eqb a.places.items b.places.items && sameb the_type a.kind b.kind)) ≡ true → tree_view b ≡ tree_view a
+pub same_tree : (a b : TreeState) → (eqb a.tree b.tree && (pointwise eqb a.positions.items b.positions.items && sameb the_type a.kind b.kind)) ≡ true → tree_view b ≡ tree_view a
 same_tree a b h =
     let p = and_parts _ _ h in
     let q = and_parts _ _ p.1 in
     let d : b.tree ≡ a.tree = sym (eqb-true a.tree b.tree p.0) in
-    let e = sym ((bytes_decides a.places.items b.places.items).0 q.0) in
+    let e = sym ((bytes_decides a.positions.items b.positions.items).0 q.0) in
     let f = sym (same_true the_type (search rules) _ _ q.1) in
-    λ i. record { tree = d i; places = e i; kind = f i }
+    λ i. record { tree = d i; positions = e i; kind = f i }
 
 module _ {A : Type 0} where
   pub got_front : (xs ys : List A) (i : ℕ) (x : A) → slice_get xs i ≡ Some x → slice_get (xs ++ ys) i ≡ Some x

@@ -1,4 +1,4 @@
--- Keys that are equal stand for one state.
+-- Equal keys represent the same state.
 use Rattle.std.proofs.Common.{length-append, ◌≡◌, ℕ, zero, suc, ◌+◌, ◌≤◌, ◌⊎◌, Bool, true, false, ◌&&◌, ◌||◌, if◌then◌else◌, List, [], ◌∷◌, ◌++◌, Some, length, slice_get, refl, sym, ap, ◌∙◌, subst, inl, inr, ⊎_elim, true≢false, rules, arith}
 use Rattle.std.proofs.lemmas.Bool.{and_parts, or_left}
 use Rattle.std.proofs.lemmas.Option.{same_Some}
@@ -7,23 +7,23 @@ use lib.Pointwise.{pointwise, bytes_decides}
 use lib.Dec.{eqb}
 use denote.Enum.Bare.{sameb, same_true, true_same}
 use Rattle.logos_automaton.specs.Keys.{state_of, Grows, AreRising, AreDistinct, AreReached, IsReached}
-use Rattle.logos_places.specs.Core.{Core}
-use Rattle.logos_places.specs.Marks.{IsRising}
+use Rattle.logos_positions.specs.Core.{Core}
+use Rattle.logos_positions.specs.Marks.{IsRising}
 use Rattle.logos_automaton.specs.declared.key.Key.{Key}
-use Rattle.logos_places.specs.contracts.places.look.ByteKind.{the_type}
+use Rattle.logos_positions.specs.contracts.positions.look.ByteKind.{the_type}
 
-pub same_state : (a b : Key) → (pointwise eqb a.places.items b.places.items && (sameb the_type a.kind b.kind && pointwise eqb a.matches.items b.matches.items)) ≡ true →
+pub same_state : (a b : Key) → (pointwise eqb a.positions.items b.positions.items && (sameb the_type a.kind b.kind && pointwise eqb a.matches.items b.matches.items)) ≡ true →
     state_of b ≡ state_of a
 same_state a b h =
     let p = and_parts _ _ h in
     let q = and_parts _ _ p.1 in
-    let e = sym ((bytes_decides a.places.items b.places.items).0 p.0) in
+    let e = sym ((bytes_decides a.positions.items b.positions.items).0 p.0) in
     let f = sym (same_true the_type (search rules) _ _ q.0) in
     let g = sym ((bytes_decides a.matches.items b.matches.items).0 q.1) in
-    λ i. record { places = e i; kind = f i; matches = g i }
+    λ i. record { positions = e i; kind = f i; matches = g i }
 
 abbrev alike : Key → Key → Bool
-alike a b = pointwise eqb a.places.items b.places.items && (sameb the_type a.kind b.kind && pointwise eqb a.matches.items b.matches.items)
+alike a b = pointwise eqb a.positions.items b.positions.items && (sameb the_type a.kind b.kind && pointwise eqb a.matches.items b.matches.items)
 
 both_true : (a b : Bool) → a ≡ true → b ≡ true → (a && b) ≡ true
 both_true true b p q = q
@@ -31,7 +31,7 @@ both_true false b p q = p
 
 same_alike : (a b : Key) → state_of a ≡ state_of b → alike a b ≡ true
 same_alike a b e =
-    both_true _ _ ((bytes_decides _ _).1 (ap (λ s. s.places) e))
+    both_true _ _ ((bytes_decides _ _).1 (ap (λ s. s.positions) e))
     (both_true _ _ (true_same the_type _ _ (ap (λ s. s.kind) e)) ((bytes_decides _ _).1 (ap (λ s. s.matches) e)))
 
 got_front : (ks ys : List Key) (i : ℕ) (k : Key) → slice_get ks i ≡ Some k → slice_get (ks ++ ys) i ≡ Some k
@@ -65,13 +65,13 @@ module _ (ks : List Key) (y : Key) where
   grows_added true = record { keeps = λ i s h. h }
   grows_added false = record { keeps = λ i s h. record { key = h.key; is = got_front ks _ i _ h.is; same = h.same } }
 
-  rising_added : (b : Bool) → AreRising ks → IsRising y.places.items → AreRising (added b)
+  rising_added : (b : Bool) → AreRising ks → IsRising y.positions.items → AreRising (added b)
   unfolding added
   rising_added true h r = h
   rising_added false h r = record {
     rising = λ i s at.
         ⊎_elim (λ e. h.rising i s (record { key = at.key; is = e; same = at.same }))
-        (λ u. subst IsRising (ap (λ k. k.places.items) (sym u.1) ∙ ap (λ z. z.places) at.same) r)
+        (λ u. subst IsRising (ap (λ k. k.positions.items) (sym u.1) ∙ ap (λ z. z.positions) at.same) r)
         (got_push ks y i at.key at.is);
   }
 
@@ -121,7 +121,7 @@ module _ (ks : List Key) (y : Key) where
   grows new e = rw e (grows_added (list_any (alike y) ks))
 
   pub stays_rising : (new : List Key) → new ≡ (if list_any (alike y) ks then ks else ks ++ y ∷ []) →
-      AreRising ks → IsRising y.places.items → AreRising new
+      AreRising ks → IsRising y.positions.items → AreRising new
   unfolding added
   stays_rising new e = rw e (rising_added (list_any (alike y) ks))
 

@@ -1,28 +1,28 @@
 -- Each state of the automaton has a key of its own.
 use Rattle.std.proofs.Common.{◌≡◌, ℕ, zero, suc, ◌+◌, ◌-◌, ◌<◌, ◌≤◌, ◌↔◌, ◌⊎◌, ◌==◌, Bool, true, false, List, [], ◌∷◌, ◌++◌, length, length-append, append_assoc, append-nil, Some, None, IfSome, slice_get, slice_index_or, if◌then◌else◌, refl, sym, ap, ◌∙◌, subst, inl, inr, ⊎_elim, true≢false, ◌||◌, IsFalse, arith}
 use Rattle.logos_hir.specs.Text.{IsBytes, byte_after}
-use Rattle.logos_places.specs.Core.{Core, width}
+use Rattle.logos_positions.specs.Core.{Core, width}
 use Rattle.logos_automaton.specs.Keys.{State, state_of, start_state, dead_state, IsAt, AreDistinct, AreReached, IsReached, at_start, by_byte, by_end, IsNext, IsLast, is_start, next_kind}
-use Rattle.logos_places.specs.Kinds.{kind_of_byte, is_word_byte}
-use Rattle.logos_places.specs.Marks.{Has, IsRising}
+use Rattle.logos_positions.specs.Kinds.{kind_of_byte, is_word_byte}
+use Rattle.logos_positions.specs.Marks.{Has, IsRising}
 use Rattle.logos_automaton.specs.Munch.{Rule, RuleMatches}
 use Rattle.logos_automaton.specs.ReadKeys as reads
-use Rattle.logos_places.specs.Places.{Place}
+use Rattle.logos_positions.specs.Positions.{Position}
 use Rattle.logos_automaton.specs.ReadKeys.{Read, nothing, upto, whole, IsRead, SameKey, HasRead, seen_kind, HasMoreKeys}
 use Rattle.logos_automaton.specs.Rules.{AreRuleCores, AreFree, some_look}
 use Rattle.logos_automaton.specs.Faults.{AllStart}
 use Rattle.logos_automaton.specs.Faults.{some_passable}
 use Rattle.logos_hir.proofs.tree.Laws.{passes}
-use Rattle.logos_places.specs.Run.{Marked, MarkedIn}
+use Rattle.logos_positions.specs.Run.{Marked, MarkedIn}
 use Rattle.logos_automaton.specs.declared.key.Key.{Key}
-use Rattle.logos_places.specs.declared.places.look.ByteKind.{ByteKind}
-use Rattle.logos_places.specs.declared.places.look.ByteKind.TheVariants as kind
+use Rattle.logos_positions.specs.declared.positions.look.ByteKind.{ByteKind}
+use Rattle.logos_positions.specs.declared.positions.look.ByteKind.TheVariants as kind
 use Rattle.logos_automaton.proofs.runs.DfaLemmas.{rising_increases, contains_has}
-use Rattle.logos_places.proofs.trees.ReadLemmas.{Marked-iff}
+use Rattle.logos_positions.proofs.trees.ReadLemmas.{Marked-iff}
 use Rattle.logos_automaton.proofs.runs.RunLemmas.{IsAfter, after_nothing, next_after, lists_by_byte, lists_at_end, StepsIn-void, ExitsIn-void}
 use Rattle.logos_automaton.proofs.ambiguity.SameMembers.{increasing_same}
-use Rattle.logos_places.proofs.steps.SeveralLemmas.{none_there, no_places}
-use Rattle.logos_places.proofs.steps.StepLemmas.{iff_trans, iff_sym}
+use Rattle.logos_positions.proofs.steps.SeveralLemmas.{none_there, no_positions}
+use Rattle.logos_positions.proofs.steps.StepLemmas.{iff_trans, iff_sym}
 
 pub same_rising : (xs ys : List ℕ) → IsRising xs → IsRising ys → ((q : ℕ) → Has xs q ↔ Has ys q) → xs ≡ ys
 same_rising xs ys r s same =
@@ -34,8 +34,8 @@ pub nothing_there : (xs : List ℕ) → ((q : ℕ) → Has xs q → ⊥) → xs 
 nothing_there [] none = refl
 nothing_there (x ∷ xs) none = absurd (none x (record { at = 0; within = omega arith; is = refl }))
 
-pub same_state_as : (s r : State) → s.places ≡ r.places → s.kind ≡ r.kind → s.matches ≡ r.matches → s ≡ r
-same_state_as s r e f g = λ i. record { places = e i; kind = f i; matches = g i }
+pub same_state_as : (s r : State) → s.positions ≡ r.positions → s.kind ≡ r.kind → s.matches ≡ r.matches → s ≡ r
+same_state_as s r e f g = λ i. record { positions = e i; kind = f i; matches = g i }
 
 -- the kinds of bytes are those of the keys
 kind_as : reads.Kind → ByteKind
@@ -55,24 +55,24 @@ kind_is b = go (is_word_byte b) (b == 13) (b == 10)
     go false false true = refl
     go false false false = refl
 
--- a state without places, not at the start
-module _ (ts : List Core) (looks : Bool) (s : State) (none : s.places ≡ []) (later : is_start s.kind ≡ false) where
-  no_place : (q : ℕ) → Has s.places q → ⊥
-  no_place q h = none_there q (subst (λ xs. Has xs q) none h)
+-- a state without positions, not at the start
+module _ (ts : List Core) (looks : Bool) (s : State) (none : s.positions ≡ []) (later : is_start s.kind ≡ false) where
+  no_position : (q : ℕ) → Has s.positions q → ⊥
+  no_position q h = none_there q (subst (λ xs. Has xs q) none h)
 
   not_begun : is_start s.kind ≡ true → ⊥
   not_begun e = cc
 
   pub dead_by_byte : (x : ℕ) (next : State) → IsNext ts looks s x next → next ≡ dead_state
   dead_by_byte x next h =
-      let e : next.places ≡ [] = nothing_there next.places (λ q k. StepsIn-void ts _ x (Has s.places) (is_start s.kind ≡ true) q no_place not_begun ((h.places.has q).0 k)) in
+      let e : next.positions ≡ [] = nothing_there next.positions (λ q k. StepsIn-void ts _ x (Has s.positions) (is_start s.kind ≡ true) q no_position not_begun ((h.positions.has q).0 k)) in
       same_state_as next dead_state e (h.kind ∙ ap (λ xs. next_kind looks xs x) e)
-      (nothing_there next.matches (λ k n. ExitsIn-void ts k _ (Has s.places) (is_start s.kind ≡ true) no_place not_begun ((h.matches.has k).0 n)))
+      (nothing_there next.matches (λ k n. ExitsIn-void ts k _ (Has s.positions) (is_start s.kind ≡ true) no_position not_begun ((h.matches.has k).0 n)))
 
   pub dead_by_end : (next : State) → IsLast ts s next → next ≡ dead_state
   dead_by_end next h =
-      same_state_as next dead_state h.places h.kind
-      (nothing_there next.matches (λ k n. ExitsIn-void ts k _ (Has s.places) (is_start s.kind ≡ true) no_place not_begun ((h.matches.has k).0 n)))
+      same_state_as next dead_state h.positions h.kind
+      (nothing_there next.matches (λ k n. ExitsIn-void ts k _ (Has s.positions) (is_start s.kind ≡ true) no_position not_begun ((h.matches.has k).0 n)))
 
 pub no_bytes : IsBytes []
 no_bytes = λ k d lt. absurd (omega (arith, lt))
@@ -87,16 +87,16 @@ only_byte : (x : ℕ) → x < 256 → IsBytes (x ∷ [])
 only_byte x lt = one_byte_more [] x lt no_bytes
 
 module _ (rules : List Rule) (ts : List Core) (are : AreRuleCores rules ts) (looks : Bool) (looks_is : looks ≡ some_look rules) (free : looks ≡ false → AreFree ts) where
-  -- the state after bytes and one more, whatever follows
+  -- the state after bytes and one more, regardless of the bytes that follow
   pub record IsUpTo (u : List ℕ) (b : ℕ) (s : State) : Type 0 where
     pub after : (post : List ℕ) → IsAfter ((u ++ b ∷ []) ++ post) ts (suc (length u)) s
     pub rising : IsRising s.matches
     pub lists : (k : ℕ) → Has s.matches k ↔ RuleMatches rules k (u ++ b ∷ []) 0 (length u)
-    pub kind : s.kind ≡ next_kind looks s.places b
+    pub kind : s.kind ≡ next_kind looks s.positions b
 
   -- the state after bytes and the end
   pub record IsWhole (u : List ℕ) (s : State) : Type 0 where
-    pub places : s.places ≡ []
+    pub positions : s.positions ≡ []
     pub kind : s.kind ≡ kind.Unseen
     pub rising : IsRising s.matches
     pub lists : (k : ℕ) → Has s.matches k ↔ RuleMatches rules k u 0 (length u)
@@ -126,7 +126,7 @@ module _ (rules : List Rule) (ts : List Core) (are : AreRuleCores rules ts) (loo
   -- the end after a text
   whole_of : (u : List ℕ) (s next : State) → IsAfter u ts (length u) s → IsLast ts s next → IsWhole u next
   whole_of u s next after last = record {
-    places = last.places;
+    positions = last.positions;
     kind = last.kind;
     rising = last.matches.set.rising;
     lists = lists_at_end u ts (length u) s after rules next are (no_byte u) last;
@@ -141,7 +141,7 @@ module _ (rules : List Rule) (ts : List Core) (are : AreRuleCores rules ts) (loo
   string_of _ (by_byte s next x lt h step) = go (string_of s h)
     where
       go : (s ≡ dead_state) ⊎ ((r : Read) × IsRead rules r × IsStateOf r s) → (next ≡ dead_state) ⊎ ((r : Read) × IsRead rules r × IsStateOf r next)
-      go (inl e) = inl (dead_by_byte ts looks s (ap (λ z. z.places) e) (ap (λ z. is_start z.kind) e) x next step)
+      go (inl e) = inl (dead_by_byte ts looks s (ap (λ z. z.positions) e) (ap (λ z. is_start z.kind) e) x next step)
       go (inr (nothing, ok, e)) =
           inr (upto [] x, only_byte x lt, up_to_more [] x s next (λ post. subst (IsAfter post ts 0) (sym e) (after_nothing post ts)) step)
       go (inr (upto u b, ok, is)) =
@@ -150,11 +150,11 @@ module _ (rules : List Rule) (ts : List Core) (are : AreRuleCores rules ts) (loo
             one_byte_more (u ++ b ∷ []) x lt ok,
             up_to_more (u ++ b ∷ []) x s next (λ post. subst (λ k. IsAfter ((u ++ b ∷ []) ++ post) ts k s) (size_more u b) (is.after post)) step,
           )
-      go (inr (whole u, ok, is)) = inl (dead_by_byte ts looks s is.places (ap is_start is.kind) x next step)
+      go (inr (whole u, ok, is)) = inl (dead_by_byte ts looks s is.positions (ap is_start is.kind) x next step)
   string_of _ (by_end s next h last) = go (string_of s h)
     where
       go : (s ≡ dead_state) ⊎ ((r : Read) × IsRead rules r × IsStateOf r s) → (next ≡ dead_state) ⊎ ((r : Read) × IsRead rules r × IsStateOf r next)
-      go (inl e) = inl (dead_by_end ts looks s (ap (λ z. z.places) e) (ap (λ z. is_start z.kind) e) next last)
+      go (inl e) = inl (dead_by_end ts looks s (ap (λ z. z.positions) e) (ap (λ z. is_start z.kind) e) next last)
       go (inr (nothing, ok, e)) =
           inr (whole [], no_bytes, whole_of [] s next (subst (IsAfter [] ts 0) (sym e) (after_nothing [] ts)) last)
       go (inr (upto u b, ok, is)) =
@@ -164,11 +164,11 @@ module _ (rules : List Rule) (ts : List Core) (are : AreRuleCores rules ts) (loo
             whole_of (u ++ b ∷ []) s next
                 (subst (λ w. IsAfter w ts (length (u ++ b ∷ [])) s) (append-nil (u ++ b ∷ [])) (subst (λ k. IsAfter ((u ++ b ∷ []) ++ []) ts k s) (size_more u b) (is.after []))) last,
           )
-      go (inr (whole u, ok, is)) = inl (dead_by_end ts looks s is.places (ap is_start is.kind) next last)
+      go (inr (whole u, ok, is)) = inl (dead_by_end ts looks s is.positions (ap is_start is.kind) next last)
 
--- the places of patterns, by those of the trees
+-- the positions of patterns, by those of the trees
 same_marked : (rules : List Rule) (ts : List Core) → AreRuleCores rules ts → (u v : List ℕ) (b c q : ℕ) →
-    ((leaf : ℕ) (place : Place) → HasRead rules leaf place u b → HasRead rules leaf place v c) →
+    ((leaf : ℕ) (position : Position) → HasRead rules leaf position u b → HasRead rules leaf position v c) →
     MarkedIn ts (u ++ b ∷ []) (suc (length u)) q → MarkedIn ts (v ++ c ∷ []) (suc (length v)) q
 same_marked [] [] are u v b c q same h = h
 same_marked [] (t ∷ ts) are u v b c q same h = absurd are
@@ -182,8 +182,8 @@ same_marked (rule ∷ rules) (t ∷ ts) are u v b c q same h =
     first : Marked t (u ++ b ∷ []) (suc (length u)) q → Marked t (v ++ c ∷ []) (suc (length v)) q
     first m =
         let read = (Marked-iff (u ++ b ∷ []) t (suc (length u)) q).0 m in
-        let place = (are.0.reads (u ++ b ∷ []) 0 (length u) q).0 read in
-        (Marked-iff (v ++ c ∷ []) t (suc (length v)) q).1 ((are.0.reads (v ++ c ∷ []) 0 (length v) q).1 (place.0, same 0 place.0 place.1, place.2))
+        let position = (are.0.reads (u ++ b ∷ []) 0 (length u) q).0 read in
+        (Marked-iff (v ++ c ∷ []) t (suc (length v)) q).1 ((are.0.reads (v ++ c ∷ []) 0 (length v) q).1 (position.0, same 0 position.0 position.1, position.2))
 
 module _ (rules : List Rule) (ts : List Core) (are : AreRuleCores rules ts) (looks : Bool) (looks_is : looks ≡ some_look rules) (free : looks ≡ false → AreFree ts) where
   kind_alike : (xs : List ℕ) (b c : ℕ) → seen_kind rules b ≡ seen_kind rules c → next_kind looks xs b ≡ next_kind looks xs c
@@ -207,18 +207,18 @@ module _ (rules : List Rule) (ts : List Core) (are : AreRuleCores rules ts) (loo
   same_key (whole u) nothing s r f g same = absurd same
   same_key (whole u) (upto v c) s r f g same = absurd same
   same_key (whole u) (whole v) s r f g same =
-      same_state_as s r (f.places ∙ sym g.places) (f.kind ∙ sym g.kind)
+      same_state_as s r (f.positions ∙ sym g.positions) (f.kind ∙ sym g.kind)
       (same_rising s.matches r.matches f.rising g.rising (λ k. iff_trans (f.lists k) (iff_trans (same k) (iff_sym (g.lists k)))))
   same_key (upto u b) (upto v c) s r f g same =
       let before = at_hand u b s f in
       let after = at_hand v c r g in
-      let e : s.places ≡ r.places = same_rising s.places r.places before.set.rising after.set.rising
+      let e : s.positions ≡ r.positions = same_rising s.positions r.positions before.set.rising after.set.rising
       (λ q. (
-        λ h. (after.has q).1 (same_marked rules ts are u v b c q (λ leaf place. (same.places leaf place).0) ((before.has q).0 h)),
-        λ h. (before.has q).1 (same_marked rules ts are v u c b q (λ leaf place. (same.places leaf place).1) ((after.has q).0 h)),
+        λ h. (after.has q).1 (same_marked rules ts are u v b c q (λ leaf position. (same.positions leaf position).0) ((before.has q).0 h)),
+        λ h. (before.has q).1 (same_marked rules ts are v u c b q (λ leaf position. (same.positions leaf position).1) ((after.has q).0 h)),
       )) in
       same_state_as s r e
-      (f.kind ∙ ap (λ xs. next_kind looks xs b) e ∙ kind_alike r.places b c same.kind ∙ sym g.kind)
+      (f.kind ∙ ap (λ xs. next_kind looks xs b) e ∙ kind_alike r.positions b c same.kind ∙ sym g.kind)
       (same_rising s.matches r.matches f.rising g.rising (λ k. iff_trans (f.lists k) (iff_trans (same.leaves k) (iff_sym (g.lists k)))))
     where
       at_hand : (u : List ℕ) (b : ℕ) (s : State) → IsUpTo rules ts are looks looks_is free u b s → IsAfter (u ++ b ∷ []) ts (suc (length u)) s
@@ -248,14 +248,14 @@ module _ (rules : List Rule) (ts : List Core) (are : AreRuleCores rules ts) (loo
   pub dead_at_once : (next : State) → IsLast ts start_state next → next ≡ dead_state
   dead_at_once next last =
       let is = whole_of rules ts are looks looks_is free [] start_state next (after_nothing [] ts) last in
-      same_state_as next dead_state is.places is.kind (nothing_there next.matches (λ k h. none_empty rules k [] 0 (omega arith) start.1 ((is.lists k).0 h)))
+      same_state_as next dead_state is.positions is.kind (nothing_there next.matches (λ k h. none_empty rules k [] 0 (omega arith) start.1 ((is.lists k).0 h)))
 
   -- so each state has a string
   dead_whole : IsWhole rules ts are looks looks_is free [] dead_state
   dead_whole = record {
-    places = refl;
+    positions = refl;
     kind = refl;
-    rising = no_places.rising;
+    rising = no_positions.rising;
     lists = λ k. (λ h. absurd (none_there k h), λ m. absurd (none_empty rules k [] 0 (omega arith) start.1 m));
   }
 

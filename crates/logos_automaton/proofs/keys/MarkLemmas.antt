@@ -34,13 +34,14 @@ one_byte b y = grind (arith, nat_tests)
 below_or_same : (a b : ℕ) → a < b + 1 → (a < b) ⊎ (a ≡ b)
 below_or_same a b lt = grind arith
 
--- While the bytes are asked in order: those below n are done, and those from n on are as they were.
+-- While the bytes are processed in order: those below n are done, and those from n on are
+-- unchanged.
 pub record AreMarkedBelow (Same : ℕ → ℕ → Type 0) (old new : List Bool) (n : ℕ) : Type 0 where
   pub size : length new ≡ 256
   pub done : (x : ℕ) → x + 1 < n → slice_index_or new (x + 1) false ≡ false → (slice_index_or old (x + 1) false ≡ false) × Same x (x + 1)
   pub left : (x : ℕ) → n ≤ x → slice_index_or new x false ≡ slice_index_or old x false
 
--- one more byte is asked
+-- one more byte is processed
 pub marked_more : (Same : ℕ → ℕ → Type 0) (old new : List Bool) (n : ℕ) (was is : Bool) → 1 ≤ n → n < 256 → was ≡ slice_index_or new n false → (is ≡ false → Same (n - 1) n) →
     AreMarkedBelow Same old new n → AreMarkedBelow Same old (set new n (was || is)) (n + 1)
 marked_more Same old new n was is some lt same alike h = record {

@@ -3,15 +3,15 @@ use Rattle.std.proofs.Common.{◌≡◌, ℕ, zero, suc, ◌+◌, ◌<◌, ◌�
 use Rattle.std.proofs.lemmas.List.{get_or-set_other}
 use Rattle.std.proofs.lemmas.Grind.{get_or-set_at}
 use Rattle.logos_automaton.specs.inside.Alike.{AreReadAlike}
-use Rattle.logos_places.specs.Core.{Core}
+use Rattle.logos_positions.specs.Core.{Core}
 use Rattle.logos_automaton.specs.Keys.{State, Grows, Extends, LeadsTo, EndsIn, IsAt, IsLast, IsNext, IsRow, ended_state, next_kind, is_start, state_of}
 use Rattle.logos_automaton.specs.Rules.{AreFree}
-use Rattle.logos_places.specs.Kinds.{kind_of_byte, test_at}
-use Rattle.logos_places.specs.Several.{ReadBy, LeftBy}
-use Rattle.logos_places.specs.Marks.{Has}
+use Rattle.logos_positions.specs.Kinds.{kind_of_byte, test_at}
+use Rattle.logos_positions.specs.Several.{ReadBy, LeftBy}
+use Rattle.logos_positions.specs.Marks.{Has}
 use Rattle.logos_automaton.specs.declared.key.Key.{Key}
-use Rattle.logos_places.proofs.steps.LookLemmas.{test_after}
-use Rattle.logos_places.proofs.steps.StepLemmas.{iff_trans}
+use Rattle.logos_positions.proofs.steps.LookLemmas.{test_after}
+use Rattle.logos_positions.proofs.steps.StepLemmas.{iff_trans}
 use Rattle.logos_automaton.proofs.runs.RunLemmas.{StepsIn-free, ExitsIn-free}
 
 module _ (ts : List Core) (looks : Bool) where
@@ -57,52 +57,52 @@ module _ (ts : List Core) (looks : Bool) where
       rw put (subst (λ k. LeadsTo ts looks b i k target) (sym e) new))
       (below_or_same x n below)
 
-  same_kind : (places : List ℕ) (x y : ℕ) → (IsTrue looks → kind_of_byte x ≡ kind_of_byte y) → next_kind looks places x ≡ next_kind looks places y
-  same_kind places x y e = go looks e places
+  same_kind : (positions : List ℕ) (x y : ℕ) → (IsTrue looks → kind_of_byte x ≡ kind_of_byte y) → next_kind looks positions x ≡ next_kind looks positions y
+  same_kind positions x y e = go looks e positions
     where
-      go : (b : Bool) → (IsTrue b → kind_of_byte x ≡ kind_of_byte y) → (places : List ℕ) → next_kind b places x ≡ next_kind b places y
+      go : (b : Bool) → (IsTrue b → kind_of_byte x ≡ kind_of_byte y) → (positions : List ℕ) → next_kind b positions x ≡ next_kind b positions y
       go b f [] = refl
-      go false f (p ∷ places) = refl
-      go true f (p ∷ places) = f refl
+      go false f (p ∷ positions) = refl
+      go true f (p ∷ positions) = f refl
 
   module _ (free : looks ≡ false → AreFree ts) where
-    -- which looks hold matters where there are looks
+    -- the assertions that hold matter if there are assertions
     tested_alike : (s next : State) (x y : ℕ) (b : Bool) → looks ≡ b → (IsTrue looks → kind_of_byte x ≡ kind_of_byte y) → IsNext ts looks s x next →
-        ReadBy ts (test_at (record { before = s.kind; after = Some y })) x (Has s.places) (IsTrue (is_start s.kind)) next.places
-        × LeftBy ts (test_at (record { before = s.kind; after = Some y })) (Has s.places) (IsTrue (is_start s.kind)) next.matches
-    tested_alike s next x y true is kinds h = let test = test_after x y (kinds is) s.kind in (rw test at h.places, rw test at h.matches)
+        ReadBy ts (test_at (record { before = s.kind; after = Some y })) x (Has s.positions) (IsTrue (is_start s.kind)) next.positions
+        × LeftBy ts (test_at (record { before = s.kind; after = Some y })) (Has s.positions) (IsTrue (is_start s.kind)) next.matches
+    tested_alike s next x y true is kinds h = let test = test_after x y (kinds is) s.kind in (rw test at h.positions, rw test at h.matches)
     tested_alike s next x y false is kinds h =
         let f = free is in
         let before = test_at (record { before = s.kind; after = Some x }) in
         let after = test_at (record { before = s.kind; after = Some y }) in
         let entered = IsTrue (is_start s.kind) in (
           record {
-            set = h.places.set;
+            set = h.positions.set;
             has = λ q. (
-              λ u. StepsIn-free ts f before after x (Has s.places) entered q ((h.places.has q).0 u),
-              λ u. (h.places.has q).1 (StepsIn-free ts f after before x (Has s.places) entered q u),
+              λ u. StepsIn-free ts f before after x (Has s.positions) entered q ((h.positions.has q).0 u),
+              λ u. (h.positions.has q).1 (StepsIn-free ts f after before x (Has s.positions) entered q u),
             );
           },
           record {
             set = h.matches.set;
             has = λ k. (
-              λ u. ExitsIn-free ts k f before after (Has s.places) entered ((h.matches.has k).0 u),
-              λ u. (h.matches.has k).1 (ExitsIn-free ts k f after before (Has s.places) entered u),
+              λ u. ExitsIn-free ts k f before after (Has s.positions) entered ((h.matches.has k).0 u),
+              λ u. (h.matches.has k).1 (ExitsIn-free ts k f after before (Has s.positions) entered u),
             );
           },
         )
 
     -- a byte that is not distinguished from another leads to the same state
-    next_alike : (s next : State) (x y : ℕ) → AreReadAlike ts (Has s.places) (IsTrue (is_start s.kind)) x y → (IsTrue looks → kind_of_byte x ≡ kind_of_byte y) → IsNext ts looks s x next → IsNext ts looks s y next
+    next_alike : (s next : State) (x y : ℕ) → AreReadAlike ts (Has s.positions) (IsTrue (is_start s.kind)) x y → (IsTrue looks → kind_of_byte x ≡ kind_of_byte y) → IsNext ts looks s x next → IsNext ts looks s y next
     next_alike s next x y alike e h =
         let tested = tested_alike s next x y looks refl e h in
         record {
-          places = record {
-            set = h.places.set;
+          positions = record {
+            set = h.positions.set;
             has = λ q. iff_trans (tested.0.has q) (alike _ q);
           };
           matches = tested.1;
-          kind = h.kind ∙ same_kind next.places x y e;
+          kind = h.kind ∙ same_kind next.positions x y e;
         }
 
   same_state : (ks : List Key) (i : ℕ) (s r : State) → IsAt ks i s → IsAt ks i r → s ≡ r
@@ -111,7 +111,7 @@ module _ (ts : List Core) (looks : Bool) where
       some_same : {j k : Key} → Some j ≡ Some k → j ≡ k
       some_same e = cc
 
-  pub leads_alike : (looks ≡ false → AreFree ts) → (ks : List Key) (i x y j : ℕ) (s : State) → IsAt ks i s → AreReadAlike ts (Has s.places) (IsTrue (is_start s.kind)) x y →
+  pub leads_alike : (looks ≡ false → AreFree ts) → (ks : List Key) (i x y j : ℕ) (s : State) → IsAt ks i s → AreReadAlike ts (Has s.positions) (IsTrue (is_start s.kind)) x y →
       (IsTrue looks → kind_of_byte x ≡ kind_of_byte y) → LeadsTo ts looks ks i x j → LeadsTo ts looks ks i y j
   leads_alike free ks i x y j s at alike e h =
       let same = same_state ks i s h.from at h.from_is in
@@ -120,10 +120,10 @@ module _ (ts : List Core) (looks : Bool) where
         to = h.to;
         from_is = h.from_is;
         to_is = h.to_is;
-        next = next_alike free h.from h.to x y (subst (λ (r : State). AreReadAlike ts (Has r.places) (IsTrue (is_start r.kind)) x y) same alike) e h.next;
+        next = next_alike free h.from h.to x y (subst (λ (r : State). AreReadAlike ts (Has r.positions) (IsTrue (is_start r.kind)) x y) same alike) e h.next;
       }
 
--- a number stands for one state
+-- a number represents one state
 pub same_state_at : (ks : List Key) (i : ℕ) (s r : State) → IsAt ks i s → IsAt ks i r → s ≡ r
 same_state_at ks i s r a b = sym a.same ∙ ap state_of (some_same (sym a.is ∙ b.is)) ∙ b.same
   where
@@ -154,7 +154,7 @@ at_more a b row after n target g lt all new x below =
 -- without looks, the patterns that match before a byte match before the end
 pub last_as_next : (ts : List Core) (looks : Bool) → AreFree ts → (s next made : State) (x : ℕ) → IsNext ts looks s x next → made ≡ ended_state next.matches → IsLast ts s made
 last_as_next ts looks free s next made x n e = rw e (record {
-  places = refl;
+  positions = refl;
   matches = record { set = n.matches.set; has = λ k. iff_trans (n.matches.has k) (ExitsIn-free ts k free _ _ _ _, ExitsIn-free ts k free _ _ _ _) };
   kind = refl;
 })

@@ -6,22 +6,22 @@ use Rattle.std.proofs.lemmas.Grind.{get_or-set_at}
 use Rattle.logos_automaton.specs.inside.Alike.{AreFirstOf, GoesAlike}
 use Rattle.logos_automaton.specs.inside.Steps.{AreStepsFrom, MakesFrom, StepView, TreeView, step_in, viewed}
 use Rattle.logos_hir.specs.declared.hir.Look.{Look}
-use Rattle.logos_places.specs.Core.{IsFree}
-use Rattle.logos_places.specs.Kinds.{kind_of_byte, test_at}
-use Rattle.logos_places.specs.Marks.{Has}
-use Rattle.logos_places.specs.Node.{core_of}
-use Rattle.logos_places.specs.Several.{IsStepOf}
-use Rattle.logos_places.specs.declared.node.Node.{Node}
-use Rattle.logos_places.specs.declared.places.tree.TreeStep.{TreeStep}
+use Rattle.logos_positions.specs.Core.{IsFree}
+use Rattle.logos_positions.specs.Kinds.{kind_of_byte, test_at}
+use Rattle.logos_positions.specs.Marks.{Has}
+use Rattle.logos_positions.specs.Node.{core_of}
+use Rattle.logos_positions.specs.Several.{IsStepOf}
+use Rattle.logos_positions.specs.declared.node.Node.{Node}
+use Rattle.logos_positions.specs.declared.positions.tree.TreeStep.{TreeStep}
 use Rattle.logos_automaton.proofs.keys.AlikeLemmas.{Steps-same}
 use Rattle.logos_automaton.proofs.runs.RunLemmas.{Exits-free, Steps-free}
-use Rattle.logos_places.proofs.steps.LookLemmas.{test_after}
-use Rattle.logos_places.proofs.steps.MarkLemmas.{Has-push}
+use Rattle.logos_positions.proofs.steps.LookLemmas.{test_after}
+use Rattle.logos_positions.proofs.steps.MarkLemmas.{Has-push}
 
 below_or_same : (a b : ℕ) → a < b + 1 → (a < b) ⊎ (a ≡ b)
 below_or_same a b lt = grind arith
 
--- what is known by the byte before, where the byte is not marked
+-- the facts by the byte before, where the byte is not marked
 pub if_known : (P : ℕ → Type 0) (is_first : Bool) (before : ℕ) → (is_first ≡ false → P before) → IfSome (then_some (not is_first) before) P
 if_known P true before same = tt
 if_known P false before same = same refl
@@ -32,19 +32,19 @@ if_some (Some i) P Q f h = f i h
 
 module _ (nodes : List Node) (starts : List ℕ) (state : TreeView) where
   module _ (looks : Bool) (free : (node : Node) → node ≡ slice_index_or nodes state.tree node → looks ≡ false → IsFree (core_of node)) where
-    -- which looks hold matters where there are looks
+    -- the assertions that hold matter if there are assertions
     tested_alike : (x y : ℕ) (step : StepView) (node : Node) → node ≡ slice_index_or nodes state.tree node → (b : Bool) → looks ≡ b → (IsTrue looks → kind_of_byte x ≡ kind_of_byte y) →
         MakesFrom nodes starts state x step →
-        IsStepOf (core_of node) (test_at (record { before = state.kind; after = Some y })) x state.places (slice_index starts state.tree) step.places step.left
+        IsStepOf (core_of node) (test_at (record { before = state.kind; after = Some y })) x state.positions (slice_index starts state.tree) step.positions step.left
     tested_alike x y step node is true e kinds made =
-        subst (λ (t : Look → Bool). IsStepOf (core_of node) t x state.places (slice_index starts state.tree) step.places step.left) (test_after x y (kinds e) state.kind) (made node is)
+        subst (λ (t : Look → Bool). IsStepOf (core_of node) t x state.positions (slice_index starts state.tree) step.positions step.left) (test_after x y (kinds e) state.kind) (made node is)
     tested_alike x y step node is false e kinds made =
         let s = made node is in
         let f = free node is e in
         let before = test_at (record { before = state.kind; after = Some x }) in
         let after = test_at (record { before = state.kind; after = Some y }) in
         let base = slice_index starts state.tree in
-        let marks = λ (p : ℕ). Has state.places (base + p) in
+        let marks = λ (p : ℕ). Has state.positions (base + p) in
         record {
           set = s.set;
           has = λ q. (
@@ -59,14 +59,14 @@ module _ (nodes : List Node) (starts : List ℕ) (state : TreeView) where
 
     -- a byte that is not distinguished from another has its step
     makes_alike : (x y : ℕ) (step : StepView) →
-        ((node : Node) → node ≡ slice_index_or nodes state.tree node → GoesAlike (core_of node) (λ q. Has state.places (slice_index starts state.tree + q)) x y × (IsTrue looks → kind_of_byte x ≡ kind_of_byte y)) →
+        ((node : Node) → node ≡ slice_index_or nodes state.tree node → GoesAlike (core_of node) (λ q. Has state.positions (slice_index starts state.tree + q)) x y × (IsTrue looks → kind_of_byte x ≡ kind_of_byte y)) →
         MakesFrom nodes starts state x step → MakesFrom nodes starts state y step
     makes_alike x y step alike made node is =
         let a = alike node is in
         let base = slice_index starts state.tree in
         let test = test_at (record { before = state.kind; after = Some y }) in
         let s = tested_alike x y step node is looks refl a.1 made in
-        let same = λ (q : ℕ). Steps-same (core_of node) test x y (λ p. Has state.places (base + p)) (IsTrue false) (q - base) a.0 (λ e. absurd (true≢false (sym e))) in
+        let same = λ (q : ℕ). Steps-same (core_of node) test x y (λ p. Has state.positions (base + p)) (IsTrue false) (q - base) a.0 (λ e. absurd (true≢false (sym e))) in
         record {
           set = s.set;
           has = λ q. (
@@ -77,7 +77,7 @@ module _ (nodes : List Node) (starts : List ℕ) (state : TreeView) where
         }
 
     -- the step by the byte before, where the byte is not marked
-    pub made_before : (first : List Bool) (byte : ℕ) (step : StepView) → 1 ≤ byte → byte < 256 → AreFirstOf nodes looks state.tree state.places (slice_index starts state.tree) first →
+    pub made_before : (first : List Bool) (byte : ℕ) (step : StepView) → 1 ≤ byte → byte < 256 → AreFirstOf nodes looks state.tree state.positions (slice_index starts state.tree) first →
         slice_index_or first byte false ≡ false → MakesFrom nodes starts state (byte - 1) step → MakesFrom nodes starts state byte step
     made_before first byte step some lt firsts e made =
         let back : byte - 1 + 1 ≡ byte = omega (arith, some) in

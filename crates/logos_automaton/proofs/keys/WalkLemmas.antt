@@ -4,12 +4,12 @@ use Rattle.std.proofs.lemmas.Bool.Decides.{nat_tests}
 use Rattle.std.proofs.Math.Nat.{mul-le-mul_left}
 use Rattle.logos_automaton.specs.Rules.{AreFree}
 use Rattle.logos_automaton.specs.inside.Alike.{MayPass, MayLeave, OpensAlike, GoesAlike, IsCopyAlike, SetsFlags}
-use Rattle.logos_places.specs.Core.{Core, void, empty, byte_in, character, look, cat, alt, plus, width, IsFree}
-use Rattle.logos_places.specs.Repeat.{in_front, up_to, repeated, spelled, count_of, IsOrdered}
-use Rattle.logos_places.specs.Table.{reader_of}
-use Rattle.logos_places.specs.Node.{core_of}
-use Rattle.logos_places.specs.declared.node.Node.{Node}
-use Rattle.logos_places.specs.declared.characters.reader.CharacterTable.{CharacterTable}
+use Rattle.logos_positions.specs.Core.{Core, void, empty, byte_in, character, look, cat, alt, plus, width, IsFree}
+use Rattle.logos_positions.specs.Repeat.{in_front, up_to, repeated, spelled, count_of, IsOrdered}
+use Rattle.logos_positions.specs.Table.{reader_of}
+use Rattle.logos_positions.specs.Node.{core_of}
+use Rattle.logos_positions.specs.declared.node.Node.{Node}
+use Rattle.logos_positions.specs.declared.characters.reader.CharacterTable.{CharacterTable}
 
 -- fewer marks
 pub leave_map : (t : Core) (M N : ℕ → Type 0) → ((q : ℕ) → q < width t → M q → N q) → MayLeave t M → MayLeave t N
@@ -220,7 +220,7 @@ leave_spelled (b ∷ bs) M h =
     ⊎_elim (λ u. (0, (let e = pass_spelled bs u.1 in omega (arith, e)), u.0))
     (λ u. let l = leave_spelled bs (λ q. M (1 + q)) u in (1 + l.0, omega (arith, l.1), l.2)) h
 
--- While parts are asked in order: of each byte that is not marked, the first n parts hold.
+-- While parts are processed in order: the first n parts hold of each byte that is not marked.
 pub record AreDone (P : ℕ → ℕ → ℕ → Type 0) (old new : List Bool) (n : ℕ) : Type 0 where
   pub done : (x : ℕ) → x + 1 < 256 → slice_index_or new (x + 1) false ≡ false →
       (slice_index_or old (x + 1) false ≡ false) × ((k : ℕ) → k < n → P k x (x + 1))
@@ -228,7 +228,7 @@ pub record AreDone (P : ℕ → ℕ → ℕ → Type 0) (old new : List Bool) (n
 pub done_first : (P : ℕ → ℕ → ℕ → Type 0) (old : List Bool) (n : ℕ) → ((k x : ℕ) → k < n → P k x (x + 1)) → AreDone P old old n
 done_first P old n h = record { done = λ x lt unmarked. (unmarked, λ k below. h k x below) }
 
--- one more part is asked, and those after it up to m hold with it
+-- one more part is processed, and those after it up to m hold with it
 pub done_more : (P : ℕ → ℕ → ℕ → Type 0) (Q : ℕ → ℕ → Type 0) (old mid new : List Bool) (n m : ℕ) → ((x : ℕ) → Q x (x + 1) → P n x (x + 1)) →
     ((k x : ℕ) → n < k → k < m → P n x (x + 1) → P k x (x + 1)) → SetsFlags Q mid new → AreDone P old mid n → AreDone P old new m
 done_more P Q old mid new n m one rest marks h = record {
@@ -247,7 +247,7 @@ done_more P Q old mid new n m one rest marks h = record {
     cases : (k : ℕ) {R : Type 0} → (k < n → R) → (k ≡ n → R) → (n < k → R) → R
     cases k f g h = ⊎_elim f (λ u. ⊎_elim g h u) (three k n)
 
--- a row of a class leads nowhere by a byte that does not go on with a character
+-- a row of a class leads nowhere by a byte that does not continue with a character
 pub follow_low : (t : CharacterTable) (q b : ℕ) → b < 0x80 → (reader_of t).follow q b ≡ None
 follow_low t q b lt = let e : nat_le 0x80 b ≡ false = grind (arith, nat_tests) in rw e refl
 

@@ -2,9 +2,9 @@
 use Rattle.std.proofs.Common.{◌≡◌, ◌≢◌, ℕ, zero, suc, ◌+◌, ◌≤◌, ◌<◌, true, false, List, [], ◌∷◌, take, drop, max, IsTrue, length, None, Some, refl, arith}
 use Rattle.logos_hir.specs.Tree.{Tree, literal, char_class, repetition, capture, concat, none, also}
 use Rattle.logos_hir.specs.Matches.{Matches}
-use Rattle.logos_hir.specs.Text.{StandsAt, IsBytes}
+use Rattle.logos_hir.specs.Text.{OccursAt, IsBytes}
 use Rattle.logos_automaton.specs.Munch.{Rule, RuleMatches, priority_of, IsBest, Grows, IsStop}
-use Rattle.logos_places.specs.Places.{Reads, byte_of, within}
+use Rattle.logos_positions.specs.Positions.{Reads, byte_of, within}
 use Rattle.logos_hir.proofs.tree.Bounds.{matches_within}
 use Rattle.logos_hir.specs.Passable.{passable}
 
@@ -24,7 +24,7 @@ lazy_plus_matches =
     (3, (omega arith, tt), (1, record { end = refl; here = refl }, (2, record { end = refl; here = refl }, (3, record { end = refl; here = refl }, refl))))
 
 abbrev pub plain : Tree → Rule
-plain t = record { tree = t; priority = 2; use_of = record { skips = false; asks = false } }
+plain t = record { tree = t; priority = 2; use_of = record { skips = false; calls_back = false } }
 
 -- so a lazy repetition takes the longest match
 pub lazy_plus_is_best : IsBest (plain lazy_plus ∷ []) aaa 0 3 0
@@ -80,19 +80,19 @@ star_b_stop = record {
     are zero d h = omega arith
     are (suc k) d h = omega (arith, h)
 
-    a : StandsAt (97 ∷ []) (97 ∷ 97 ∷ 97 ∷ 98 ∷ []) 0 1
+    a : OccursAt (97 ∷ []) (97 ∷ 97 ∷ 97 ∷ 98 ∷ []) 0 1
     a = record { end = refl; here = refl }
 
-    a' : StandsAt (97 ∷ []) (97 ∷ 97 ∷ 97 ∷ 98 ∷ []) 1 2
+    a' : OccursAt (97 ∷ []) (97 ∷ 97 ∷ 97 ∷ 98 ∷ []) 1 2
     a' = record { end = refl; here = refl }
 
-    a'' : StandsAt (97 ∷ []) (97 ∷ 97 ∷ 97 ∷ 98 ∷ []) 2 3
+    a'' : OccursAt (97 ∷ []) (97 ∷ 97 ∷ 97 ∷ 98 ∷ []) 2 3
     a'' = record { end = refl; here = refl }
 
     grows : Grows (plain star_b ∷ []) aaa
     grows = record { more = 98 ∷ []; after = []; are_bytes = are; leaf = 0; matches = (3, (3, (omega arith, tt), (1, a, (2, a', (3, a'', refl)))), (4, record { end = refl; here = refl }, refl)) }
 
--- what a key is made of: `a{2}` after `a` has read its first copy, and after `aa` its second
+-- the parts of a key: `a{2}` after `a` has read its first copy, and after `aa` its second
 pub first_copy : Reads (repetition 2 (Some 2) true (literal (97 ∷ []))) (97 ∷ []) 0 (within 1 (byte_of 0)) 0
 first_copy = (0, 0, byte_of 0, omega arith, refl, (0, omega arith, refl, refl, record { end = refl; here = refl }), refl)
 

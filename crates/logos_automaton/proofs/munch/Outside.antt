@@ -1,9 +1,10 @@
--- At the end of the bytes and after it only the empty span matches, and only of what can be passed.
+-- At the end of the bytes and after it only the empty span matches, and only patterns that match
+-- the empty string.
 use Rattle.std.proofs.Common.{◌≡◌, ℕ, zero, suc, ◌-◌, ◌<◌, ◌≤◌, ◌⊎◌, inl, inr, Bool, true, false, ◌||◌, List, [], ◌∷◌, length, drop, min, slice_range, IsTrue, IsFalse, ◌==◌, encode_utf8, refl, sym, ◌∙◌, ap, subst, arith}
 use Rattle.std.proofs.lemmas.Bool.{cases_lt}
 use Rattle.std.proofs.lemmas.List.{length-take, length-drop}
 use Rattle.std.specs.List.{list_any}
-use Rattle.logos_hir.specs.Text.{StandsAt}
+use Rattle.logos_hir.specs.Text.{OccursAt}
 use Rattle.logos_hir.specs.Tree.{Tree, empty, literal, byte_class, char_class, look, repetition, capture, concat, alternation, Trees, none, also}
 use Rattle.logos_hir.specs.Matches.{Matches, MatchesInOrder, SomeMatches, Pieces}
 use Rattle.logos_hir.specs.Passable.{passable, all_passable, some_passable}
@@ -12,7 +13,7 @@ use Rattle.logos_hir.proofs.tree.Laws.{is_zero, encoded, either_true, both_true}
 use Rattle.logos_automaton.specs.Munch.{Rule, RuleMatches}
 
 module _ (bytes : List ℕ) (from : ℕ) (out : length bytes ≤ from) where
-  no_byte : (text : List ℕ) (to : ℕ) → StandsAt text bytes from to → length text ≡ 0
+  no_byte : (text : List ℕ) (to : ℕ) → OccursAt text bytes from to → length text ≡ 0
   no_byte text to s =
       let size : length (slice_range bytes from to) ≡ length text = ap length s.here in
       let counted : min (to - from) (length bytes - from) ≡ length text =
@@ -22,10 +23,10 @@ module _ (bytes : List ℕ) (from : ℕ) (out : length bytes ≤ from) where
   abbrev Empty : ℕ → Bool → Type 0
   Empty to passed = (to ≡ from) × IsTrue passed
 
-  empty_text : (text : List ℕ) (to : ℕ) → StandsAt text bytes from to → Empty to (length text == 0)
+  empty_text : (text : List ℕ) (to : ℕ) → OccursAt text bytes from to → Empty to (length text == 0)
   empty_text text to s = let z = no_byte text to s in (omega (arith, s.end, z), is_zero (length text) z)
 
-  some_text : (text : List ℕ) (to : ℕ) → 0 < length text → StandsAt text bytes from to → ⊥
+  some_text : (text : List ℕ) (to : ℕ) → 0 < length text → OccursAt text bytes from to → ⊥
   some_text text to l s = let z = no_byte text to s in omega (arith, z, l)
 
   empty_pieces : (body : Tree) → ((to : ℕ) → Matches body bytes from to → Empty to (passable body)) → (n to : ℕ) → Pieces (Matches body bytes) n from to → (to ≡ from) × ((n ≡ 0) ⊎ IsTrue (passable body))
@@ -69,7 +70,7 @@ neither : (a b : Bool) → (a || b) ≡ false → (a ≡ false) × (b ≡ false)
 neither true b e = absurd (cc)
 neither false b e = (refl, e)
 
--- what matches a span lies within the bytes
+-- a span that matches lies within the bytes
 pub rule_inside : (rules : List Rule) (leaf : ℕ) (bytes : List ℕ) (from to : ℕ) → IsFalse (list_any (λ rule. passable rule.tree) rules) →
     RuleMatches rules leaf bytes from to → (from ≤ to) × (to ≤ length bytes)
 rule_inside [] leaf bytes from to f m = absurd m

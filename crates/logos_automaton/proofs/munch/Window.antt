@@ -1,10 +1,10 @@
 -- A match depends on the bytes of its span and on the byte after them; on the byte before them only
--- where a look leads.
+-- where a look-around assertion leads.
 use Rattle.std.proofs.Common.{◌≡◌, ◌↔◌, ℕ, zero, suc, ◌+◌, ◌-◌, ◌≤◌, ◌<◌, ◌⊎◌, inl, inr, Bool, true, false, ◌&&◌, ◌||◌, List, [], ◌∷◌, ◌++◌, length, drop, slice_get, slice_range, ◌==◌, IsTrue, IsFalse, refl, sym, ◌∙◌, ap, subst, arith, encode_utf8, length-append, append-nil}
 use Rattle.std.proofs.lemmas.List.{drop-append-le, take-append-le, length-drop}
 use Rattle.std.proofs.lemmas.Bool.Decides.{nat_tests}
 use Rattle.std.proofs.Math.Seq.{drop-append-add}
-use Rattle.logos_hir.specs.Text.{StandsAt, byte_before, byte_after}
+use Rattle.logos_hir.specs.Text.{OccursAt, byte_before, byte_after}
 use Rattle.logos_hir.specs.Tree.{Tree, empty, literal, byte_class, char_class, look, repetition, capture, concat, alternation, Trees, none, also}
 use Rattle.logos_hir.specs.Looks.{holds_between}
 use Rattle.logos_hir.specs.Matches.{Matches, MatchesInOrder, SomeMatches, Pieces}
@@ -14,7 +14,8 @@ use Rattle.logos_hir.proofs.tree.Laws.{passes}
 use Rattle.logos_automaton.specs.Munch.{Rule, RuleMatches}
 use Rattle.std.specs.List.{list_any}
 
--- From the place d of a and the place e of b on, k bytes are the same, and the byte after them too.
+-- From the position d of a and the position e of b on, k bytes are the same, and the byte after
+-- them too.
 pub record AreAlike (a b : List ℕ) (d e k : ℕ) : Type 0 where
   pub spans : (i j : ℕ) → i ≤ j → j ≤ k → slice_range a (d + i) (d + j) ≡ slice_range b (e + i) (e + j)
   pub bytes : (i : ℕ) → i ≤ k → slice_get a (d + i) ≡ slice_get b (e + i)
@@ -43,7 +44,7 @@ and_rest : (a b : Bool) → IsTrue a → (a && b) ≡ false → b ≡ false
 and_rest true b t e = e
 and_rest false b t e = absurd (cc)
 
--- the place is not the first one, or nothing leads
+-- the position is not the first one, or nothing leads
 abbrev Free : ℕ → Bool → Type 0
 Free i leading = (0 < i) ⊎ (leading ≡ false)
 
@@ -65,7 +66,7 @@ shift_pieces R Q d e k size leading within fits each (suc n) i j l m f (cut, fir
     go c q lo hi ih = (e + c, each i c lo (omega arith) f (subst (λ x. R (d + i) x) q first), ih c j hi m (later c lo f) (subst (λ x. Pieces R n x (d + j)) q rest))
 
 module _ (a b : List ℕ) (d e k : ℕ) (h : AreAlike a b d e k) where
-  shift_text : (text : List ℕ) (i j : ℕ) → i ≤ j → j ≤ k → StandsAt text a (d + i) (d + j) → StandsAt text b (e + i) (e + j)
+  shift_text : (text : List ℕ) (i j : ℕ) → i ≤ j → j ≤ k → OccursAt text a (d + i) (d + j) → OccursAt text b (e + i) (e + j)
   shift_text text i j l m s = let q : d + j ≡ d + i + length text = s.end in record { end = omega arith; here = sym (h.spans i j l m) ∙ s.here }
 
   same_before : (i : ℕ) → 0 < i → i ≤ k → byte_before a (d + i) ≡ byte_before b (e + i)
@@ -171,7 +172,7 @@ alike_within pre w post k f = record {
         let y : 0 + j - i ≡ j - i = omega arith in
         rw (p, r, z, y) (take-append-le (j - i) (drop i w) post (omega arith))
 
--- the same of a rule's match from the start of a text within another
+-- the match of a rule from the start of a text, within another text
 rules_shift : (rules : List Rule) (leaf : ℕ) (a b : List ℕ) (d e k : ℕ) → AreAlike a b d e k → IsFalse (list_any (λ rule. leads rule.tree) rules) →
     RuleMatches rules leaf a (d + 0) (d + k) → RuleMatches rules leaf b (e + 0) (e + k)
 rules_shift [] leaf a b d e k h f m = m

@@ -3,7 +3,7 @@ use Rattle.std.proofs.Common.{◌≡◌, ℕ, ◌+◌, ◌<◌, ◌≤◌, ◌�
 use Rattle.std.proofs.lemmas.List.{get_or_append_left}
 use Rattle.std.proofs.Math.Seq.{get_or-append_seam}
 use Rattle.logos_automaton.specs.Building.{IsUnderway, HasMoreStates}
-use Rattle.logos_places.specs.Core.{Core}
+use Rattle.logos_positions.specs.Core.{Core}
 use Rattle.logos_automaton.specs.Keys.{State, start_state, IsAt, Grows, AreRising, AreDistinct, AreReached, IsReached, at_start, Extends, EndsIn, AreRows, IsRow, IsBuilt}
 use Rattle.logos_automaton.specs.Targets.{AreByteRows, LeadWithin, EndWithin}
 use Rattle.logos_automaton.specs.declared.key.Key.{Key}

@@ -4,15 +4,15 @@ use Rattle.std.specs.List.Sorted.{IsStrictlyIncreasing}
 use Rattle.std.proofs.lemmas.List.{get_or_default}
 use Rattle.std.proofs.lemmas.Option.{same_Some, slice_get-get_or, slice_get-map}
 use Rattle.logos_hir.specs.Text.{IsBytes, byte_after}
-use Rattle.logos_places.specs.Core.{Core}
+use Rattle.logos_positions.specs.Core.{Core}
 use Rattle.logos_automaton.specs.Keys.{State, state_of, start_state, IsAt, IsNext, IsLast, IsBuilt, automaton_of}
-use Rattle.logos_places.specs.Marks.{Has, IsRising}
+use Rattle.logos_positions.specs.Marks.{Has, IsRising}
 use Rattle.logos_automaton.specs.Munch.{Rule, RuleMatches}
 use Rattle.logos_automaton.specs.Rules.{AreRuleCores, AreFree}
 use Rattle.logos_automaton.specs.Automaton.{Automaton, dfa_next, dfa_after, dfa_at_end, Lists, ReadsOneByteLate}
 use Rattle.logos_automaton.specs.declared.key.Key.{Key}
 use Rattle.logos_automaton.proofs.runs.RunLemmas.{IsAfter, after_nothing, next_after, lists_by_byte, lists_at_end}
-use Rattle.logos_places.proofs.classes.TextLemmas.{at_drop}
+use Rattle.logos_positions.proofs.classes.TextLemmas.{at_drop}
 
 pub rising_increases : (xs : List ℕ) → IsRising xs → IsStrictlyIncreasing xs
 rising_increases xs r k lt = r.rise k (k + 1) (omega arith) lt
@@ -23,7 +23,7 @@ contains_has xs q = (
   λ h. (h.at, h.within, get_or_default xs h.at q 0 h.within ∙ h.is),
 )
 
--- what is at a number
+-- the element at a number
 pub at_within : (ks : List Key) (i : ℕ) (s : State) → IsAt ks i s → i < length ks
 at_within ks i s h = go ks i h.key h.is
   where
@@ -94,7 +94,7 @@ module _ (ts : List Core) (looks : Bool) (start : ℕ) (ks : List Key) (rows : L
     exactly = λ k. (λ c. (has k).0 ((contains_has s.matches k).0 c), λ p. (contains_has s.matches k).1 ((has k).1 p));
   }
 
-  -- the state after the bytes at the front of what is left
+  -- the state after the bytes at the front of the rest
   pub run : (w : List ℕ) → (looks ≡ false → AreFree ts) → (front post : List ℕ) (m i : ℕ) (s : State) → drop m w ≡ front ++ post → IsBytes front → IsAt ks i s → IsAfter w ts m s →
       (j : ℕ) × (n : State) × (dfa_after (automaton_of start ks rows ends) (Some i) front ≡ Some j) × IsAt ks j n × IsAfter w ts (m + length front) n
   run w free [] post m i s is bytes at after = (i, s, refl, at, subst (λ k. IsAfter w ts k s) (omega arith) after)

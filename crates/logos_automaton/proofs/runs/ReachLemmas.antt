@@ -1,10 +1,10 @@
--- Each state of the automaton is reached, and what is reached is a state of it.
+-- Each state of the automaton is reached, and each reached state is a state of it.
 use Rattle.std.proofs.Common.{◌≡◌, ℕ, ◌<◌, ◌≤◌, ◌⊎◌, inl, inr, Bool, List, [], length, Some, option_and_then, slice_get, slice_index, slice_index_or, sym, ap, ◌∙◌, subst, arith}
 use lib.ListN.{length-map}
 use mathlib.Core.Logic.{∥∥₁_elim}
 use Rattle.std.proofs.lemmas.Bool.{cases_lt}
 use Rattle.std.proofs.lemmas.Option.{slice_get-get_or, get_or_from_slice_get}
-use Rattle.logos_places.specs.Core.{Core}
+use Rattle.logos_positions.specs.Core.{Core}
 use Rattle.logos_automaton.specs.Keys.{State, IsAt, AreDistinct, AreReached, IsReached, at_start, by_byte, by_end, IsBuilt, automaton_of}
 use Rattle.logos_automaton.specs.Automaton.{Automaton, dfa_next}
 use Rattle.logos_automaton.specs.Reach.{Way, IsReachable, at_the_start, after_byte, after_end, AreReachable}

@@ -3,16 +3,16 @@ use Rattle.std.proofs.Common.{◌≡◌, ℕ, zero, suc, ◌+◌, ◌*◌, ◌^�
 use Rattle.std.proofs.lemmas.List.{map-append}
 use Rattle.std.proofs.lemmas.List.Sums.{sum_by-cons}
 use Rattle.logos_automaton.specs.declared.rule.RuleView.{RuleView}
-use Rattle.logos_places.specs.Core.{Core}
-use Rattle.logos_places.specs.IsCore.{IsCoreOf}
+use Rattle.logos_positions.specs.Core.{Core}
+use Rattle.logos_positions.specs.IsCore.{IsCoreOf}
 use Rattle.logos_automaton.specs.Munch.{Rule}
-use Rattle.logos_places.specs.Node.{core_of}
+use Rattle.logos_positions.specs.Node.{core_of}
 use Rattle.logos_automaton.specs.Rules.{AreRuleCores, AreFree, some_look}
-use Rattle.logos_places.specs.Run.{width_of}
-use Rattle.logos_places.specs.Size.{size}
+use Rattle.logos_positions.specs.Run.{width_of}
+use Rattle.logos_positions.specs.Size.{size}
 use Rattle.logos_automaton.specs.Measures.{size_of}
 use Rattle.logos_automaton.specs.View.{rule_of, rules_of}
-use Rattle.logos_places.specs.declared.node.Node.{Node}
+use Rattle.logos_positions.specs.declared.node.Node.{Node}
 
 -- one more tree is made ready
 pub cores_more : (views : List RuleView) (i : ℕ) (d : RuleView) (nodes : List Node) (node : Node) → i < length views →
@@ -35,14 +35,14 @@ tree_size [] i d lt = absurd (omega arith)
 tree_size (h ∷ views) zero d lt = let e = size_of-cons (rule_of h) (rules_of views) in omega (arith, e)
 tree_size (h ∷ views) (suc i) d lt = let k = tree_size views i d (omega arith) in let e = size_of-cons (rule_of h) (rules_of views) in omega (arith, e, k)
 
--- the places are not many more than the size
+-- the positions are not many more than the size
 pub rules_width : (rules : List Rule) (ts : List Core) → AreRuleCores rules ts → width_of ts ≤ 2 ^ 16 * size_of rules
 rules_width [] [] h = omega arith
 rules_width [] (t ∷ ts) h = absurd h
 rules_width (rule ∷ rules) [] h = absurd h
 rules_width (rule ∷ rules) (t ∷ ts) h = let k = rules_width rules ts h.1 in let s = h.0.small in let e = size_of-cons rule rules in omega (arith, e, k, s)
 
--- where no tree has a look, no pattern asks one
+-- if no tree has a look-around assertion, no pattern has one
 pub rules_free : (rules : List Rule) (ts : List Core) → AreRuleCores rules ts → some_look rules ≡ false → AreFree ts
 rules_free [] [] h e = tt
 rules_free [] (t ∷ ts) h e = absurd h

@@ -1,25 +1,25 @@
--- What the states of the automaton tell of the bytes read.
+-- The meaning of the states of the automaton for the bytes that were read.
 use Rattle.std.proofs.Common.{◌≡◌, ℕ, zero, suc, ◌+◌, ◌-◌, ◌<◌, ◌↔◌, ◌⊎◌, ◌==◌, Bool, true, false, IsTrue, List, [], ◌∷◌, Option, Some, None, slice_get, if◌then◌else◌, refl, sym, ap, ◌∙◌, subst, inl, inr, ⊎_elim, true≢false, arith}
 use Rattle.std.proofs.lemmas.Option.{same_Some}
 use Rattle.logos_hir.specs.Text.{byte_before, byte_after}
 use Rattle.logos_hir.specs.declared.hir.Look.{Look}
-use Rattle.logos_places.specs.Core.{Core, void, empty, byte_in, character, look, cat, alt, plus, width, IsFree, holds_at, Exits, Steps}
+use Rattle.logos_positions.specs.Core.{Core, void, empty, byte_in, character, look, cat, alt, plus, width, IsFree, holds_at, Exits, Steps}
 use Rattle.logos_automaton.specs.Keys.{State, start_state, IsNext, IsLast, is_start, next_kind}
-use Rattle.logos_places.specs.Kinds.{test_at, kind_of_byte, kind_before, is_word_byte}
-use Rattle.logos_places.specs.Marks.{Has, IsSet}
+use Rattle.logos_positions.specs.Kinds.{test_at, kind_of_byte, kind_before, is_word_byte}
+use Rattle.logos_positions.specs.Marks.{Has, IsSet}
 use Rattle.logos_automaton.specs.Munch.{Rule, RuleMatches}
 use Rattle.logos_automaton.specs.Rules.{AreRuleCores, AreFree}
-use Rattle.logos_places.specs.Run.{Marked, width_of, StepsIn, ExitsIn, MarkedIn}
-use Rattle.logos_places.specs.declared.places.look.ByteKind.TheVariants as kind
-use Rattle.logos_places.proofs.steps.LookLemmas.{test_of_context}
-use Rattle.logos_places.proofs.steps.PlaceLemmas.{Exits-map, Steps-map}
-use Rattle.logos_places.proofs.trees.ReadLemmas.{Marked-exits}
-use Rattle.logos_places.proofs.steps.SeveralLemmas.{StepsIn-map, ExitsIn-map, no_places, none_there}
-use Rattle.logos_places.proofs.steps.StepLemmas.{iff_trans, iff_sym}
-use Rattle.logos_places.proofs.steps.SteppedLemmas.{Exits-void, Steps-void}
+use Rattle.logos_positions.specs.Run.{Marked, width_of, StepsIn, ExitsIn, MarkedIn}
+use Rattle.logos_positions.specs.declared.positions.look.ByteKind.TheVariants as kind
+use Rattle.logos_positions.proofs.steps.LookLemmas.{test_of_context}
+use Rattle.logos_positions.proofs.steps.PositionLemmas.{Exits-map, Steps-map}
+use Rattle.logos_positions.proofs.trees.ReadLemmas.{Marked-exits}
+use Rattle.logos_positions.proofs.steps.SeveralLemmas.{StepsIn-map, ExitsIn-map, no_positions, none_there}
+use Rattle.logos_positions.proofs.steps.StepLemmas.{iff_trans, iff_sym}
+use Rattle.logos_positions.proofs.steps.SteppedLemmas.{Exits-void, Steps-void}
 use Rattle.logos_automaton.proofs.munch.Window.{before_at}
 
--- a pattern without a look does not ask which ones hold
+-- a pattern without look-around assertions does not depend on which of them hold
 pub Exits-free : (t : Core) → IsFree t → (f g : Look → Bool) (M : ℕ → Type 0) (d : Type 0) → Exits t f M d → Exits t g M d
 Exits-free void h f g M d x = x
 Exits-free empty h f g M d x = x
@@ -63,7 +63,7 @@ ExitsIn-free [] k h f g M d x = x
 ExitsIn-free (t ∷ ts) zero h f g M d x = Exits-free t h.0 f g M d x
 ExitsIn-free (t ∷ ts) (suc k) h f g M d x = ExitsIn-free ts k h.1 f g (λ q. M (width t + q)) d x
 
--- without places and not begun, there is nothing
+-- without positions and not begun, there is nothing
 pub StepsIn-void : (ts : List Core) (test : Look → Bool) (x : ℕ) (M : ℕ → Type 0) (d : Type 0) (p : ℕ) → ((q : ℕ) → M q → ⊥) → (d → ⊥) → StepsIn ts test x M d p → ⊥
 StepsIn-void [] test x M d p none out s = s
 StepsIn-void (t ∷ ts) test x M d p none out s =
@@ -135,16 +135,16 @@ module _ (w : List ℕ) where
   none_marked [] q h = h
   none_marked (t ∷ ts) q h = ⊎_elim (λ u. u.1) (λ u. none_marked ts (q - width t) u.1) h
 
-  -- The state tells which places have read the byte before m, and what looks see of that byte.
+  -- The state determines which positions have read the byte before m, and the kind of that byte.
   pub record IsAfter (ts : List Core) (m : ℕ) (s : State) : Type 0 where
-    pub set : IsSet s.places (width_of ts)
-    pub has : (q : ℕ) → Has s.places q ↔ MarkedIn ts w m q
+    pub set : IsSet s.positions (width_of ts)
+    pub has : (q : ℕ) → Has s.positions q ↔ MarkedIn ts w m q
     pub start : IsTrue (is_start s.kind) ↔ (m ≡ 0)
-    pub seen : AreFree ts ⊎ ((m ≡ 0 → ⊥) × (s.places ≡ [])) ⊎ (s.kind ≡ kind_before (byte_before w m))
+    pub seen : AreFree ts ⊎ ((m ≡ 0 → ⊥) × (s.positions ≡ [])) ⊎ (s.kind ≡ kind_before (byte_before w m))
 
   pub after_nothing : (ts : List Core) → IsAfter ts 0 start_state
   after_nothing ts = record {
-    set = record { rising = no_places.rising; below = λ k lt. absurd (omega (arith, lt)) };
+    set = record { rising = no_positions.rising; below = λ k lt. absurd (omega (arith, lt)) };
     has = λ q. (λ h. absurd (none_there q h), λ h. absurd (none_marked ts q h));
     start = (λ e. refl, λ e. refl);
     seen = inr (inr refl);
@@ -154,7 +154,7 @@ module _ (w : List ℕ) where
     entered : (m ≡ 0 → ⊥) → IsTrue (is_start s.kind) → ⊥
     entered later e = later (after.start.0 e)
 
-    no_marks : s.places ≡ [] → (q : ℕ) → MarkedIn ts w m q → ⊥
+    no_marks : s.positions ≡ [] → (q : ℕ) → MarkedIn ts w m q → ⊥
     no_marks e q h = none_there q (subst (λ xs. Has xs q) e ((after.has q).1 h))
 
     -- the kind that is remembered is as good as the byte
@@ -162,22 +162,22 @@ module _ (w : List ℕ) where
     same_test e = ap (λ k. test_at (record { before = k; after = byte_after w m })) e ∙ test_of_context w m
 
     pub right_steps : (x q : ℕ) → slice_get w m ≡ Some x →
-        StepsIn ts (test_at (record { before = s.kind; after = Some x })) x (Has s.places) (IsTrue (is_start s.kind)) q ↔ MarkedIn ts w (suc m) q
+        StepsIn ts (test_at (record { before = s.kind; after = Some x })) x (Has s.positions) (IsTrue (is_start s.kind)) q ↔ MarkedIn ts w (suc m) q
     right_steps x q is = iff_trans (by_kind after.seen) (StepsIn-marked ts m x q is)
       where
         test : Look → Bool
         test = test_at (record { before = s.kind; after = Some x })
 
-        into : StepsIn ts (test_at (record { before = s.kind; after = Some x })) x (Has s.places) (IsTrue (is_start s.kind)) q →
+        into : StepsIn ts (test_at (record { before = s.kind; after = Some x })) x (Has s.positions) (IsTrue (is_start s.kind)) q →
             StepsIn ts (test_at (record { before = s.kind; after = Some x })) x (MarkedIn ts w m) (m ≡ 0) q
-        into = StepsIn-map ts (test_at (record { before = s.kind; after = Some x })) x (Has s.places) (MarkedIn ts w m) (IsTrue (is_start s.kind)) (m ≡ 0) q (λ p lt. (after.has p).0) after.start.0
+        into = StepsIn-map ts (test_at (record { before = s.kind; after = Some x })) x (Has s.positions) (MarkedIn ts w m) (IsTrue (is_start s.kind)) (m ≡ 0) q (λ p lt. (after.has p).0) after.start.0
 
         back : StepsIn ts (test_at (record { before = s.kind; after = Some x })) x (MarkedIn ts w m) (m ≡ 0) q →
-            StepsIn ts (test_at (record { before = s.kind; after = Some x })) x (Has s.places) (IsTrue (is_start s.kind)) q
-        back = StepsIn-map ts (test_at (record { before = s.kind; after = Some x })) x (MarkedIn ts w m) (Has s.places) (m ≡ 0) (IsTrue (is_start s.kind)) q (λ p lt. (after.has p).1) after.start.1
+            StepsIn ts (test_at (record { before = s.kind; after = Some x })) x (Has s.positions) (IsTrue (is_start s.kind)) q
+        back = StepsIn-map ts (test_at (record { before = s.kind; after = Some x })) x (MarkedIn ts w m) (Has s.positions) (m ≡ 0) (IsTrue (is_start s.kind)) q (λ p lt. (after.has p).1) after.start.1
 
-        by_kind : AreFree ts ⊎ ((m ≡ 0 → ⊥) × (s.places ≡ [])) ⊎ (s.kind ≡ kind_before (byte_before w m)) →
-            StepsIn ts (test_at (record { before = s.kind; after = Some x })) x (Has s.places) (IsTrue (is_start s.kind)) q ↔ StepsIn ts (holds_at w m) x (MarkedIn ts w m) (m ≡ 0) q
+        by_kind : AreFree ts ⊎ ((m ≡ 0 → ⊥) × (s.positions ≡ [])) ⊎ (s.kind ≡ kind_before (byte_before w m)) →
+            StepsIn ts (test_at (record { before = s.kind; after = Some x })) x (Has s.positions) (IsTrue (is_start s.kind)) q ↔ StepsIn ts (holds_at w m) x (MarkedIn ts w m) (m ≡ 0) q
         by_kind (inl free) = (
           λ h. StepsIn-free ts free (test_at (record { before = s.kind; after = Some x })) (holds_at w m) x (MarkedIn ts w m) (m ≡ 0) q (into h),
           λ h. back (StepsIn-free ts free (holds_at w m) (test_at (record { before = s.kind; after = Some x })) x (MarkedIn ts w m) (m ≡ 0) q h),
@@ -193,19 +193,19 @@ module _ (w : List ℕ) where
             )
 
     pub right_exits : (side : Option ℕ) (k : ℕ) → byte_after w m ≡ side →
-        ExitsIn ts k (test_at (record { before = s.kind; after = side })) (Has s.places) (IsTrue (is_start s.kind)) ↔ ExitsIn ts k (holds_at w m) (MarkedIn ts w m) (m ≡ 0)
+        ExitsIn ts k (test_at (record { before = s.kind; after = side })) (Has s.positions) (IsTrue (is_start s.kind)) ↔ ExitsIn ts k (holds_at w m) (MarkedIn ts w m) (m ≡ 0)
     right_exits side k is = by_kind after.seen
       where
-        into : ExitsIn ts k (test_at (record { before = s.kind; after = side })) (Has s.places) (IsTrue (is_start s.kind)) →
+        into : ExitsIn ts k (test_at (record { before = s.kind; after = side })) (Has s.positions) (IsTrue (is_start s.kind)) →
             ExitsIn ts k (test_at (record { before = s.kind; after = side })) (MarkedIn ts w m) (m ≡ 0)
-        into = ExitsIn-map ts k (test_at (record { before = s.kind; after = side })) (Has s.places) (MarkedIn ts w m) (IsTrue (is_start s.kind)) (m ≡ 0) (λ p lt. (after.has p).0) after.start.0
+        into = ExitsIn-map ts k (test_at (record { before = s.kind; after = side })) (Has s.positions) (MarkedIn ts w m) (IsTrue (is_start s.kind)) (m ≡ 0) (λ p lt. (after.has p).0) after.start.0
 
         back : ExitsIn ts k (test_at (record { before = s.kind; after = side })) (MarkedIn ts w m) (m ≡ 0) →
-            ExitsIn ts k (test_at (record { before = s.kind; after = side })) (Has s.places) (IsTrue (is_start s.kind))
-        back = ExitsIn-map ts k (test_at (record { before = s.kind; after = side })) (MarkedIn ts w m) (Has s.places) (m ≡ 0) (IsTrue (is_start s.kind)) (λ p lt. (after.has p).1) after.start.1
+            ExitsIn ts k (test_at (record { before = s.kind; after = side })) (Has s.positions) (IsTrue (is_start s.kind))
+        back = ExitsIn-map ts k (test_at (record { before = s.kind; after = side })) (MarkedIn ts w m) (Has s.positions) (m ≡ 0) (IsTrue (is_start s.kind)) (λ p lt. (after.has p).1) after.start.1
 
-        by_kind : AreFree ts ⊎ ((m ≡ 0 → ⊥) × (s.places ≡ [])) ⊎ (s.kind ≡ kind_before (byte_before w m)) →
-            ExitsIn ts k (test_at (record { before = s.kind; after = side })) (Has s.places) (IsTrue (is_start s.kind)) ↔ ExitsIn ts k (holds_at w m) (MarkedIn ts w m) (m ≡ 0)
+        by_kind : AreFree ts ⊎ ((m ≡ 0 → ⊥) × (s.positions ≡ [])) ⊎ (s.kind ≡ kind_before (byte_before w m)) →
+            ExitsIn ts k (test_at (record { before = s.kind; after = side })) (Has s.positions) (IsTrue (is_start s.kind)) ↔ ExitsIn ts k (holds_at w m) (MarkedIn ts w m) (m ≡ 0)
         by_kind (inl free) = (
           λ h. ExitsIn-free ts k free (test_at (record { before = s.kind; after = side })) (holds_at w m) (MarkedIn ts w m) (m ≡ 0) (into h),
           λ h. back (ExitsIn-free ts k free (holds_at w m) (test_at (record { before = s.kind; after = side })) (MarkedIn ts w m) (m ≡ 0) h),
@@ -223,10 +223,10 @@ module _ (w : List ℕ) where
     -- the state after one more byte
     pub next_after : (looks : Bool) (x : ℕ) (next : State) → (looks ≡ false → AreFree ts) → slice_get w m ≡ Some x → IsNext ts looks s x next → IsAfter ts (suc m) next
     next_after looks x next free is step = record {
-      set = step.places.set;
-      has = λ q. iff_trans (step.places.has q) (right_steps x q is);
-      start = (λ e. absurd (not_start looks next.places (subst (λ k. IsTrue (is_start k)) step.kind e)), λ e. absurd (omega (arith, e)));
-      seen = remembered looks next.places refl step.kind free;
+      set = step.positions.set;
+      has = λ q. iff_trans (step.positions.has q) (right_steps x q is);
+      start = (λ e. absurd (not_start looks next.positions (subst (λ k. IsTrue (is_start k)) step.kind e)), λ e. absurd (omega (arith, e)));
+      seen = remembered looks next.positions refl step.kind free;
     }
       where
         never_start : IsTrue (is_start (kind_of_byte x)) → ⊥
@@ -238,24 +238,24 @@ module _ (w : List ℕ) where
             go false false true e = true≢false (sym e)
             go false false false e = true≢false (sym e)
 
-        not_start : (looks : Bool) (places : List ℕ) → IsTrue (is_start (next_kind looks places x)) → ⊥
+        not_start : (looks : Bool) (positions : List ℕ) → IsTrue (is_start (next_kind looks positions x)) → ⊥
         not_start looks [] e = true≢false (sym e)
-        not_start false (p ∷ places) e = true≢false (sym e)
-        not_start true (p ∷ places) e = never_start e
+        not_start false (p ∷ positions) e = true≢false (sym e)
+        not_start true (p ∷ positions) e = never_start e
 
-        remembered : (looks : Bool) (places : List ℕ) → next.places ≡ places → next.kind ≡ next_kind looks places x → (looks ≡ false → AreFree ts) →
-            AreFree ts ⊎ ((suc m ≡ 0 → ⊥) × (next.places ≡ [])) ⊎ (next.kind ≡ kind_before (byte_before w (suc m)))
+        remembered : (looks : Bool) (positions : List ℕ) → next.positions ≡ positions → next.kind ≡ next_kind looks positions x → (looks ≡ false → AreFree ts) →
+            AreFree ts ⊎ ((suc m ≡ 0 → ⊥) × (next.positions ≡ [])) ⊎ (next.kind ≡ kind_before (byte_before w (suc m)))
         remembered looks [] e k f = inr (inl (λ z. omega (arith, z), e))
-        remembered false (p ∷ places) e k f = inl (f refl)
-        remembered true (p ∷ places) e k f = inr (inr (k ∙ ap kind_before (sym (before_at w m ∙ is))))
+        remembered false (p ∷ positions) e k f = inl (f refl)
+        remembered true (p ∷ positions) e k f = inr (inr (k ∙ ap kind_before (sym (before_at w m ∙ is))))
 
-    -- what a state reached by a byte lists
+    -- the leaves that a state reached by a byte lists
     pub lists_by_byte : (rules : List Rule) (looks : Bool) (x : ℕ) (next : State) → AreRuleCores rules ts → slice_get w m ≡ Some x → IsNext ts looks s x next →
         (k : ℕ) → Has next.matches k ↔ RuleMatches rules k w 0 m
     lists_by_byte rules looks x next are is step k =
         iff_trans (step.matches.has k) (iff_trans (right_exits (Some x) k is) (leaves_match rules ts are k m))
 
-    -- what a state reached by the end lists
+    -- the leaves that a state reached by the end lists
     pub lists_at_end : (rules : List Rule) (next : State) → AreRuleCores rules ts → byte_after w m ≡ None → IsLast ts s next →
         (k : ℕ) → Has next.matches k ↔ RuleMatches rules k w 0 m
     lists_at_end rules next are is last k =

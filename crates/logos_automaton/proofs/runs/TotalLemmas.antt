@@ -4,25 +4,25 @@ use lib.ListN.{length-map}
 use Rattle.std.proofs.lemmas.Bool.{cases_lt}
 use Rattle.std.proofs.lemmas.Option.{same_Some, slice_get-get_or, slice_get_past}
 use Rattle.logos_hir.specs.Text.{IsBytes}
-use Rattle.logos_places.specs.Core.{Core}
+use Rattle.logos_positions.specs.Core.{Core}
 use Rattle.logos_automaton.specs.Keys.{State, start_state, dead_state, IsAt, AreDistinct, AreReached, IsReached, at_start, by_byte, by_end, IsNext, IsLast, is_start, next_kind, IsBuilt, automaton_of}
 use Rattle.logos_automaton.specs.Automaton.{Automaton, dfa_next, dfa_after, dfa_at_end, IsTotal}
 use Rattle.logos_automaton.specs.declared.key.Key.{Key}
 use Rattle.logos_automaton.proofs.runs.DfaLemmas.{at_within, after_more, next_is, end_is, matches_at}
 use Rattle.logos_automaton.proofs.keys.LimitLemmas.{same_rising, same_state_as, dead_by_byte, dead_by_end, no_bytes, one_byte_more, state_at}
-use Rattle.logos_places.proofs.steps.StepLemmas.{iff_trans, iff_sym}
+use Rattle.logos_positions.proofs.steps.StepLemmas.{iff_trans, iff_sym}
 
 -- a byte leads to one state
 pub next_same : (ts : List Core) (looks : Bool) (s : State) (x : ℕ) (n m : State) → IsNext ts looks s x n → IsNext ts looks s x m → n ≡ m
 next_same ts looks s x n m f g =
-    let e : n.places ≡ m.places = same_rising n.places m.places f.places.set.rising g.places.set.rising (λ q. iff_trans (f.places.has q) (iff_sym (g.places.has q))) in
+    let e : n.positions ≡ m.positions = same_rising n.positions m.positions f.positions.set.rising g.positions.set.rising (λ q. iff_trans (f.positions.has q) (iff_sym (g.positions.has q))) in
     same_state_as n m e (f.kind ∙ ap (λ xs. next_kind looks xs x) e ∙ sym g.kind)
     (same_rising n.matches m.matches f.matches.set.rising g.matches.set.rising (λ k. iff_trans (f.matches.has k) (iff_sym (g.matches.has k))))
 
 -- and so does the end
 pub last_same : (ts : List Core) (s n m : State) → IsLast ts s n → IsLast ts s m → n ≡ m
 last_same ts s n m f g =
-    same_state_as n m (f.places ∙ sym g.places) (f.kind ∙ sym g.kind)
+    same_state_as n m (f.positions ∙ sym g.positions) (f.kind ∙ sym g.kind)
     (same_rising n.matches m.matches f.matches.set.rising g.matches.set.rising (λ k. iff_trans (f.matches.has k) (iff_sym (g.matches.has k))))
 
 got_within : (xs : List ℕ) (i x : ℕ) → slice_get xs i ≡ Some x → i < length xs
@@ -51,7 +51,7 @@ module _ (ts : List Core) (looks : Bool) (ks : List Key) (rows : List (List ℕ)
     are_bytes : IsBytes bytes
     number : ℕ
     there : IsAt ks number s
-    way : (dfa_after dfa (Some 0) bytes ≡ Some number) ⊎ ((dfa_at_end dfa bytes ≡ Some number) × (s.places ≡ []) × (is_start s.kind ≡ false))
+    way : (dfa_after dfa (Some 0) bytes ≡ Some number) ⊎ ((dfa_at_end dfa bytes ≡ Some number) × (s.positions ≡ []) × (is_start s.kind ≡ false))
 
   dead_comes_after : ComesAfter dead_state
   dead_comes_after = record { bytes = []; are_bytes = no_bytes; number = dead_is.0; there = dead_is.2; way = inr (dead_is.1, refl, refl) }
@@ -63,7 +63,7 @@ module _ (ts : List Core) (looks : Bool) (ks : List Key) (rows : List (List ℕ)
       go : ComesAfter s → ComesAfter next
       go b = by_way b.way
         where
-          by_way : (dfa_after dfa (Some 0) b.bytes ≡ Some b.number) ⊎ ((dfa_at_end dfa b.bytes ≡ Some b.number) × (s.places ≡ []) × (is_start s.kind ≡ false)) → ComesAfter next
+          by_way : (dfa_after dfa (Some 0) b.bytes ≡ Some b.number) ⊎ ((dfa_at_end dfa b.bytes ≡ Some b.number) × (s.positions ≡ []) × (is_start s.kind ≡ false)) → ComesAfter next
           by_way (inl e) =
               let n = next_is ts looks 0 ks rows ends built b.number s x b.there lt in
               let same = next_same ts looks s x n.1 next n.4 step in
@@ -80,7 +80,7 @@ module _ (ts : List Core) (looks : Bool) (ks : List Key) (rows : List (List ℕ)
       go : ComesAfter s → ComesAfter next
       go b = by_way b.way
         where
-          by_way : (dfa_after dfa (Some 0) b.bytes ≡ Some b.number) ⊎ ((dfa_at_end dfa b.bytes ≡ Some b.number) × (s.places ≡ []) × (is_start s.kind ≡ false)) → ComesAfter next
+          by_way : (dfa_after dfa (Some 0) b.bytes ≡ Some b.number) ⊎ ((dfa_at_end dfa b.bytes ≡ Some b.number) × (s.positions ≡ []) × (is_start s.kind ≡ false)) → ComesAfter next
           by_way (inl e) =
               let n = end_is ts looks 0 ks rows ends built b.number s b.there in
               let same = last_same ts s n.1 next n.4 last in
@@ -89,7 +89,7 @@ module _ (ts : List Core) (looks : Bool) (ks : List Key) (rows : List (List ℕ)
                 are_bytes = b.are_bytes;
                 number = n.0;
                 there = subst (IsAt ks n.0) same n.3;
-                way = inr (ap (option_and_then (slice_get ends)) e ∙ n.2, last.places, ap is_start last.kind);
+                way = inr (ap (option_and_then (slice_get ends)) e ∙ n.2, last.positions, ap is_start last.kind);
               }
           by_way (inr (e, none, later)) = subst ComesAfter (sym (dead_by_end ts looks s none later next last)) dead_comes_after
 
@@ -100,26 +100,26 @@ module _ (ts : List Core) (looks : Bool) (ks : List Key) (rows : List (List ℕ)
   state_of_number s lt = state_at ks s (omega (arith, lt, count))
 
   -- after the end comes the dead state
-  dead_after : (t : ℕ) (s : State) (b : ℕ) → IsAt ks t s → s.places ≡ [] → is_start s.kind ≡ false → b < 256 → dfa_next dfa (Some t) b ≡ Some dead_is.0
+  dead_after : (t : ℕ) (s : State) (b : ℕ) → IsAt ks t s → s.positions ≡ [] → is_start s.kind ≡ false → b < 256 → dfa_next dfa (Some t) b ≡ Some dead_is.0
   dead_after t s b at none later lt =
       let n = next_is ts looks 0 ks rows ends built t s b at lt in
       let same = dead_by_byte ts looks s none later b n.1 n.4 in
       n.2 ∙ ap Some (distinct.distinct n.0 dead_is.0 dead_state (subst (IsAt ks n.0) same n.3) dead_is.2)
 
-  dead_after_end : (t : ℕ) (s : State) → IsAt ks t s → s.places ≡ [] → is_start s.kind ≡ false → slice_get ends t ≡ Some dead_is.0
+  dead_after_end : (t : ℕ) (s : State) → IsAt ks t s → s.positions ≡ [] → is_start s.kind ≡ false → slice_get ends t ≡ Some dead_is.0
   dead_after_end t s at none later =
       let n = end_is ts looks 0 ks rows ends built t s at in
       let same = dead_by_end ts looks s none later n.1 n.4 in
       n.2 ∙ ap Some (distinct.distinct n.0 dead_is.0 dead_state (subst (IsAt ks n.0) same n.3) dead_is.2)
 
   -- where the end leads
-  ended : (s t : ℕ) → slice_get ends s ≡ Some t → (n : State) × IsAt ks t n × (n.places ≡ []) × (is_start n.kind ≡ false)
+  ended : (s t : ℕ) → slice_get ends s ≡ Some t → (n : State) × IsAt ks t n × (n.positions ≡ []) × (is_start n.kind ≡ false)
   ended s t e =
       let l = got_within ends s t e in
       let st = state_at ks s (omega (arith, l, built.ends_count)) in
       let n = end_is ts looks 0 ks rows ends built s st.0 st.1 in
       let one : n.0 ≡ t = same_Some _ _ (sym n.2 ∙ e) in
-      (n.1, subst (λ k. IsAt ks k n.1) one n.3, n.4.places, ap is_start n.4.kind)
+      (n.1, subst (λ k. IsAt ks k n.1) one n.3, n.4.positions, ap is_start n.4.kind)
 
   row_wide : (s : ℕ) (row : List ℕ) → slice_get rows s ≡ Some row → length row ≡ 256
   row_wide s row e = go (cases_lt s (length rows))
@@ -163,7 +163,7 @@ module _ (ts : List Core) (looks : Bool) (ks : List Key) (rows : List (List ℕ)
           one : Some b.number ≡ Some s
           one = ap Some (distinct.distinct b.number s st b.there at)
 
-          by_way : (dfa_after dfa (Some 0) b.bytes ≡ Some b.number) ⊎ ((dfa_at_end dfa b.bytes ≡ Some b.number) × (st.places ≡ []) × (is_start st.kind ≡ false)) →
+          by_way : (dfa_after dfa (Some 0) b.bytes ≡ Some b.number) ⊎ ((dfa_at_end dfa b.bytes ≡ Some b.number) × (st.positions ≡ []) × (is_start st.kind ≡ false)) →
               (dfa_after dfa (Some dfa.start) b.bytes ≡ Some s) ⊎ (dfa_at_end dfa b.bytes ≡ Some s)
           by_way (inl e) = inl (e ∙ one)
           by_way (inr h) = inr (h.0 ∙ one)

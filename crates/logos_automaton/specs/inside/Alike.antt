@@ -1,14 +1,14 @@
 -- Bytes that a pattern does not distinguish.
 use Rattle.std.specs.Prelude.{◌≡◌, ℕ, ◌+◌, ◌<◌, ◌≤◌, ◌↔◌, ◌⊎◌, Bool, false, IsTrue, List, slice_index, slice_index_or}
-use Rattle.logos_places.specs.Core.{Core, void, empty, byte_in, character, look, cat, alt, plus, width}
-use Rattle.logos_places.specs.Kinds.{kind_of_byte}
-use Rattle.logos_places.specs.Marks.{Has}
-use Rattle.logos_places.specs.Node.{core_of}
-use Rattle.logos_places.specs.Run.{StepsIn}
-use Rattle.logos_places.specs.declared.node.Node.{Node}
+use Rattle.logos_positions.specs.Core.{Core, void, empty, byte_in, character, look, cat, alt, plus, width}
+use Rattle.logos_positions.specs.Kinds.{kind_of_byte}
+use Rattle.logos_positions.specs.Marks.{Has}
+use Rattle.logos_positions.specs.Node.{core_of}
+use Rattle.logos_positions.specs.Run.{StepsIn}
+use Rattle.logos_positions.specs.declared.node.Node.{Node}
 use Rattle.logos_hir.specs.declared.hir.Look.{Look}
 
--- Entered, the pattern can be passed without a byte, if looks allow it.
+-- The pattern, entered, can match the empty string if look-around assertions allow it.
 abbrev pub MayPass : Core → Type 0
 MayPass void = ⊥
 MayPass empty = Unit {0}
@@ -19,7 +19,7 @@ MayPass (cat a b) = MayPass a × MayPass b
 MayPass (alt a b) = MayPass a ⊎ MayPass b
 MayPass (plus a) = MayPass a
 
--- The pattern can be left from the places M, if looks allow it.
+-- The pattern can be left from the positions `M` if look-around assertions allow it.
 abbrev pub MayLeave : Core → (ℕ → Type 0) → Type 0
 MayLeave void M = ⊥
 MayLeave empty M = ⊥
@@ -30,7 +30,7 @@ MayLeave (cat a b) M = (MayLeave a M × MayPass b) ⊎ MayLeave b (λ q. M (widt
 MayLeave (alt a b) M = MayLeave a M ⊎ MayLeave b (λ q. M (width a + q))
 MayLeave (plus a) M = MayLeave a M
 
--- Entered, the pattern reads either byte alike.
+-- The pattern, entered, has the same transitions for both bytes.
 abbrev pub OpensAlike : Core → ℕ → ℕ → Type 0
 OpensAlike void x y = Unit {0}
 OpensAlike empty x y = Unit {0}
@@ -41,7 +41,7 @@ OpensAlike (cat a b) x y = OpensAlike a x y × (MayPass a → OpensAlike b x y)
 OpensAlike (alt a b) x y = OpensAlike a x y × OpensAlike b x y
 OpensAlike (plus a) x y = OpensAlike a x y
 
--- Not entered, but from the places M, the pattern reads either byte alike.
+-- The pattern, not entered, has the same transitions from the positions `M` for both bytes.
 abbrev pub GoesAlike : Core → (ℕ → Type 0) → ℕ → ℕ → Type 0
 GoesAlike void M x y = Unit {0}
 GoesAlike empty M x y = Unit {0}
@@ -52,35 +52,36 @@ GoesAlike (cat a b) M x y = GoesAlike a M x y × (MayLeave a M → OpensAlike b 
 GoesAlike (alt a b) M x y = GoesAlike a M x y × GoesAlike b (λ q. M (width a + q)) x y
 GoesAlike (plus a) M x y = GoesAlike a M x y × (MayLeave a M → OpensAlike a x y)
 
--- More flags are set, among them that of each byte that is not the same as the byte before.
+-- More flags are set, including the flag of each byte that is not related to the byte before.
 abbrev pub SetsFlags : (ℕ → ℕ → Type 0) → List Bool → List Bool → Type 0
 SetsFlags Same old new = (byte : ℕ) → byte + 1 < 256 → slice_index_or new (byte + 1) false ≡ false →
     (slice_index_or old (byte + 1) false ≡ false) × Same byte (byte + 1)
 
--- A body reads either byte alike from the places M, and where it is entered anew after them.
+-- A body has the same transitions for both bytes from the positions `M`, and from its start if it
+-- is entered again after them.
 abbrev pub IsCopyAlike : Core → (ℕ → Type 0) → ℕ → ℕ → Type 0
 IsCopyAlike a M x y = GoesAlike a M x y × (MayLeave a M → OpensAlike a x y)
 
--- From these places the same ones read either byte.
+-- From these positions the same positions read both bytes.
 abbrev pub AreReadAlike : List Core → (ℕ → Type 0) → Type 0 → ℕ → ℕ → Type 0
 AreReadAlike ts M entered x y = (test : Look → Bool) (q : ℕ) → StepsIn ts test x M entered q ↔ StepsIn ts test y M entered q
 
--- Each byte of another kind than the byte before has its flag set.
+-- The flag of each byte whose kind differs from that of the byte before is set.
 abbrev pub AreKindBytes : List Bool → Type 0
 AreKindBytes first = (byte : ℕ) → byte + 1 < 256 → slice_index_or first (byte + 1) false ≡ false → kind_of_byte byte ≡ kind_of_byte (byte + 1)
 
--- Each byte that the patterns, from these places, or looks distinguish from the byte before has its
--- flag set.
+-- The flag of each byte is set that the patterns, from these positions, or look-around assertions
+-- distinguish from the byte before.
 abbrev pub AreFirstBytes : List Core → Bool → (ℕ → Type 0) → Type 0 → List Bool → Type 0
 AreFirstBytes ts looks M entered first = (byte : ℕ) → byte + 1 < 256 → slice_index_or first (byte + 1) false ≡ false →
     AreReadAlike ts M entered byte (byte + 1) × (IsTrue looks → kind_of_byte byte ≡ kind_of_byte (byte + 1))
 
--- Each byte whose entry differs from that of the byte before is one of these.
+-- Each byte whose entry differs from that of the byte before is in the list.
 abbrev pub AreChangesOf : List ℕ → List ℕ → Type 0
 AreChangesOf by_byte changes = (x : ℕ) → x + 1 < 256 → (Has changes (x + 1) → ⊥) → slice_index by_byte x ≡ slice_index by_byte (x + 1)
 
--- Each byte whose flag is not set is read by the tree, from these places, and by looks, as the byte
--- before.
+-- Each byte whose flag is not set has the same transitions from these positions, and the same kind
+-- for look-around assertions, as the byte before.
 abbrev pub AreFirstOf : List Node → Bool → ℕ → List ℕ → ℕ → List Bool → Type 0
-AreFirstOf nodes looks i places base first = (node : Node) → node ≡ slice_index_or nodes i node → (byte : ℕ) → byte + 1 < 256 → slice_index_or first (byte + 1) false ≡ false →
-    GoesAlike (core_of node) (λ q. Has places (base + q)) byte (byte + 1) × (IsTrue looks → kind_of_byte byte ≡ kind_of_byte (byte + 1))
+AreFirstOf nodes looks i positions base first = (node : Node) → node ≡ slice_index_or nodes i node → (byte : ℕ) → byte + 1 < 256 → slice_index_or first (byte + 1) false ≡ false →
+    GoesAlike (core_of node) (λ q. Has positions (base + q)) byte (byte + 1) × (IsTrue looks → kind_of_byte byte ≡ kind_of_byte (byte + 1))

@@ -1,5 +1,5 @@
 //! The parts of an automaton, by the number of a state. The faults of rules, the table of a graph
-//! and the evidence are read off them.
+//! and the evidence read them.
 
 ghost use Rattle.std.specs.Prelude.{◌≡◌, ◌<◌, Some, length, slice_get};
 ghost use Rattle.logos_automaton.specs.DfaView.{dfa_of};
@@ -21,7 +21,7 @@ pub fn leaves_at(dfa: &Dfa, state: usize) -> &[usize]
     &dfa.states[state].matches
 }
 
-/// Returns the targets of a state by bytes.
+/// Returns the targets of a state for bytes.
 pub fn row_at(dfa: &Dfa, state: usize) -> &Row
     requires { state < length (dfa_of dfa.now).matches }
     ensures { slice_get (dfa_of dfa.now).by_byte state ≡ Some result.now }
@@ -29,7 +29,7 @@ pub fn row_at(dfa: &Dfa, state: usize) -> &Row
     &dfa.rows[state]
 }
 
-/// Returns the target of a state by the end.
+/// Returns the target of a state for the end.
 pub fn end_at(dfa: &Dfa, state: usize) -> u32
     requires { state < length (dfa_of dfa.now).matches }
     ensures { slice_get (dfa_of dfa.now).at_end state ≡ Some result }

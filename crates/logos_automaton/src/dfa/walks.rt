@@ -1,4 +1,4 @@
-//! Walks of an automaton, from state to state.
+//! Walks through an automaton, from state to state. Users of the library and the evidence call it.
 
 ghost use Rattle.std.specs.Prelude.{◌≤◌, ◌≡◌};
 
@@ -7,7 +7,7 @@ use super::parts::leaves_at;
 use crate::row::SYMBOLS;
 use logos_hir::leaf::LeafId;
 
-/// A state of an automaton, by its number.
+/// A state of an automaton, identified by its number.
 #[derive(Clone, Copy, Debug, PartialEq, Eq)]
 pub struct StateId(pub(crate) usize);
 
@@ -17,8 +17,8 @@ pub struct Matches<'d> {
     leaves: &'d [usize],
 }
 
-/// The targets of a state: by each byte from 0 to 255, and then by the end. Equal targets come more
-/// than once.
+/// The targets of a state: for each byte from 0 to 255, and then for the end. Equal targets occur
+/// more than once.
 #[derive(Clone, Copy)]
 pub struct Children<'d> {
     row: &'d [u16],
@@ -54,14 +54,14 @@ impl Dfa {
         StateId(0)
     }
 
-    /// Returns whether the automaton has the state.
+    /// Returns whether the automaton contains the state.
     pub fn contains(&self, state: StateId) -> bool
         ensures { IsTrue result ↔ (state.0 < length (dfa_of self.now).matches) }
     {
         state.0 < self.rows.len()
     }
 
-    /// Returns the target of a state by a byte. The automaton must have the state.
+    /// Returns the target of a state for a byte. The automaton must contain the state.
     pub fn next_state(&self, state: StateId, byte: u8) -> StateId
         requires { state.0 < length (dfa_of self.now).matches }
         ensures next { dfa_next (dfa_of self.now) (Some state.0) byte ≡ Some result.0 }
@@ -70,7 +70,8 @@ impl Dfa {
         StateId(self.rows[state.0][byte as usize] as usize)
     }
 
-    /// Returns the target of a state by the end of the input. The automaton must have the state.
+    /// Returns the target of a state for the end of the input. The automaton must contain the
+    /// state.
     pub fn next_eoi_state(&self, state: StateId) -> StateId
         requires { state.0 < length (dfa_of self.now).matches }
         ensures next { slice_get (dfa_of self.now).at_end state.0 ≡ Some result.0 }
@@ -79,7 +80,7 @@ impl Dfa {
         StateId(self.ends[state.0] as usize)
     }
 
-    /// Returns the leaves that a state lists, ascending. The automaton must have the state.
+    /// Returns the leaves that a state lists, ascending. The automaton must contain the state.
     pub fn iter_matches(&self, state: StateId) -> Matches<'_>
         requires { state.0 < length (dfa_of self.now).matches }
         ensures { slice_get (dfa_of self.now).matches state.0 ≡ Some (matches_left result) }
@@ -89,8 +90,8 @@ impl Dfa {
         }
     }
 
-    /// Returns the targets of a state: by each byte from 0 to 255, and then by the end. The
-    /// automaton must have the state.
+    /// Returns the targets of a state: for each byte from 0 to 255, and then for the end. The
+    /// automaton must contain the state.
     pub fn iter_children(&self, state: StateId) -> Children<'_>
         requires { state.0 < length (dfa_of self.now).matches }
         ensures count { length (children_left result) ≡ SYMBOLS }
@@ -107,8 +108,8 @@ impl Dfa {
         }
     }
 
-    /// Returns the start and all states that are reached from it in any number of steps, ascending:
-    /// all states of the automaton.
+    /// Returns the start and all states that can be reached from it, ascending: all states of the
+    /// automaton.
     pub fn get_states(&self) -> DfaStates
         ensures all { states_left result ≡ range_with_len 0 (length (dfa_of self.now).matches) }
         ensures reached { (s : ℕ) → Contains (states_left result) s ↔

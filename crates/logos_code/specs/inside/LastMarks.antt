@@ -1,4 +1,4 @@
--- What is checked of last marks.
+-- The conditions that are checked of last marks.
 use Rattle.std.specs.Prelude.{◌≡◌, ℕ, ◌+◌, ◌<◌, List, length, Option, Some, None, IfSome, if◌then◌else◌}
 use Rattle.logos_code.specs.Code.{CodeValue, Mark, Fork}
 use Rattle.logos_code.specs.CodeView.{state_at}
@@ -14,22 +14,22 @@ IsOwn Varies mark = Unit {0}
 IsOwn Never mark = mark ≡ None
 IsOwn (Back leaf bytes) mark = IfSome mark (λ m. (leaf.0 ≡ m.leaf) × (bytes ≡ (if m.late then 1 else 0)))
 
--- It is this leaf's, one byte before.
+-- The last mark is of this leaf, one byte earlier.
 abbrev pub FollowsBack : LastMark → ℕ → ℕ → Type 0
 FollowsBack Unseen leaf bytes = ⊥
 FollowsBack Varies leaf bytes = ⊥
 FollowsBack Never leaf bytes = ⊥
 FollowsBack (Back last before) leaf bytes = (last.0 ≡ leaf) × (before + 1 ≡ bytes)
 
--- The last mark in a state without a mark of its own follows from that in a state that leads to it
--- by a byte.
+-- The last mark in a state without a mark of its own follows from the last mark in a state that
+-- leads to it on a byte.
 abbrev pub Follows : LastMark → LastMark → Option ℕ → Type 0
 Follows Unseen from fast_loop = Unit {0}
 Follows Varies from fast_loop = Unit {0}
 Follows Never from fast_loop = from ≡ Never
 Follows (Back leaf bytes) from fast_loop = (fast_loop ≡ None) × FollowsBack from leaf.0 bytes
 
--- No mark is passed as a try begins.
+-- No mark has been passed at the start of an attempt.
 abbrev pub BeginsUnmarked : LastMark → Type 0
 BeginsUnmarked Unseen = Unit {0}
 BeginsUnmarked Varies = Unit {0}
@@ -37,11 +37,11 @@ BeginsUnmarked Never = Unit {0}
 BeginsUnmarked (Back leaf bytes) = ⊥
 
 module _ (code : CodeValue) (marks : List LastMark) where
-  -- The last mark in the state, if it has none of its own.
+  -- The last mark in the state, if the state has none of its own, follows.
   abbrev pub FollowsAt : LastMark → ℕ → Type 0
   FollowsAt from s = (state_at code s).mark ≡ None → Follows (last_mark_at marks s) from (state_at code s).fast_loop
 
-  -- So do the last marks in all states to which the fork leads.
+  -- The last marks in all states to which the fork leads follow.
   abbrev pub ForkAgrees : LastMark → Fork → Type 0
   ForkAgrees from fork = (b t : ℕ) → target code fork b ≡ Some t → FollowsAt from t
 

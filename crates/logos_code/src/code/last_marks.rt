@@ -1,8 +1,9 @@
-//! Last marks: which mark a try has passed last, where it ends in a state.
+//! Last marks: the last mark that a match attempt has passed if it ends in a given state.
+//! `construction` computes them, and the fast path of an attempt reads them.
 //!
-//! Where all ways to a state agree on it, a lexer need not note the marks that it passes. The last
-//! marks are searched for along the forks of all states, and then checked: only the check says that
-//! they are right.
+//! If all paths to a state agree on the last mark, a lexer need not record the marks that it
+//! passes. The last marks are searched along the forks of all states, and then checked. Only the
+//! check establishes that they are correct.
 
 ghost use Rattle.std.specs.Prelude.{◌≡◌, ◌<◌, IfOk, IfSome, IsTrue, length, map, option_map, if◌then◌else◌};
 ghost use Rattle.logos_code.specs.Views.{code_of, mark_of, branch_of, fork_of, jumps_of, entry_of, by_conditions, by_table, IsSound, NamesFork, AreLastMarks, last_mark_at, IsOwn, Follows, FollowsAt, FollowsBack, ForkAgrees, StateAgrees, BeginsUnmarked, Agree};
@@ -11,33 +12,33 @@ use super::{CodeParts, CodeState, Condition, Fork, Mark, target_of};
 use logos_hir::leaf::LeafId;
 use std::alloc::{AllocError, Global};
 
-/// The last mark that a try has passed, where it ends in a state.
+/// The last mark that a match attempt has passed if it ends in a given state.
 #[derive(Clone, Copy, PartialEq, Eq)]
 pub enum LastMark {
-    /// No way to the state was found.
+    /// No path to the state was found.
     Unseen,
-    /// The ways to the state differ in it.
+    /// The paths to the state have different last marks.
     Varies,
     /// No mark was passed.
     Never,
-    /// The match of this leaf ends so many bytes before the end of the try.
+    /// The match of this leaf ends this number of bytes before the end of the attempt.
     Back(LeafId, usize),
 }
 
 /// A search for the last marks of all states.
 #[derive(Drop)]
 struct Search {
-    /// What was found of each state.
+    /// The last mark that has been found for each state.
     found: Vec<LastMark>,
-    /// States of which more was found, that have not been gone on from since.
+    /// The states whose last mark has changed since their targets were updated.
     open: Vec<usize>,
 }
 
-/// Returns the last marks of all states, or none.
+/// Returns the last marks of all states, or no list if the check fails.
 ///
 /// # Errors
 ///
-/// Returns an error if memory runs out.
+/// Returns `AllocError` if memory runs out.
 pub(super) fn last_marks_of(alloc: Global, parts: &CodeParts) -> Result<Vec<LastMark>, AllocError>
     requires { IsSound (code_of parts.now) }
     ensures { IfOk result (λ marks. AreLastMarks (code_of parts.now) marks.items) }
@@ -53,14 +54,14 @@ pub(super) fn last_marks_of(alloc: Global, parts: &CodeParts) -> Result<Vec<Last
 ///
 /// # Errors
 ///
-/// Returns an error if memory runs out.
+/// Returns `AllocError` if memory runs out.
 fn find(alloc: Global, parts: &CodeParts) -> Result<Vec<LastMark>, AllocError> {
     let mut search = Search {
         found: vec![in alloc; LastMark::Unseen; parts.states.len()]?,
         open: Vec::new(alloc),
     };
     search.find_more(parts.root, LastMark::Never)?;
-    // What is known of a state changes twice at most.
+    // The last mark of a state changes at most twice.
     for _ in 0..parts.states.len().saturating_mul(2) {
         let Some(state) = search.open.pop() else {
             return Ok(search.found);
@@ -71,7 +72,7 @@ fn find(alloc: Global, parts: &CodeParts) -> Result<Vec<LastMark>, AllocError> {
 }
 
 impl Search {
-    /// Goes on from a state to all those to which its fork leads.
+    /// Updates all states to which the fork of a state leads.
     fn go_on(&mut self, parts: &CodeParts, state: usize) -> Result<(), AllocError> {
         let mark = last_mark_at(&self.found, state);
         let Some(state) = parts.states.get(state) else {
@@ -83,7 +84,7 @@ impl Search {
         }
     }
 
-    /// Goes on to all states to which the branches lead, with the last mark before them.
+    /// Updates all states to which the branches lead, given the last mark before them.
     fn go_on_by_conditions(
         &mut self,
         parts: &CodeParts,
@@ -96,7 +97,7 @@ impl Search {
         Ok(())
     }
 
-    /// Goes on to all states to which the jump table leads, with the last mark before them.
+    /// Updates all states to which the jump table leads, given the last mark before them.
     fn go_on_by_table(
         &mut self,
         parts: &CodeParts,
@@ -112,7 +113,7 @@ impl Search {
         Ok(())
     }
 
-    /// Goes on to a state, if it is there, with the last mark before it.
+    /// Updates the state `to`, if it exists, given the last mark before it.
     fn go_to(&mut self, parts: &CodeParts, to: usize, mark: LastMark) -> Result<(), AllocError> {
         match parts.states.get(to) {
             Some(next) => self.find_more(to, entered(next, mark)),
@@ -120,7 +121,7 @@ impl Search {
         }
     }
 
-    /// Notes that a try can end in the state with this last mark.
+    /// Records that an attempt can end in the state with this last mark.
     fn find_more(&mut self, state: usize, mark: LastMark) -> Result<(), AllocError> {
         if state >= self.found.len() {
             return Ok(());
@@ -135,7 +136,7 @@ impl Search {
     }
 }
 
-/// Returns what is known where both are possible.
+/// Returns the last mark if both are possible.
 fn either(one: LastMark, other: LastMark) -> LastMark {
     if one == LastMark::Unseen || one == other {
         other
@@ -144,7 +145,7 @@ fn either(one: LastMark, other: LastMark) -> LastMark {
     }
 }
 
-/// Returns the last mark in a state, from the one in the state that leads to it by a byte.
+/// Returns the last mark in a state, given the last mark in the state that leads to it on a byte.
 fn entered(state: &CodeState, before: LastMark) -> LastMark {
     match (state.mark, before) {
         (Some(mark), _) => LastMark::Back(mark.leaf, bytes_back(mark)),
@@ -156,7 +157,7 @@ fn entered(state: &CodeState, before: LastMark) -> LastMark {
     }
 }
 
-/// Returns how many bytes back the match of a mark ends.
+/// Returns the number of bytes by which the match of a mark ends before the state.
 fn bytes_back(mark: Mark) -> usize
     ensures { result ≡ (if mark.late then 1 else 0) }
 {
@@ -173,7 +174,7 @@ pub(super) fn last_mark_at(marks: &[LastMark], state: usize) -> LastMark
     }
 }
 
-/// Returns whether the last marks agree with each other along all ways.
+/// Returns whether the last marks agree with each other along all paths.
 fn agree(parts: &CodeParts, marks: &[LastMark]) -> bool
     requires { IsSound (code_of parts.now) }
     ensures { IsTrue result → Agree (code_of parts.now) marks.now }
@@ -189,7 +190,7 @@ fn agree(parts: &CodeParts, marks: &[LastMark]) -> bool
     true
 }
 
-/// Returns whether this can be the last mark in the state in which tries begin.
+/// Returns whether this can be the last mark in the state in which match attempts begin.
 fn begins_unmarked(mark: LastMark) -> bool
     ensures { IsTrue result → BeginsUnmarked mark }
 {
@@ -197,7 +198,7 @@ fn begins_unmarked(mark: LastMark) -> bool
 }
 
 /// Returns whether the last mark in a state agrees with the state's mark, and with the last marks
-/// in those to which its bytes lead.
+/// in the states to which its bytes lead.
 fn state_agrees(parts: &CodeParts, marks: &[LastMark], state: usize) -> bool
     requires sound { IsSound (code_of parts.now) }
     requires state { state < length parts.now.states.items }
@@ -211,8 +212,8 @@ fn state_agrees(parts: &CodeParts, marks: &[LastMark], state: usize) -> bool
     fork_agrees(parts, marks, from, &state.fork)
 }
 
-/// Returns whether the last marks in the states to which the fork leads follow from that in the
-/// state that has the fork.
+/// Returns whether the last marks in the states to which the fork leads follow from `from`, the
+/// last mark in the state of the fork.
 fn fork_agrees(parts: &CodeParts, marks: &[LastMark], from: LastMark, fork: &Fork) -> bool
     requires { NamesFork (code_of parts.now) (fork_of parts.now.jump_tables.items fork.now) }
     ensures { IsTrue result → ForkAgrees (code_of parts.now) marks.now from
@@ -224,7 +225,7 @@ fn fork_agrees(parts: &CodeParts, marks: &[LastMark], from: LastMark, fork: &For
     }
 }
 
-/// Returns whether the last marks in the states to which the branches lead follow.
+/// Returns whether the last marks in the states to which the branches lead follow from `from`.
 fn branches_agree(
     parts: &CodeParts,
     marks: &[LastMark],
@@ -242,7 +243,7 @@ fn branches_agree(
     true
 }
 
-/// Returns whether the last marks in the states to which the jump table leads follow.
+/// Returns whether the last marks in the states to which the jump table leads follow from `from`.
 fn table_agrees(parts: &CodeParts, marks: &[LastMark], from: LastMark, table: &[u32; 256]) -> bool
     ensures { IsTrue result → ForkAgrees (code_of parts.now) marks.now from
         (by_table (jumps_of table.now)) }
@@ -269,8 +270,8 @@ fn is_own(last: LastMark, mark: Option<Mark>) -> bool
     }
 }
 
-/// Returns whether the last mark in the state to which the entry of a jump table leads follows, if
-/// it leads to one.
+/// Returns whether the last mark in the state to which an entry of a jump table leads follows from
+/// `from`, if it leads to one.
 fn entry_agrees(parts: &CodeParts, marks: &[LastMark], from: LastMark, entry: u32) -> bool
     ensures { IsTrue result → IfSome (entry_of entry) (FollowsAt (code_of parts.now) marks.now
         from) }
@@ -281,8 +282,8 @@ fn entry_agrees(parts: &CodeParts, marks: &[LastMark], from: LastMark, entry: u3
     }
 }
 
-/// Returns whether the last mark in a state follows from that in a state that leads to it, if it
-/// has no mark of its own.
+/// Returns whether the last mark in the state `to` follows from `from`, if the state has no mark of
+/// its own.
 fn target_agrees(parts: &CodeParts, marks: &[LastMark], from: LastMark, to: usize) -> bool
     ensures { IsTrue result → FollowsAt (code_of parts.now) marks.now from to }
 {
@@ -295,8 +296,8 @@ fn target_agrees(parts: &CodeParts, marks: &[LastMark], from: LastMark, to: usiz
     follows(from, next.fast_loop, last_mark_at(marks, to))
 }
 
-/// Returns whether the last mark in a state without a mark of its own follows from that in a state
-/// that leads to it by a byte.
+/// Returns whether the last mark in a state without a mark of its own follows from `from`, the last
+/// mark in a state that leads to it on a byte.
 fn follows(from: LastMark, fast_loop: Option<usize>, to: LastMark) -> bool
     ensures { IsTrue result → Follows to from fast_loop }
 {
@@ -307,7 +308,7 @@ fn follows(from: LastMark, fast_loop: Option<usize>, to: LastMark) -> bool
     }
 }
 
-/// Returns whether this is the last mark one byte before.
+/// Returns whether `from` is the last mark of this leaf, one byte earlier.
 fn follows_back(from: LastMark, leaf: LeafId, bytes: usize) -> bool
     ensures { IsTrue result → FollowsBack from leaf.0 bytes }
 {

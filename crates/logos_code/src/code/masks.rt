@@ -1,5 +1,5 @@
-//! Masks: the tests of fast loops, for sixteen bytes at once. `making` makes them, and the fast
-//! loops of lexers look them up.
+//! Masks: the tests of fast loops, for sixteen bytes at once. `construction` computes them, and the
+//! fast loops of lexers look them up.
 
 ghost use Rattle.std.specs.Prelude.{◌≡◌, ◌+◌, ◌*◌, ◌<◌, ◌≤◌, ◌^◌, ◌==◌, ℕ, if◌then◌else◌, IfOk};
 ghost use Rattle.logos_code.specs.Views.{bit_at, passes_test, code_of, IsMask, AreMasks, NamesTest};
@@ -7,11 +7,11 @@ ghost use Rattle.logos_code.specs.Views.{bit_at, passes_test, code_of, IsMask, A
 use super::CodeParts;
 use std::alloc::{AllocError, Global};
 
-/// Makes the masks of all tests, in the order of their numbers.
+/// Computes the masks of all tests, in the order of their numbers.
 ///
 /// # Errors
 ///
-/// Returns an error if memory runs out.
+/// Returns `AllocError` if memory runs out.
 pub(super) fn masks_of(alloc: Global, parts: &CodeParts) -> Result<Vec<[u8; 32]>, AllocError>
     ensures { IfOk result (λ masks. AreMasks (code_of parts.now) masks.items) }
 {
@@ -23,8 +23,8 @@ pub(super) fn masks_of(alloc: Global, parts: &CodeParts) -> Result<Vec<[u8; 32]>
     Ok(masks)
 }
 
-/// Returns the mask of the test. Bit `b / 16 % 8` of entry `16 * (b / 128) + b % 16` is set where
-/// byte `b` passes the test.
+/// Returns the mask of the test. Bit `b / 16 % 8` of entry `16 * (b / 128) + b % 16` is set if byte
+/// `b` passes the test.
 fn mask_of(parts: &CodeParts, test: usize) -> [u8; 32]
     requires { NamesTest (code_of parts.now) test }
     ensures { IsMask (passes_test parts.now.bit_tables.items test) result }
@@ -36,11 +36,11 @@ fn mask_of(parts: &CodeParts, test: usize) -> [u8; 32]
     mask
 }
 
-/// The bytes below this one have seven more that follow them 16 apart.
+/// The first byte for which the seven bytes after it at distances of 16 are not all bytes.
 const FIRSTS: usize = 144;
 
-/// Returns the entry of a mask for the eight bytes that are 16 apart from the first one on: bit `k`
-/// is set where byte `k` of these passes the test.
+/// Returns the entry of a mask for the eight bytes at distances of 16 from `first` on: bit `k` is
+/// set if byte `k` of these passes the test.
 fn mask_entry(parts: &CodeParts, test: usize, first: usize) -> u8
     requires test { NamesTest (code_of parts.now) test }
     requires first { first < FIRSTS }
@@ -57,7 +57,7 @@ fn mask_entry(parts: &CodeParts, test: usize, first: usize) -> u8
         + mask_bit(parts.passes_test(test, (first + 112) as u8), 7)
 }
 
-/// Returns bit `k` alone if the byte passes, and else 0.
+/// Returns bit `k` if the byte passes, and 0 otherwise.
 fn mask_bit(passes: bool, k: usize) -> u8
     requires { k < 8 }
     ensures is { result ≡ if passes then 2 ^ k else 0 }

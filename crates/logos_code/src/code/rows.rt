@@ -1,11 +1,12 @@
-//! Rows: what each byte does in each state, as one number.
+//! Rows: the step for each byte in each state, as one number. `construction` computes them, and
+//! `logos_machine` and `logos_fold` read them.
 //!
-//! The rows of all states lie in one table, one after another, `WIDTH` entries each: what byte `b`
-//! does in state `s` is entry `WIDTH * s + b`. The offset of a state is the index of the first
-//! entry of its row. An entry has its kind in the upper four bits, and below them what it names.
-//! The kinds are numbered in the order in which a lexer asks for them:
+//! The rows of all states are in one table, one after another, with `WIDTH` entries each: the step
+//! for byte `b` in state `s` is entry `WIDTH * s + b`. The row offset of a state is the index of
+//! the first entry of its row. An entry has its kind in the upper four bits, and its operand below
+//! them. The kinds are numbered in the order in which a lexer tests for them:
 //!
-//! | Kind | It names | The byte |
+//! | Kind | Operand | The byte |
 //! |---|---|---|
 //! | 0 | the offset of a state | leads to this state |
 //! | 1, `STAYS` | a test | stays in the state, whose fast loop has this test |
@@ -13,15 +14,15 @@
 //! | 3, `HALTS` | a leaf, `LATE` | ends a match before it, which is a token without a callback |
 //! | 4, `CLOSES` | a leaf | ends a match after it, which is a token without a callback |
 //! | 5, `SHUTS` | a leaf | ends a match after it, which is skipped without a callback |
-//! | 6, `ASKS` | a leaf, `LATE` | ends a match before it, which is up to a callback |
-//! | 7, `ASKS_AFTER` | a leaf | ends a match after it, which is up to a callback |
+//! | 6, `CALLS_BACK` | a leaf, `LATE` | ends a match before it, which may have a callback |
+//! | 7, `CALLS_BACK_AFTER` | a leaf | ends a match after it, which may have a callback |
 //! | 8, `STUCK` | nothing | leads nowhere, and the state marks no match there |
-//! | 9, `UNSAID` | nothing | does something that entries do not name |
+//! | 9, `UNDESCRIBED` | nothing | has a step that entries cannot describe |
 //!
 //! A match that ends after the byte is marked by the state to which the byte leads, and that state
-//! does nothing else. Where the match ends before the byte, bit `LATE` says whether the state
-//! itself marks it and the byte leads nowhere (0), or the byte leads to a state that marks it late
-//! and does nothing else (1). What is too large for an entry is `UNSAID`.
+//! has no other step. If the match ends before the byte, bit `LATE` is 0 if the state itself marks
+//! it and the byte leads nowhere, and 1 if the byte leads to a state that marks it late and has no
+//! other step. A step that is too large for an entry is `UNDESCRIBED`.
 
 ghost use Rattle.std.specs.Prelude.{◌≡◌, ◌+◌, ◌*◌, ◌<◌, ◌≤◌, ◌⊎◌, false, ℕ, List, length, map, None, Some, option_map, IfOk, IfSome, slice_index, slice_index_or};
 ghost use Rattle.logos_code.specs.Views.{comparison_of, some_compares, passes_test, by_conditions, IsSound, NamesTest, NamesState, NamesCondition, NamesFork, NamesWhatIsThere, stays, target, passes, mark_of, condition_of, branch_of, fork_of, use_of, jumps_of, state_of, has_mask, code_of, closing, IsStepOf, first_halting, first_closing, IsUse, IsPlainUse, Says, IsHalting, IsEntry, IsRow, AreRows, IsFirstEntry, IsFirstOf};
@@ -32,85 +33,81 @@ use logos_hir::leaf::LeafId;
 use logos_pattern::leaf::VariantKind;
 use std::alloc::{AllocError, Global};
 
-/// How many entries a kind has.
+/// The number of entries of one kind.
 const NAMED: u32 = 1 << 28;
 
-/// How many entries a row has: one for each byte, and 16 more that are not used. So the entries of
-/// one byte in many states do not lie a power of two apart, where they would drive each other out
-/// of a processor's cache.
+/// The number of entries of a row: one for each byte, and 16 unused ones. With them, the entries of
+/// one byte in many states are not a power of two apart, where they would evict each other from a
+/// processor's cache.
 pub const WIDTH: usize = 272;
 
-/// How many states entries can name.
+/// The number of states that entries can represent.
 const STATES: usize = 986_896;
 
 /// Added to an entry of a match that ends before the byte, where the byte leads to a state that
 /// marks the match late.
 pub const LATE: u32 = 1 << 27;
 
-/// The first entry that names a test: the byte stays in the state, whose fast loop has this test.
-/// An entry below it is the offset of the state to which the byte leads.
+/// The first entry of a test: the byte does not change the state, whose fast loop has this test. A
+/// lesser entry is the row offset of the state to which the byte leads.
 pub const STAYS: u32 = NAMED;
 
-/// The first entry that names a leaf whose match ends before the byte, and is skipped without a
-/// callback.
+/// The first entry of a leaf whose match ends before the byte, and is skipped without a callback.
 pub const LEAVES: u32 = 2 * NAMED;
 
-/// The first entry that names a leaf whose match ends before the byte, and is a token without a
-/// callback.
+/// The first entry of a leaf whose match ends before the byte, and is a token without a callback.
 pub const HALTS: u32 = 3 * NAMED;
 
-/// The first entry that names a leaf whose match ends after the byte, and is a token without a
-/// callback.
+/// The first entry of a leaf whose match ends after the byte, and is a token without a callback.
 pub const CLOSES: u32 = 4 * NAMED;
 
-/// The first entry that names a leaf whose match ends after the byte, and is skipped without a
-/// callback.
+/// The first entry of a leaf whose match ends after the byte, and is skipped without a callback.
 pub const SHUTS: u32 = 5 * NAMED;
 
-/// The first entry that names a leaf whose match ends before the byte, and is up to a callback.
+/// The first entry of a leaf whose match ends before the byte, and which may have a callback.
 pub const ASKS: u32 = 6 * NAMED;
 
-/// The first entry that names a leaf whose match ends after the byte, and is up to a callback.
+/// The first entry of a leaf whose match ends after the byte, and which may have a callback.
 pub const ASKS_AFTER: u32 = 7 * NAMED;
 
 /// The first entry of a byte that leads nowhere from a state without an early mark.
 pub const STUCK: u32 = 8 * NAMED;
 
-/// The first entry that says nothing of its byte.
+/// The first entry that does not describe the step for its byte.
 pub const UNSAID: u32 = 9 * NAMED;
 
-/// What becomes of the matches of a leaf, as far as entries say it.
+/// How the matches of a leaf are used, as far as entries describe it.
 #[derive(Clone, Copy)]
 pub enum MatchUse {
     /// They are tokens, without a callback.
     Emits,
     /// They are skipped, without a callback.
     Skips,
-    /// A callback may decide.
-    Asks,
+    /// A callback may decide how they are used.
+    CallsBack,
 }
 
-/// What a byte does in a state.
+/// The step for a byte in a state.
 #[derive(Clone, Copy)]
 pub enum Step {
     /// It leads to this state.
     Leads(usize),
-    /// It stays in the state, whose fast loop has this test.
+    /// It does not change the state, whose fast loop has this test.
     Stays(usize),
     /// It leads nowhere, and a match of this leaf ends before it.
     Halts(LeafId, MatchUse),
-    /// It leads to a state that marks a match of this leaf late, one that ends before it, and does
-    /// nothing else.
+    /// It leads to a state that marks a match of this leaf late, which ends before the byte, and
+    /// has no other step.
     Looks(LeafId, MatchUse),
-    /// It leads to a state that marks a match of this leaf, and does nothing else.
+    /// It leads to a state that marks a match of this leaf, and has no other step.
     Closes(LeafId, MatchUse),
     /// It leads nowhere.
     Stuck,
-    /// It does something that entries do not name.
+    /// The step cannot be described by an entry.
     Unsaid,
 }
 
-/// Returns the entry that stands for the step, or one that says nothing.
+/// Returns the entry that represents the step, or `UNDESCRIBED`.
 pub(super) fn entry_of_step(step: Step) -> u32
     ensures { IsStepOf result step ⊎ IsStepOf result Step.Unsaid }
 {
@@ -134,7 +131,7 @@ fn first_halting(used: MatchUse) -> u32
     match used {
         MatchUse::Emits => HALTS,
         MatchUse::Skips => LEAVES,
-        MatchUse::Asks => ASKS,
+        MatchUse::CallsBack => ASKS,
     }
 }
 
@@ -145,15 +142,15 @@ fn first_closing(used: MatchUse) -> u32
     match used {
         MatchUse::Emits => CLOSES,
         MatchUse::Skips => SHUTS,
-        MatchUse::Asks => ASKS_AFTER,
+        MatchUse::CallsBack => ASKS_AFTER,
     }
 }
 
-/// Makes the rows of all states.
+/// Computes the rows of all states.
 ///
 /// # Errors
 ///
-/// Returns an error if memory runs out.
+/// Returns `AllocError` if memory runs out.
 pub(super) fn rows_of(alloc: Global, parts: &CodeParts) -> Result<Vec<u32>, AllocError>
     requires { IsSound (code_of parts.now) }
     ensures { IfOk result (λ rows. AreRows (code_of parts.now) rows.items) }
@@ -165,7 +162,7 @@ pub(super) fn rows_of(alloc: Global, parts: &CodeParts) -> Result<Vec<u32>, Allo
     Ok(rows)
 }
 
-/// Returns what each byte does in the state.
+/// Returns the entries of all bytes in the state.
 fn row_of(parts: &CodeParts, state: &CodeState) -> [u32; 272]
     requires { NamesWhatIsThere (code_of parts.now)
         (state_of parts.now.jump_tables.items state.now) }
@@ -181,7 +178,7 @@ fn row_of(parts: &CodeParts, state: &CodeState) -> [u32; 272]
     row
 }
 
-/// Writes the entry at all bytes of a run.
+/// Writes the entry for all bytes of a run.
 fn fill(row: &mut [u32; 272], byte: usize, end: usize, entry: u32)
     requires { end ≤ 256 }
     ensures inside { (k : ℕ) → byte ≤ k → k < end → slice_index row.new k ≡ entry }
@@ -192,7 +189,7 @@ fn fill(row: &mut [u32; 272], byte: usize, end: usize, entry: u32)
     }
 }
 
-/// Returns what the byte does in the state.
+/// Returns the entry of the byte in the state.
 fn entry_at(parts: &CodeParts, state: &CodeState, byte: u8) -> u32
     requires { NamesWhatIsThere (code_of parts.now)
         (state_of parts.now.jump_tables.items state.now) }
@@ -202,8 +199,8 @@ fn entry_at(parts: &CodeParts, state: &CodeState, byte: u8) -> u32
     entry_of_step(parts.step(state, byte))
 }
 
-/// Returns the row for the first byte of a try, from the rows of all states and the state in which
-/// tries begin. An entry of it leads to a state, closes a match or says nothing.
+/// Returns the row for the first byte of an attempt, given the rows of all states and the state in
+/// which match attempts begin. An entry of it leads to a state, ends a match, or is `UNDESCRIBED`.
 pub(super) fn first_row(rows: &[u32], root: usize) -> [u32; 256]
     requires { WIDTH * root + 256 ≤ length rows.now }
     ensures { IsFirstOf rows.now root result }
@@ -215,7 +212,7 @@ pub(super) fn first_row(rows: &[u32], root: usize) -> [u32; 256]
     first
 }
 
-/// Returns the entry of the row for first bytes.
+/// Returns the entry in the row for first bytes.
 fn first_entry(entry: u32) -> u32
     ensures { IsFirstEntry entry result }
 {
@@ -226,7 +223,7 @@ fn first_entry(entry: u32) -> u32
     }
 }
 
-/// Returns the mark of the state, if the state does nothing else.
+/// Returns the mark of the state, if the state has no other step.
 fn closing_mark(state: &CodeState) -> Option<Mark>
     ensures { IfSome result (λ mark. (tables : List (List ℕ)) →
         state_of tables state.now ≡ closing (mark_of mark)) }
@@ -252,7 +249,7 @@ pub(super) fn early_leaf(mark: Option<Mark>) -> Option<LeafId>
 }
 
 impl CodeParts<'_> {
-    /// Returns whether the fast loop takes the byte.
+    /// Returns whether the byte passes the test of the fast loop.
     fn stays(&self, fast_loop: Option<usize>, byte: u8) -> bool
         requires { IfSome fast_loop (NamesTest (code_of self.now)) }
         ensures { result ≡ stays (code_of self.now) fast_loop byte }
@@ -263,7 +260,7 @@ impl CodeParts<'_> {
         }
     }
 
-    /// Returns what the byte does in the state.
+    /// Returns the step for the byte in the state.
     fn step(&self, state: &CodeState, byte: u8) -> Step
         requires { NamesWhatIsThere (code_of self.now)
             (state_of self.now.jump_tables.items state.now) }
@@ -279,7 +276,7 @@ impl CodeParts<'_> {
         }
     }
 
-    /// Returns what a byte does that does not stay in the state.
+    /// Returns the step for a byte that does not pass the test of the fast loop.
     fn step_out(&self, state: &CodeState, byte: u8) -> Step
         requires there { NamesWhatIsThere (code_of self.now)
             (state_of self.now.jump_tables.items state.now) }
@@ -297,7 +294,7 @@ impl CodeParts<'_> {
         }
     }
 
-    /// Returns what is done in a state with this mark where nothing leads on.
+    /// Returns the step in a state with this mark if there is no transition.
     pub(super) fn halting_step(&self, mark: Option<Mark>) -> Step
         ensures { IsHalting (code_of self.now) (option_map mark_of mark) result }
     {
@@ -307,17 +304,17 @@ impl CodeParts<'_> {
         }
     }
 
-    /// Returns what becomes of the matches of the leaf.
+    /// Returns how the matches of the leaf are used.
     fn match_use(&self, leaf: LeafId) -> MatchUse
         ensures { IsUse (code_of self.now) leaf.0 result }
     {
         match self.leaves.get(leaf.0) {
             Some(leaf) if leaf.callback.is_none() => plain_use(leaf),
-            _ => MatchUse::Asks,
+            _ => MatchUse::CallsBack,
         }
     }
 
-    /// Returns the state to which the byte leads, if it leads anywhere.
+    /// Returns the state to which the byte leads, or `None` if it leads nowhere.
     pub(super) fn target(&self, fork: &Fork, byte: u8) -> Option<usize>
         requires { NamesFork (code_of self.now) (fork_of self.now.jump_tables.items fork.now) }
         ensures is { result ≡ target (code_of self.now)
@@ -364,7 +361,7 @@ impl CodeParts<'_> {
     }
 }
 
-/// Returns what becomes of the matches of a leaf without a callback.
+/// Returns how the matches of a leaf without a callback are used.
 fn plain_use(leaf: &CodeLeaf) -> MatchUse
     requires { leaf.now.callback ≡ None }
     ensures { IsPlainUse (use_of leaf.now) result }
@@ -375,7 +372,7 @@ fn plain_use(leaf: &CodeLeaf) -> MatchUse
     }
 }
 
-/// Returns where the jump table leads for the byte.
+/// Returns the target of the jump table for the byte.
 fn jump(table: &[u32; 256], byte: u8) -> Option<usize>
     ensures { result ≡ slice_index_or (jumps_of table.now) byte None }
 {

@@ -1,5 +1,5 @@
-//! Signs: the marks of states, found by one look. `making` makes them, and the slow way of a try
-//! reads them.
+//! Accept signs: the marks of states, read with one load. `construction` computes them, and the
+//! slow path of an attempt reads them.
 
 ghost use Rattle.std.specs.Prelude.{◌≡◌, IfOk, map, option_map};
 ghost use Rattle.logos_code.specs.Views.{mark_of, code_of, mark_by, AreSigns};
@@ -8,15 +8,15 @@ use super::{CodeParts, Mark};
 use logos_hir::leaf::LeafId;
 use std::alloc::{AllocError, Global};
 
-/// The mark of a state. A lexer distinguishes the three by a branch, so it need not wait for the
-/// leaf.
+/// The mark of a state. A lexer distinguishes the three cases by a branch, so that it need not wait
+/// for the leaf.
 #[derive(Clone, Copy)]
 pub enum Sign {
     /// The state has no mark.
     Nothing,
-    /// A match of this leaf ends where the state is.
+    /// A match of this leaf ends at the state.
     Here(LeafId),
-    /// A match of this leaf ends one byte before.
+    /// A match of this leaf ends one byte before the state.
     Before(LeafId),
 }
 
@@ -24,7 +24,7 @@ pub enum Sign {
 ///
 /// # Errors
 ///
-/// Returns an error if memory runs out.
+/// Returns `AllocError` if memory runs out.
 pub(super) fn signs_of(alloc: Global, parts: &CodeParts) -> Result<Vec<Sign>, AllocError>
     ensures { IfOk result (λ signs. AreSigns (code_of parts.now) (map mark_by signs.items)) }
 {

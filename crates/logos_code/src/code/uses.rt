@@ -1,5 +1,5 @@
-//! Uses: what becomes of the matches of a leaf, by one look. `making` makes them, and a lexer reads
-//! them at the end of a match.
+//! Uses: how the matches of a leaf are used, read with one load. `construction` computes them, and
+//! a lexer reads them at the end of a match.
 
 ghost use Rattle.std.specs.Prelude.{◌≡◌, IfOk, map};
 ghost use Rattle.logos_code.specs.Views.{use_of, use_by};
@@ -8,21 +8,21 @@ use super::{CodeLeaf, CodeParts};
 use logos_pattern::leaf::VariantKind;
 use std::alloc::{AllocError, Global};
 
-/// What becomes of the matches of a leaf, in two bytes. A lexer reads these in place of the leaves,
+/// How the matches of a leaf are used, in two bytes. A lexer reads these instead of the leaves,
 /// which are far larger.
 #[derive(Clone, Copy)]
 pub(crate) struct LeafUse {
-    /// The matches are skipped.
+    /// Whether the matches are skipped.
     pub skips: bool,
-    /// A callback is called for each match.
-    pub asks: bool,
+    /// Whether a callback is called for each match.
+    pub calls_back: bool,
 }
 
 /// Returns the uses of all leaves, in the order of their numbers.
 ///
 /// # Errors
 ///
-/// Returns an error if memory runs out.
+/// Returns `AllocError` if memory runs out.
 pub(super) fn uses_of(alloc: Global, parts: &CodeParts) -> Result<Vec<LeafUse>, AllocError>
     ensures { IfOk result (λ uses. map use_by uses.items ≡ map use_of parts.now.leaves.items) }
 {
@@ -39,6 +39,6 @@ fn leaf_use(leaf: &CodeLeaf) -> LeafUse
 {
     LeafUse {
         skips: matches!(leaf.kind, VariantKind::Skip),
-        asks: leaf.callback.is_some(),
+        calls_back: leaf.callback.is_some(),
     }
 }

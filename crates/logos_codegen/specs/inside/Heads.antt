@@ -1,4 +1,4 @@
--- What an enum gives beside its leaves and its faults.
+-- The name, the type and the options of an enum.
 use Rattle.std.specs.Prelude.{◌≡◌}
 use Rattle.logos_type.specs.TypeTrees.{type_tree}
 use Rattle.logos_enum.specs.Values.{ident_slice}

@@ -22,7 +22,7 @@ IsLimit LimitStates item before after = after ≡ before ++ fault_at LimitStates
 IsLimit Memory item before after = ⊥
 
 -- The graph of leaves, if there is one, and the faults after its own are reported. Without a graph
--- there is one at least.
+-- there is at least one fault.
 pub record ReportsGraph (leaves : List Leaf) (utf8 : Bool) (item : Span) (before after : List SourceFault) (graph : Option GraphValue) : Type 0 where
   pub faults : List SourceFault
   pub reports : GraphReports (map named_rule leaves) item faults
@@ -30,7 +30,7 @@ pub record ReportsGraph (leaves : List Leaf) (utf8 : Bool) (item : Span) (before
   pub missing : graph ≡ None → faults ≢ []
   pub is : (value : GraphValue) → graph ≡ Some value → IsGraphOf leaves utf8 value × (faults ≡ [] → value.faults ≡ [])
 
--- The graph of leaves, where no fault is reported before it and it has none.
+-- The graph of leaves, if no fault is reported before it and it has none.
 abbrev pub IsFaultless : List Leaf → Bool → Span → List SourceFault → GraphValue → Type 0
 IsFaultless leaves utf8 item before graph = ReportsGraph leaves utf8 item before [] (Some graph)
 

@@ -1,9 +1,10 @@
-//! Reports faults of definitions. Each function adds one fault.
+//! Reports faults of definitions. Each function adds one fault. The readers of definitions and of
+//! error types call it.
 
 ghost use Rattle.std.specs.Prelude.{OnOk};
-ghost use Rattle.logos_definition.specs.Words.{tokens_of, ident_slice, AddsFault, priority_value, priority_twice, priority_form, greedy_value, greedy_twice, greedy_form, callback_form, ignore_form, unknown_nested, named_expected, unexpected_token};
+ghost use Rattle.logos_definition.specs.Imports.{tokens_of, ident_slice, AddsFault, priority_value, priority_twice, priority_form, greedy_value, greedy_twice, greedy_form, callback_form, ignore_form, unknown_nested, named_expected, unexpected_token};
 
-use logos_attribute::reporting::{report_form, report_named, report_run};
+use logos_attribute::reports::{report_form, report_named, report_run};
 use logos_token::error::{Errors, FaultCode, Memory};
 use logos_token::token::{Ident, Tokens};
 

@@ -1,4 +1,4 @@
-//! Reads whole attributes of an enum and its variants.
+//! Reads whole attributes of an enum and its variants. `logos_leaf` calls it for each attribute.
 
 ghost use Rattle.std.specs.Prelude.{OnOk, ◌≡◌, OnErr, IfOk, option_map, true};
 ghost use Rattle.logos_definition.specs.Views.{AddsFault, attribute_value, IsReport, logos_form, meta_report, ReadsMeta, ReadsAttribute, definition_view, meta_of, meta_view, parser_view, HasNotFailed};
@@ -43,8 +43,8 @@ impl<'s> Parser<'s> {
         }
     }
 
-    /// Adds the arguments of an attribute of the enum, and reports their faults. An attribute that
-    /// is not named `logos` adds nothing. A `logos` attribute without a group is reported.
+    /// Adds the arguments of an attribute of the enum, and reports their faults. Ignores an
+    /// attribute that is not named `logos`. Reports a `logos` attribute without a group.
     ///
     /// # Errors
     ///
@@ -59,9 +59,9 @@ impl<'s> Parser<'s> {
         unless_failed!(self, self.add_attribute(attribute))
     }
 
-    /// Reads the definition in the arguments of a `token` or `regex` attribute. `None` if the
-    /// attribute has no group, or if its group does not begin with a literal; tokens in place of
-    /// the literal are reported.
+    /// Reads the definition in the arguments of a `token` or `regex` attribute. Returns `None` if
+    /// the attribute has no group, or if its group does not begin with a literal. Reports tokens in
+    /// place of the literal.
     ///
     /// # Errors
     ///
@@ -80,7 +80,8 @@ impl<'s> Parser<'s> {
         unless_failed!(self, self.definition_in(attribute))
     }
 
-    /// Does what `parse_definition_attr` does, without asking whether the parser has failed.
+    /// Reads the definition as `parse_definition_attr` does, without checking whether the parser
+    /// has failed.
     fn definition_in(
         &mut self,
         attribute: Attribute<'_, 's>,

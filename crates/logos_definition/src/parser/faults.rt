@@ -1,10 +1,10 @@
-//! Reports faults of the options of a lexer. Each function adds one fault, or one and the span of
-//! the former value.
+//! Reports faults of the options of a lexer. Each function adds one fault, or a fault and the span
+//! of the former value. `options` calls it.
 
 ghost use Rattle.std.specs.Prelude.{◌≡◌, ◌++◌, OnOk, Some};
-ghost use Rattle.logos_definition.specs.Words.{tokens_of, ident_slice, AddsFault, once_only, utf8_twice, extras_twice, error_twice, export_twice, skip_form, skip_group, utf8_value, utf8_form, extras_form, crate_form, export_bytes, export_form, subpattern_form, error_form, source_old, unknown_logos, invalid_nested, type_form};
+ghost use Rattle.logos_definition.specs.Imports.{tokens_of, ident_slice, AddsFault, once_only, utf8_twice, extras_twice, error_twice, export_twice, skip_form, skip_group, utf8_value, utf8_form, extras_form, crate_form, export_bytes, export_form, subpattern_form, error_form, source_old, unknown_logos, invalid_nested, type_form};
 
-use logos_attribute::reporting::{report_form, report_named, report_run};
+use logos_attribute::reports::{report_form, report_named, report_run};
 use logos_token::error::{Errors, FaultCode, Memory};
 use logos_token::token::{Ident, Span, Tokens};
 

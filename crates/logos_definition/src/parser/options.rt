@@ -1,4 +1,4 @@
-//! Adds the arguments of `logos(..)` one by one.
+//! Adds the arguments of `logos(..)` one by one. The reader of attributes calls it.
 
 use crate::definition::{Definition, read_definition};
 use crate::error_type::{ErrorType, error_in};
@@ -23,7 +23,7 @@ impl<'s> Parser<'s> {
     ghost use Rattle.std.specs.Prelude.{OnOk, IfOk, string_bytes};
     ghost use Rattle.logos_definition.specs.Views.{grouped, named, tokens_of, ident_slice, literal_slice, IsReport, map_report, and_then, text_report, string_in, literal_view, value_of, piece_of, pieces_left, definition_report, skip_plain, skip_whole, skip_report, mode_set, utf8_report, extras_set, extras_report, crate_report, path_set, held_path, export_report, subpattern_set, subpattern_report, error_set, error_report, setting_report, option_report, ReadsError, ReadsType, ReadsPiece, ReadsPieces, error_view, parser_view};
 
-    /// Sets the UTF-8 mode, in place of a former one.
+    /// Sets the UTF-8 mode, and reports a former one.
     fn set_mode(&mut self, tokens: Tokens<'_, 's>) -> Result<(), Memory>
         ensures { OnOk result (IsReport (mode_set (tokens_of tokens.entry) (parser_view self.old))
             (parser_view self.new) self.old.errors self.new.errors) }
@@ -51,7 +51,7 @@ impl<'s> Parser<'s> {
         Ok(())
     }
 
-    /// Sets the type of extras, in place of a former one.
+    /// Sets the type of extras, and reports a former one.
     fn set_extras(&mut self, tokens: Tokens<'_, 's>) -> Result<(), Memory>
         ensures { OnOk result (IsReport (extras_set (tokens_of tokens.entry) (parser_view self.old))
             (parser_view self.new) self.old.errors self.new.errors) }
@@ -91,7 +91,7 @@ impl<'s> Parser<'s> {
         Ok(())
     }
 
-    /// Sets the path of the exported chart, in place of a former one.
+    /// Sets the path of the exported state diagram, and reports a former one.
     fn set_path(&mut self, tokens: Tokens<'_, 's>, path: String) -> Result<(), Memory>
         ensures { OnOk result (IsReport
             (path_set (tokens_of tokens.entry) (string_bytes path) (parser_view self.old))
@@ -104,7 +104,7 @@ impl<'s> Parser<'s> {
         Ok(())
     }
 
-    /// Adds the path that a literal holds.
+    /// Adds the path that is the value of a literal.
     fn add_path(&mut self, tokens: Tokens<'_, 's>, literal: &Literal<'s>) -> Result<(), Memory>
         ensures { OnOk result (IsReport
             (held_path (tokens_of tokens.entry) (parser_view self.old)
@@ -165,7 +165,7 @@ impl<'s> Parser<'s> {
         Ok(())
     }
 
-    /// Sets the error type, in place of a former one. `tokens` is the value in the source.
+    /// Sets the error type, and reports a former one. `tokens` are the value in the source.
     fn set_error(&mut self, tokens: Tokens<'_, 's>, error: ErrorType<'s>) -> Result<(), Memory>
         ensures { OnOk result (IsReport
             (error_set (tokens_of tokens.entry) (error_view error.entry) (parser_view self.old))
@@ -177,7 +177,7 @@ impl<'s> Parser<'s> {
         Ok(())
     }
 
-    /// Adds the argument `error` in any other form than `error(..)`.
+    /// Adds the argument `error` in a form other than `error(..)`.
     fn add_error_alone(
         &mut self,
         name: Ident<'s>,
@@ -349,7 +349,7 @@ impl<'s> Parser<'s> {
         Ok(true)
     }
 
-    /// Adds the arguments in order, up to one after which no more are read.
+    /// Adds the arguments in order, up to one after which no more arguments are read.
     pub(super) fn add_pieces(&mut self, pieces: AttributeParser<'_, 's>) -> Result<(), Memory>
         ensures { OnOk result (ReadsPieces
             (parser_view self.old) (parser_view self.new) self.old.errors self.new.errors

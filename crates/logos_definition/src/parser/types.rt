@@ -1,4 +1,5 @@
-//! Declares the generic parameters of an enum, and replaces them in types.
+//! Declares the generic parameters of an enum, and replaces them in types. `logos_leaf` calls
+//! `parse_generic` for each parameter.
 
 ghost use Rattle.std.specs.Prelude.{OnOk, ◌≡◌, ◌++◌, [], IfOk, OnErr, option_map, true};
 ghost use Rattle.logos_definition.specs.Views.{AddsFault, run_span, tokens_of, type_tree, IsReport, ident_slice, generics, generics_of, missing_types, GetsUnheld, const_generic, parameter_report, parser_view, HasNotFailed};
@@ -38,9 +39,8 @@ impl<'s> Parser<'s> {
         }
     }
 
-    /// Adds a generic parameter: a lifetime; a type, whose name is declared; or a constant, which
-    /// is reported. A second lifetime is reported too. The faults have the span of the whole
-    /// parameter.
+    /// Adds a generic parameter: a lifetime, or a type, whose name is declared. Reports a constant,
+    /// and a second lifetime. The faults have the span of the whole parameter.
     ///
     /// # Errors
     ///
@@ -57,8 +57,8 @@ impl<'s> Parser<'s> {
     }
 
     /// Returns the generic arguments that follow the enum's name: `'s` if a lifetime is declared,
-    /// then the types given to the declared parameters, in order of declaration. `None` if there
-    /// are none. Reports each parameter without a type.
+    /// and then the types given to the declared parameters, in order of declaration. Returns `None`
+    /// if there are none. Reports each parameter without a type.
     ///
     /// # Errors
     ///
@@ -75,7 +75,7 @@ impl<'s> Parser<'s> {
         unless_failed!(self, self.types.generics(&mut self.errors))
     }
 
-    /// Does what `get_type` does, without asking whether the parser has failed.
+    /// Returns the type that `get_type` returns, without checking whether the parser has failed.
     fn written_type(&mut self, written: &TypeExpr<'s>, span: Span) -> Result<TypeExpr<'s>, Memory>
         ensures got { IfOk result (λ got. GetsUnheld self.old.types (type_tree written.now) span
             self.old.errors self.new.errors (type_tree got)) }
@@ -87,10 +87,10 @@ impl<'s> Parser<'s> {
         Ok(got)
     }
 
-    /// Returns a written type with its declared parameters replaced by the types given to them, but
-    /// for those that hold themselves, and with its lifetimes set to `'s`. If too many types stand
-    /// inside one another then, reports that at this span and returns the type as it is written.
-    /// Each call looks for the parameters that hold themselves.
+    /// Returns a written type with its declared parameters replaced by the types given to them,
+    /// except for parameters whose types contain them, and with its lifetimes set to `'s`. If too
+    /// many types are nested in the result, reports that at this span and returns the type as
+    /// written. Each call searches for the parameters whose types contain them.
     ///
     /// # Errors
     ///

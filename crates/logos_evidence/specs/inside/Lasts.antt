@@ -3,7 +3,7 @@ use Rattle.std.specs.Prelude.{ℕ, ◌+◌, List, [], ◌∷◌, length, Option,
 use Rattle.std.specs.Option.{option_or, unwrap_or}
 use Rattle.logos_graph.specs.Graph.{GraphState, next_by, next_at_end}
 
--- A leaf with the size of its match.
+-- A leaf with the length of its match.
 abbrev pub with_size : ℕ → Option ℕ → Option (ℕ × ℕ)
 with_size n None = None
 with_size n (Some leaf) = Some (leaf, n)
@@ -15,12 +15,12 @@ module _ (graph : List GraphState) where
   abbrev pub late_of : ℕ → Option ℕ
   late_of s = option_and_then (λ state. state.state_type.accept) (slice_get graph s)
 
-  -- The leaf whose match ends at a state, as it is seen by a step to the next state, if there is
+  -- The leaf whose match ends at a state, as a step to the next state determines it, if there is
   -- one.
   abbrev pub seen_by : ℕ → Option ℕ → Option ℕ
   seen_by s next = option_or (option_and_then late_of next) (early_of s)
 
-  -- The same by the step that a byte makes, and the end.
+  -- The leaf whose match ends at a state, as the step by a byte determines it, and as the end does.
   abbrev pub mark_by : ℕ → ℕ → Option ℕ
   mark_by s b = seen_by s (next_by graph s b)
 
@@ -31,8 +31,7 @@ module _ (graph : List GraphState) where
   abbrev pub step_to : ℕ → ℕ → ℕ
   step_to s b = unwrap_or (next_by graph s b) (length graph)
 
-  -- The last match from a state on, where n bytes were read and these are left: its leaf and its
-  -- size.
+  -- The last match from a state on, with `n` bytes read and these left: its leaf and its length.
   abbrev pub last_from : ℕ → ℕ → List ℕ → Option (ℕ × ℕ)
   last_from s n [] = with_size n (mark_at_end s)
   last_from s n (b ∷ bytes) = option_or (last_from (step_to s b) (n + 1) bytes) (with_size n (mark_by s b))

@@ -5,11 +5,11 @@ use Rattle.logos_graph.specs.Graph.{GraphState, next_by, next_at_end}
 use Rattle.logos_automaton.specs.Automaton.{Automaton}
 use Rattle.logos_automaton.specs.Munch.{Rule}
 use Rattle.logos_automaton.specs.inside.TopSets.{top_of}
-use Rattle.logos_search.specs.declared.point.Point.{Point}
+use Rattle.logos_evidence.specs.declared.search.point.Point.{Point}
 use Rattle.logos_evidence.specs.inside.Steps.{step_by, listed_at_end}
 use Rattle.logos_evidence.specs.inside.Lasts.{mark_by, mark_at_end, step_to}
 
--- Whether the last match is one of the leaf, after one more or none.
+-- Whether the last match is one of the leaf, after the match of a mark, if there is one.
 abbrev pub is_last : ℕ → Option ℕ → Bool → Bool
 is_last leaf None before = before
 is_last leaf (Some mark) before = mark == leaf
@@ -35,14 +35,14 @@ module _ (graph : List GraphState) (leaf : ℕ) where
   abbrev pub example_goal : Point → Bool
   example_goal at = is_last leaf (mark_at_end graph at.here) at.last
 
--- Whether both have no name, or the same.
+-- Whether both have no name, or the same one.
 abbrev pub same_option : Option ℕ → Option ℕ → Bool
 same_option None None = true
 same_option None (Some n) = false
 same_option (Some m) None = false
 same_option (Some m) (Some n) = m == n
 
--- Whether two marks are those of leaves of the same name.
+-- Whether two marks are leaves of the same name.
 abbrev pub same_mark : List ℕ → Option ℕ → List ℕ → Option ℕ → Bool
 same_mark names None others None = true
 same_mark names None others (Some k) = false
@@ -53,11 +53,12 @@ same_mark names (Some m) others (Some k) = same_option (slice_get names m) (slic
 abbrev pub is_cut : Bool → ℕ → Bool
 is_cut utf8 b = not utf8 || (nat_lt b 0x80 || nat_le 0xc0 b)
 
--- Whether exactly one of two steps leads on.
+-- Whether exactly one of two steps leads to a state.
 abbrev pub one_leads : Option ℕ → Option ℕ → Bool
 one_leads next twin = (is_some next && not (is_some twin)) || (not (is_some next) && is_some twin)
 
--- What is known of the difference after one more step with these marks, where errors may part.
+-- Whether the last matches differ after one more step with these marks. The last flag is whether
+-- errors may end at different offsets.
 abbrev pub differs_after : List ℕ → List ℕ → Bool → Bool → Option ℕ → Option ℕ → Bool → Bool
 differs_after names others met last None None parts = if met then last else last || parts
 differs_after names others met last None (Some k) parts = true
@@ -120,11 +121,11 @@ module _ (dfa : Automaton) (graph : List GraphState) (leaf : ℕ) where
   abbrev pub loss_goal : Point → Bool
   loss_goal at = (at.met || lists leaf (listed_at_end dfa at.here)) && not (is_last leaf (mark_at_end graph at.there) at.last)
 
--- After the span nothing but the end of a character matters.
+-- After the span the point only tracks whether a character has ended.
 abbrev pub meeting_at : ℕ → Bool → Point
 meeting_at next met = record { here = if met then 0 else next; there = 0; begun = false; met = met; last = false }
 
--- The leaves of highest priority of some span are a set.
+-- The leaves of highest priority for some span are a set.
 module _ (dfa : Automaton) (rules : List Rule) (set : List ℕ) where
   abbrev pub meeting_on : ℕ → Point
   meeting_on next = meeting_at next (tops_are rules set (slice_get dfa.matches next))

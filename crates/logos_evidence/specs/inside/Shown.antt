@@ -1,4 +1,4 @@
--- What contracts see of the states of a graph that are held by reference.
+-- The view of the states of a graph that are held by reference.
 use Rattle.std.specs.Prelude.{List, map}
 use denote.Ref.{Bor}
 use Rattle.logos_graph.specs.Graph.{GraphState}

@@ -3,11 +3,11 @@ use Rattle.std.specs.Prelude.{ℕ, List, length, Option, None, Some, if◌then�
 use Rattle.logos_automaton.specs.Automaton.{Automaton, dfa_next}
 
 module _ (dfa : Automaton) where
-  -- Where a byte leads, if the number is a state.
+  -- The state to which a byte leads, if the number is a state.
   abbrev pub step_by : ℕ → ℕ → Option ℕ
   step_by s b = if nat_lt s (length dfa.matches) then dfa_next dfa (Some s) b else None
 
-  -- Where the end leads.
+  -- The state to which the end of the input leads.
   abbrev pub step_at_end : ℕ → Option ℕ
   step_at_end s = if nat_lt s (length dfa.matches) then slice_get dfa.at_end s else None
 

@@ -1,4 +1,4 @@
--- The marks at the stops of a graph on its way over an input.
+-- The marks of a graph after each byte of an input, and after its end.
 use Rattle.std.specs.Prelude.{ℕ, zero, suc, ◌+◌, List, [], ◌∷◌, Option, slice_get, option_and_then}
 use Rattle.logos_graph.specs.Found.{mark_of}
 use Rattle.logos_graph.specs.Graph.{GraphState, next_by, next_at_end}
@@ -8,8 +8,8 @@ module _ (graph : List GraphState) where
   abbrev pub mark_at : ℕ → ℕ → Option (ℕ × ℕ)
   mark_at s n = option_and_then (λ state. mark_of state.state_type n) (slice_get graph s)
 
-  -- The mark at a stop from a state on, where n bytes were read and these are left: after so many
-  -- of them, and then after the end.
+  -- The mark after the first bytes of the remaining ones, counted from a state after `n` bytes, and
+  -- then the mark after the end.
   abbrev pub stop_mark : ℕ → ℕ → List ℕ → ℕ → Option (ℕ × ℕ)
   stop_mark s n bytes zero = mark_at s n
   stop_mark s n [] (suc stop) = option_and_then (λ t. mark_at t (n + 1)) (next_at_end graph s)

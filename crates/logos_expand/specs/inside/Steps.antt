@@ -1,23 +1,25 @@
--- The steps of gathering what the enums of a file give.
+-- The steps of gathering the results of the enums of a file.
 use Rattle.std.specs.Prelude.{◌≡◌, ℕ, Bool, List, [], ◌∷◌, ◌++◌}
 use Rattle.logos_code.specs.Code.{CodeValue}
 use Rattle.logos_tables.specs.declared.shape.Shape.{Shape}
-use Rattle.logos_expand.specs.declared.expanding.Gathered.{Gathered}
+use Rattle.logos_expand.specs.declared.expansion.Gathered.{Gathered}
 use Rattle.logos_report.specs.declared.clues.Clues.{Clues}
-use Rattle.logos_report.specs.declared.refused.Refused.{Refused}
+use Rattle.logos_report.specs.declared.file_report.Refused.{Refused}
+use Rattle.logos_report.specs.Sets.{sizes_of}
 use Rattle.logos_expand.specs.Expanding.{IsGuarded, under}
 use Rattle.logos_tables.specs.Shapes.{IsShown}
+use Rattle.logos_text.specs.Fronts.{AroundValue}
 use Rattle.logos_expand.specs.Gathering.{Gathers}
 use Rattle.logos_layout.specs.Layout.{IsLaidOut}
-use Rattle.logos_rust_file.specs.declared.finding.FoundEnum.{FoundEnum}
-use Rattle.logos_rust_file.specs.declared.replacing.Replacement.{Replacement}
+use Rattle.logos_rust_file.specs.declared.finder.FoundEnum.{FoundEnum}
+use Rattle.logos_rust_file.specs.declared.replacement.Replacement.{Replacement}
 use Rattle.logos_rust_file.specs.Handed.{Refusal}
 use Rattle.logos_rust_file.specs.Handed as refusals
 use Rattle.logos_rust_file.specs.Handed.{IsStripped}
 use Rattle.logos_token.specs.Faults.{Fault}
 use Rattle.logos_token.specs.Tokens.{TokenList}
 
--- One more enum was gathered: what it gives stands at the end.
+-- One more enum was gathered: its result was appended.
 pub record GathersOne (shape : Shape) (text : List ℕ) (one : FoundEnum) (old new : Gathered) : Type 0 where
   pub parts : List Replacement
   pub refused : List Refused
@@ -25,33 +27,34 @@ pub record GathersOne (shape : Shape) (text : List ℕ) (one : FoundEnum) (old n
   pub refused_are : new.refused.items ≡ old.refused.items ++ refused
   pub completes : (rest : List FoundEnum) (more : List Replacement) (worse : List Refused) → Gathers shape text rest more worse → Gathers shape text (one ∷ rest) (parts ++ more) (refused ++ worse)
 
--- These are the faults of a refusal other than for want of memory.
+-- These are the faults of a refusal, unless memory ran out.
 abbrev pub AreFaultsOf : Refusal → List Fault → Type 0
 AreFaultsOf (refusals.Errors faults) others = others ≡ faults
 AreFaultsOf refusals.Memory others = ⊥
 
--- One more refusal stands at the end, with the faults of what begins at an offset, and what is
--- known of them.
+-- One more refusal was appended, with the faults of a part that begins at an offset, and the clues
+-- about them.
 pub record AddsRefusal (offset : ℕ) (refusal : Refusal) (clues : Clues) (old new : List Refused) : Type 0 where
   pub bad : Refused
   pub is_offset : bad.offset ≡ offset
   pub faults : AreFaultsOf refusal bad.errors
-  pub known : bad.clues ≡ clues
+  pub known : sizes_of bad.clues ≡ sizes_of clues
   pub are : new ≡ old ++ bad ∷ []
 
--- These are tokens, and after LF the text of a lexer with this code and with attributes, laid out.
-pub record IsPrintedWith (shape : Shape) (code : CodeValue) (left : TokenList) (shown : List ℕ) : Type 0 where
+-- These are tokens, and after LF the text of a lexer with this code, with this around its function,
+-- and with attributes, laid out.
+pub record IsPrintedWith (shape : Shape) (around : AroundValue) (code : CodeValue) (left : TokenList) (shown : List ℕ) : Type 0 where
   pub written : List ℕ
   pub lexer : List ℕ
   pub laid : List ℕ
-  pub stand : IsShown shape code lexer
+  pub occur : IsShown shape around code lexer
   pub by_name : Bool
   pub is_written : IsGuarded left written
   pub is_laid_out : IsLaidOut (under by_name left lexer) laid
   pub is : shown ≡ written ++ 10 ∷ laid
 
--- This is the expansion of an enum whose lexer has this code.
-pub record IsExpansionBy (shape : Shape) (code : CodeValue) (source shown : List ℕ) : Type 0 where
+-- This is the expansion of an enum whose lexer has this code, with this around its function.
+pub record IsExpansionBy (shape : Shape) (around : AroundValue) (code : CodeValue) (source shown : List ℕ) : Type 0 where
   pub left : TokenList
   pub stripped : IsStripped source left
-  pub prints : IsPrintedWith shape code left shown
+  pub prints : IsPrintedWith shape around code left shown

@@ -1,8 +1,7 @@
-//! Makes forks and fast loops. `states` calls it for each state, and `nodes` for the state that its
-//! caller names.
+//! Makes forks and fast loops. `states` calls it for each state, and `nodes` for single states.
 
 ghost use Rattle.std.specs.Prelude.{◌≡◌, ◌<◌, ◌≤◌, ◌↔◌, ◌&&◌, ◌==◌, ℕ, true, IfOk, OnOk, OnErr, IsTrue, [], ◌∷◌, length, map, option_map, find, nat_le, slice_index, None};
-ghost use Rattle.logos_generator.specs.Words.{All, flat_map, option_or, ranges_of, has_byte, AreSeparated, comparison_of, condition_of, branch_of, entry_of, fork_of, edge_of, state_number, hit, leads_beside, Extends, IsConditionOf, AreBranchesOf, IsForkOf, IsLoopOf, cost, numbered, loop_uses, condition_uses, branch_uses, fork_uses, fork_tables, jump_table, with_tables, AddsBranch};
+ghost use Rattle.logos_generator.specs.Imports.{All, flat_map, option_or, ranges_of, has_byte, AreSeparated, comparison_of, condition_of, branch_of, entry_of, fork_of, edge_of, state_number, hit, leads_beside, Extends, IsConditionOf, AreBranchesOf, IsForkOf, IsLoopOf, cost, numbered, loop_uses, condition_uses, branch_uses, fork_uses, fork_tables, jump_table, with_tables, AddsBranch};
 
 use super::node_tables::NodeTables;
 use super::tests_by_bits::add_test;
@@ -43,8 +42,8 @@ fn edge_back<'e>(edges: &'e [(ByteClass, State)], state: usize) -> Option<&'e By
     None
 }
 
-/// Makes the fork of a state, without the edge back to it: a table for more than two edges, else
-/// conditions.
+/// Makes the fork of a state, without the edge back to it: a table if there are more than two
+/// edges, and conditions otherwise.
 pub(super) fn impl_fork(
     alloc: Global,
     tables: &mut NodeTables,
@@ -169,8 +168,8 @@ fn add_branch(
     Ok(())
 }
 
-/// Makes the test of a class: by comparisons, or by a bit of a table if they cost more than two
-/// operations.
+/// Makes the test of a class: comparisons, or a bit of a table if the comparisons cost more than
+/// two operations.
 fn condition_of(
     alloc: Global,
     tests: &mut IndexSet<[bool; 256]>,

@@ -1,4 +1,4 @@
-//! Makes the nodes of a code one by one. Callers of `Generator` ask for them; `generate` does not.
+//! Makes the nodes of a code one by one. Only callers of `Generator` use it; `generate` does not.
 
 ghost use Rattle.std.specs.Prelude.{◌≡◌, ◌≤◌, ◌<◌, OnOk, OnErr, IfOk, length};
 ghost use Rattle.logos_generator.specs.Views.{ranges_of, graph_state_of, state_number, code_leaf_value, leaf_value, left_out, bit_tables_of, IsCodable, Continues, MakesFork, MakesLoop, MakesLoopOver};
@@ -14,14 +14,14 @@ use logos_pattern::leaf::Leaf;
 use logos_token::error::Memory;
 use std::alloc::Global;
 
-/// A fast loop by the test with this number.
+/// A fast loop with the test of this number.
 #[derive(Clone, Copy, Debug, PartialEq, Eq)]
 pub struct FastLoop {
     pub test: usize,
 }
 
-/// The macro that ends a try. After a match that is skipped, the next try begins in the state with
-/// this number.
+/// The macro that ends a match attempt. After a match that is skipped, the next attempt begins in
+/// the state with this number.
 #[derive(Clone, Copy, Debug, PartialEq, Eq)]
 pub struct TakeAction {
     pub restart: usize,
@@ -42,12 +42,12 @@ pub fn fast_loop_macro(unroll_factor: usize) -> FastLoopMacro
 }
 
 impl<'s> Generator<'_, 's> {
-    /// Makes the fork of a state with this data, with the edge back to the state or without it. Its
+    /// Makes the fork of a state with this data, with or without the edge back to the state. Its
     /// tests and its jump table are numbered after those of the nodes made before.
     ///
     /// # Errors
     ///
-    /// Returns `Memory` if memory runs out. The generator is then as it was.
+    /// Returns `Memory` if memory runs out. The generator is then unchanged.
     pub fn impl_fork(
         &mut self,
         alloc: Global,
@@ -76,7 +76,7 @@ impl<'s> Generator<'_, 's> {
     ///
     /// # Errors
     ///
-    /// Returns `Memory` if memory runs out. The generator is then as it was.
+    /// Returns `Memory` if memory runs out. The generator is then unchanged.
     pub fn maybe_impl_fast_loop(
         &mut self,
         _alloc: Global,
@@ -98,7 +98,7 @@ impl<'s> Generator<'_, 's> {
     ///
     /// # Errors
     ///
-    /// Returns `Memory` if memory runs out. The generator is then as it was.
+    /// Returns `Memory` if memory runs out. The generator is then unchanged.
     pub fn impl_fast_loop(
         &mut self,
         _alloc: Global,
@@ -123,15 +123,15 @@ impl<'s> Generator<'_, 's> {
         Ok(leaf_made(leaf)?)
     }
 
-    /// Returns the macro that ends a try.
+    /// Returns the macro that ends a match attempt.
     pub fn take_action_macro(&self) -> TakeAction
         ensures { result ≡ record { restart = 0 } }
     {
         TakeAction { restart: 0 }
     }
 
-    /// Returns the bit tables of the tests of all nodes made so far: after `generate`, those of the
-    /// code.
+    /// Returns the bit tables of the tests of all nodes made so far. After `generate` they are
+    /// those of the code.
     ///
     /// # Errors
     ///
@@ -142,9 +142,9 @@ impl<'s> Generator<'_, 's> {
         Ok(tables_of(alloc, self.tables.tests.as_slice())?)
     }
 
-    /// Returns the jump tables of all forks made so far, by their numbers: after `generate`, those
-    /// of the code. An entry is the number of the state that the byte leads to, or `NOWHERE`.
-    /// `Fork::Table(k)` names table k.
+    /// Returns the jump tables of all forks made so far, by their numbers. After `generate` they
+    /// are those of the code. An entry is the number of the state to which the byte leads, or
+    /// `NOWHERE`. `Fork::Table(k)` refers to table `k`.
     ///
     /// # Errors
     ///
@@ -157,7 +157,7 @@ impl<'s> Generator<'_, 's> {
 }
 
 /// Returns the number of the state to which a fork has no edge: the state itself if `ignore_self`
-/// holds, else a number that no state has.
+/// is `true`, and otherwise a number that no state has.
 fn left_out(ignore_self: bool, state: usize) -> usize
     ensures { result ≡ left_out ignore_self state }
 {

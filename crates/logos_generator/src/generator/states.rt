@@ -1,7 +1,7 @@
 //! Makes the states of a code from those of a graph. `Generator::generate` calls it.
 
 ghost use Rattle.std.specs.Prelude.{◌≡◌, ◌<◌, [], IfOk, OnOk, length, map, option_map};
-ghost use Rattle.logos_generator.specs.Words.{All, range_with_len, RunsAs, mark_made, mark_of, state_of, code_leaf_value, leaf_value, IsFinished, Extends, IsStateOf, HasNodesOf, numbered, state_uses, tests_of, uses_from, fork_tables, tables_from, with_tables, jump_tables_of, state_number, state_type_of, graph_state_of, states_left, leaf_use, AreStatesOf, AreTablesOf, IsCodable};
+ghost use Rattle.logos_generator.specs.Imports.{All, range_with_len, RunsAs, mark_made, mark_of, state_of, code_leaf_value, leaf_value, IsFinished, Extends, IsStateOf, HasNodesOf, numbered, state_uses, tests_of, uses_from, fork_tables, tables_from, with_tables, jump_tables_of, state_number, state_type_of, graph_state_of, states_left, leaf_use, AreStatesOf, AreTablesOf, IsCodable};
 
 use super::fork::{impl_fork, maybe_impl_fast_loop};
 use super::leaves::leaves_of;
@@ -142,7 +142,7 @@ fn number_of(state: Option<State>) -> Option<usize>
     }
 }
 
-/// Returns the mark of a state: an early match wins over a late one.
+/// Returns the mark of a state. An early mark takes precedence over a late one.
 fn mark_made(state_type: &StateType) -> Option<Mark>
     ensures { option_map mark_of result ≡ mark_made (state_type_of state_type.now) }
 {

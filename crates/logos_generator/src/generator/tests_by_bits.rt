@@ -2,7 +2,7 @@
 //! once all tests are known.
 
 ghost use Rattle.std.specs.Prelude.{◌≡◌, ◌+◌, ◌*◌, ◌<◌, ◌≤◌, ◌/◌, ◌∷◌, [], ℕ, Some, IfOk, OnOk, OnErr, length, slice_get, if◌then◌else◌};
-ghost use Rattle.logos_generator.specs.Words.{beq, pointwise, insert_key, ranges_of, passes_test, Extends, IsTest, tests_byte, numbered, bits_from, bit_table, bit_tables_of};
+ghost use Rattle.logos_generator.specs.Imports.{beq, pointwise, insert_key, ranges_of, passes_test, Extends, IsTest, tests_byte, numbered, bits_from, bit_table, bit_tables_of};
 
 use indexmap::IndexSet;
 use logos_byte_class::byte_class::ByteClass;
@@ -35,7 +35,7 @@ fn add_set(tests: &mut IndexSet<[bool; 256]>, set: [bool; 256]) -> Result<usize,
     Ok(k)
 }
 
-/// Returns the tables of all tests: test k is bit k mod 8 of table k / 8.
+/// Returns the tables of all tests: test `k` is bit `k % 8` of table `k / 8`.
 pub(super) fn tables_of(alloc: Global, tests: &[[bool; 256]]) -> Result<Vec<[u8; 256]>, AllocError>
     ensures tests { IfOk result (λ tables. (k b : ℕ) → b < 256 →
         passes_test tables.items k b ≡ tests_byte tests.now k b) }
@@ -61,7 +61,7 @@ fn table_at(tests: &[[bool; 256]], j: usize) -> [u8; 256]
     table
 }
 
-/// Returns the entry of table j for the byte `b`: bit i is test 8 * j + i.
+/// Returns the entry of table j for the byte `b`: bit `i` is test `8 * j + i`.
 fn entry_of(tests: &[[bool; 256]], j: usize, b: usize) -> u8
     requires table { 8 * j < length tests.now }
     requires byte { b < 256 }
@@ -74,8 +74,8 @@ fn entry_of(tests: &[[bool; 256]], j: usize, b: usize) -> u8
     bits
 }
 
-/// Returns the bit of test number `k` for the byte `b`: 1 if there is such a test and it holds,
-/// else 0.
+/// Returns the bit of test number `k` for the byte `b`: 1 if there is such a test and it holds, and
+/// 0 otherwise.
 fn bit_of(tests: &[[bool; 256]], k: usize, b: usize) -> u8
     requires { b < 256 }
     ensures { result ≡ (if tests_byte tests.now k b then 1 else 0) }

@@ -8,7 +8,7 @@ module _ (rules : List Rule) where
   higher leaf None = leaf
   higher leaf (Some other) = if nat_lt (priority_of rules leaf) (priority_of rules other) then other else leaf
 
-  -- A leaf of highest priority among those listed.
+  -- A leaf with the highest priority among those listed.
   abbrev pub first_of : List ℕ → Option ℕ
   first_of [] = None
   first_of (leaf ∷ leaves) = Some (higher leaf (first_of leaves))

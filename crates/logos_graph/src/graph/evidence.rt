@@ -1,9 +1,10 @@
-//! Distinguishes two states of a graph by bytes. Callers ask for it, of graphs that are made.
+//! Distinguishes two states of a graph by bytes. Users of the library call it on a finished graph.
 
 ghost use Rattle.std.specs.Prelude.{◌≡◌, ◌≢◌, ◌<◌, ◌↔◌, [], IsTrue, IfOk, length};
-ghost use Rattle.logos_graph.specs.Words.{Distinguishes, IsEvidence};
+ghost use Rattle.logos_graph.specs.Imports.{Distinguishes, IsEvidence};
 
 use super::{Graph, State};
+use crate::distinction::{checks, evidence};
 use logos_token::error::Memory;
 use std::alloc::Global;
 
@@ -17,12 +18,12 @@ pub struct Telling {
 }
 
 impl Graph<'_> {
-    /// Returns bytes that distinguish two different states of this graph, fewer than it has states,
-    /// and whether the end follows them.
+    /// Returns bytes that distinguish two different states of this graph, fewer bytes than it has
+    /// states, and whether the end follows them.
     ///
     /// # Errors
     ///
-    /// `Memory` where there is none for the bytes.
+    /// Returns `Memory` if memory runs out.
     pub fn telling(&self, alloc: Global, s: State, t: State) -> Result<Telling, Memory>
         requires s_in { s.0 < length self.now.states }
         requires t_in { t.0 < length self.now.states }
@@ -30,17 +31,17 @@ impl Graph<'_> {
         ensures { IfOk result (λ telling.
             IsEvidence self.now.states s.0 t.0 telling.bytes.items telling.at_end) }
     {
-        let (bytes, at_end) = self.reduced().evidence(alloc, s.0, t.0)?;
+        let (bytes, at_end) = evidence(alloc, self.reduced(), s.0, t.0)?;
         Ok(Telling { bytes, at_end })
     }
 
-    /// Returns whether the bytes, with the end after them or without, distinguish two states of
-    /// this graph. It takes no memory.
+    /// Returns whether the bytes, with or without the end after them, distinguish two states of
+    /// this graph. Does not allocate.
     pub fn checks(&self, s: State, t: State, bytes: &[u8], at_end: bool) -> bool
         requires s_in { s.0 < length self.now.states }
         requires t_in { t.0 < length self.now.states }
         ensures { IsTrue result ↔ Distinguishes self.now.states s.0 t.0 bytes.now at_end }
     {
-        self.reduced().checks(s.0, t.0, bytes, at_end)
+        checks(self.reduced(), s.0, t.0, bytes, at_end)
     }
 }

@@ -1,4 +1,4 @@
-//! Draws charts of graphs in Mermaid's language. `Graph::get_mermaid` calls it.
+//! Draws state diagrams of graphs in Mermaid's language. `Graph::get_mermaid` calls it.
 
 ghost use Rattle.std.specs.Prelude.{◌≡◌, ◌<◌, ◌++◌, IfOk, OnOk, map, option_map, codes, string_bytes};
 ghost use Rattle.logos_graph.specs.Views.{decimal, flat_map, bounds, ranges_of, byte_text, label_character, label_text, range_label, next_label, class_label, state_label, state_colour, node_name, edge_name, style_line, link_line, node_lines, edge_lines, byte_edge_lines, end_edge_lines, state_lines, mermaid_of, edge_of, graph_state_of, state_number, state_type_of};
@@ -27,7 +27,7 @@ fn push_character(text: &mut String, character: char) -> Result<(), AllocError>
     }
 }
 
-/// Appends a byte to a label, as it prints.
+/// Appends a byte to a label, as printed.
 fn push_byte(text: &mut String, byte: u8) -> Result<(), AllocError>
     ensures { OnOk result (string_bytes text.new
         ≡ string_bytes text.old ++ label_text (byte_text byte)) }
@@ -60,7 +60,7 @@ fn push_range(text: &mut String, range: &RangeInclusive<u8>) -> Result<(), Alloc
     push_byte(text, last)
 }
 
-/// Appends a range of bytes to a label, below the former one.
+/// Appends a range of bytes to a label, on a new line.
 fn push_next_range(text: &mut String, range: &RangeInclusive<u8>) -> Result<(), AllocError>
     ensures { OnOk result (string_bytes text.new
         ≡ string_bytes text.old ++ next_label (bounds range.now)) }
@@ -69,7 +69,7 @@ fn push_next_range(text: &mut String, range: &RangeInclusive<u8>) -> Result<(), 
     push_range(text, range)
 }
 
-/// Appends ranges of bytes to a label, below the former ones.
+/// Appends ranges of bytes to a label, each on a new line.
 fn push_next_ranges(text: &mut String, ranges: &[RangeInclusive<u8>]) -> Result<(), AllocError>
     ensures { OnOk result (string_bytes text.new
         ≡ string_bytes text.old ++ flat_map next_label (map bounds ranges.now)) }
@@ -80,7 +80,7 @@ fn push_next_ranges(text: &mut String, ranges: &[RangeInclusive<u8>]) -> Result<
     Ok(())
 }
 
-/// Appends the ranges of an edge, one below another.
+/// Appends the ranges of an edge, each on its own line.
 fn push_class(text: &mut String, class: &ByteClass) -> Result<(), AllocError>
     ensures { OnOk result (string_bytes text.new
         ≡ string_bytes text.old ++ class_label (ranges_of class.now)) }
@@ -168,7 +168,7 @@ fn push_edge(
     push_link(text, &name, &to)
 }
 
-/// Appends the lines of an edge by bytes.
+/// Appends the lines of an edge on bytes.
 fn push_byte_edge(
     alloc: Global,
     text: &mut String,
@@ -183,7 +183,7 @@ fn push_byte_edge(
     push_edge(alloc, text, from, edge.1, &label)
 }
 
-/// Appends the lines of the edges by bytes.
+/// Appends the lines of the edges on bytes.
 fn push_byte_edges(
     alloc: Global,
     text: &mut String,
@@ -199,7 +199,7 @@ fn push_byte_edges(
     Ok(())
 }
 
-/// Appends the lines of the edge by the end, if there is one.
+/// Appends the lines of the edge on the end, if there is one.
 fn push_end_edge(
     alloc: Global,
     text: &mut String,
@@ -247,8 +247,8 @@ fn push_state(
     push_end_edge(alloc, text, &name, state.eoi)
 }
 
-/// Returns the chart of a graph with these states.
-pub(super) fn chart(alloc: Global, states: &[StateData]) -> Result<String, AllocError>
+/// Returns the state diagram of a graph with these states.
+pub(super) fn diagram(alloc: Global, states: &[StateData]) -> Result<String, AllocError>
     ensures { IfOk result (λ text. string_bytes text ≡ mermaid_of (map graph_state_of states.now)) }
 {
     let mut text = String::from_str(alloc, "flowchart TB\n")?;

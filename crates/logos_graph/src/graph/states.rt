@@ -12,11 +12,11 @@ use logos_reduce::table::{StateMarks, Table};
 use std::alloc::{AllocError, Global};
 use std::ops::RangeInclusive;
 
-/// The bytes that lead to a state, and the state.
+/// An edge: the bytes that lead to a state, and the state.
 type Edge = (ByteClass, State);
 
 /// Returns the index of the first edge whose target is `target` or greater.
-fn place_of(edges: &[Edge], target: usize) -> usize
+fn slot_of(edges: &[Edge], target: usize) -> usize
     requires { IsRising (targets (map edge_of edges.now)) }
     ensures { IsFirstFrom (targets (map edge_of edges.now)) target result }
 {
@@ -33,17 +33,17 @@ fn place_of(edges: &[Edge], target: usize) -> usize
     low
 }
 
-/// Returns whether the edge to a state is at an index.
-fn is_at(edges: &[Edge], place: usize, target: usize) -> bool
-    ensures hit { IsTrue result → (place < length edges.now)
-        × (slice_index (targets (map edge_of edges.now)) place ≡ target) }
-    ensures miss { IsFalse result → place < length edges.now →
-        slice_index (targets (map edge_of edges.now)) place ≢ target }
+/// Returns whether the edge at an index leads to `target`.
+fn is_at(edges: &[Edge], slot: usize, target: usize) -> bool
+    ensures hit { IsTrue result → (slot < length edges.now)
+        × (slice_index (targets (map edge_of edges.now)) slot ≡ target) }
+    ensures miss { IsFalse result → slot < length edges.now →
+        slice_index (targets (map edge_of edges.now)) slot ≢ target }
 {
-    if place >= edges.len() {
+    if slot >= edges.len() {
         return false;
     }
-    edges[place].1.0 == target
+    edges[slot].1.0 == target
 }
 
 /// Appends bytes to an edge.
@@ -55,7 +55,7 @@ fn push_range(edge: &mut Edge, range: RangeInclusive<u8>) -> Result<(), AllocErr
     Ok(())
 }
 
-/// Returns an edge by a range of bytes.
+/// Returns an edge on a range of bytes.
 fn new_edge(alloc: Global, range: RangeInclusive<u8>, target: usize) -> Result<Edge, AllocError>
     ensures { IfOk result (λ edge. edge_of edge ≡ (bounds range ∷ [], target)) }
 {
@@ -64,7 +64,7 @@ fn new_edge(alloc: Global, range: RangeInclusive<u8>, target: usize) -> Result<E
     Ok((ByteClass { ranges }, State(target)))
 }
 
-/// Adds bytes that lead to a state, after all bytes that lead there.
+/// Adds bytes that lead to `target`, after all bytes that already lead to it.
 fn add_range(
     alloc: Global,
     edges: &mut Vec<Edge>,
@@ -75,16 +75,16 @@ fn add_range(
     ensures { OnOk result (map edge_of edges.new.items
         ≡ with_range (map edge_of edges.old.items) (bounds range) target) }
 {
-    let place = place_of(edges, target);
-    if is_at(edges, place, target) {
-        push_range(&mut edges[place], range)?;
+    let slot = slot_of(edges, target);
+    if is_at(edges, slot, target) {
+        push_range(&mut edges[slot], range)?;
         return Ok(());
     }
-    edges.insert(place, new_edge(alloc, range, target)?)?;
+    edges.insert(slot, new_edge(alloc, range, target)?)?;
     Ok(())
 }
 
-/// Returns the end of the equal entries that begin at a byte.
+/// Returns the end of the run of equal entries that begins at the byte `from`.
 fn run_end(row: &Row, from: usize) -> usize
     requires { from < 256 }
     ensures after { from < result }
@@ -118,7 +118,7 @@ fn add_run(
     add_range(alloc, edges, range, target)
 }
 
-/// Returns the edges of a state by bytes, ascending by target.
+/// Returns the edges of a state on bytes, ascending by target.
 fn edges_of(alloc: Global, row: &Row) -> Result<Vec<Edge>, AllocError>
     ensures { IfOk result (λ edges. AreEdgesOf (target_by row.now) 256 (map edge_of edges.items)) }
 {
@@ -133,7 +133,7 @@ fn edges_of(alloc: Global, row: &Row) -> Result<Vec<Edge>, AllocError>
     Ok(edges)
 }
 
-/// Returns a leaf by its number.
+/// Returns the leaf with this number.
 fn leaf(number: Option<usize>) -> Option<LeafId>
     ensures { option_map leaf_number result ≡ number }
 {
@@ -150,14 +150,14 @@ fn type_of_mark(mark: StateMarks) -> StateType
     }
 }
 
-/// Returns a state by its number.
+/// Returns the state with this number.
 fn state(number: Option<usize>) -> Option<State>
     ensures { option_map state_number result ≡ number }
 {
     Some(State(number?))
 }
 
-/// Returns states by their numbers.
+/// Returns the states with these numbers.
 fn numbered(alloc: Global, numbers: &[usize]) -> Result<Vec<State>, AllocError>
     ensures { IfOk result (λ states. map state_number states.items ≡ numbers.now) }
 {
@@ -168,7 +168,7 @@ fn numbered(alloc: Global, numbers: &[usize]) -> Result<Vec<State>, AllocError>
     Ok(states)
 }
 
-/// Returns a state of the table, to which the states `before` lead.
+/// Returns state `s` of the table, to which the states `before` lead.
 fn state_of(
     alloc: Global,
     table: &Table,
@@ -189,7 +189,7 @@ fn state_of(
     })
 }
 
-/// Returns the states of the graph that the table stands for.
+/// Returns the states of the graph that the table represents.
 pub(crate) fn states_of(alloc: Global, table: &Table) -> Result<Vec<StateData>, AllocError>
     ensures shows { IfOk result (λ states. Shows table.now (map graph_state_of states.items)) }
     ensures neat { IfOk result (λ states.

@@ -1,10 +1,10 @@
 //! Graphs, and the calls on them.
 
 ghost use Rattle.std.specs.Prelude.{◌≡◌, ◌≢◌, ℕ, ◌-◌, ◌<◌, ◌↔◌, [], IsTrue, IfOk, Some, length, map, slice_get, string_bytes};
-ghost use Rattle.logos_graph.specs.Views.{range_with_len, dfa_of, fault_of, IsFit, IsFinished, mermaid_of, Shows, GivesEvidence, YieldsFirstBy, item_count, AreBackward, graph_state_of, state_number, states_left};
+ghost use Rattle.logos_graph.specs.Views.{range_with_len, dfa_of, fault_of, IsFit, IsFinished, mermaid_of, Shows, YieldsEvidence, YieldsFirstBy, item_count, AreBackward, graph_state_of, state_number, states_left};
 
-use super::mermaid::chart;
-use super::printing::Listing;
+use super::display::Listing;
+use super::mermaid::diagram;
 use super::states::states_of;
 use super::{Config, GraphError, State, StateData};
 use logos_automaton::dfa::Dfa;
@@ -35,7 +35,7 @@ pub struct States {
 
 impl<'s> Model for Graph<'s> {
     ghost use Rattle.std.specs.Prelude.{[]};
-    ghost use Rattle.logos_graph.specs.Words.{codes, named, GraphValue};
+    ghost use Rattle.logos_graph.specs.Imports.{codes, named, GraphValue};
     ghost use Rattle.logos_hir.specs.contracts.hir.Hir as e;
     ghost use Rattle.logos_type.specs.contracts.type_expr.TypePart as p;
 
@@ -55,7 +55,7 @@ impl<'s> Model for Graph<'s> {
 }
 
 impl<'s> Graph<'s> {
-    /// Returns a graph without states, of leaves that have faults.
+    /// Returns a graph without states, for leaves with faults.
     pub(crate) fn refused(
         alloc: Global,
         leaves: Vec<Leaf<'s>>,
@@ -82,7 +82,7 @@ impl<'s> Graph<'s> {
         }
     }
 
-    /// Returns the graph that a table stands for, of leaves that have no faults.
+    /// Returns the graph that a table represents, for leaves without faults.
     pub(crate) fn finished(
         alloc: Global,
         leaves: Vec<Leaf<'s>>,
@@ -91,7 +91,7 @@ impl<'s> Graph<'s> {
         reduced: Reduction,
     ) -> Result<Graph<'s>, AllocError>
         requires fit { IsFit reduced.table (length leaves.items) }
-        requires evidence { GivesEvidence reduced }
+        requires evidence { YieldsEvidence reduced }
         ensures leaves { IfOk result (λ graph. graph.leaves ≡ leaves.entry.items) }
         ensures utf8 { IfOk result (λ graph. graph.utf8 ≡ config.utf8_mode) }
         ensures faults { IfOk result (λ graph. graph.faults ≡ []) }
@@ -109,7 +109,7 @@ impl<'s> Graph<'s> {
         })
     }
 
-    /// Returns the leaves that the graph was made of.
+    /// Returns the leaves from which the graph was made.
     pub fn leaves(&self) -> &[Leaf<'s>]
         ensures { result.now ≡ self.now.leaves }
     {
@@ -118,20 +118,20 @@ impl<'s> Graph<'s> {
 }
 
 impl Graph<'_> {
-    /// Returns the state in which each match begins. The graph must have states, as it has where
-    /// there are no errors.
+    /// Returns the state in which each match attempt begins. The graph must have states, which it
+    /// has if there are no errors.
     pub fn root(&self) -> State
         requires { 0 < length self.now.states }
         ensures root { result.0 ≡ 0 }
         ensures finished { self.now.faults ≡ [] →
             IsFinished self.now.states (length self.now.leaves) }
     {
-        // A read of a field brings the invariant of the type into the proof.
+        // Reading a field brings the invariant of the type into the proof.
         let _ = &self.states;
         State(0)
     }
 
-    /// Returns all states, ascending. There are none where there are errors.
+    /// Returns all states, ascending. There are none if there are errors.
     pub fn iter_states(&self) -> States
         ensures states { states_left result ≡ range_with_len 0 (length self.now.states) }
         ensures finished { self.now.faults ≡ [] →
@@ -144,14 +144,14 @@ impl Graph<'_> {
         }
     }
 
-    /// Returns whether it is a state of this graph.
+    /// Returns whether `state` is a state of this graph.
     pub fn contains(&self, state: State) -> bool
         ensures { IsTrue result ↔ (state.0 < length self.now.states) }
     {
         state.0 < self.states.len()
     }
 
-    /// Returns the type and the edges of a state of this graph, as `contains` tests.
+    /// Returns the type and the edges of a state of this graph. `contains` must hold for it.
     pub fn get_state(&self, state: State) -> &StateData
         requires { state.0 < length self.now.states }
         ensures state { slice_get self.now.states state.0 ≡ Some (graph_state_of result.now) }
@@ -161,11 +161,11 @@ impl Graph<'_> {
         &self.states[state.0]
     }
 
-    /// Returns the table that the graph shows.
+    /// Returns the table that the graph represents.
     pub(crate) fn reduced(&self) -> &Reduction
         requires { 0 < length self.now.states }
         ensures shows { Shows result.now.table self.now.states }
-        ensures evidence { GivesEvidence result.now }
+        ensures evidence { YieldsEvidence result.now }
     {
         match &self.reduced {
             Some(reduced) => reduced,
@@ -180,19 +180,19 @@ impl Graph<'_> {
         &self.dfa
     }
 
-    /// Returns the faults of the leaves. Where there are some, the graph has no states.
+    /// Returns the faults of the leaves. If there are any, the graph has no states.
     pub fn errors(&self) -> &[GraphError]
         ensures { map fault_of result.now ≡ self.now.faults }
     {
         &self.errors
     }
 
-    /// Returns the chart of the graph in Mermaid's language: a flow chart with a node for each
-    /// state and for each edge. It fails only where there is no memory.
+    /// Returns the state diagram of the graph in Mermaid's language: a flow chart with a node for
+    /// each state and for each edge. Fails only with `Memory`.
     pub fn get_mermaid(&self, alloc: Global) -> Result<String, Memory>
         ensures { IfOk result (λ text. string_bytes text ≡ mermaid_of self.now.states) }
     {
-        Ok(chart(alloc, &self.states)?)
+        Ok(diagram(alloc, &self.states)?)
     }
 
     /// Returns whether inputs are UTF-8, so that an error ends between characters.

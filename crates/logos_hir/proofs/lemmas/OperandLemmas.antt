@@ -1,4 +1,4 @@
--- Operands of a bracket: what they make of each character.
+-- Operands of a bracket: their effect on each character.
 use Rattle.std.proofs.Common.{◌≡◌, ℕ, Bool, true, false, cond, not, ◌&&◌, ◌||◌, List, [], ◌∷◌, ◌++◌, Option, Some, None, refl, sym, ap, ap₂, ◌∙◌}
 use Rattle.std.proofs.lemmas.Bool.{le-leb}
 use Rattle.std.proofs.Math.Path.{fun_ext}
@@ -29,7 +29,7 @@ complement_at set c h = rw (h, le-leb c 0x10_FFFF (char_bound c h)) refl
 
 -- ---- effects
 
--- what the function makes of members is in the second set, and what it adds is in the first
+-- the images of members are in the second set, and the added members are in the first
 abbrev pub IsMade : Set → Set → (Set → Set) → Type 0
 IsMade outside inside f = (before : Set) (c : ℕ) → scalar c ≡ true → f before c ≡ selection before inside outside c
 
@@ -61,7 +61,7 @@ by_symmetric_difference set before c h = at (before c) (complement_at set c h)
     at true e = sym e
     at false e = refl
 
--- the same sets, and a function that does the same
+-- the sets are equal, and the functions have equal values
 pub same_made : (outside outside2 inside inside2 : Set) (f f2 : Set → Set) → outside ≡ outside2 → inside ≡ inside2 → ((before : Set) → f before ≡ f2 before) →
     IsMade outside2 inside2 f2 → IsMade outside inside f
 same_made outside outside2 inside inside2 f f2 eo ei ef h before c char =
@@ -81,7 +81,7 @@ pub effects_on-push : (es : List Effect) (e : Effect) (before : Set) → effects
 effects_on-push [] e before = refl
 effects_on-push (x ∷ es) e before = effects_on-push es e (selection before (set_of x.inside) (set_of x.outside))
 
--- numbers that are no characters are no members
+-- numbers that are not characters are not members
 no_character : (xs : List (ℕ × ℕ)) (c : ℕ) → scalar c ≡ false → members xs c ≡ false
 no_character xs c h = rw h refl
 
@@ -91,7 +91,7 @@ outside_operand (Some Intersection) before xs c h e = rw e refl
 outside_operand (Some Difference) before xs c h e = rw e refl
 outside_operand (Some SymmetricDifference) before xs c h e = rw (e, h) refl
 
--- the same of what effects make of no member at all
+-- effects on the empty set, in the same way
 outside_effects : (es : List Effect) (before : Set) (c : ℕ) → scalar c ≡ false → before c ≡ false → effects_on es before c ≡ false
 outside_effects [] before c h e = e
 outside_effects (x ∷ es) before c h e =

@@ -1,4 +1,4 @@
--- Ranges of characters: pushing one, and what lies between two.
+-- Ranges of characters: appending one, and the characters between two.
 use Rattle.std.proofs.Common.{◌≡◌, ℕ, zero, suc, ◌+◌, ◌<◌, ◌≤◌, max, min, Bool, true, false, cond, not, ◌&&◌, ◌||◌, ◌==◌, ◌⊎◌, nat_le, nat_lt, List, [], ◌∷◌, ◌++◌, length, get_or, drop, refl, sym, ap, ap₂, ◌∙◌, arith, inl, inr, ⊎_elim}
 use Rattle.std.proofs.lemmas.Bool.{and_from, and_parts, both_ways, cases_lt, leb-true, lt-ltb, le-leb, or_cases}
 use Rattle.std.proofs.lemmas.Bool.Decides.{nat_tests}
@@ -13,7 +13,7 @@ use Rattle.logos_hir.specs.declared.hir.Range.{Range}
 use Rattle.logos_hir.specs.Hir.{pairs}
 use Rattle.logos_hir.specs.Text.{InRanges}
 use Rattle.logos_hir.specs.Sets.{Set, only_chars, members, union, intersection, difference, symmetric_difference, complement, in_range, in_ranges, next, is_range, rises_from, AreCanonical}
-use Rattle.logos_hir.specs.inside.SetSteps.{IsPlace, AreRanges, free_from, in_gap}
+use Rattle.logos_hir.specs.inside.SetSteps.{IsLimit, AreRanges, free_from, in_gap}
 
 pub or_assoc : (a b c : Bool) → ((a || b) || c) ≡ (a || (b || c))
 or_assoc true b c = refl
@@ -25,7 +25,7 @@ or_false false = refl
 
 -- ---- characters
 
--- what lies after a character lies at the next one or after it
+-- a number after a character is the next character or lies after it
 pub next_le : (a c : ℕ) → scalar a ≡ true → scalar c ≡ true → nat_le (next a) c ≡ nat_lt a c
 next_le a c ha hc =
     let pa = scalar_cases a ha in
@@ -35,8 +35,8 @@ next_le a c ha hc =
 pub next_above : (a : ℕ) → a < next a
 next_above a = grind (arith, nat_tests)
 
-pub next_place : (a : ℕ) → scalar a ≡ true → IsPlace (next a)
-next_place a h = let p = scalar_cases a h in grind (arith, nat_tests)
+pub next_limit : (a : ℕ) → scalar a ≡ true → IsLimit (next a)
+next_limit a h = let p = scalar_cases a h in grind (arith, nat_tests)
 
 pub char_bound : (c : ℕ) → scalar c ≡ true → c ≤ 0x10_FFFF
 char_bound c h = let p = scalar_cases c h in omega arith
@@ -80,7 +80,7 @@ in_ranges-push xs r c = in_ranges-append xs (r ∷ []) c ∙ ap (λ b. in_ranges
 
 -- ---- gaps
 
--- the end of a gap is the character before the place, or the last one that is asked for
+-- the end of a gap is the character before the limit, or the last character
 pub gap_range : (first end last to c : ℕ) → next to ≡ end → scalar to ≡ true → scalar c ≡ true →
     in_range (first, min to last) c ≡ in_gap first end last c
 gap_range first end last to c e ht hc =
@@ -91,7 +91,7 @@ gap_range first end last to c e ht hc =
 pub no_gap : (first end last c : ℕ) → end ≤ first → in_gap first end last c ≡ false
 no_gap first end last c h = grind (arith, nat_tests)
 
--- a range after a gap: what the gap and the rest leave out is what the range and the rest leave out
+-- a range after a gap: the gap and the rest leave out the same numbers as the range and the rest
 pub gap_step : (out rest : Bool) (first last c : ℕ) (r : ℕ × ℕ) → is_range r ≡ true → scalar c ≡ true → (rest ≡ true → r.0 ≤ c) →
     ((out || in_gap first r.0 last c) || (nat_le (max first (next r.1)) c && (nat_le c last && not rest)))
     ≡ (out || (nat_le first c && (nat_le c last && not (in_range r c || rest))))
@@ -126,17 +126,17 @@ next_min a b ha hb = go (cases_lt b a)
         rw e (omega (arith, leb-true _ _ le, next_above a))
     go (inr le) = let e : min a b ≡ a = omega arith in rw e (omega arith)
 
-place_char : (c : ℕ) → IsPlace c → c ≤ 0x10_FFFF → scalar c ≡ true
-place_char c h le = grind (arith, nat_tests)
+limit_char : (c : ℕ) → IsLimit c → c ≤ 0x10_FFFF → scalar c ≡ true
+limit_char c h le = grind (arith, nat_tests)
 
 -- a gap that is pushed
 pub gap_pushed : (old new : List (ℕ × ℕ)) (first end last to : ℕ) → new ≡ old ++ (first, min to last) ∷ [] →
-    AreCanonical old → free_from 0 old ≤ first → IsPlace first → scalar to ≡ true → scalar last ≡ true → next to ≡ end → first ≤ min to last →
+    AreCanonical old → free_from 0 old ≤ first → IsLimit first → scalar to ≡ true → scalar last ≡ true → next to ≡ end → first ≤ min to last →
     AreCanonical new × ((n : ℕ) → first ≤ n → end < n → free_from 0 new ≤ n)
     × ((c : ℕ) → scalar c ≡ true → in_ranges new c ≡ (in_ranges old c || in_gap first end last c))
-gap_pushed old new first end last to e canonical free place ht hl is_end le =
+gap_pushed old new first end last to e canonical free limit ht hl is_end le =
     let ends = min_char to last ht hl in
-    let starts = place_char first place (omega (arith, char_bound to ht)) in (
+    let starts = limit_char first limit (omega (arith, char_bound to ht)) in (
       ap (rises_from 0) e ∙ rises_from-push 0 old (first, min to last) canonical free (is_range_from (first, min to last) starts ends le),
       λ n a b. omega (arith, ap (free_from 0) e ∙ free_from-push 0 old (first, min to last), next_min to last ht hl),
       λ c hc. ap (λ xs. in_ranges xs c) e ∙ in_ranges-push old (first, min to last) c ∙ ap (λ b. in_ranges old c || b) (gap_range first end last to c is_end ht hc),
@@ -191,13 +191,13 @@ gaps_step out out2 xs i first m last c d ranges sorted lt hc em e h =
     ∙ ap (λ b. in_ranges out c || (nat_le first c && (nat_le c last && not b))) (sym (at_drop_more (λ ys. in_ranges (pairs ys) c) xs i d lt))
     ∙ h
 
-pub char_place : (c : ℕ) → scalar c ≡ true → IsPlace c
-char_place c h = ap (λ b. b || (c == 0x11_0000)) h
+pub char_limit : (c : ℕ) → scalar c ≡ true → IsLimit c
+char_limit c h = ap (λ b. b || (c == 0x11_0000)) h
 
-pub max_place : (a b : ℕ) → IsPlace a → IsPlace b → IsPlace (max a b)
-max_place a b ha hb = go (cases_lt a b)
+pub max_limit : (a b : ℕ) → IsLimit a → IsLimit b → IsLimit (max a b)
+max_limit a b ha hb = go (cases_lt a b)
   where
-    go : (a < b) ⊎ (b ≤ a) → IsPlace (max a b)
+    go : (a < b) ⊎ (b ≤ a) → IsLimit (max a b)
     go (inl lt) = let e : max a b ≡ b = omega arith in rw e hb
     go (inr le) = let e : max a b ≡ a = omega arith in rw e ha
 
@@ -260,7 +260,7 @@ in_ranges-permutation xs ys c p =
 
 -- ---- members
 
--- a set and the characters of another are the same if they are the same at each character
+-- a set and the characters of another are equal if they are equal at each character
 pub same_chars : (p q : Set) → ((c : ℕ) → scalar c ≡ true → p c ≡ q c) → only_chars p ≡ only_chars q
 same_chars p q h = fun_ext (λ c. at c (scalar c) refl)
   where
@@ -268,14 +268,14 @@ same_chars p q h = fun_ext (λ c. at c (scalar c) refl)
     at c true e = ap (λ b. scalar c && b) (h c e)
     at c false e = ap (λ b. b && p c) e ∙ ap (λ b. b && q c) (sym e)
 
--- ranges that hold what the test says are the set of the test
+-- ranges with the members of the test are the set of the test
 pub members_are : (xs : List (ℕ × ℕ)) (p : Set) → ((c : ℕ) → scalar c ≡ true → in_ranges xs c ≡ p c) → members xs ≡ only_chars p
 members_are xs p h = same_chars (in_ranges xs) p h
 
 pub only_chars_members : (xs : List (ℕ × ℕ)) → only_chars (members xs) ≡ members xs
 only_chars_members xs = same_chars (members xs) (in_ranges xs) (λ c e. ap (λ b. b && in_ranges xs c) e)
 
--- what the gaps of the gaps are
+-- the gaps of the gaps
 pub twice_left_out : (c : ℕ) (b : Bool) → scalar c ≡ true → (nat_le c 0x10_FFFF && not (nat_le c 0x10_FFFF && not b)) ≡ b
 twice_left_out c b h = rw (le-leb c 0x10_FFFF (char_bound c h)) (twice b)
   where

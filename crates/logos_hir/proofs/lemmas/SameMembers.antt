@@ -1,4 +1,4 @@
--- Canonical ranges with the same members are the same, and they are those that `ranges_from` lists.
+-- Canonical ranges with the same members are equal, and they are those of `ranges_from`.
 use Rattle.std.proofs.Common.{◌≡◌, ℕ, zero, suc, ◌+◌, ◌<◌, ◌≤◌, Bool, true, false, cond, ◌&&◌, ◌||◌, ◌==◌, nat_le, List, [], ◌∷◌, Some, None, refl, sym, ap, ap₂, ◌∙◌, arith, ⊎_elim}
 use Rattle.std.proofs.lemmas.Bool.{and_parts, and_from, both_ways, cases_lt, eqb-true}
 use Rattle.std.proofs.lemmas.Bool.Decides.{nat_tests}
@@ -159,7 +159,7 @@ with_number_has c d (x ∷ xs) hc hd h =
     at true e lt r = ap (λ b. b || in_ranges xs d) (longer c d x hc hd lt r.2 (eqb-true _ _ e)) ∙ sym (assoc (d == c) (in_range x d) (in_ranges xs d))
     at false e lt r = ap (λ b. b || (in_range x d || in_ranges xs d)) (alone c d)
 
--- what `ranges_from` lists is canonical
+-- the ranges that `ranges_from` returns are canonical
 pub ranges_from_rises : (c n : ℕ) (set : Set) → ((d : ℕ) → set d ≡ true → scalar d ≡ true) → rises_from c (ranges_from c n set) ≡ true
 unfolding ranges_from
 ranges_from_rises c zero set chars = refl

@@ -1,16 +1,16 @@
 -- A match lies within the bytes.
 use Rattle.std.proofs.Common.{◌≡◌, ℕ, zero, suc, ◌-◌, ◌≤◌, List, [], ◌∷◌, length, drop, slice_range, min, sym, ◌∙◌, ap, arith, inl, inr, encode_utf8}
 use Rattle.std.proofs.lemmas.List.{length-take, length-drop}
-use Rattle.logos_hir.specs.Text.{StandsAt}
+use Rattle.logos_hir.specs.Text.{OccursAt}
 use Rattle.logos_hir.specs.Tree.{Tree, empty, literal, byte_class, char_class, look, repetition, capture, concat, alternation, Trees, none, also}
 use Rattle.logos_hir.specs.Matches.{Matches, MatchesInOrder, SomeMatches, Pieces}
 
--- the places are in order and within n
+-- the points are in order and within n
 abbrev pub Within : ℕ → ℕ → ℕ → Type 0
 Within n from to = from ≤ n → (from ≤ to) × (to ≤ n)
 
-pub stands_within : (text bytes : List ℕ) (from to : ℕ) → StandsAt text bytes from to → Within (length bytes) from to
-stands_within text bytes from to s b =
+pub occurs_within : (text bytes : List ℕ) (from to : ℕ) → OccursAt text bytes from to → Within (length bytes) from to
+occurs_within text bytes from to s b =
     let size : length (slice_range bytes from to) ≡ length text = ap length s.here in
     let counted : min (to - from) (length bytes - from) ≡ length text =
     ap (min (to - from)) (sym (length-drop from bytes)) ∙ sym (length-take (to - from) (drop from bytes)) ∙ size in
@@ -27,9 +27,9 @@ pieces_within R n h (suc k) from to p b =
 mutual
   pub matches_within : (t : Tree) (bytes : List ℕ) (from to : ℕ) → Matches t bytes from to → Within (length bytes) from to
   matches_within empty bytes from to e b = (omega (arith, e), omega (arith, e, b))
-  matches_within (literal text) bytes from to s b = stands_within text bytes from to s b
-  matches_within (byte_class ranges) bytes from to s b = stands_within (s.0 ∷ []) bytes from to s.2 b
-  matches_within (char_class ranges) bytes from to s b = stands_within (encode_utf8 s.0) bytes from to s.3 b
+  matches_within (literal text) bytes from to s b = occurs_within text bytes from to s b
+  matches_within (byte_class ranges) bytes from to s b = occurs_within (s.0 ∷ []) bytes from to s.2 b
+  matches_within (char_class ranges) bytes from to s b = occurs_within (encode_utf8 s.0) bytes from to s.3 b
   matches_within (look l) bytes from to e b = (omega (arith, e.0), omega (arith, e.0, b))
   matches_within (repetition least most greedy body) bytes from to m b =
       pieces_within (Matches body bytes) (length bytes) (matches_within body bytes) m.0 from to m.2 b

@@ -1,4 +1,4 @@
--- What branches fit, and alternations put together from branches.
+-- The classes that branches fit, and alternations that are combined from branches.
 use Rattle.std.proofs.Common.{◌≡◌, Bool, true, false, ◌&&◌, ◌||◌, is_some, length, ℕ, List, [], ◌∷◌, ◌++◌, map, Option, Some, None, unwrap_or, option_map, flat_map, encode_utf8, refl, sym, ap, ap₂, ◌∙◌, subst, true≢false, arith, ◌+◌, ◌-◌, ◌==◌, ◌≤◌, take, drop}
 use Rattle.std.proofs.lemmas.Bool.Decides.{nat_tests}
 use Rattle.std.proofs.lemmas.List.Concat.{flat_map-cons}
@@ -57,7 +57,7 @@ unfit f ts h = go (found_of (all_ranges f ts))
 none_have : (f : Tree → Ranges) (ts : List Tree) → all_ranges f ts ≡ None → all_have f ts ≡ false
 none_have f ts e = all_have-is f ts ∙ ap is_some e
 
--- ---- what branches fit together
+-- ---- the classes that branches fit together
 
 pub fits-append : (xs ys : List Tree) →
     fits_of (xs ++ ys) ≡ record { chars = (fits_of xs).chars && (fits_of ys).chars; bytes = (fits_of xs).bytes && (fits_of ys).bytes }
@@ -162,12 +162,12 @@ others_unfit h simple no_class no_literal = of_kind (kind h)
         let choice : IsChoice (alternation bs) = subst IsChoice (simple.1 ∙ is) (simplest_made simple.0).choice in
         sym (ap (λ t. fits_of (branches_of t)) is ∙ alternation_unfit bs choice)
 
--- ---- branches from a place on
+-- ---- branches from a point on
 
 of_trees : (from : ℕ) (all : List Hir) → length (map tree_of (drop from all)) ≡ length all - from
 of_trees from all = length-map (drop from all) tree_of ∙ length-drop from all
 
--- there is just one branch from the place on
+-- there is exactly one branch from the point on
 pub is_alone : (from n : ℕ) (all : List Hir) → n ≡ length all → n - from ≡ 1 → length (map tree_of (drop from all)) ≡ 1
 is_alone from n all e one = let size = of_trees from all in omega (arith, size, e, one)
 
@@ -213,7 +213,7 @@ flat_alone (u ∷ ts) h = λ t e. go t h.0.choice (sym (flat_map-cons branches_o
 pub flat_simplest_alone : (ts : Trees) → IsFlatAlone (flat_map branches_of (all_simplest ts))
 flat_simplest_alone ts = flat_alone (all_simplest ts) (all_made ts)
 
--- branches that are added after others stand apart again
+-- branches that are added after others are apart again
 pub added_apart : (from : ℕ) (old all : List Hir) (added : List Tree) → from ≡ length old → map tree_of all ≡ map tree_of old ++ added →
     (from ≤ length all) × (map tree_of (take from all) ≡ map tree_of old) × (map tree_of (drop from all) ≡ added)
 added_apart from old all added size e =

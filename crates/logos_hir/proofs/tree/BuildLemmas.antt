@@ -1,4 +1,4 @@
--- What the builders build, step by step.
+-- The trees that the builders make, step by step.
 use Rattle.std.proofs.Common.{◌≡◌, ℕ, ◌<◌, Bool, true, false, cond, not, ◌&&◌, List, [], ◌∷◌, ◌++◌, length, Option, Some, None, unwrap_or, option_map, encode_utf8, refl, sym, ap, ◌∙◌, append_assoc, append-nil, arith}
 use Rattle.std.proofs.lemmas.Bool.{leb-true, and_parts, both_ways}
 use Rattle.std.proofs.Common.{Vec, Global}

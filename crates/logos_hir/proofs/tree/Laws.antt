@@ -6,7 +6,7 @@ use Rattle.std.proofs.lemmas.Option.{slice_get-get_or, slice_get_past}
 use Rattle.std.proofs.lemmas.Str.{length-encode, len_utf8_bounds}
 use Rattle.std.proofs.Math.ListN.{get_or-append}
 use Rattle.std.proofs.Math.Seq.{get_or-append_seam}
-use Rattle.logos_hir.specs.Text.{StandsAt, byte_before, byte_after}
+use Rattle.logos_hir.specs.Text.{OccursAt, byte_before, byte_after}
 use Rattle.logos_hir.proofs.tree.Bounds.{Within, pieces_within, matches_within, parts_within}
 use Rattle.logos_hir.specs.Tree.{Tree, empty, literal, byte_class, char_class, look, repetition, capture, concat, alternation, Trees, none, also}
 use Rattle.logos_hir.specs.declared.hir.Look.{Look}
@@ -18,8 +18,8 @@ use Rattle.logos_hir.specs.Passable.{passable, all_passable, some_passable}
 not_lf : (b : ℕ) → b ≢ 10 → (b == 10) ≡ false
 not_lf b lf = grind (arith, nat_tests)
 
--- a look that holds in front of a byte that is neither a word byte nor CR nor LF also holds at the
--- end
+-- a look-around assertion that holds before a byte that is neither a word byte nor CR nor LF also
+-- holds at the end
 pub holds_at_end : (l : Look) (before : Option ℕ) (b : ℕ) → is_word (Some b) ≡ false → b ≢ 10 → b ≢ 13 →
     IsTrue (holds_between l before (Some b)) → IsTrue (holds_between l before None)
 holds_at_end Start before b w lf cr h = h
@@ -47,7 +47,7 @@ after_there bytes rest b =
     slice_get-get_or (bytes ++ b ∷ rest) (length bytes) 0 (let e = length-append bytes (b ∷ rest) in omega (arith, e))
     ∙ ap Some (get_or-append_seam bytes b rest 0)
 
--- the same between bytes and a byte after them
+-- bytes, and a byte after them, in the same way
 pub held_at_end : (l : Look) (bytes rest : List ℕ) (b : ℕ) → is_word (Some b) ≡ false → b ≢ 10 → b ≢ 13 →
     Holds l (bytes ++ b ∷ rest) (length bytes) → Holds l bytes (length bytes)
 held_at_end l bytes rest b w lf cr h =
@@ -58,8 +58,8 @@ held_at_end l bytes rest b w lf cr h =
     subst (λ (after : Option ℕ). IsTrue (holds_between l (byte_before bytes (length bytes)) after)) (sym (slice_get_past bytes (length bytes) (omega arith)))
     (holds_at_end l (byte_before bytes (length bytes)) b w lf cr there)
 
--- no byte stands on an empty span
-pub no_text : (text bytes : List ℕ) (at : ℕ) → 0 < length text → StandsAt text bytes at at → ⊥
+-- an empty span has no byte
+pub no_text : (text bytes : List ℕ) (at : ℕ) → 0 < length text → OccursAt text bytes at at → ⊥
 no_text text bytes at some s = let e : at ≡ at + length text = s.end in omega (arith, e, some)
 
 pub is_zero : (n : ℕ) → n ≡ 0 → IsTrue (n == 0)
@@ -91,7 +91,7 @@ piece_there R size within n at ok (cut, first, rest) =
     rw e at first
 
 mutual
-  -- what matches an empty span can be passed
+  -- a tree that matches an empty span can be passed
   pub passes : (t : Tree) (bytes : List ℕ) (at : ℕ) → at ≤ length bytes → Matches t bytes at at → IsTrue (passable t)
   passes empty bytes at ok m = refl
   passes (literal text) bytes at ok m = let e : at ≡ at + length text = m.end in is_zero (length text) (omega (arith, e))

@@ -1,16 +1,16 @@
 -- A match lies within the bytes, or is empty after them.
 use Rattle.std.proofs.Common.{◌≡◌, ℕ, zero, suc, ◌-◌, ◌≤◌, List, [], ◌∷◌, length, drop, slice_range, min, max, sym, ◌∙◌, ap, arith, inl, inr, encode_utf8}
 use Rattle.std.proofs.lemmas.List.{length-take, length-drop}
-use Rattle.logos_hir.specs.Text.{StandsAt}
+use Rattle.logos_hir.specs.Text.{OccursAt}
 use Rattle.logos_hir.specs.Tree.{Tree, empty, literal, byte_class, char_class, look, repetition, capture, concat, alternation, Trees, none, also}
 use Rattle.logos_hir.specs.Matches.{Matches, MatchesInOrder, SomeMatches, Pieces}
 
--- the places are in order, and the second is within n or the first
+-- the points are in order, and the second is within n or the first
 abbrev pub InOrder : ℕ → ℕ → ℕ → Type 0
 InOrder n from to = (from ≤ to) × (to ≤ max from n)
 
-pub stands_order : (text bytes : List ℕ) (from to : ℕ) → StandsAt text bytes from to → InOrder (length bytes) from to
-stands_order text bytes from to s =
+pub occurs_order : (text bytes : List ℕ) (from to : ℕ) → OccursAt text bytes from to → InOrder (length bytes) from to
+occurs_order text bytes from to s =
     let size : length (slice_range bytes from to) ≡ length text = ap length s.here in
     let counted : min (to - from) (length bytes - from) ≡ length text =
     ap (min (to - from)) (sym (length-drop from bytes)) ∙ sym (length-take (to - from) (drop from bytes)) ∙ size in
@@ -27,9 +27,9 @@ pieces_order R n h (suc k) from to p =
 mutual
   pub matches_order : (t : Tree) (bytes : List ℕ) (from to : ℕ) → Matches t bytes from to → InOrder (length bytes) from to
   matches_order empty bytes from to e = (omega (arith, e), omega (arith, e))
-  matches_order (literal text) bytes from to s = stands_order text bytes from to s
-  matches_order (byte_class ranges) bytes from to s = stands_order (s.0 ∷ []) bytes from to s.2
-  matches_order (char_class ranges) bytes from to s = stands_order (encode_utf8 s.0) bytes from to s.3
+  matches_order (literal text) bytes from to s = occurs_order text bytes from to s
+  matches_order (byte_class ranges) bytes from to s = occurs_order (s.0 ∷ []) bytes from to s.2
+  matches_order (char_class ranges) bytes from to s = occurs_order (encode_utf8 s.0) bytes from to s.3
   matches_order (look l) bytes from to e = (omega (arith, e.0), omega (arith, e.0))
   matches_order (repetition least most greedy body) bytes from to m =
       pieces_order (Matches body bytes) (length bytes) (matches_order body bytes) m.0 from to m.2

@@ -1,4 +1,4 @@
--- Trees as the builders make them, and what is made of them again.
+-- Trees that the builders make, and the trees that they make from these.
 use Rattle.std.proofs.Common.{◌≡◌, ℕ, ◌≤◌, length, arith, Bool, true, false, cond, ◌&&◌, ◌==◌, min, List, [], ◌∷◌, ◌++◌, map, Option, Some, None, unwrap_or, option_map, flat_map, encode_utf8, refl, sym, ap, ◌∙◌, subst, append_assoc, append-nil}
 use Rattle.std.proofs.lemmas.List.Concat.{flat_map-cons}
 use Rattle.std.proofs.lemmas.Grind.{flat_map-append}
@@ -257,7 +257,7 @@ flat_simplest-push f ts t =
     ap (flat_map f) (all_simplest-push ts t) ∙ flat_map-append f (all_simplest (trees ts)) (simplest t ∷ [])
     ∙ ap (λ xs. flat_map f (all_simplest (trees ts)) ++ xs) (flat_map-cons f (simplest t) [] ∙ append-nil (f (simplest t)))
 
--- ---- trees that are put together as they stand
+-- ---- trees that are combined unchanged
 
 simplest_trees : (hs : List Hir) → all_simplest (trees (map tree_of hs)) ≡ map simplest_tree hs
 simplest_trees [] = refl

@@ -1,9 +1,9 @@
--- Words for the steps of the builders, which add parts from the left.
+-- Definitions for the steps of the builders, which add parts from the left.
 use Rattle.std.specs.Prelude.{◌≡◌, ℕ, Bool, true, false, not, ◌&&◌, List, [], ◌∷◌, ◌++◌, Option, Some, None}
 use Rattle.logos_hir.specs.Tree.{Tree, literal}
 use Rattle.logos_hir.specs.Build.{branches_of}
 
--- Bytes after a part: a literal takes them in.
+-- Bytes after a part. If the part is a literal, the bytes are added to it.
 abbrev pub part_text : Tree → List ℕ → List Tree
 part_text (literal before) text = literal (before ++ text) ∷ []
 part_text t text = t ∷ literal text ∷ []
@@ -28,16 +28,16 @@ abbrev pub is_literal_tree : Tree → Bool
 is_literal_tree (literal text) = true
 is_literal_tree t = false
 
--- No two literals stand side by side, whether a literal comes before them or not.
+-- No two literals are adjacent. The first argument is whether a literal comes before them.
 abbrev pub are_apart : Bool → List Tree → Bool
 are_apart before [] = true
 are_apart before (t ∷ rest) = not (before && is_literal_tree t) && are_apart (is_literal_tree t) rest
 
--- The ranges are there and follow the old ones, or they are not there.
+-- The ranges exist and follow the old ones, or there are none.
 abbrev pub IsAdded : Option (List (ℕ × ℕ)) → Bool → List (ℕ × ℕ) → List (ℕ × ℕ) → Type 0
 IsAdded None done old new = done ≡ false
 IsAdded (Some added) done old new = (done ≡ true) × (new ≡ old ++ added)
 
--- The only branch, where there is exactly one, is no alternation.
+-- The only branch, if there is exactly one, is not an alternation.
 abbrev pub IsFlatAlone : List Tree → Type 0
 IsFlatAlone ts = (t : Tree) → ts ≡ t ∷ [] → branches_of t ≡ t ∷ []

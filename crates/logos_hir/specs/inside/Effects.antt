@@ -1,4 +1,4 @@
--- What an effect says of a function of sets.
+-- The effect of a function of sets.
 use Rattle.std.specs.Prelude.{◌≡◌, ℕ, true}
 use lib.Utf8.{scalar}
 use Rattle.logos_hir.specs.declared.sets.operands.Effect.{Effect}
@@ -6,7 +6,6 @@ use Rattle.logos_hir.specs.Sets.{Set}
 use Rattle.logos_hir.specs.RangeSets.{set_of}
 use Rattle.logos_hir.specs.Operands.{selection}
 
--- Of each character of a set, and of each that it lacks, the effect says what the function makes of
--- it.
+-- The effect determines the function: which members it keeps, and which other characters it adds.
 abbrev pub Makes : Effect → (Set → Set) → Type 0
 Makes effect f = (before : Set) (c : ℕ) → scalar c ≡ true → f before c ≡ selection before (set_of effect.inside) (set_of effect.outside) c

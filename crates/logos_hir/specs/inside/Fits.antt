@@ -1,11 +1,11 @@
--- What branches of an alternation can become.
+-- The classes that the branches of an alternation can become.
 use Rattle.std.specs.Prelude.{ℕ, Bool, is_some, List, Option}
 use Rattle.std.specs.List.{list_all}
-use Rattle.logos_hir.specs.declared.build.branches.Fits.{Fits}
+use Rattle.logos_hir.specs.declared.builder.branches.Fits.{Fits}
 use Rattle.logos_hir.specs.Tree.{Tree}
 use Rattle.logos_hir.specs.Build.{char_ranges_of, byte_ranges_of}
 
--- Each tree has such ranges.
+-- Each tree has ranges.
 abbrev pub all_have : (Tree → Option (List (ℕ × ℕ))) → List Tree → Bool
 all_have ranges_of ts = list_all (λ t. is_some (ranges_of t)) ts
 

@@ -1,13 +1,13 @@
--- Words for the steps of folding.
+-- Definitions for the steps of folding.
 use Rattle.std.specs.Prelude.{ℕ, ◌+◌, ◌-◌, ◌&&◌, ◌==◌, nat_le, List}
 use Rattle.std.specs.List.{list_any}
 use Rattle.logos_hir.specs.Sets.{Set}
 
--- Some pair ends with the number.
+-- Some pair has this number as its second one.
 abbrev pub in_values : List (ℕ × ℕ) → Set
 in_values table c = list_any (λ p. p.1 == c) table
 
--- Some pair leads from a member to the number.
+-- Some pair has a member as its first number and this number as its second one.
 abbrev pub in_image : List (ℕ × ℕ) → Set → Set
 in_image table set c = list_any (λ p. set p.0 && (p.1 == c)) table
 

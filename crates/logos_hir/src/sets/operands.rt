@@ -1,5 +1,5 @@
-//! Operands of a bracket, each with the operator in front of it. The reader of brackets puts each
-//! operand on one.
+//! Operands of a bracket, each with the operator before it. The reader of brackets adds each
+//! operand.
 
 ghost use Rattle.std.specs.Prelude.{◌≡◌, false, IfOk, OnOk};
 ghost use Rattle.logos_hir.specs.Views.{Set, set_of, combination, selection, effects_on, with_operand, Makes, made_by};
@@ -7,7 +7,7 @@ ghost use Rattle.logos_hir.specs.Views.{Set, set_of, combination, selection, eff
 use crate::sets::RangeSet;
 use std::alloc::{AllocError, Global};
 
-/// What parts the operands of a bracket.
+/// The operators between the operands of a bracket.
 #[derive(Clone, Copy)]
 pub enum SetOperator {
     /// `&&`
@@ -18,7 +18,7 @@ pub enum SetOperator {
     SymmetricDifference,
 }
 
-/// Combines two sets by the operator between them.
+/// Combines two sets with the operator `op` between them.
 pub fn combination(op: SetOperator, a: &RangeSet, b: &RangeSet) -> Result<RangeSet, AllocError>
     ensures { IfOk result (λ set. set_of set ≡ combination op (set_of a.now) (set_of b.now)) }
 {
@@ -29,29 +29,29 @@ pub fn combination(op: SetOperator, a: &RangeSet, b: &RangeSet) -> Result<RangeS
     }
 }
 
-/// What operands make of a set: its members stay where they are in `inside`, and what it lacks is
-/// added where it is in `outside`.
+/// The effect of operands on a set: the result contains the members of the set that are in
+/// `inside`, and the characters outside the set that are in `outside`.
 #[derive(Drop)]
 pub struct Effect {
     outside: RangeSet,
     inside: RangeSet,
 }
 
-/// Returns the set without members.
+/// Returns the empty set.
 fn nothing(alloc: Global) -> Result<RangeSet, AllocError>
     ensures { IfOk result (λ set. set_of set ≡ (λ c. false)) }
 {
     RangeSet::from_ranges(alloc, &[])
 }
 
-/// Returns a set with the same members.
+/// Returns a copy of a set.
 fn copy(alloc: Global, set: &RangeSet) -> Result<RangeSet, AllocError>
     ensures { IfOk result (λ out. set_of out ≡ set_of set.now) }
 {
     RangeSet::from_ranges(alloc, set.ranges())
 }
 
-/// Returns the members of `inside` that are in the test, and those of `outside` that are not.
+/// Returns the members of `inside` that are in `test`, and those of `outside` that are not.
 fn selection(test: &RangeSet, inside: &RangeSet, outside: &RangeSet) -> Result<RangeSet, AllocError>
     ensures { IfOk result (λ set. set_of set ≡ selection (set_of test.now) (set_of inside.now)
         (set_of outside.now)) }
@@ -99,7 +99,7 @@ impl Effect {
         }
     }
 
-    /// Returns the effect of these operands, and then of others.
+    /// Returns the effect of these operands followed by others.
     fn then(&self, other: &Effect) -> Result<Effect, AllocError>
         ensures outside { IfOk result (λ effect. set_of effect.outside ≡
             selection (set_of self.now.outside) (set_of other.now.inside)
@@ -115,8 +115,8 @@ impl Effect {
     }
 }
 
-/// Appends an effect after those of so many operands. As a counter carries, it is put together with
-/// the last one for each binary digit 1 at the number's end.
+/// Appends an effect after the effects of `count` operands. Like the carry of a binary counter, it
+/// is combined with the last effect for each binary digit 1 at the end of `count`.
 fn push_effect(effects: &mut Vec<Effect>, count: usize, effect: Effect) -> Result<(), AllocError>
     ensures { (before : Set) → OnOk result (effects_on effects.new.items before ≡
         selection (effects_on effects.old.items before) (set_of effect.inside)
@@ -131,17 +131,18 @@ fn push_effect(effects: &mut Vec<Effect>, count: usize, effect: Effect) -> Resul
     }
 }
 
-/// The operands so far. They are put together as they come, so that each range is gone over as
-/// often as the operands can be halved, and few effects wait.
+/// The operands so far. They are combined as they arrive, so that each range is processed a
+/// logarithmic number of times, and only a logarithmic number of effects is stored.
 #[derive(Drop)]
 pub struct OperandRuns {
-    /// One for each binary digit 1 of the number of operands, of so many of them.
+    /// One effect for each binary digit 1 of the number of operands. The digit is the number of
+    /// operands in the effect.
     effects: Vec<Effect>,
     count: usize,
 }
 
 impl OperandRuns {
-    /// Returns no operand.
+    /// Returns an empty list of operands.
     pub fn new(alloc: Global) -> OperandRuns
         ensures { made_by result ≡ (λ c. false) }
     {
@@ -151,8 +152,8 @@ impl OperandRuns {
         }
     }
 
-    /// Adds an operand, and the operator in front of it; the first operand has none. After an error
-    /// some operands may be lost.
+    /// Adds an operand and the operator before it; the first operand has none. After an error some
+    /// operands may be lost.
     pub fn push(
         &mut self,
         alloc: Global,
@@ -168,7 +169,7 @@ impl OperandRuns {
         Ok(())
     }
 
-    /// Returns the set that the operands make, from the left.
+    /// Returns the set that the operands make, combined from the left.
     pub fn set(&self, alloc: Global) -> Result<RangeSet, AllocError>
         ensures { IfOk result (λ set. set_of set ≡ made_by self.now) }
     {

@@ -9,13 +9,13 @@ use Rattle.logos_enum.specs.Values.{Slice, ident_slice}
 use Rattle.logos_pattern.specs.Leaf.{KindValue, plain, holding, skipped}
 use Rattle.logos_attribute.specs.Reports.{Report, with_faults, without_faults, map_report}
 use Rattle.logos_definition.specs.Definitions.{DefinitionView}
-use Rattle.logos_subpattern.specs.PatternFaults.{Reading, spelled, broken, too_deep, Reads}
-use Rattle.logos_subpattern.specs.Substitution.{Stored}
+use Rattle.logos_leaf.specs.subpattern.PatternFaults.{Reading, spelled, broken, too_deep, Reads}
+use Rattle.logos_leaf.specs.subpattern.Substitution.{Stored}
 use Rattle.logos_leaf.specs.Leaves.{LeafView, bytes_of, is_string, escaped_of, leaf_with, token_priority, token_leaf, folded_report, IsTokenLeaf, greedy_faults, fitted_report, regex_priority, tree_report, reading_report, text_report, whole_report, regex_report, IsRegexLeaf}
 use Rattle.logos_leaf.proofs.agreement.Report.{Agree, none_added, report_once, no_front, no_after}
 use Rattle.logos_leaf.proofs.agreement.Subpatterns.{reading_once}
 
--- what a match gives: the name of a variant by its text and place, and its type
+-- the result of a match: the name of a variant by its text and span, and its type
 abbrev pub ShownKind : Type 0
 ShownKind = Option (Slice × Option TypeTree)
 

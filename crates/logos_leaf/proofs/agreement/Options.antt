@@ -1,4 +1,4 @@
--- Arguments and attributes that say options without a fault.
+-- Arguments and attributes that set options without a fault.
 use Rattle.std.proofs.Common.{◌≡◌, List, [], Bool, true, false, Option, Some, None, ◌∙◌, ap, sym, refl, subst}
 use Rattle.logos_lexeme.specs.declared.lexeme.Span.{Span}
 use Rattle.logos_token.specs.Faults.{Fault}

@@ -1,4 +1,4 @@
--- An enum without a fault says one thing.
+-- An enum without a fault has one meaning.
 use Rattle.std.proofs.Common.{◌≡◌, List, [], map, ◌∙◌, ap, sym, refl, subst}
 use Rattle.logos_token.specs.Faults.{Fault}
 use Rattle.logos_token.specs.Tokens.{TokenList, run_span}
@@ -9,10 +9,10 @@ use Rattle.logos_enum.specs.EnumValues.{EnumValue, VariantValue}
 use Rattle.logos_enum.specs.Values.{ParameterValue}
 use Rattle.logos_definition.specs.Attributes.{ReadsAttribute, parameter_report}
 use Rattle.logos_definition.specs.Options.{OptionsView}
-use Rattle.logos_subpattern.specs.Substitution.{Stored}
+use Rattle.logos_leaf.specs.subpattern.Substitution.{Stored}
 use Rattle.logos_leaf.specs.Leaves.{LeafView}
 use Rattle.logos_leaf.specs.Variants.{VariantsAdd, SkipsAdd}
-use Rattle.logos_leaf.specs.Sources.{ReadsParameters, no_parameter, one_parameter, ReadsAttributes, no_attribute, one_attribute, GivesLeaves, ReadsSource}
+use Rattle.logos_leaf.specs.Sources.{ReadsParameters, no_parameter, one_parameter, ReadsAttributes, no_attribute, one_attribute, YieldsLeaves, ReadsSource}
 use Rattle.logos_leaf.proofs.agreement.Report.{Grows, Agree, grows_same, grows_then, report_grows, none_before, report_once, no_some, the_same}
 use Rattle.logos_leaf.proofs.agreement.Types.{are_checked_grow, are_checked_once, given_same}
 use Rattle.logos_leaf.proofs.agreement.Options.{attribute_grows, attribute_once}
@@ -48,7 +48,7 @@ attributes_once {o = o} {p = p} r e n (one_attribute {split = split} f s rest) (
     let j = attributes_once (ap (λ (x : SplitAttribute). x.rest) d) k.1 n rest others in
     (j.0 ∙ k.0, j.1)
 
-module _ {o : OptionsView} {variants : List VariantValue} {leaves others : List LeafView} {old new old' new' : List Fault} (n : new ≡ []) (a : GivesLeaves o variants leaves old new) (b : GivesLeaves o variants others old' new') where
+module _ {o : OptionsView} {variants : List VariantValue} {leaves others : List LeafView} {old new old' new' : List Fault} (n : new ≡ []) (a : YieldsLeaves o variants leaves old new) (b : YieldsLeaves o variants others old' new') where
   types : a.params.types ≡ b.params.types
   types = a.given ∙ sym b.given
 
@@ -78,7 +78,7 @@ module _ {o : OptionsView} {variants : List VariantValue} {leaves others : List 
   leaves_once : Agree (map shown leaves) (map shown others) old' new'
   leaves_once = (by_variants.0 ∙ (skips.0 ∙ (subpatterns.0 ∙ checked)), by_variants.1)
 
-leaves_grow : {o : OptionsView} {variants : List VariantValue} {leaves : List LeafView} {old new : List Fault} → GivesLeaves o variants leaves old new → Grows old new
+leaves_grow : {o : OptionsView} {variants : List VariantValue} {leaves : List LeafView} {old new : List Fault} → YieldsLeaves o variants leaves old new → Grows old new
 leaves_grow a =
     grows_then (are_checked_grow a.checked) (grows_then (are_added_grow a.subpatterns) (grows_then (skips_grow a.skips_add) (variants_grow a.variants_add)))
 
@@ -89,5 +89,5 @@ source_once {item} {others = others} {faults = faults} a b =
     let after_parameters = none_before (attributes_grow a.attributes) after_attributes in
     let k = parameters_once refl after_parameters a.parameters b.parameters in
     let j = attributes_once refl k.1 after_attributes a.attributes b.attributes in
-    let h = leaves_once refl a.leaves_say (subst (λ (x : OptionsView). GivesLeaves x item.variants others b.of_attributes faults) (sym j.1) b.leaves_say) in
+    let h = leaves_once refl a.leaves_say (subst (λ (x : OptionsView). YieldsLeaves x item.variants others b.of_attributes faults) (sym j.1) b.leaves_say) in
     (h.0 ∙ (j.0 ∙ k.0), j.1, h.1)

@@ -6,15 +6,15 @@ use Rattle.logos_syntax.specs.Grammar.{first_flags}
 use Rattle.logos_syntax.proofs.patterns.Texts.{one}
 use Rattle.logos_attribute.specs.Literals.{NamedLiteral}
 use Rattle.logos_attribute.specs.Reports.{Report, with_faults, and_then, only}
-use Rattle.logos_subpattern.specs.PatternFaults.{Reading, spelled, broken, too_deep, Reads}
-use Rattle.logos_subpattern.specs.Substitution.{Stored}
-use Rattle.logos_subpattern.specs.Subpatterns.{is_name, subpattern_name, test_report, text_report, reading_report, IsAdded, AreAdded, ended, further}
+use Rattle.logos_leaf.specs.subpattern.PatternFaults.{Reading, spelled, broken, too_deep, Reads}
+use Rattle.logos_leaf.specs.subpattern.Substitution.{Stored}
+use Rattle.logos_leaf.specs.subpattern.Subpatterns.{is_name, subpattern_name, test_report, text_report, reading_report, IsAdded, AreAdded, ended, further}
 use Rattle.logos_leaf.proofs.agreement.Report.{Grows, Agree, grows_same, grows_then, report_grows, none_before, none_added, report_once, no_front, no_after}
 
 -- a text that spells a tree is read so alone
 pub reading_once : (unicode ignore_case : Bool) (text : List ℕ) (tree : Tree) (other : Reading) → Reads unicode ignore_case text (spelled tree) → Reads unicode ignore_case text other → spelled tree ≡ other
 reading_once unicode ignore_case text tree (spelled other) (d, l, s) (e, m, t) = ap (λ (x : Tree). spelled x) (one (first_flags unicode ignore_case) text tree other d e s t).0
-reading_once unicode ignore_case text tree (broken kind at) (d, l, s) h = absurd (h d (tree, s))
+reading_once unicode ignore_case text tree (broken kind detail) (d, l, s) h = absurd (h.unspelled d (tree, s))
 reading_once unicode ignore_case text tree too_deep (d, l, s) h = absurd (let k = h.deeper d (tree, s) in omega (arith, l, k))
 
 module _ (utf8_mode : Bool) (sub : NamedLiteral) (names : List Stored) where
@@ -32,7 +32,7 @@ module _ (utf8_mode : Bool) (sub : NamedLiteral) (names : List Stored) where
   text_same None reading other e r s = refl
   text_same (Some text) reading other e r s = tested_same text reading other e (r text refl) (s text refl)
 
-  -- what is added, where the name is one or not
+  -- the added subpattern, whether the name is that one or not
   abbrev report_by : Bool → Reading → Report (List Stored)
   report_by named reading = if named then and_then (test_report sub names) (text_report utf8_mode reading sub names) else with_faults names (only (subpattern_name sub.name))
 

@@ -114,7 +114,7 @@ both_ways true b f g = sym (f refl)
 both_ways false true f g = g refl
 both_ways false false f g = refl
 
--- the same is put in for each name
+-- each name has the same replacement
 pub given_same : (p q : Params) → p.types ≡ q.types → AreHeld p.types p.held → AreHeld q.types q.held → (text : List ℕ) → given p text ≡ given q text
 given_same p q e h k text =
     let l : AreHeld p.types q.held = subst (λ (x : List ParamValue). AreHeld x q.held) (sym e) k in

@@ -18,9 +18,9 @@ use Rattle.logos_attribute.specs.Reports.{IsReport}
 use Rattle.logos_definition.specs.Attributes.{meta_report}
 use Rattle.logos_definition.specs.Definitions.{DefinitionView}
 use Rattle.logos_definition.specs.Metas.{Meta, meta_of}
-use Rattle.logos_subpattern.specs.Substitution.{Stored}
+use Rattle.logos_leaf.specs.subpattern.Substitution.{Stored}
 use Rattle.logos_leaf.specs.Leaves.{LeafView, IsTokenLeaf, IsRegexLeaf}
-use Rattle.logos_leaf.specs.Variants.{holds, KindIs, no_field, empty, with_first, with_names, is_named, TokenGives, no_token, a_token, RegexGives, no_regex, a_regex, AttributeGives, on_error, on_token, on_regex, on_other, AttributesAdd, no_attribute, one_attribute, VariantAdds, VariantsAdd, no_variant, one_variant, SkipsAdd, no_skip, one_skip}
+use Rattle.logos_leaf.specs.Variants.{holds, KindIs, no_field, empty, with_first, with_names, is_named, TokenYields, no_token, a_token, RegexYields, no_regex, a_regex, AttributeYields, on_error, on_token, on_regex, on_other, AttributesAdd, no_attribute, one_attribute, VariantAdds, VariantsAdd, no_variant, one_variant, SkipsAdd, no_skip, one_skip}
 use Rattle.logos_leaf.proofs.agreement.Report.{Grows, Agree, grows_by, grows_same, grows_then, report_grows, none_before, never, none_added, added_none, report_once, no_some, the_same, not_both}
 use Rattle.logos_leaf.proofs.agreement.Types.{gets_grows, gets_once}
 use Rattle.logos_leaf.proofs.agreement.Leaves.{ShownKind, shown_kind, Shown, shown, token_once, regex_once}
@@ -48,23 +48,23 @@ module _ (p q : Params) (same : (text : List ℕ) → given p text ≡ given q t
 
 -- ---- attributes
 
-token_grows : {kind : KindValue} {attribute : AttributeValue} {old new : List Fault} {leaf : Option LeafView} → TokenGives kind attribute old new leaf → Grows old new
+token_grows : {kind : KindValue} {attribute : AttributeValue} {old new : List Fault} {leaf : Option LeafView} → TokenYields kind attribute old new leaf → Grows old new
 token_grows (no_token t l) = grows_then (report_grows _ t) (grows_by _ l)
 token_grows (a_token t i) = grows_then (report_grows _ t) (report_grows _ i.reports)
 
-regex_grows : {names : List Stored} {kind : KindValue} {attribute : AttributeValue} {old new : List Fault} {leaf : Option LeafView} → RegexGives names kind attribute old new leaf → Grows old new
+regex_grows : {names : List Stored} {kind : KindValue} {attribute : AttributeValue} {old new : List Fault} {leaf : Option LeafView} → RegexYields names kind attribute old new leaf → Grows old new
 regex_grows (no_regex t l) = grows_then (report_grows _ t) (grows_by _ l)
 regex_grows (a_regex t i) = grows_then (report_grows _ t) (report_grows _ i.reports)
 
-gives_grows : {names : List Stored} {kind : KindValue} {attribute : AttributeValue} {old new : List Fault} {leaf : Option LeafView} → AttributeGives names kind attribute old new leaf → Grows old new
-gives_grows (on_error e l) = grows_by _ l
-gives_grows (on_token e t) = token_grows t
-gives_grows (on_regex e r) = regex_grows r
-gives_grows (on_other e f g s) = grows_same s
+yields_grows : {names : List Stored} {kind : KindValue} {attribute : AttributeValue} {old new : List Fault} {leaf : Option LeafView} → AttributeYields names kind attribute old new leaf → Grows old new
+yields_grows (on_error e l) = grows_by _ l
+yields_grows (on_token e t) = token_grows t
+yields_grows (on_regex e r) = regex_grows r
+yields_grows (on_other e f g s) = grows_same s
 
 attributes_grow : {names : List Stored} {kind : KindValue} {run : TokenList} {before after : List LeafView} {old new : List Fault} → AttributesAdd names kind run before after old new → Grows old new
 attributes_grow (no_attribute e) = grows_same refl
-attributes_grow (one_attribute e g rest) = grows_then (gives_grows g) (attributes_grow rest)
+attributes_grow (one_attribute e g rest) = grows_then (yields_grows g) (attributes_grow rest)
 
 -- an attribute has one name
 one_name : (meta : Option Meta) (a b : List ℕ) → is_named meta a ≡ true → is_named meta b ≡ true → bytes_eq a b ≡ true
@@ -88,39 +88,39 @@ definition_once : {x y : Option DefinitionView} {new new' : List Fault} (attribu
 definition_once attribute old old' n t u = report_once old refl n t u
 
 module _ {kind other : KindValue} (alike : shown_kind kind ≡ shown_kind other) where
-  token_gives_once : {attribute : AttributeValue} {old new old' new' : List Fault} {leaf leaf' : Option LeafView} → new ≡ [] → TokenGives kind attribute old new leaf →
-      TokenGives other attribute old' new' leaf' → Agree (option_map shown leaf) (option_map shown leaf') old' new'
-  token_gives_once n (no_token t l) g = absurd (never _ _ _ l n)
-  token_gives_once {attribute = a} {old = c} {old' = c'} n (a_token t i) (no_token u l) = absurd (no_some (definition_once a c c' (none_before (report_grows _ i.reports) n) t u).1)
-  token_gives_once {attribute = a} {old = c} {old' = c'} {new' = new'} {leaf' = leaf'} n (a_token {definition = d} t i) (a_token {mid = m} u j) =
+  token_yields_once : {attribute : AttributeValue} {old new old' new' : List Fault} {leaf leaf' : Option LeafView} → new ≡ [] → TokenYields kind attribute old new leaf →
+      TokenYields other attribute old' new' leaf' → Agree (option_map shown leaf) (option_map shown leaf') old' new'
+  token_yields_once n (no_token t l) g = absurd (never _ _ _ l n)
+  token_yields_once {attribute = a} {old = c} {old' = c'} n (a_token t i) (no_token u l) = absurd (no_some (definition_once a c c' (none_before (report_grows _ i.reports) n) t u).1)
+  token_yields_once {attribute = a} {old = c} {old' = c'} {new' = new'} {leaf' = leaf'} n (a_token {definition = d} t i) (a_token {mid = m} u j) =
       let k = definition_once a c c' (none_before (report_grows _ i.reports) n) t u in
       let h = token_once d kind other alike n i (subst (λ (x : DefinitionView). IsTokenLeaf x other leaf' m new') (sym (the_same k.1)) j) in
       (h.0 ∙ k.0, h.1)
 
-  regex_gives_once : {names : List Stored} {attribute : AttributeValue} {old new old' new' : List Fault} {leaf leaf' : Option LeafView} → new ≡ [] → RegexGives names kind attribute old new leaf →
-      RegexGives names other attribute old' new' leaf' → Agree (option_map shown leaf) (option_map shown leaf') old' new'
-  regex_gives_once n (no_regex t l) g = absurd (never _ _ _ l n)
-  regex_gives_once {attribute = a} {old = c} {old' = c'} n (a_regex t i) (no_regex u l) = absurd (no_some (definition_once a c c' (none_before (report_grows _ i.reports) n) t u).1)
-  regex_gives_once {names} {attribute = a} {old = c} {old' = c'} {new' = new'} {leaf' = leaf'} n (a_regex {definition = d} t i) (a_regex {mid = m} u j) =
+  regex_yields_once : {names : List Stored} {attribute : AttributeValue} {old new old' new' : List Fault} {leaf leaf' : Option LeafView} → new ≡ [] → RegexYields names kind attribute old new leaf →
+      RegexYields names other attribute old' new' leaf' → Agree (option_map shown leaf) (option_map shown leaf') old' new'
+  regex_yields_once n (no_regex t l) g = absurd (never _ _ _ l n)
+  regex_yields_once {attribute = a} {old = c} {old' = c'} n (a_regex t i) (no_regex u l) = absurd (no_some (definition_once a c c' (none_before (report_grows _ i.reports) n) t u).1)
+  regex_yields_once {names} {attribute = a} {old = c} {old' = c'} {new' = new'} {leaf' = leaf'} n (a_regex {definition = d} t i) (a_regex {mid = m} u j) =
       let k = definition_once a c c' (none_before (report_grows _ i.reports) n) t u in
       let h = regex_once d kind other alike n i (subst (λ (x : DefinitionView). IsRegexLeaf x other names leaf' m new') (sym (the_same k.1)) j) in
       (h.0 ∙ k.0, h.1)
 
-  gives_once : {names : List Stored} {attribute : AttributeValue} {old new old' new' : List Fault} {leaf leaf' : Option LeafView} → new ≡ [] → AttributeGives names kind attribute old new leaf →
-      AttributeGives names other attribute old' new' leaf' → Agree (option_map shown leaf) (option_map shown leaf') old' new'
-  gives_once n (on_error e l) g = absurd (never _ _ _ l n)
-  gives_once {attribute = a} n (on_token e t) (on_error f l) = absurd (not_true (one_name (meta_of a) (codes "token") (codes "error") e f))
-  gives_once n (on_token e t) (on_token f u) = token_gives_once n t u
-  gives_once {attribute = a} n (on_token e t) (on_regex f r) = absurd (not_true (one_name (meta_of a) (codes "token") (codes "regex") e f))
-  gives_once n (on_token e t) (on_other f g h s) = absurd (not_both e g)
-  gives_once {attribute = a} n (on_regex e r) (on_error f l) = absurd (not_true (one_name (meta_of a) (codes "regex") (codes "error") e f))
-  gives_once {attribute = a} n (on_regex e r) (on_token f u) = absurd (not_true (one_name (meta_of a) (codes "regex") (codes "token") e f))
-  gives_once n (on_regex e r) (on_regex f s) = regex_gives_once n r s
-  gives_once n (on_regex e r) (on_other f g h s) = absurd (not_both e h)
-  gives_once n (on_other e f g s) (on_error h l) = absurd (not_both h e)
-  gives_once n (on_other e f g s) (on_token h u) = absurd (not_both h f)
-  gives_once n (on_other e f g s) (on_regex h r) = absurd (not_both h g)
-  gives_once n (on_other e f g s) (on_other h k l t) = (t, refl)
+  yields_once : {names : List Stored} {attribute : AttributeValue} {old new old' new' : List Fault} {leaf leaf' : Option LeafView} → new ≡ [] → AttributeYields names kind attribute old new leaf →
+      AttributeYields names other attribute old' new' leaf' → Agree (option_map shown leaf) (option_map shown leaf') old' new'
+  yields_once n (on_error e l) g = absurd (never _ _ _ l n)
+  yields_once {attribute = a} n (on_token e t) (on_error f l) = absurd (not_true (one_name (meta_of a) (codes "token") (codes "error") e f))
+  yields_once n (on_token e t) (on_token f u) = token_yields_once n t u
+  yields_once {attribute = a} n (on_token e t) (on_regex f r) = absurd (not_true (one_name (meta_of a) (codes "token") (codes "regex") e f))
+  yields_once n (on_token e t) (on_other f g h s) = absurd (not_both e g)
+  yields_once {attribute = a} n (on_regex e r) (on_error f l) = absurd (not_true (one_name (meta_of a) (codes "regex") (codes "error") e f))
+  yields_once {attribute = a} n (on_regex e r) (on_token f u) = absurd (not_true (one_name (meta_of a) (codes "regex") (codes "token") e f))
+  yields_once n (on_regex e r) (on_regex f s) = regex_yields_once n r s
+  yields_once n (on_regex e r) (on_other f g h s) = absurd (not_both e h)
+  yields_once n (on_other e f g s) (on_error h l) = absurd (not_both h e)
+  yields_once n (on_other e f g s) (on_token h u) = absurd (not_both h f)
+  yields_once n (on_other e f g s) (on_regex h r) = absurd (not_both h g)
+  yields_once n (on_other e f g s) (on_other h k l t) = (t, refl)
 
   attributes_once : {names : List Stored} {run run' : TokenList} {before after before' after' : List LeafView} {old new old' new' : List Fault} → run ≡ run' →
       map shown before ≡ map shown before' → new ≡ [] → AttributesAdd names kind run before after old new → AttributesAdd names other run' before' after' old' new' →
@@ -130,7 +130,7 @@ module _ {kind other : KindValue} (alike : shown_kind kind ≡ shown_kind other)
   attributes_once r b n (one_attribute e g rest) (no_attribute f) = absurd (no_some (sym e ∙ (ap attribute_in r ∙ f)))
   attributes_once {names} {before = c} {before' = c'} r b n (one_attribute {leaf = leaf} e g rest) (one_attribute {leaf = leaf'} {old = l} {mid = m} f h others) =
       let s = the_same (sym e ∙ (ap attribute_in r ∙ f)) in
-      let k = gives_once (none_before (attributes_grow rest) n) g (subst (λ (x : SplitAttribute). AttributeGives names other x.attribute l m leaf') (sym s) h) in
+      let k = yields_once (none_before (attributes_grow rest) n) g (subst (λ (x : SplitAttribute). AttributeYields names other x.attribute l m leaf') (sym s) h) in
       let j = attributes_once (ap (λ (x : SplitAttribute). x.rest) s) (leaves_alike c c' leaf leaf' b k.1) n rest others in
       (j.0 ∙ k.0, j.1)
 

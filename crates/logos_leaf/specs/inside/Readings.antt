@@ -5,10 +5,10 @@ use Rattle.logos_pattern.specs.Leaf.{KindValue, pattern_tree}
 use Rattle.logos_pattern.specs.declared.pattern.Pattern.{Pattern}
 use Rattle.logos_attribute.specs.Reports.{IsReport}
 use Rattle.logos_definition.specs.Definitions.{DefinitionView}
-use Rattle.logos_subpattern.specs.PatternFaults.{Reading, Reads}
+use Rattle.logos_leaf.specs.subpattern.PatternFaults.{Reading, Reads}
 use Rattle.logos_type_params.specs.Substitution.{Params}
 use Rattle.logos_enum.specs.EnumValues.{VariantValue}
-use Rattle.logos_subpattern.specs.Substitution.{Stored}
+use Rattle.logos_leaf.specs.subpattern.Substitution.{Stored}
 use Rattle.logos_leaf.specs.Variants.{SkipsAdd, VariantsAdd}
 use Rattle.logos_leaf.specs.Leaves.{LeafView, leaf_with, is_string, escaped_of, folded_report, reading_report}
 
@@ -22,8 +22,8 @@ pub record IsFoldedLeaf (d : DefinitionView) (kind : KindValue) (leaf : Option L
 abbrev pub leaf_by : DefinitionView → KindValue → Option (Pattern × ℕ) → Option LeafView
 leaf_by d kind = option_map (λ p. leaf_with false d kind (pattern_tree p.0) p.1)
 
--- This is the leaf of a pattern with this text, if it has one. The subpatterns are put into the
--- text already.
+-- This is the leaf of a pattern with this text, if it has one. The subpatterns have already been
+-- substituted in the text.
 pub record IsWholeLeaf (d : DefinitionView) (kind : KindValue) (text : List ℕ) (leaf : Option LeafView) (old new : List Fault) : Type 0 where
   pub reading : Reading
   pub reads : Reads (is_string d.literal.held) d.ignore_case (chars text) reading

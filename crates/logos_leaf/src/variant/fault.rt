@@ -1,7 +1,8 @@
-//! The faults of variants and of the attributes on them. Each function reports one.
+//! Reports the faults of variants and of the attributes on them. Each function adds one fault.
+//! `variant` calls it.
 
 ghost use Rattle.std.specs.Prelude.{◌≡◌, ◌++◌, IfOk, OnOk, string_bytes};
-ghost use Rattle.logos_leaf.specs.Words.{AddsFault, fields_text, variant_fields, count_faults, named_fields, error_variant, token_form, regex_form};
+ghost use Rattle.logos_leaf.specs.Imports.{AddsFault, fields_text, variant_fields, count_faults, named_fields, error_variant, token_form, regex_form};
 
 use logos_token::error::{Errors, FaultCode, Memory};
 use logos_token::token::Span;

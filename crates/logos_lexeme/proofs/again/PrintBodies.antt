@@ -1,4 +1,4 @@
--- What literals hold in a window they hold in the second text too.
+-- Literals with contents in a window have the same contents in the second text.
 use Rattle.std.proofs.Common.{◌≡◌, ℕ, ◌+◌, ◌-◌, ◌<◌, ◌≤◌, ◌==◌, ◌&&◌, ◌||◌, nat_le, inl, inr, Bool, true, false, List, length, get_or, filter, Option, MatchOption, refl, sym, ◌∙◌, ap, subst, arith}
 use Rattle.std.proofs.lemmas.Bool.{cases_lt, cases_Bool, false≢true, and_parts, eqb-true, leb-true, or_cases}
 use Rattle.std.specs.Char.{is_ascii_digit}
@@ -147,7 +147,7 @@ continuing-114 : is_continuing 114 ≡ true
 unfolding is_continuing
 continuing-114 = rw (is_xid_continue-ascii 114 (omega arith)) refl
 
--- behind a number there is no suffix
+-- after a number there is no suffix
 no_suffix_by : (based : Bool) (bytes : List ℕ) (at to : ℕ) (o : Option ℕ) → IsLast (GoesOn based bytes) at → Names bytes at o → MatchOption o (to ≡ at) (λ n. Run (Passes is_continuing bytes) (past bytes n) to) → to ≡ at
 no_suffix_by based bytes at to o last (raw t) r = absurd (let l = (raw_parts bytes at t).0 in last (past bytes at) (letter_at based bytes at (ap is_continuing (character-ascii bytes at (omega arith) ∙ l) ∙ continuing-114)))
 no_suffix_by based bytes at to o last (plain_name t) r = absurd (last (past bytes at) (letter_at based bytes at (start-continuing (character bytes at) t)))
@@ -157,22 +157,22 @@ pub number_no_suffix : (based : Bool) (bytes : List ℕ) (at to : ℕ) → IsLas
 number_no_suffix based bytes at to last r = no_suffix_by based bytes at to (name_at bytes at) last (names bytes at) r
 
 module _ (a b : List ℕ) (p q k : ℕ) (w : Window a b p q k) where
-  abbrev Places : ℕ → ℕ → Type 0
-  Places x y = (x + q ≡ y + p) × (p ≤ x)
+  abbrev Spots : ℕ → ℕ → Type 0
+  Spots x y = (x + q ≡ y + p) × (p ≤ x)
 
   -- the last step of a number is over a letter
-  last_step : (based : Bool) (x y : ℕ) → Places x y → IsLast (GoesOn based a) (p + k) → IsCharBoundary a x → GoesOn based a x (p + k) → GoesOn based b y (q + k)
+  last_step : (based : Bool) (x y : ℕ) → Spots x y → IsLast (GoesOn based a) (p + k) → IsCharBoundary a x → GoesOn based a x (p + k) → GoesOn based b y (q + k)
   last_step based x y e last bound (letter r) = letter (passes_same a b p q k w is_continuing x y (p + k) (q + k) e (omega arith, omega arith) (omega arith) bound r)
   last_step based x y e last bound (point t d g m) = absurd (last (past a (p + k)) (digit_goes_on based a (p + k) (rw m g)))
   last_step based x y e last bound (sign t c d g m) = absurd (last (past a (p + k)) (digit_goes_on based a (p + k) (rw m g)))
 
-  number_steps : (based : Bool) → IsLast (GoesOn based a) (p + k) → {x z : ℕ} → Steps (GoesOn based a) x z → (y v : ℕ) → Places x y → Places z v → z ≡ p + k → p < x → IsCharBoundary a x → Steps (GoesOn based b) y v
+  number_steps : (based : Bool) → IsLast (GoesOn based a) (p + k) → {x z : ℕ} → Steps (GoesOn based a) x z → (y v : ℕ) → Spots x y → Spots z v → z ≡ p + k → p < x → IsCharBoundary a x → Steps (GoesOn based b) y v
   number_steps based last {x} here y v e f is low bound = let same : y ≡ v = omega (arith, e.0, f.0) in subst (λ m. Steps (GoesOn based b) y m) same here
   number_steps based last {x} {z} (step {mid = m} s r) y v e f is low bound =
       let n = m + q - p in
       let ahead = GoesOn-moves based a x m s in
       let le = Steps-le (GoesOn based a) (GoesOn-moves based a) r in
-      let at : Places m n = (omega (arith, e.1, e.0), omega (arith, e.1)) in
+      let at : Spots m n = (omega (arith, e.1, e.0), omega (arith, e.1)) in
       let one : GoesOn based b y n = elim (cases_lt m (p + k)) [
         | inl l ↦ goes_on_same a b p q k w based x y m n e at l low bound s
         | inr l ↦
@@ -188,13 +188,13 @@ module _ (a b : List ℕ) (p q k : ℕ) (w : Window a b p q k) where
   blank_stops based next (sign t c (inl d) g m) = false≢true (sym (blank_fails a b p q k w (λ c. c == 43) refl refl refl (q + k) refl) ∙ ap (λ c. c == 43) d)
   blank_stops based next (sign t c (inr d) g m) = false≢true (sym (blank_fails a b p q k w (λ c. c == 45) refl refl refl (q + k) refl) ∙ ap (λ c. c == 45) d)
 
-  pub number_same : (based : Bool) (x y : ℕ) → Places x y → p < x → IsCharBoundary a x → Run (GoesOn based a) x (p + k) → Run (GoesOn based b) y (q + k)
+  pub number_same : (based : Bool) (x y : ℕ) → Spots x y → p < x → IsCharBoundary a x → Run (GoesOn based a) x (p + k) → Run (GoesOn based b) y (q + k)
   number_same based x y e low bound r = record {
     steps = number_steps based r.stop r.steps y (q + k) e (omega arith, omega arith) refl low bound;
     stop = blank_stops based;
   }
 
-  -- the letter of a base stands in the window
+  -- the letter of a base is in the window
 
   base_letter : (c : ℕ) → (((c == 120) || (c == 111)) || (c == 98)) ≡ true → is_continuing c ≡ true
   unfolding is_continuing

@@ -1,4 +1,4 @@
--- What ends in a window ends there in the second text too.
+-- Lexemes and gaps that end in a window end there in the second text.
 use Rattle.std.proofs.Common.{◌≡◌, ◌≢◌, ℕ, ◌+◌, ◌-◌, ◌<◌, ◌≤◌, ◌⊎◌, inl, inr, Bool, false, List, length, get_or, refl, sym, ◌∙◌, ap, subst, arith}
 use Rattle.std.proofs.lemmas.Bool.{cases_lt, false≢true}
 use Rattle.std.specs.Char.{is_ascii_digit}
@@ -12,18 +12,18 @@ use Rattle.logos_lexeme.proofs.EndLaws.{InQuotes-moves, Passes-moves, Closes-le}
 use Rattle.logos_lexeme.proofs.again.PrintWindows.{Window, blank_character, same_character, same_past}
 
 module _ (a b : List ℕ) (p q k : ℕ) (w : Window a b p q k) where
-  -- places in the two texts
+  -- offsets in the two texts
   abbrev At : ℕ → ℕ → Type 0
   At x y = (x + q ≡ y + p) × (p ≤ x)
 
-  one_place : (x y v : ℕ) → At x y → At x v → y ≡ v
-  one_place x y v e f = omega (arith, e.0, f.0)
+  one_spot : (x y v : ℕ) → At x y → At x v → y ≡ v
+  one_spot x y v e f = omega (arith, e.0, f.0)
 
   -- steps in the window, where each one has its step in the second text
   pub steps_same : (top : ℕ) (S T : ℕ → ℕ → Type 0) (keep : ℕ → Type 0) →
       ((x y z v : ℕ) → At x y → At z v → z ≤ top → keep x → S x z → T y v) → ((x z : ℕ) → keep x → S x z → keep z) → ((x z : ℕ) → S x z → x < z) →
       {x z : ℕ} → Steps S x z → (y v : ℕ) → At x y → At z v → z ≤ top → keep x → Steps T y v
-  steps_same top S T keep one kept moves {x} here y v e f high h = let same : y ≡ v = one_place x y v e f in subst (λ m. Steps T y m) same here
+  steps_same top S T keep one kept moves {x} here y v e f high h = let same : y ≡ v = one_spot x y v e f in subst (λ m. Steps T y m) same here
   steps_same top S T keep one kept moves {x} {z} (step {mid = m} s r) y v e f high h =
       let n = m + q - p in
       let ahead = moves x m s in
@@ -99,7 +99,7 @@ module _ (a b : List ℕ) (p q k : ℕ) (w : Window a b p q k) where
   closes_long depth x z (inside h i f g s) l = omega (arith, closes_long _ _ _ s l)
 
   pub closes_same : (depth x y z v : ℕ) → Closes a depth x z → At x y → At z v → z ≤ p + k → Closes b depth y v
-  closes_same depth x y z v closed e f high = let same : y ≡ v = one_place x y v e f in subst (λ m. Closes b 0 y m) same closed
+  closes_same depth x y z v closed e f high = let same : y ≡ v = one_spot x y v e f in subst (λ m. Closes b 0 y m) same closed
   closes_same depth x y z v (opens h r s) e f high =
       let le = Closes-le a _ _ _ s in
       opens h (pair_same x y 47 42 e (omega arith) r) (closes_same (depth + 1) (x + 2) (y + 2) z v s (omega (arith, e.0), omega (arith, e.1)) f high)
@@ -126,7 +126,7 @@ module _ (a b : List ℕ) (p q k : ℕ) (w : Window a b p q k) where
   pub passes_kept : (test : ℕ → Bool) (x z : ℕ) → IsCharBoundary a x → Passes test a x z → IsCharBoundary a z
   passes_kept test x z bound r = rw r.moves (past-boundary a x w.utf8 bound r.inside)
 
-  -- nothing goes on behind the window
+  -- nothing continues after the window
   blank_last : (test : ℕ → Bool) → test 32 ≡ false → test 10 ≡ false → test 0 ≡ false → (v : ℕ) → v ≡ q + k → IsLast (Passes test b) v
   blank_last test s l n v e next r = false≢true (sym (blank_character a b p q k w test s l n v e) ∙ r.passes)
 

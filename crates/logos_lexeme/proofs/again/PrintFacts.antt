@@ -1,4 +1,4 @@
--- What is known of the lexemes of a source: their first characters.
+-- Facts about the lexemes of a source: their first characters.
 use Rattle.std.proofs.Common.{◌≡◌, ℕ, ◌+◌, ◌<◌, ◌≤◌, ◌⊎◌, ◌==◌, ◌&&◌, ◌||◌, inl, inr, nat_le, true, false, List, [], ◌∷◌, codes, length, get_or, drop, Option, Some, None, MatchOption, IsUtf8, refl, sym, ◌∙◌, ap, subst, arith, length-drop, get_or-drop}
 use Rattle.std.proofs.lemmas.Bool.{cases_lt, cases_Bool, and_parts, or_cases, eqb-true, false≢true, leb-true, cond_both}
 use Rattle.std.proofs.lemmas.Str.{chars_past_char, byte_from_char, IsUtf8-drop}
@@ -64,7 +64,7 @@ start-2029 : is_start 0x2029 ≡ false
 unfolding is_start unicode_ident
 start-2029 = refl
 
--- what may begin an identifier is a letter or above ASCII
+-- a character that may begin an identifier is a letter or above ASCII
 pub start_large : (c : ℕ) → is_start c ≡ true → 65 ≤ c
 unfolding is_start
 start_large c e = elim (cases_lt c 65) [

@@ -29,7 +29,7 @@ use Rattle.logos_lexeme.proofs.again.PrintNames.{Names, raw, plain, nothing, nam
 use Rattle.logos_lexeme.proofs.again.PrintLifetimes.{no_lifetime, lifetime_parts, lifetime_from, literal_at-none, literal_at-plain, literal_at-some, name_no_literal}
 use Rattle.logos_lexeme.proofs.again.PrintBodies.{character_piece, raw_pieces, string_pieces, number_no_suffix, number_same, based_same}
 
--- what a literal opens with
+-- the characters with which a literal opens
 pub data IsLiteral (bytes : List ℕ) (at : ℕ) : Opening → Type 0 where
   number : is_ascii_digit (get_or bytes at 0) ≡ true → IsLiteral bytes at Number
   quotes : (content : Content) → IsLiteral bytes at (Quotes content)
@@ -37,37 +37,37 @@ pub data IsLiteral (bytes : List ℕ) (at : ℕ) : Opening → Type 0 where
   apostrophes : (content : Content) → IsLiteral bytes at (Apostrophes content)
   character_between : get_or bytes at 0 ≡ 39 → IsLiteral bytes at Character
 
-abbrev Gives : List ℕ → ℕ → Option Opening → Type 0
-Gives bytes at o = MatchOption o (Unit {0}) (IsLiteral bytes at)
+abbrev Yields : List ℕ → ℕ → Option Opening → Type 0
+Yields bytes at o = MatchOption o (Unit {0}) (IsLiteral bytes at)
 
 module _ (bytes : List ℕ) (at : ℕ) where
-  raw-gives : (content : Content) (i : ℕ) → Gives bytes at (raw_opening content bytes i)
+  raw-yields : (content : Content) (i : ℕ) → Yields bytes at (raw_opening content bytes i)
   unfolding raw_opening
-  raw-gives content i = cond_both (nat_le (hashes bytes i) 255 && (get_or bytes (i + hashes bytes i) 0 == 34)) (Some (Raw content (hashes bytes i))) None (Gives bytes at) (λ _. raw_quotes content (hashes bytes i)) (λ _. tt)
+  raw-yields content i = cond_both (nat_le (hashes bytes i) 255 && (get_or bytes (i + hashes bytes i) 0 == 34)) (Some (Raw content (hashes bytes i))) None (Yields bytes at) (λ _. raw_quotes content (hashes bytes i)) (λ _. tt)
 
-  string-gives : (content : Content) (i : ℕ) → Gives bytes at (string_opening content bytes i)
+  string-yields : (content : Content) (i : ℕ) → Yields bytes at (string_opening content bytes i)
   unfolding string_opening
-  string-gives content i = cond_both (get_or bytes i 0 == 34) _ _ (Gives bytes at) (λ _. quotes content) (λ _. cond_both (get_or bytes i 0 == 114) _ _ (Gives bytes at) (λ _. raw-gives content (i + 1)) (λ _. tt))
+  string-yields content i = cond_both (get_or bytes i 0 == 34) _ _ (Yields bytes at) (λ _. quotes content) (λ _. cond_both (get_or bytes i 0 == 114) _ _ (Yields bytes at) (λ _. raw-yields content (i + 1)) (λ _. tt))
 
-  character-gives : get_or bytes at 0 ≡ 39 → (i : ℕ) → Gives bytes at (character_opening bytes i)
+  character-yields : get_or bytes at 0 ≡ 39 → (i : ℕ) → Yields bytes at (character_opening bytes i)
   unfolding character_opening
-  character-gives e i = cond_both (get_or bytes i 0 == 92) _ _ (Gives bytes at) (λ _. apostrophes Text) (λ _. cond_both (get_or bytes (past bytes i) 0 == 39) _ _ (Gives bytes at) (λ _. character_between e) (λ _. tt))
+  character-yields e i = cond_both (get_or bytes i 0 == 92) _ _ (Yields bytes at) (λ _. apostrophes Text) (λ _. cond_both (get_or bytes (past bytes i) 0 == 39) _ _ (Yields bytes at) (λ _. character_between e) (λ _. tt))
 
-  bytes-gives : (i : ℕ) → Gives bytes at (bytes_opening bytes i)
+  bytes-yields : (i : ℕ) → Yields bytes at (bytes_opening bytes i)
   unfolding bytes_opening
-  bytes-gives i = cond_both (get_or bytes i 0 == 39) _ _ (Gives bytes at) (λ _. apostrophes Bytes) (λ _. string-gives Bytes i)
+  bytes-yields i = cond_both (get_or bytes i 0 == 39) _ _ (Yields bytes at) (λ _. apostrophes Bytes) (λ _. string-yields Bytes i)
 
-  literal-gives : Gives bytes at (literal_opening bytes at)
+  literal-yields : Yields bytes at (literal_opening bytes at)
   unfolding literal_opening
-  literal-gives =
-      cond_both (is_ascii_digit (get_or bytes at 0)) _ _ (Gives bytes at) (λ e. number e) (λ _.
-      cond_both (get_or bytes at 0 == 39) _ _ (Gives bytes at) (λ e. character-gives (eqb-true (get_or bytes at 0) 39 e) (at + 1)) (λ _.
-      cond_both (get_or bytes at 0 == 98) _ _ (Gives bytes at) (λ _. bytes-gives (at + 1)) (λ _.
-      cond_both (get_or bytes at 0 == 99) _ _ (Gives bytes at) (λ _. string-gives C (at + 1)) (λ _.
-      string-gives Text at))))
+  literal-yields =
+      cond_both (is_ascii_digit (get_or bytes at 0)) _ _ (Yields bytes at) (λ e. number e) (λ _.
+      cond_both (get_or bytes at 0 == 39) _ _ (Yields bytes at) (λ e. character-yields (eqb-true (get_or bytes at 0) 39 e) (at + 1)) (λ _.
+      cond_both (get_or bytes at 0 == 98) _ _ (Yields bytes at) (λ _. bytes-yields (at + 1)) (λ _.
+      cond_both (get_or bytes at 0 == 99) _ _ (Yields bytes at) (λ _. string-yields C (at + 1)) (λ _.
+      string-yields Text at))))
 
   pub is_literal : (o : Opening) → literal_at bytes at ≡ Some o → IsLiteral bytes at o
-  is_literal o e = subst (Gives bytes at) (literal_at-some bytes at o e).1 literal-gives
+  is_literal o e = subst (Yields bytes at) (literal_at-some bytes at o e).1 literal-yields
 
   -- where one ends
 
@@ -85,7 +85,7 @@ module _ (bytes : List ℕ) (at : ℕ) where
   long o end (apostrophes content) r f = omega (arith, IsQuoted-after 39 bytes (at + prefix_of content + 1) end r)
   long o end (character_between e) r f = let g = r.after in let m = past-moves bytes (at + 1) in omega arith
 
--- how what stands at a place opens
+-- the opening of the lexeme or gap at an offset
 pub data Opens (bytes : List ℕ) (at : ℕ) : Opening → Type 0 where
   by_literal : (o : Opening) → literal_at bytes at ≡ Some o → Opens bytes at o
   by_comment : (o : Opening) → literal_at bytes at ≡ None → comment_opening bytes at ≡ Some o → Opens bytes at o
@@ -112,7 +112,7 @@ opens_other : (bytes : List ℕ) (at : ℕ) (o : Opening) → literal_at bytes a
 unfolding opening_at
 opens_other bytes at o e f g = rw (e, f) g
 
--- a lexeme from what opens it
+-- a lexeme from its opening
 made : (bytes : List ℕ) (at : ℕ) (kind : LexemeKind) (o : Opening) (end to : ℕ) → opening_at bytes at ≡ o → Ends bytes at o end → IsSound bytes at o end → kind ≡ kind_of o → IsSuffixed bytes kind end to → to ≤ length bytes → IsNext bytes at kind to
 made bytes at kind o end to e ends sound is suffixed within = record {
   end = end;
@@ -138,7 +138,7 @@ module _ (a b : List ℕ) (p q k : ℕ) (w : Window a b p q k) (bound : IsCharBo
   slash_start : get_or a p 0 ≡ 47 → is_start (character a p) ≡ false
   slash_start e = ap is_start (character-ascii a p (omega arith) ∙ e) ∙ start-47
 
-  -- where no `'` stands directly before the window, or one does in the first text too
+  -- there is no `'` directly before the window, or there is one in the first text too
   abbrev Before : Type 0
   Before = follows_apostrophe b q ≡ true → follows_apostrophe a p ≡ true
 
@@ -203,9 +203,9 @@ module _ (a b : List ℕ) (p q k : ℕ) (w : Window a b p q k) (bound : IsCharBo
       let close = ends.after in
       let moves = past-moves a (p + 1) in
       let n = end + q - p in
-      let places = same_past a b p q k w (p + 1) (q + 1) (omega arith) (omega arith) (omega arith) (ascii_next d) in
+      let spots = same_past a b p q k w (p + 1) (q + 1) (omega arith) (omega arith) (omega arith) (ascii_next d) in
       made b q Literal Character n (q + k) (opens_literal b q Character (literal_there before Character end e ends le))
-      (record { quote = w.same (past a (p + 1)) (past b (q + 1)) places (omega arith) (omega arith) ∙ ends.quote; after = omega arith })
+      (record { quote = w.same (past a (p + 1)) (past b (q + 1)) spots (omega arith) (omega arith) ∙ ends.quote; after = omega arith })
       (λ f. sound (sym (w.same (p + 1) (q + 1) (omega arith) (omega arith) (omega arith)) ∙ f))
       refl (suffix_same a b p q k w end n (omega arith) (omega arith) (Ends-boundary a w.utf8 p inside_a bound Character end ends) suffix) w.holds
 
@@ -264,7 +264,7 @@ module _ (a b : List ℕ) (p q k : ℕ) (w : Window a b p q k) (bound : IsCharBo
   unfolding comment_opening
   block_there e f l is = rw (w.same p q (omega arith) (omega arith) (omega arith) ∙ e, w.same (p + 1) (q + 1) (omega arith) (omega arith) (omega arith) ∙ f, block_doc a b p q k w (p + 2) (q + 2) (omega arith) (omega arith) (omega arith) ∙ is) refl
 
-  -- what stands behind a line is its end
+  -- after a line comes its end
   abbrev LineEnds : Type 0
   LineEnds = (get_or b (q + k) 0 ≡ 10) ⊎ (q + k ≡ length b)
 
@@ -329,7 +329,7 @@ module _ (a b : List ℕ) (p q k : ℕ) (w : Window a b p q k) (bound : IsCharBo
     | inr t ↦ t
   ]
 
-  -- joint punctuation stands in front of another byte of the window, and any other fills it
+  -- joint punctuation is before another byte of the window, and any other punctuation fills it
   abbrev IsPlaced : LexemeKind → Type 0
   IsPlaced kind = (kind ≡ Punctuation Joint → past a p < p + k) × ((kind ≡ Punctuation Joint → ⊥) → past a p ≡ p + k)
 
@@ -346,7 +346,7 @@ module _ (a b : List ℕ) (p q k : ℕ) (w : Window a b p q k) (bound : IsCharBo
       let c = character a p in
       let d = character b q in
       let same : d ≡ c = same_character a b p q k w p q (omega arith) (omega arith) (omega (arith, w.filled)) bound in
-      let places = same_past a b p q k w p q (omega arith) (omega arith) (omega (arith, w.filled)) bound in
+      let spots = same_past a b p q k w p q (omega arith) (omega arith) (omega (arith, w.filled)) bound in
       let next = past-boundary a p w.utf8 bound inside_a in
       let ahead = past-moves a p in
       let l' = (d == 39) && is_start (character b (past b q)) in
@@ -360,7 +360,7 @@ module _ (a b : List ℕ) (p q k : ℕ) (w : Window a b p q k) (bound : IsCharBo
         | inr r ↦ elim r [
           | inl (m, l, is) ↦
               let parts = and_parts (c == 39) (is_start (character a (past a p))) l in
-              let start : is_start (character b (past b q)) ≡ true = ap is_start (same_character a b p q k w (past a p) (past b q) places (omega arith) (placed.0 is) next) ∙ parts.1 in
+              let start : is_start (character b (past b q)) ≡ true = ap is_start (same_character a b p q k w (past a p) (past b q) spots (omega arith) (placed.0 is) next) ∙ parts.1 in
               let quote : (d == 39) ≡ true = ap (λ x. x == 39) same ∙ parts.0 in
               cond-false (is_mark d) (Some (Punctuation s')) after_l (ap is_mark same ∙ m)
               ∙ cond-true l' (Some (Punctuation Joint)) (cond f' (Some Gap) (delimiter_kind d)) (and_from (d == 39) (is_start (character b (past b q))) quote start) ∙ ap (λ (x : LexemeKind). Some x) (sym is)
@@ -408,7 +408,7 @@ module _ (a b : List ℕ) (p q k : ℕ) (w : Window a b p q k) (bound : IsCharBo
   unsuffixed (OpeningKind d) end to other r = r
   unsuffixed (Closing d) end to other r = r
 
-  -- an apostrophe that is no literal is joint
+  -- an apostrophe that does not begin a literal is joint
   quote_joint : (kind : LexemeKind) → kind ≢ Gap → single_kind a p ≡ Some kind → get_or a p 0 ≡ 39 → kind ≡ Punctuation Joint
   unfolding single_kind
   quote_joint kind no_gap e f =
@@ -432,16 +432,16 @@ module _ (a b : List ℕ) (p q k : ℕ) (w : Window a b p q k) (bound : IsCharBo
   single_next : (kind : LexemeKind) → literal_at a p ≡ None → comment_opening a p ≡ None → is_space (character a p) ≡ false → is_start (character a p) ≡ false → single_kind a p ≡ Some kind → kind ≢ Gap → IsPlaced kind → IsNext b q kind (past b q)
   single_next kind none other space start e no_gap placed =
       let same = same_character a b p q k w p q (omega arith) (omega arith) (omega (arith, w.filled)) bound in
-      let places = same_past a b p q k w p q (omega arith) (omega arith) (omega (arith, w.filled)) bound in
+      let spots = same_past a b p q k w p q (omega arith) (omega arith) (omega (arith, w.filled)) bound in
       let within = past_within a b p q k w p (omega arith) (omega (arith, w.filled)) bound in
       let no_literal_kind : kind ≢ Literal = λ f. single_no_literal (e ∙ ap (λ (x : LexemeKind). Some x) f) in
       let quote : get_or a p 0 ≡ 39 → p + 1 < p + k = λ f. let one = past-ascii a p (omega arith) in let l = placed.0 (quote_joint kind no_gap e f) in omega arith in
       made b q kind (Single kind) (past b q) (past b q)
       (opens_other b q (Single kind) (no_literal start quote none) (no_comment a b p q k w p q (omega arith) (omega arith) (omega (arith, w.filled)) other)
       (single_other kind (ap is_space same ∙ space) (no_name a b p q k w bound start) (single_there kind no_gap placed e)))
-      refl tt refl (no_suffix b kind (past b q) no_literal_kind) (omega (arith, w.holds, places))
+      refl tt refl (no_suffix b kind (past b q) no_literal_kind) (omega (arith, w.holds, spots))
 
-  -- what is no literal and no comment
+  -- lexemes that are neither literals nor comments
   pub data Others : Opening → Type 0 where
     space_there : is_space (character a p) ≡ true → Others Space
     word_opens : is_space (character a p) ≡ false → Others Word
@@ -476,7 +476,7 @@ module _ (a b : List ℕ) (p q k : ℕ) (w : Window a b p q k) (bound : IsCharBo
       here Identifier to is (word_next other s (subst (IsName a p) (sym suffixed ∙ is) ends))
   other_result o (single_opens kind s t e) none other end to ends no_gap suffixed at =
       let is : to ≡ past a p = unsuffixed kind end to (λ f. single_no_literal (e ∙ ap (λ (x : LexemeKind). Some x) f)) suffixed ∙ ends in
-      let places = same_past a b p q k w p q (omega arith) (omega arith) (omega (arith, w.filled)) bound in
+      let spots = same_past a b p q k w p q (omega arith) (omega arith) (omega (arith, w.filled)) bound in
       let n : to + q - p ≡ past b q = omega arith in
       rw n (single_next kind none other s t e no_gap (λ f. omega (arith, at.0 f), λ f. omega (arith, at.1 f)))
   other_result o nothing_opens none other end to ends no_gap suffixed at = absurd ends
@@ -541,7 +541,7 @@ module _ (a b : List ℕ) (p q k : ℕ) (w : Window a b p q k) (bound : IsCharBo
             block_result (kind_of o) to end none r.0 s.0 (sym k_is) no_gap (subst (λ x. Ends a p x end) o_is ends) suffixed at
       ]
 
-  -- a lexeme that ends in the window stands in the second text
+  -- a lexeme that ends in the window occurs in the second text
   pub next_same : (follows_apostrophe b q ≡ true → follows_apostrophe a p ≡ true) → (kind : LexemeKind) (to : ℕ) → IsNext a p kind to → kind ≢ Gap → IsAt kind to → (get_or a (p + 1) 0 ≡ 47 → kind ≡ Doc → LineEnds) → IsNext b q kind (to + q - p)
   next_same before kind to n no_gap at last =
       let o = opening_at a p in

@@ -1,5 +1,5 @@
--- The names of lifetimes: a `'` stands directly before each, and no literal opens where an
--- identifier stands alone.
+-- The names of lifetimes: there is a `'` directly before each, and no literal opens where an
+-- identifier is alone.
 use Rattle.std.proofs.Common.{◌≡◌, ◌≢◌, ℕ, ◌+◌, ◌-◌, ◌<◌, ◌≤◌, ◌⊎◌, ◌==◌, ◌&&◌, nat_lt, nat_le, inl, inr, true, false, List, get_or, Option, Some, None, MatchOption, refl, sym, ◌∙◌, ap, subst, arith}
 use Rattle.std.proofs.lemmas.Bool.{cases_Bool, and_parts, and_from, and_left, and_right, eqb-true, ne_eqb, lt-ltb, leb-true, false≢true, cond-false, cond-true, cond_both}
 use Rattle.std.proofs.lemmas.Bool.Decides.{nat_tests}
@@ -16,7 +16,7 @@ use Rattle.logos_lexeme.proofs.CharacterLaws.{past-ascii, character-ascii}
 use Rattle.logos_lexeme.proofs.OpeningLaws.{at_least, at_most}
 use Rattle.logos_lexeme.proofs.again.PrintNames.{Names, raw, plain, nothing, names, raw_parts, start-34, start-35, start-39, continuing-34, continuing-35, continuing-39}
 
--- what stands directly before a place
+-- the character directly before an offset
 
 pub follows-none : (bytes : List ℕ) → follows_apostrophe bytes 0 ≡ false
 unfolding follows_apostrophe
@@ -29,14 +29,14 @@ follows-other bytes at c e other =
     let one : at + 1 - 1 ≡ at = omega arith in
     and_right (nat_lt 0 (at + 1)) (get_or bytes (at + 1 - 1) 0 == 39) (ap (λ i. get_or bytes i 0 == 39) one ∙ ap (λ d. d == 39) e ∙ other)
 
--- the same byte
+-- the bytes are equal
 pub follows-same : (a b : List ℕ) (x y : ℕ) → 0 < x → get_or b (y - 1) 0 ≡ get_or a (x - 1) 0 → follows_apostrophe b y ≡ true → follows_apostrophe a x ≡ true
 unfolding follows_apostrophe
 follows-same a b x y ahead same e =
     let parts = and_parts (nat_lt 0 y) (get_or b (y - 1) 0 == 39) e in
     and_from (nat_lt 0 x) (get_or a (x - 1) 0 == 39) (lt-ltb 0 x ahead) (ap (λ c. c == 39) (sym same) ∙ parts.1)
 
--- the literal that opens at a place
+-- the literal that opens at an offset
 
 pub no_lifetime : (bytes : List ℕ) (at : ℕ) → is_start (character bytes at) ≡ false → is_lifetime_name bytes at ≡ false
 unfolding is_lifetime_name
@@ -87,12 +87,12 @@ module _ (bytes : List ℕ) (to : ℕ) (blank : (get_or bytes to 0 ≡ 32) ⊎ (
   abbrev Letters : ℕ → Type 0
   Letters x = Steps (Passes is_continuing bytes) x to
 
-  -- holds no byte that goes on with no identifier
+  -- holds no byte that continues with no identifier
   no_byte : (x c : ℕ) → Letters x → c < 128 → 32 < c → is_continuing c ≡ false → get_or bytes x 0 ≢ c
   no_byte x c here low visible other e = elim blank [ inl f ↦ omega arith | inr r ↦ elim r [ inl f ↦ omega arith | inr f ↦ omega arith ] ]
   no_byte x c (step s r) low visible other e = false≢true (sym other ∙ ap is_continuing (sym (character-ascii bytes x (omega arith) ∙ e)) ∙ s.passes)
 
-  -- and goes on past a byte that is one of its letters
+  -- and continues past a byte that is one of its letters
   onward : (x c : ℕ) → Letters x → c < 128 → 32 < c → get_or bytes x 0 ≡ c → Letters (x + 1)
   onward x c here low visible e = absurd (elim blank [ inl f ↦ omega arith | inr r ↦ elim r [ inl f ↦ omega arith | inr f ↦ omega arith ] ])
   onward x c (step s r) low visible e = subst (λ m. Letters m) (s.moves ∙ past-ascii bytes x (omega arith)) r

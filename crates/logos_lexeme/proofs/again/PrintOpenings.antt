@@ -1,4 +1,4 @@
--- What opens in a window opens in the second text too.
+-- Lexemes and gaps that open in a window open in the second text.
 use Rattle.std.proofs.Common.{◌≡◌, ◌≢◌, ℕ, ◌+◌, ◌-◌, ◌<◌, ◌≤◌, ◌==◌, ◌&&◌, nat_le, inl, inr, Bool, true, false, cond, Option, Some, None, List, length, get_or, drop, length-drop, get_or-drop, refl, sym, ◌∙◌, ap, arith}
 use Rattle.std.proofs.lemmas.Bool.{cases_lt, cases_Bool, eqb-true, eq-eqb, ne_eqb, false≢true, and_right, cond-true, cond-false}
 use Rattle.std.proofs.lemmas.List.Sums.{prefix_len_is, prefix_len_passes, prefix_len_stops}
@@ -15,7 +15,7 @@ use Rattle.logos_lexeme.specs.declared.lexeme.openings.Opening.TheVariants.{Numb
 use Rattle.logos_lexeme.proofs.CharacterLaws.{inside_from_byte}
 use Rattle.logos_lexeme.proofs.again.PrintWindows.{Window, blank_fails, same_past, past_within}
 
--- so many `#` stand in a row, and another byte behind them
+-- this number of `#` is followed by another byte
 hashes_are : (bytes : List ℕ) (at n : ℕ) → ((i : ℕ) → i < n → get_or bytes (at + i) 0 ≡ 35) → get_or bytes (at + n) 0 ≢ 35 → at ≤ length bytes → hashes bytes at ≡ n
 unfolding hashes
 hashes_are bytes at n all other inside =
@@ -39,12 +39,12 @@ all_hashes : (bytes : List ℕ) (at i : ℕ) → i < hashes bytes at → get_or 
 unfolding hashes
 all_hashes bytes at i l = eqb-true (get_or bytes (at + i) 0) 35 (ap (λ c. c == 35) (sym (get_or-drop at bytes i 0)) ∙ prefix_len_passes (λ c. c == 35) (drop at bytes) i 0 l)
 
--- the same test with the same answers
+-- the two tests have the same results
 cond_same : {A : Type 0} (t : Bool) (x y z v : A) → (t ≡ true → x ≡ z) → (t ≡ false → y ≡ v) → cond t x y ≡ cond t z v
 cond_same true x y z v f g = f refl
 cond_same false x y z v f g = g refl
 
--- where what a literal opens with ends, at most
+-- the greatest end of the characters with which a literal opens
 abbrev pub head_end : List ℕ → ℕ → Opening → ℕ
 head_end bytes from (Quotes content) = from + prefix_of content + 1
 head_end bytes from (Raw content count) = from + prefix_of content + 1 + count + 1
@@ -52,7 +52,7 @@ head_end bytes from (Apostrophes content) = from + prefix_of content + 2
 head_end bytes from Character = past bytes (from + 1) + 1
 head_end bytes from _ = from + 1
 
--- what opens, if anything does, opens in front of a place
+-- an opening, if there is one, ends before an offset
 abbrev Heads : List ℕ → ℕ → ℕ → Option Opening → Type 0
 Heads bytes from to o = (opening : Opening) → o ≡ Some opening → head_end bytes from opening ≤ to
 
@@ -66,7 +66,7 @@ abbrev raw_test : List ℕ → ℕ → ℕ → Bool
 raw_test bytes at count = nat_le count 255 && (get_or bytes (at + count) 0 == 34)
 
 module _ (a b : List ℕ) (p q k : ℕ) (w : Window a b p q k) where
-  -- `#` up to the window's end, and none behind it
+  -- `#` up to the window's end, and none after it
   hashes_cut : (x y : ℕ) → x + q ≡ y + p → p ≤ x → x ≤ p + k → p + k ≤ x + hashes a x → y + hashes b y ≡ q + k
   hashes_cut x y e low high long =
       let n = q + k - y in
@@ -163,7 +163,7 @@ module _ (a b : List ℕ) (p q k : ℕ) (w : Window a b p q k) where
     | inr l ↦ bytes_blank (let f = w.filled in omega arith) ∙ sym (bytes_late l fit)
   ]
 
-  -- the byte behind a character
+  -- the byte after a character
   quote_same : (x y : ℕ) → x + q ≡ y + p → p ≤ x → x ≤ p + k → (x ≡ p + k → (get_or a x 0 == 39) ≡ false) → (get_or b y 0 == 39) ≡ (get_or a x 0 == 39)
   quote_same x y e low high last = elim (eq-or-lt_of_le high) [
     | inl f ↦ blank_fails a b p q k w (λ c. c == 39) refl refl refl y (omega arith) ∙ sym (last f)

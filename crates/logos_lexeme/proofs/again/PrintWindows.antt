@@ -1,5 +1,5 @@
--- Two texts that have the same bytes at two places, and a space, a line feed or nothing behind them
--- in the second text.
+-- Two texts with equal bytes from two offsets on, and with a space, a line feed or nothing after
+-- them in the second text.
 use Rattle.std.proofs.Common.{◌≡◌, ℕ, ◌+◌, ◌-◌, ◌<◌, ◌≤◌, ◌⊎◌, inl, inr, Bool, false, List, ◌∷◌, ◌++◌, length, get_or, take, drop, slice_range, IsUtf8, encode_utf8, length-append, sym, ◌∙◌, ap, arith, take-append-drop, ext_get_or}
 use Rattle.std.proofs.lemmas.List.{get_or_past}
 use Rattle.std.proofs.lemmas.List.Edits.{length-between, get_or-between}
@@ -18,15 +18,15 @@ head_of_text front rest text utf8 filled e =
     let head : chars_of text ≡ f.0 ∷ (chars_of f.1 ++ chars_of rest) = whole ∙ ap (λ xs. xs ++ chars_of rest) cs in
     ap (λ (xs : List ℕ). get_or xs 0 0) head ∙ sym (ap (λ (xs : List ℕ). get_or xs 0 0) cs)
 
--- the first character stands inside
+-- the first character is inside
 head_fits : (front : List ℕ) → IsUtf8 front → 0 < length front → len_utf8 (get_or (chars_of front) 0 0) ≤ length front
 head_fits front utf8 filled =
     let f = first_char front utf8 filled in
     let c : get_or (chars_of front) 0 0 ≡ f.0 = ap (λ (xs : List ℕ). get_or xs 0 0) (chars_past_char front f.1 f.0 utf8 f.2) in
     rw c (omega (arith, ap length f.2, length-append (encode_utf8 f.0) f.1, length-encode f.0))
 
--- the bytes of the first text from `p` are those of the second one from `q`, so many of them, and
--- there the window ends
+-- this number of bytes of the first text from `p` on are those of the second one from `q` on, and
+-- the window ends there
 pub record Window (a b : List ℕ) (p q k : ℕ) : Type 0 where
   pub utf8 : IsUtf8 a
   pub ends : IsCharBoundary a (p + k)
@@ -37,7 +37,7 @@ pub record Window (a b : List ℕ) (p q k : ℕ) : Type 0 where
   pub blank : (get_or b (q + k) 0 ≡ 32) ⊎ ((get_or b (q + k) 0 ≡ 10) ⊎ (q + k ≡ length b))
 
 module _ (a b : List ℕ) (p q k : ℕ) (w : Window a b p q k) where
-  -- a test that a space, a line feed and 0 fail fails behind the window
+  -- a test that a space, a line feed and 0 fail fails after the window
   pub blank_fails : (test : ℕ → Bool) → test 32 ≡ false → test 10 ≡ false → test 0 ≡ false → (y : ℕ) → y ≡ q + k → test (get_or b y 0) ≡ false
   blank_fails test s l n y e = rw e (elim w.blank [
     | inl f ↦ ap test f ∙ s
@@ -47,7 +47,7 @@ module _ (a b : List ℕ) (p q k : ℕ) (w : Window a b p q k) where
     ]
   ])
 
-  -- the byte behind the window is no other one
+  -- the byte after the window is no other one
   pub blank_byte : (y : ℕ) → y ≡ q + k → (get_or b y 0 ≡ 32) ⊎ ((get_or b y 0 ≡ 10) ⊎ (get_or b y 0 ≡ 0))
   blank_byte y e = rw e (elim w.blank [
     | inl f ↦ inl f

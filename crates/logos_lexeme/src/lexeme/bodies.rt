@@ -1,14 +1,14 @@
-//! Checks the contents of literals and reads the pieces of strings. The ends of literals are tested
-//! here once they are found, and `logos_token` reads the values of literals with it.
+//! Checks the contents of literals and reads the pieces of strings. `lexeme_at` calls it once it
+//! knows the end of a literal, and `logos_token` calls it to read the values of literals.
 
 ghost use Rattle.std.specs.Prelude.{◌≡◌, ℕ, ◌+◌, ◌^◌, ◌<◌, ◌≤◌, ◌↔◌, ◌==◌, ◌||◌, Bool, true, List, IsTrue, IsFalse, length, slice_index, slice_range, MatchOption};
-ghost use Rattle.logos_lexeme.specs.Views.{digit_value, IsFirst, Steps, Ends, is_simple, simple_value, is_hex, hex_value, greatest_of, digits_between, is_blank, BreaksLine, IsEscape, IsHexEscape, IsUnicodeEscape, IsAllowed, StandsFor, IsPiece, IsCharacterPiece, IsSound, bytes_of, ReadsByte, IsPlain};
+ghost use Rattle.logos_lexeme.specs.Views.{digit_value, IsFirst, Steps, Ends, is_simple, simple_value, is_hex, hex_value, greatest_of, digits_between, is_blank, BreaksLine, IsEscape, IsHexEscape, IsUnicodeEscape, IsAllowed, Represents, IsPiece, IsCharacterPiece, IsSound, bytes_of, ReadsByte, IsPlain};
 
 use crate::lexeme::characters::byte_at;
 use crate::lexeme::ends::prefix_of;
 use crate::lexeme::openings::{Content, Opening};
 
-/// The letter of an escape of two hexadecimal digits, and that of an escape with braces.
+/// The letters of the escapes `\xNN` and `\u{..}`.
 const LETTER_X: u8 = b'x';
 
 const LETTER_U: u8 = b'u';
@@ -24,7 +24,7 @@ pub enum Piece {
     Character(char),
 }
 
-/// Returns whether `letter` after a backslash is an escape by itself.
+/// Returns whether `letter` after a backslash is a complete escape.
 #[tactic(auto, unfolding(crate::specs::LiteralBodies::is_simple))]
 fn is_simple(letter: u8) -> bool
     ensures { result ≡ is_simple letter }
@@ -32,7 +32,7 @@ fn is_simple(letter: u8) -> bool
     b"nrt\\0'\"".contains(&letter)
 }
 
-/// Returns the byte that `letter` after a backslash stands for.
+/// Returns the byte that `letter` after a backslash denotes.
 #[tactic(auto, unfolding(crate::specs::LiteralBodies::simple_value))]
 fn simple_value(letter: u8) -> u8
     ensures { result ≡ simple_value letter }
@@ -52,7 +52,7 @@ fn simple_value(letter: u8) -> u8
     letter
 }
 
-/// Returns whether `byte` is a space, tab, LF or CR.
+/// Returns whether `byte` is a space, a tab, LF or CR.
 #[tactic(auto, unfolding(crate::specs::LiteralBodies::is_blank))]
 fn is_blank(byte: u8) -> bool
     ensures { result ≡ is_blank byte }
@@ -69,7 +69,7 @@ fn digit_of(byte: u8) -> Option<u32>
     char::from(byte).to_digit(16)
 }
 
-/// Returns the greatest byte that `\xNN` can stand for in a literal of this content.
+/// Returns the greatest byte that `\xNN` can denote in a literal of this content.
 fn greatest_of(content: Content) -> u32
     ensures { result ≡ greatest_of content }
 {
@@ -79,8 +79,8 @@ fn greatest_of(content: Content) -> u32
     }
 }
 
-/// Returns the byte that `\xNN` at the byte offset `at` stands for. `None` if a digit is missing or
-/// the byte is too great.
+/// Returns the byte that `\xNN` at the byte offset `at` denotes. Returns `None` if a digit is
+/// missing or the byte is too great.
 fn hex_escape(source: &str, content: Content, at: usize) -> Option<u8>
     requires within { at ≤ length source.now }
     requires backslash { slice_index source.now at ≡ 92 }
@@ -99,7 +99,7 @@ fn hex_escape(source: &str, content: Content, at: usize) -> Option<u8>
     Some(value as u8)
 }
 
-/// Returns whether `byte` can stand among the digits of `\u{..}`.
+/// Returns whether `byte` can be one of the digits of `\u{..}`, or `_`.
 fn is_digit_or_line(byte: u8) -> bool
     ensures { result ≡ (is_hex byte || (byte == 95)) }
 {
@@ -124,7 +124,7 @@ fn digits_end(source: &str, from: usize) -> usize
     end
 }
 
-/// The digits read so far: their count and the number that they write.
+/// The digits that have been read: their number and the number that they spell.
 #[derive(Clone, Copy)]
 struct Digits {
     count: u32,
@@ -132,7 +132,8 @@ struct Digits {
 }
 
 impl Digits {
-    /// Adds one byte. A `_` changes nothing; `None` if the byte is a seventh digit.
+    /// Returns the digits with one byte added. A `_` changes nothing. Returns `None` if the byte is
+    /// a seventh digit.
     fn with(self, byte: u8) -> Option<Digits>
         requires few { self.count ≤ 6 }
         requires small { self.value < 16 ^ self.count }
@@ -152,7 +153,7 @@ impl Digits {
     }
 }
 
-/// Returns the number that the digits of a span write. `None` if there are more than six.
+/// Returns the number that the digits in a span spell. Returns `None` if there are more than six.
 fn number_between(source: &str, from: usize, to: usize) -> Option<u32>
     requires begun { from ≤ to }
     requires within { to ≤ length source.now }
@@ -168,8 +169,8 @@ fn number_between(source: &str, from: usize, to: usize) -> Option<u32>
     Some(digits.value)
 }
 
-/// Returns the character that `\u{..}` at the byte offset `at` stands for, and the byte offset of
-/// its closing brace.
+/// Returns the character that `\u{..}` at the byte offset `at` denotes, and the byte offset of its
+/// closing brace.
 fn unicode_escape(source: &str, at: usize) -> Option<(char, usize)>
     requires within { at ≤ length source.now }
     requires backslash { slice_index source.now at ≡ 92 }
@@ -244,7 +245,7 @@ fn blanks_end(source: &str, from: usize) -> usize
     end
 }
 
-/// Returns whether `byte` can stand for itself, or for a part of a character that does.
+/// Returns whether `byte` can represent itself or is part of a character that can.
 fn is_allowed(content: Content, byte: u8) -> bool
     ensures { IsTrue result ↔ IsAllowed content byte }
 {
@@ -257,7 +258,7 @@ fn is_allowed(content: Content, byte: u8) -> bool
     }
 }
 
-/// Returns the value of the byte at `at` that stands for itself, or of the line break CR LF, and
+/// Returns the value of the byte at `at` that represents itself, or of the line break CR LF, and
 /// the byte offset after it.
 fn plain_at(source: &str, content: Content, at: usize) -> Option<(Piece, usize)>
     requires { at ≤ length source.now }
@@ -276,12 +277,12 @@ fn plain_at(source: &str, content: Content, at: usize) -> Option<(Piece, usize)>
 }
 
 /// Returns the value of the piece of a string at the byte offset `at`, and the byte offset after
-/// it. `None` if there is no piece. `escapes` says whether the string has escapes.
+/// it. Returns `None` if there is no piece. `escapes` is whether the string has escapes.
 pub fn piece_at(source: &str, escapes: bool, content: Content, at: usize) -> Option<(Piece, usize)>
     requires { at ≤ length source.now }
     ensures { MatchOption result
-        ((next : ℕ) (held : List ℕ) → StandsFor escapes content source.now at next held → ⊥)
-        (λ found. StandsFor escapes content source.now at found.1 (bytes_of found.0)) }
+        ((next : ℕ) (held : List ℕ) → Represents escapes content source.now at next held → ⊥)
+        (λ found. Represents escapes content source.now at found.1 (bytes_of found.0)) }
 {
     if !escapes {
         return plain_at(source, content, at);
@@ -339,8 +340,8 @@ fn is_character(source: &str, content: Content, from: usize, to: usize) -> bool
     }
 }
 
-/// Returns whether the contents of a literal keep to its rules. The literal opens at `from` and
-/// ends at `end`, without its suffix. Anything that is not a literal keeps to them.
+/// Returns whether the literal that opens at `from` and ends at `end`, without its suffix, is
+/// well-formed inside. Returns `true` for anything that is not a literal.
 pub(crate) fn is_sound(source: &str, from: usize, opens: Opening, end: usize) -> bool
     requires inside { from < length source.now }
     requires ends { Ends source.now from opens end }

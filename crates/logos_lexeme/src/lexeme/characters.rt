@@ -1,7 +1,8 @@
-//! Reads bytes and characters at byte offsets of a source text, and classifies characters.
+//! Reads bytes and characters at byte offsets of a source text, and classifies characters. All
+//! modules of this crate and `logos_token` call it.
 
 ghost use Rattle.std.specs.Prelude.{◌≡◌, ◌<◌, ◌≤◌, length, slice_index};
-ghost use Rattle.logos_lexeme.specs.Words.{IsCharBoundary, character, past, is_space, is_start, is_continuing, is_mark};
+ghost use Rattle.logos_lexeme.specs.Imports.{IsCharBoundary, character, past, is_space, is_start, is_continuing, is_mark};
 
 /// Returns the byte at `at`, or 0 at the end of the source and after it.
 pub fn byte_at(source: &str, at: usize) -> u8

@@ -1,5 +1,5 @@
-//! Finds the end of the lexeme or gap that opens at a byte offset. `lexeme_at` asks it once the
-//! opening is known.
+//! Finds the end of the lexeme or gap that opens at a byte offset. `lexeme_at` calls it once it
+//! knows the opening.
 
 ghost use Rattle.std.specs.Prelude.{◌≡◌, ◌≢◌, ℕ, ◌+◌, ◌-◌, ◌<◌, ◌≤◌, ◌↔◌, length, slice_index, MatchOption, IsTrue};
 ghost use Rattle.logos_lexeme.specs.Views.{IsCharBoundary, past, is_space, is_continuing, Run, IsFirst, Passes, opening_at, prefix_of, IsLineEnd, Closes, IsName, IsSuffix, has_base, GoesOn, ReachesQuote, IsRawEnd, IsQuoted, IsRaw, Ends, IsOnward};
@@ -7,7 +7,7 @@ ghost use Rattle.logos_lexeme.specs.Views.{IsCharBoundary, past, is_space, is_co
 use crate::lexeme::characters::{byte_at, char_at, is_continuing, is_space, past};
 use crate::lexeme::openings::{Content, Opening, name_at};
 
-/// Returns the byte offset after the white space that comes first.
+/// Returns the byte offset after the white space at `from`.
 fn spaces_end(source: &str, from: usize) -> usize
     requires { IsCharBoundary source.now from }
     ensures { Run (Passes is_space source.now) from result }
@@ -19,7 +19,7 @@ fn spaces_end(source: &str, from: usize) -> usize
     end
 }
 
-/// Returns the byte offset after the characters that continue an identifier.
+/// Returns the byte offset after the characters at `from` that continue an identifier.
 fn letters_end(source: &str, from: usize) -> usize
     requires { IsCharBoundary source.now from }
     ensures run { Run (Passes is_continuing source.now) from result }
@@ -32,7 +32,7 @@ fn letters_end(source: &str, from: usize) -> usize
     end
 }
 
-/// Returns whether the number that begins at `from` starts with a base.
+/// Returns whether the number that begins at `from` starts with a base prefix, such as `0x`.
 #[tactic(auto, unfolding(crate::specs::LexemeEnds::has_base))]
 fn has_base(source: &str, from: usize) -> bool
     requires { from < length source.now }
@@ -68,7 +68,7 @@ fn number_step(source: &str, based: bool, at: usize) -> Option<usize>
     None
 }
 
-/// Returns the byte offset after the rest of a number.
+/// Returns the byte offset after the rest of a number, which begins at `from`.
 fn number_end(source: &str, based: bool, from: usize) -> usize
     requires boundary { IsCharBoundary source.now from }
     requires begun { 0 < from }
@@ -110,8 +110,8 @@ fn line_end(source: &str, from: usize) -> usize
     end
 }
 
-/// Takes one step inside block comments. Returns how many comments are open after it, and the byte
-/// offset; `None` at the end of the source.
+/// Takes one step inside block comments. Returns the number of comments that are open after it, and
+/// the byte offset. Returns `None` at the end of the source.
 fn block_step(source: &str, depth: usize, at: usize) -> Option<(usize, usize)>
     requires open { 0 < depth }
     requires shallow { depth ≤ at + 1 }
@@ -135,7 +135,7 @@ fn block_step(source: &str, depth: usize, at: usize) -> Option<(usize, usize)>
 }
 
 /// Returns the byte offset after a block comment whose text begins at `from`, after its `/*`.
-/// `None` if it has no end.
+/// Returns `None` if it has no end.
 fn block_end(source: &str, from: usize) -> Option<usize>
     requires { from ≤ length source.now + 2 }
     ensures { MatchOption result
@@ -152,7 +152,7 @@ fn block_end(source: &str, from: usize) -> Option<usize>
     Some(at)
 }
 
-/// Returns how many bytes `byte` takes inside quotes, together with what it escapes.
+/// Returns the number of bytes that `byte` and the byte it escapes take inside quotes.
 fn width_of(byte: u8) -> usize
     ensures escaped { byte ≡ 92 → result ≡ 2 }
     ensures plain { byte ≢ 92 → result ≡ 1 }
@@ -191,7 +191,7 @@ fn quote_end(source: &str, quote: u8, body: usize) -> Option<usize>
     Some(at + 1)
 }
 
-/// Returns whether a quote followed by `count` `#` stands at the byte offset `at`.
+/// Returns whether a quote followed by `count` `#` is at the byte offset `at`.
 fn is_raw_end(source: &str, count: u8, at: usize) -> bool
     requires { at < length source.now }
     ensures { IsTrue result ↔ IsRawEnd count source.now at }
@@ -207,8 +207,8 @@ fn is_raw_end(source: &str, count: u8, at: usize) -> bool
     true
 }
 
-/// Returns the byte offset after a raw string whose contents begin at `body`. `None` if it has no
-/// end.
+/// Returns the byte offset after a raw string whose contents begin at `body`. Returns `None` if it
+/// has no end.
 fn raw_end(source: &str, count: u8, body: usize) -> Option<usize>
     ensures { MatchOption result
         ((to : ℕ) → IsRaw count source.now body to → ⊥)
@@ -248,7 +248,7 @@ pub(crate) fn suffix_end(source: &str, at: usize) -> usize
     }
 }
 
-/// Returns how many bytes stand before the `r`, `'` or quote of a literal.
+/// Returns the number of bytes before the `r`, `'` or quote of a literal.
 pub fn prefix_of(content: Content) -> usize
     ensures { result ≡ prefix_of content }
 {
@@ -258,8 +258,8 @@ pub fn prefix_of(content: Content) -> usize
     }
 }
 
-/// Returns the byte offset after what opens at `from`, without the suffix of a literal. `None` if
-/// it has no end.
+/// Returns the byte offset after the lexeme or gap that opens at `from`, without the suffix of a
+/// literal. Returns `None` if it has no end.
 pub fn end_of(source: &str, from: usize, opens: Opening) -> Option<usize>
     requires inside { from < length source.now }
     requires boundary { IsCharBoundary source.now from }

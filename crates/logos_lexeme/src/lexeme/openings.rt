@@ -1,4 +1,5 @@
-//! Classifies what opens at a byte offset of a source text. `lexeme_at` asks it first.
+//! Classifies the lexeme or gap that opens at a byte offset of a source text. `lexeme_at` calls it
+//! first.
 
 ghost use Rattle.std.specs.Prelude.{◌≡◌, ◌+◌, ◌<◌, ◌≤◌, min, length, slice_index};
 ghost use Rattle.logos_lexeme.specs.Views.{is_ascii_digit, IsCharBoundary, hashes, raw_opening, string_opening, character_opening, bytes_opening, literal_opening, line_kind, block_kind, comment_opening, name_at, spacing, delimiter_kind, single_kind, other_opening, follows_apostrophe, is_lifetime_name, literal_at, opening_at, kind_of};
@@ -6,7 +7,7 @@ ghost use Rattle.logos_lexeme.specs.Views.{is_ascii_digit, IsCharBoundary, hashe
 use crate::lexeme::characters::{byte_at, char_at, is_mark, is_space, is_start, past};
 use crate::lexeme::{Delimiter, LexemeKind, Spacing};
 
-/// What a literal can hold.
+/// The contents that a literal can have.
 #[derive(Clone, Copy)]
 pub enum Content {
     /// Characters.
@@ -17,7 +18,7 @@ pub enum Content {
     C,
 }
 
-/// The lexemes and gaps by how they open.
+/// The lexemes and gaps, classified by their first characters.
 #[derive(Clone, Copy)]
 pub enum Opening {
     /// White space.
@@ -44,7 +45,7 @@ pub enum Opening {
     Nothing,
 }
 
-/// Counts the `#` that stand in a row, up to 256.
+/// Returns the number of consecutive `#` from `from` on, at most 256.
 fn count_hashes(source: &str, from: usize) -> usize
     requires { from ≤ length source.now + 2 }
     ensures { result ≡ min 256 (hashes source.now from) }
@@ -72,7 +73,7 @@ fn raw_opening(content: Content, source: &str, at: usize) -> Option<Opening>
     Some(Opening::Raw(content, count as u8))
 }
 
-/// Returns the string that opens after a `b` or `c`, or at once.
+/// Returns the string that opens after a `b` or `c`, or directly at `at`.
 #[tactic(auto, unfolding(crate::specs::LexemeOpenings::string_opening))]
 fn string_opening(content: Content, source: &str, at: usize) -> Option<Opening>
     requires { at ≤ length source.now + 1 }
@@ -104,7 +105,7 @@ fn character_opening(source: &str, at: usize) -> Option<Opening>
     None
 }
 
-/// Returns the literal of bytes that opens after a `b`.
+/// Returns the byte or byte string literal that opens after a `b`.
 #[tactic(auto, unfolding(crate::specs::LexemeOpenings::bytes_opening))]
 fn bytes_opening(source: &str, at: usize) -> Option<Opening>
     requires { at ≤ length source.now }
@@ -139,7 +140,7 @@ fn literal_opening(source: &str, at: usize) -> Option<Opening>
     string_opening(Content::Text, source, at)
 }
 
-/// Returns whether a line comment is documentation, by what follows its `//`.
+/// Returns whether a line comment is documentation, given the offset after its `//`.
 #[tactic(auto, unfolding(crate::specs::LexemeOpenings::line_kind))]
 fn line_kind(source: &str, at: usize) -> LexemeKind
     requires { at ≤ length source.now + 2 }
@@ -154,7 +155,7 @@ fn line_kind(source: &str, at: usize) -> LexemeKind
     }
 }
 
-/// Returns whether a block comment is documentation, by what follows its `/*`.
+/// Returns whether a block comment is documentation, given the offset after its `/*`.
 #[tactic(auto, unfolding(crate::specs::LexemeOpenings::block_kind))]
 fn block_kind(source: &str, at: usize) -> LexemeKind
     requires { at ≤ length source.now + 2 }
@@ -188,7 +189,8 @@ fn comment_opening(source: &str, at: usize) -> Option<Opening>
     None
 }
 
-/// Returns where the name of an identifier begins, if one stands here: after its `r#`, or at once.
+/// Returns the byte offset at which the name of an identifier begins: after its `r#`, or at `at`.
+/// Returns `None` if no identifier begins at `at`.
 #[tactic(auto, unfolding(crate::specs::LexemeOpenings::name_at))]
 pub(crate) fn name_at(source: &str, at: usize) -> Option<usize>
     requires { IsCharBoundary source.now at }
@@ -206,7 +208,7 @@ pub(crate) fn name_at(source: &str, at: usize) -> Option<usize>
     None
 }
 
-/// Returns whether punctuation that ends here is joint.
+/// Returns whether punctuation that ends at `at` is joint.
 #[tactic(auto, unfolding(crate::specs::LexemeOpenings::spacing))]
 fn spacing(source: &str, at: usize) -> Spacing
     requires { IsCharBoundary source.now at }
@@ -222,7 +224,7 @@ fn spacing(source: &str, at: usize) -> Spacing
     Spacing::Joint
 }
 
-/// Returns what kind of delimiter a character is, if it is one.
+/// Returns the kind of delimiter that a character is. Returns `None` if it is not a delimiter.
 #[tactic(auto, unfolding(crate::specs::LexemeOpenings::delimiter_kind))]
 fn delimiter_kind(c: char) -> Option<LexemeKind>
     ensures { result ≡ delimiter_kind c }
@@ -248,7 +250,7 @@ fn delimiter_kind(c: char) -> Option<LexemeKind>
     None
 }
 
-/// Returns the kind of the lexeme of one character that stands here, if one does.
+/// Returns the kind of the one-character lexeme at a byte offset, if there is one.
 #[tactic(auto, unfolding(crate::specs::LexemeOpenings::single_kind))]
 fn single_kind(source: &str, at: usize) -> Option<LexemeKind>
     requires inside { at < length source.now }
@@ -269,7 +271,7 @@ fn single_kind(source: &str, at: usize) -> Option<LexemeKind>
     delimiter_kind(c)
 }
 
-/// Returns what opens where no literal and no comment does.
+/// Returns the opening at a byte offset at which neither a literal nor a comment opens.
 #[tactic(auto, unfolding(crate::specs::LexemeOpenings::other_opening))]
 fn other_opening(source: &str, at: usize) -> Opening
     requires inside { at < length source.now }
@@ -288,7 +290,7 @@ fn other_opening(source: &str, at: usize) -> Opening
     Opening::Nothing
 }
 
-/// Returns whether a `'` stands directly before a byte offset.
+/// Returns whether there is a `'` directly before a byte offset.
 #[tactic(auto, unfolding(crate::specs::LexemeOpenings::follows_apostrophe))]
 fn follows_apostrophe(source: &str, at: usize) -> bool
     ensures { result ≡ follows_apostrophe source.now at }
@@ -299,8 +301,8 @@ fn follows_apostrophe(source: &str, at: usize) -> bool
     byte_at(source, at - 1) == b'\''
 }
 
-/// Returns whether the name of a lifetime begins at a byte offset: what can begin an identifier,
-/// directly after `'`.
+/// Returns whether the name of a lifetime begins at a byte offset: a character that can begin an
+/// identifier, directly after `'`.
 #[tactic(auto, unfolding(crate::specs::LexemeOpenings::is_lifetime_name))]
 fn is_lifetime_name(source: &str, at: usize) -> bool
     requires { IsCharBoundary source.now at }
@@ -312,7 +314,8 @@ fn is_lifetime_name(source: &str, at: usize) -> bool
     is_start(char_at(source, at))
 }
 
-/// Returns the literal that opens at a byte offset; none opens where the name of a lifetime begins.
+/// Returns the literal that opens at a byte offset. No literal opens where the name of a lifetime
+/// begins.
 #[tactic(auto, unfolding(crate::specs::LexemeOpenings::literal_at))]
 fn literal_at(source: &str, at: usize) -> Option<Opening>
     requires inside { at < length source.now }
@@ -325,8 +328,8 @@ fn literal_at(source: &str, at: usize) -> Option<Opening>
     literal_opening(source, at)
 }
 
-/// Returns what opens at a byte offset: a literal wherever one opens, else a comment, else what the
-/// character can begin.
+/// Returns the opening at a byte offset: a literal if one opens there, otherwise a comment,
+/// otherwise the lexeme that the character can begin.
 #[tactic(auto, unfolding(crate::specs::LexemeOpenings::opening_at))]
 pub fn opening_at(source: &str, at: usize) -> Opening
     requires inside { at < length source.now }
@@ -342,7 +345,7 @@ pub fn opening_at(source: &str, at: usize) -> Opening
     other_opening(source, at)
 }
 
-/// Returns the kind of the lexeme or gap that opens so.
+/// Returns the kind of a lexeme or gap that opens as `opens`.
 pub(crate) fn kind_of(opens: Opening) -> LexemeKind
     ensures { result ≡ kind_of opens }
 {

@@ -1,6 +1,6 @@
 -- The search for a column.
 use Rattle.std.specs.Prelude.{ℕ, ◌+◌, ◌==◌, ◌&&◌, ◌||◌, not, if◌then◌else◌, Bool}
-use Rattle.logos_lines.specs.Places.{continues}
+use Rattle.logos_lines.specs.Locations.{continues}
 
 -- Whether the search for a column ends before a character that begins with this byte.
 abbrev pub ends_search : ℕ → ℕ → ℕ → Bool

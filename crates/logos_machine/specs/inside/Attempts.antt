@@ -1,9 +1,9 @@
--- What contracts see of a try.
+-- The views of an attempt in contracts.
 use Rattle.std.specs.Prelude.{ℕ, Option, option_map}
 use Rattle.logos_hir.specs.declared.leaf.LeafId.{LeafId}
 use Rattle.logos_automaton.specs.Munch.{Found, ended, matched, failed}
-use Rattle.logos_code.specs.Runs.{Stand, Turn, enters, acts, returns}
-use Rattle.logos_machine.specs.declared.machine.attempt.Stand.{Stand as TheStand}
+use Rattle.logos_code.specs.Runs.{Status, Turn, enters, acts, returns}
+use Rattle.logos_machine.specs.declared.machine.attempt.Status.{Status as TheStatus}
 use Rattle.logos_machine.specs.declared.machine.attempt.Turn.{Turn as TheTurn}
 use Rattle.logos_machine.specs.declared.machine.attempt.Turn.TheVariants.{Enters, Acts, Returns}
 use Rattle.logos_machine.specs.declared.machine.attempt.Found.{Found as TheFound}
@@ -12,11 +12,11 @@ use Rattle.logos_machine.specs.declared.machine.attempt.Found.TheVariants.{Ended
 abbrev pub context_of : Option (LeafId × ℕ) → Option (ℕ × ℕ)
 context_of = option_map (λ c. (c.0.0, c.1))
 
-abbrev pub stand_of : TheStand → Stand
-stand_of at = record { state = at.state; offset = at.offset; context = context_of at.context }
+abbrev pub status_of : TheStatus → Status
+status_of at = record { state = at.state; offset = at.offset; context = context_of at.context }
 
 abbrev pub turn_of : TheTurn → Turn
-turn_of (Enters next) = enters (stand_of next)
+turn_of (Enters next) = enters (status_of next)
 turn_of (Acts context offset) = acts (context_of context) offset
 turn_of Returns = returns
 

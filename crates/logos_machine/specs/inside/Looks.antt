@@ -1,46 +1,46 @@
--- What contracts see of the fast way of a try.
+-- The views of the fast path of an attempt in contracts.
 use Rattle.std.specs.Prelude.{◌≡◌, ℕ, ◌+◌, ◌-◌, ◌<◌, ◌≤◌, ◌⊎◌, List, length, drop, Option, Some}
 use Rattle.std.specs.List.{prefix_len}
 use Rattle.logos_automaton.specs.Munch.{Found, ended, matched, failed}
 use Rattle.logos_code.specs.Bytes.{passes_test}
 use Rattle.logos_code.specs.Code.{CodeValue}
 use Rattle.logos_code.specs.LastMarks.{Stood}
-use Rattle.logos_code.specs.Rows.{IsStepOf, IsUse, LeadsToPlace}
-use Rattle.logos_code.specs.Runs.{enters, acts, Does, Goes, Tries}
-use Rattle.logos_machine.specs.inside.Stands.{IsStand, StaysWithin}
+use Rattle.logos_code.specs.Rows.{IsStepOf, IsUse, LeadsToRowStart}
+use Rattle.logos_code.specs.Runs.{enters, acts, Does, Goes, Attempts}
+use Rattle.logos_machine.specs.inside.IsAt.{IsStatus, StaysWithin}
 use Rattle.logos_code.specs.declared.code.rows.MatchUse.TheVariants.{Emits, Skips}
 use Rattle.logos_code.specs.declared.code.rows.Step.{Step}
 use Rattle.logos_code.specs.declared.code.rows.Step.TheVariants.{Leads, Stays, Halts, Looks, Closes, Stuck, Unsaid}
 use Rattle.logos_machine.specs.declared.machine.walk.Outcome.{Outcome}
-use Rattle.logos_machine.specs.declared.machine.walk.Outcome.TheVariants.{Skips as SkipsTo, Emits as EmitsTo, Asks as AsksTo, Fails, Ends}
+use Rattle.logos_machine.specs.declared.machine.walk.Outcome.TheVariants.{Skips as SkipsTo, Emits as EmitsTo, CallsBack as CallsBackTo, Fails, Ends}
 
--- Where the bytes end that pass a test.
+-- The end of the bytes that pass a test.
 abbrev pub StopsAt : CodeValue → ℕ → List ℕ → ℕ → ℕ → Type 0
 StopsAt code test bytes from stop = stop ≡ from + prefix_len (passes_test code.bit_tables test) (drop from bytes)
 
 module _ (code : CodeValue) (bytes : List ℕ) (start : ℕ) where
-  -- The state leads to another one, whatever was passed before.
+  -- The state leads to another one, regardless of the mark passed before.
   abbrev pub LeadsOn : (state offset stop next : ℕ) → Type 0
   LeadsOn state offset stop next = (context : Option (ℕ × ℕ)) → (passed : Option (ℕ × ℕ)) ×
       Does code bytes start (record { state = state; offset = offset; context = context }) (enters (record { state = next; offset = stop + 1; context = passed }))
 
-  -- The try ends in the state with a match of the leaf up to the stop.
+  -- The attempt ends in the state with a match of the leaf up to the stop.
   abbrev pub EndsHere : (state offset stop leaf : ℕ) → Type 0
   EndsHere state offset stop leaf = (context : Option (ℕ × ℕ)) →
       Does code bytes start (record { state = state; offset = offset; context = context }) (acts (Some (leaf, stop)) stop)
 
-  -- Or in the next one, one byte later, with a match up to the end.
+  -- The attempt ends in the next state, one byte later, with a match of the leaf up to `end`.
   abbrev pub EndsNext : (state offset stop leaf end : ℕ) → Type 0
   EndsNext state offset stop leaf end = (context : Option (ℕ × ℕ)) → (next : ℕ) × (passed : Option (ℕ × ℕ)) ×
       Does code bytes start (record { state = state; offset = offset; context = context }) (enters (record { state = next; offset = stop + 1; context = passed })) ×
       Does code bytes start (record { state = next; offset = stop + 1; context = passed }) (acts (Some (leaf, end)) (stop + 1))
 
-  -- Or in the state itself, with what was passed.
+  -- The attempt ends in the state itself, with the last mark passed.
   abbrev pub EndsStuck : (state offset stop : ℕ) → Type 0
   EndsStuck state offset stop = (context : Option (ℕ × ℕ)) → (passed : Option (ℕ × ℕ)) ×
       Does code bytes start (record { state = state; offset = offset; context = context }) (acts passed stop)
 
-  -- A step that is seen from a state on is what the state does. Its fast loop ends at the stop.
+  -- The step in the state is the turn of the state. Its fast loop ends at the stop.
   abbrev pub Sees : (state offset stop : ℕ) → Step → Type 0
   Sees state offset stop (Leads next) = LeadsOn state offset stop next
   Sees state offset stop (Stays test) = Unit {0}
@@ -50,46 +50,48 @@ module _ (code : CodeValue) (bytes : List ℕ) (start : ℕ) where
   Sees state offset stop Stuck = stop < length bytes → EndsStuck state offset stop
   Sees state offset stop Unsaid = Unit {0}
 
-  -- The try enters the state after so many others, and what goes on from there is the whole try.
+  -- The attempt enters the state after `before` others, and its continuation from there is the
+  -- whole attempt.
   pub record Comes (state offset before : ℕ) : Type 0 where
     pub context : Option (ℕ × ℕ)
-    pub stands : IsStand code bytes start (record { state = state; offset = offset; context = context })
+    pub is_at : IsStatus code bytes start (record { state = state; offset = offset; context = context })
     pub stood : Stood code bytes start (record { state = state; offset = offset; context = context })
     pub few : before + start ≤ offset
-    pub goes_on : (found : Found) (n : ℕ) → Goes code bytes start (record { state = state; offset = offset; context = context }) found n → Tries code bytes start found (before + n)
+    pub goes_on : (found : Found) (n : ℕ) → Goes code bytes start (record { state = state; offset = offset; context = context }) found n → Attempts code bytes start found (before + n)
 
-  -- The try comes to the state after so many others, its fast loop ends at the stop, and the entry
-  -- says what the state does there.
+  -- The attempt enters the state after `before` others, its fast loop ends at the stop, and the
+  -- entry represents the step of the state there.
   pub record Reaches (state entry stop before : ℕ) : Type 0 where
     pub offset : ℕ
     pub comes : Comes state offset before
     pub past : offset ≤ stop
     pub within : stop ≤ length bytes
     pub sees : (step : Step) → IsStepOf entry step → Sees state offset stop step
-    pub place : LeadsToPlace entry
+    pub row_start : LeadsToRowStart entry
 
-  -- A try finds this in so many states.
+  -- An attempt has this result in this number of states.
   pub record Tried (found : Found) (steps : ℕ) : Type 0 where
-    pub tries : Tries code bytes start found steps
+    pub attempts : Attempts code bytes start found steps
     pub within : StaysWithin code bytes start found
     pub few : steps ≤ (length bytes - start) + 2
 
-  -- What a try finds.
+  -- The meaning of an outcome.
   abbrev pub IsOutcome : Outcome → Type 0
   IsOutcome (SkipsTo to) = (leaf : ℕ) × (steps : ℕ) × Tried (matched leaf to) steps × IsUse code leaf Skips
   IsOutcome (EmitsTo leaf to steps) = Tried (matched leaf.0 to) steps × IsUse code leaf.0 Emits
-  IsOutcome (AsksTo leaf to steps) = Tried (matched leaf.0 to) steps
+  IsOutcome (CallsBackTo leaf to steps) = Tried (matched leaf.0 to) steps
   IsOutcome (Fails to steps) = Tried (failed to) steps
   IsOutcome (Ends steps) = Tried ended steps
 
--- An entry that comes after those that lead and stay, or that leads at a byte.
+-- An entry whose kind comes after those that continue an attempt, or one that continues it on a
+-- byte.
 abbrev pub GoesOnOrEnds : List ℕ → (entry stop : ℕ) → Type 0
 GoesOnOrEnds bytes entry stop = ((entry < 268435456) × (stop < length bytes)) ⊎ (536870912 ≤ entry)
 
--- What the entry at the stop says of the state that is entered at the offset.
+-- The meaning of the entry at the stop for the state that is entered at the offset.
 pub record LooksAhead (code : CodeValue) (bytes : List ℕ) (state offset entry stop : ℕ) : Type 0 where
   pub past : offset ≤ stop
   pub within : stop ≤ length bytes
   pub moves : GoesOnOrEnds bytes entry stop
   pub sees : (start : ℕ) → start ≤ offset → (step : Step) → IsStepOf entry step → Sees code bytes start state offset stop step
-  pub place : LeadsToPlace entry
+  pub row_start : LeadsToRowStart entry

@@ -1,62 +1,62 @@
-//! The slow way of a try: state by state, with a note of the last mark passed. `walk` takes it
-//! where entries do not say which mark was passed last, and `part` for inputs whose rest is not
+//! The slow path of an attempt: state by state, recording the last mark passed. `walk` takes it if
+//! entries do not determine which mark was passed last, and `part` for inputs whose rest is not
 //! known.
 
 ghost use Rattle.std.specs.Prelude.{◌≡◌, ◌+◌, ◌-◌, ◌<◌, ◌≤◌, ℕ, max, length, slice_get, drop, option_map, IfSome, IsTrue, IsCharBoundary, ◌^◌, ◌↔◌};
-ghost use Rattle.logos_machine.specs.Views.{state_at, mark_by, Does, Tries, EndsError, target, looped, marked, IsStand, StaysWithin, context_of, stand_of, turn_of, found_of};
+ghost use Rattle.logos_machine.specs.Views.{state_at, mark_by, Does, Attempts, EndsError, target, looped, marked, IsStatus, StaysWithin, context_of, status_of, turn_of, found_of};
 
 use super::fast_loop::stop;
 use logos_code::code::Code;
 use logos_code::code::signs::Sign;
 use logos_hir::leaf::LeafId;
 
-/// In UTF-8 the bytes from the first of these on, and below the second, continue a character.
+/// The bytes from the first constant on, and below the second, are UTF-8 continuation bytes.
 const CONTINUES: u8 = 128;
 
 const LEADS: u8 = 192;
 
-/// Where a try stands as it enters a state.
+/// The status of an attempt as it enters a state.
 #[derive(Clone, Copy)]
-pub(super) struct Stand {
+pub(super) struct Status {
     pub state: usize,
     pub offset: usize,
-    /// The last mark passed: its leaf, and where the match ends.
+    /// The last mark passed: its leaf, and the end of its match.
     pub context: Option<(LeafId, usize)>,
 }
 
-/// What a state does.
+/// The turn of a state in an attempt.
 #[derive(Clone, Copy)]
 pub(super) enum Turn {
-    Enters(Stand),
-    /// The try is over at this offset, with this last mark.
+    Enters(Status),
+    /// The attempt ends at this offset, with this last mark.
     Acts(Option<(LeafId, usize)>, usize),
-    /// The input is over, and nothing was read in this try.
+    /// The input ends, and no byte was read in this attempt.
     Returns,
 }
 
-/// What a try finds.
+/// The result of an attempt.
 #[derive(Clone, Copy)]
 pub(super) enum Found {
     Ended,
     /// A match of this leaf up to this offset.
     Matched(LeafId, usize),
-    /// No match; the error ends at this offset.
+    /// No match. The error ends at this offset.
     Failed(usize),
 }
 
-/// Where a state's fast loop ends.
+/// The end of a state's fast loop.
 #[derive(Clone, Copy)]
 pub(super) struct LoopEnd {
     pub offset: usize,
-    /// Where the byte there leads, if a byte is there.
+    /// The target of the byte there, if there is a byte.
     pub target: Option<Option<usize>>,
 }
 
-/// Does what the entered state does.
+/// Returns the turn of the entered state.
 #[inline]
-fn run_state(code: &Code, input: &[u8], start: usize, at: Stand) -> Turn
-    requires { IsStand code.now input.now start (stand_of at) }
-    ensures { Does code.now input.now start (stand_of at) (turn_of result) }
+fn run_state(code: &Code, input: &[u8], start: usize, at: Status) -> Turn
+    requires { IsStatus code.now input.now start (status_of at) }
+    ensures { Does code.now input.now start (status_of at) (turn_of result) }
 {
     let stop = stop_of(code, input, at.state, at.offset);
     let target = match stop.target {
@@ -66,7 +66,7 @@ fn run_state(code: &Code, input: &[u8], start: usize, at: Stand) -> Turn
     };
     let context = marked(code.sign(at.state), stop.offset, at.context);
     match target {
-        Some(state) => Turn::Enters(Stand {
+        Some(state) => Turn::Enters(Status {
             state,
             offset: stop.offset + 1,
             context,
@@ -75,7 +75,7 @@ fn run_state(code: &Code, input: &[u8], start: usize, at: Stand) -> Turn
     }
 }
 
-/// Returns where the state's fast loop ends, and where the byte there leads.
+/// Returns the end of the state's fast loop, and the target of the byte there.
 #[inline]
 pub(super) fn stop_of(code: &Code, input: &[u8], state: usize, offset: usize) -> LoopEnd
     requires { state < length code.now.states }
@@ -136,8 +136,8 @@ pub(super) fn marked(
     }
 }
 
-/// Returns the end of an error that has come to the offset: after one byte at least, and in UTF-8
-/// mode between characters.
+/// Returns the end of an error of an attempt that has reached the offset: after at least one byte,
+/// and in UTF-8 mode between characters.
 #[cold]
 #[inline(never)]
 pub(super) fn error_end(code: &Code, input: &[u8], start: usize, offset: usize) -> usize
@@ -154,7 +154,7 @@ pub(super) fn error_end(code: &Code, input: &[u8], start: usize, offset: usize) 
     }
 }
 
-/// Returns the first boundary between characters from the offset on.
+/// Returns the first character boundary from the offset on.
 fn boundary_from(input: &[u8], from: usize) -> usize
     requires { from ≤ length input.now }
     ensures past { from ≤ result }
@@ -168,24 +168,24 @@ fn boundary_from(input: &[u8], from: usize) -> usize
     to
 }
 
-/// Returns whether the byte continues a character.
+/// Returns whether the byte is a UTF-8 continuation byte.
 fn is_continuation(byte: u8) -> bool
     ensures { IsTrue result ↔ (CONTINUES ≤ byte) × (byte < LEADS) }
 {
     matches!(byte, 0x80..=0xBF)
 }
 
-/// Returns what is found from a point on, and how many states were entered, by a try that notes the
-/// marks passed.
+/// Returns the result of an attempt from a point on that records the marks passed, and the number
+/// of states that it entered.
 #[cold]
 #[inline(never)]
 pub(super) fn attempt_with_marks(code: &Code, input: &[u8], start: usize) -> (Found, usize)
     requires { start ≤ length input.now }
-    ensures tries { Tries code.now input.now start (found_of result.0) result.1 }
+    ensures attempts { Attempts code.now input.now start (found_of result.0) result.1 }
     ensures within { StaysWithin code.now input.now start (found_of result.0) }
     ensures few { result.1 ≤ (length input.now - start) + 2 }
 {
-    let mut at = Stand {
+    let mut at = Status {
         state: code.root(),
         offset: start,
         context: None,

@@ -1,5 +1,5 @@
-//! Fast loops: where the bytes end that pass a test. Both ways of a try call it in a state that has
-//! one.
+//! Fast loops: find the end of the bytes that pass a test. Both paths of an attempt call it in a
+//! state that has a fast loop.
 
 ghost use Rattle.std.specs.Prelude.{◌≡◌, ◌+◌, ◌/◌, ◌%◌, ◌<◌, ◌≤◌, length, map, not, slice_index};
 ghost use Rattle.logos_machine.specs.Views.{mask_l, passes_test, NamesTest, StopsAt};
@@ -38,11 +38,12 @@ fn stopping(code: &Code, test: usize, block: &[u8; 16]) -> u64
     (near | far).simd_eq(u8x16::splat(0)).to_bitmask()
 }
 
-/// For the upper half of a byte below 128: the number that has this bit alone. For the others: 0.
+/// For the upper half of a byte below 128, the number with only the bit of that index. For other
+/// bytes, 0.
 const NEAR: [u8; 16] = [1, 2, 4, 8, 16, 32, 64, 128, 0, 0, 0, 0, 0, 0, 0, 0];
 
-/// For the upper half of a byte from 128 on: the number that has the bit alone whose index is 8
-/// less. For the others: 0.
+/// For the upper half of a byte from 128 on, the number with only the bit whose index is 8 less.
+/// For other bytes, 0.
 const FAR: [u8; 16] = [0, 0, 0, 0, 0, 0, 0, 0, 1, 2, 4, 8, 16, 32, 64, 128];
 
 /// Looks up the lower half of each byte in the sixteen entries of a mask from an index on.
@@ -62,7 +63,7 @@ fn by_high(bits: [u8; 16], bytes: u8x16) -> u8x16
     u8x16::from_array(bits).swizzle_dyn_within::<16>(bytes >> u8x16::splat(4))
 }
 
-/// Does what `stop` does, where a run is long.
+/// Acts as `stop`, for long runs of bytes.
 #[cold]
 #[inline(never)]
 fn stop_far(code: &Code, test: usize, input: &[u8], from: usize) -> usize
@@ -81,7 +82,7 @@ fn stop_far(code: &Code, test: usize, input: &[u8], from: usize) -> usize
     stop_late(code, test, input, at)
 }
 
-/// Does what `stop` does, byte by byte, where fewer than sixteen bytes are left.
+/// Acts as `stop`, byte by byte, for fewer than sixteen remaining bytes.
 #[cold]
 #[inline(never)]
 fn stop_late(code: &Code, test: usize, input: &[u8], from: usize) -> usize

@@ -1,36 +1,37 @@
 //! Lexing of a part of an input, whose rest is not known. `logos_stream` calls it for each item,
 //! and `logos_relex` for the items of a chunk.
 
-ghost use Rattle.std.specs.Prelude.{◌≡◌, ◌+◌, ◌<◌, ◌≤◌, length, false, MatchOption};
-ghost use Rattle.logos_machine.specs.Views.{IsStand, answers_of, stand_of, DoesWithin, EndsHere, EndsOpen, GivesWithin, IsSettled, KeepsGiven, Moves, Waits};
+ghost use Rattle.std.specs.Prelude.{◌≡◌, ◌<◌, ◌≤◌, ◌+◌, drop, length, false, List, ℕ, MatchBool};
+ghost use Rattle.logos_machine.specs.Views.{IsStatus, answers_of, fork_of, looped, status_of, state_at, DoesWithin, HasBranches, IsClosed, IsOpen, IsSettled, KeepsGiven, Moves, NoBranches, TakesMatches};
 
-use super::attempt::{Stand, error_end, marked, stop_of};
+use super::attempt::{Status, error_end, marked, stop_of};
 use super::{Action, Item, Lexer, error, matched_item};
-use logos_code::code::Code;
+use logos_code::code::{Code, Fork};
 use logos_hir::leaf::LeafId;
 use logos_token::token::Span;
 
-/// What a lexer finds in a part of an input.
+/// The result of a lexer in a part of an input.
 #[derive(Clone, Copy, Debug)]
 pub enum Within<'i> {
-    /// An item. It is the next one whatever follows the part.
+    /// An item. It is the next item regardless of the bytes after the part.
     Item(Item<'i>),
-    /// What comes next depends on the bytes after the part.
+    /// The next match attempt has reached the end of the part, in a state from which more bytes, or
+    /// the end of the input, can continue it.
     More,
     /// The end of the input.
     End,
 }
 
 impl<'c, 's, 'i, C: Fn(LeafId, &[u8]) -> Action> Lexer<'c, 's, 'i, C> {
-    /// Returns the next item of an input of which the lexer has a part. If it is the last part,
-    /// this does what `next` does. If more may follow, an item is returned only if it is the next
-    /// one whatever follows the part.
+    /// Returns the next item of an input of which the lexer has a part. On the last part, this is
+    /// equivalent to `next`. If more bytes may follow, it returns an item only if it is the next
+    /// one regardless of the bytes after the part.
     ///
-    /// After `More`, the lexer stands after the matches that give no item, with an empty span, and
-    /// what the next try finds depends on what follows. To go on, put more bytes after `remainder`,
-    /// and make a lexer of these.
+    /// After `More`, the lexer is after the matches without an item, with an empty span. The next
+    /// match attempt has reached the end of the part, and more bytes or the end of the input can
+    /// continue it. To continue, append more bytes to `remainder`, and make a lexer for these.
     pub fn next_within(&mut self, last: bool) -> Within<'i>
-        requires { C.IsAlwaysCallable self.old.callback }
+        requires { TakesMatches C.Fn self.old.code self.old.callback }
         ensures keeps { KeepsGiven self.old self.new }
         ensures does { DoesWithin last (answers_of C.Fn self.old.callback) self.old self.new
             result }
@@ -44,9 +45,9 @@ impl<'c, 's, 'i, C: Fn(LeafId, &[u8]) -> Action> Lexer<'c, 's, 'i, C> {
         }
     }
 
-    /// Returns the next item, if it is the same whatever follows the part.
+    /// Returns the next item, if it is the same regardless of the bytes after the part.
     fn next_in_part(&mut self) -> Within<'i>
-        requires { C.IsAlwaysCallable self.old.callback }
+        requires { TakesMatches C.Fn self.old.code self.old.callback }
         ensures keeps { KeepsGiven self.old self.new }
         ensures does { DoesWithin false (answers_of C.Fn self.old.callback) self.old self.new
             result }
@@ -60,17 +61,17 @@ impl<'c, 's, 'i, C: Fn(LeafId, &[u8]) -> Action> Lexer<'c, 's, 'i, C> {
                 Settled::Matched(leaf, to, steps) => {
                     let span = Span { from, to };
                     if let Some(item) = matched_item(code, part, &self.callback, leaf, span) {
-                        self.stand_after(from, to, steps);
+                        self.status_after(from, to, steps);
                         return Within::Item(item);
                     }
                     from = to;
                 }
                 Settled::Failed(to, steps) => {
-                    self.stand_after(from, to, steps);
+                    self.status_after(from, to, steps);
                     return Within::Item(error(part, Span { from, to }));
                 }
                 Settled::Open => {
-                    self.stand_after(from, from, steps);
+                    self.status_after(from, from, steps);
                     return Within::More;
                 }
             }
@@ -78,39 +79,40 @@ impl<'c, 's, 'i, C: Fn(LeafId, &[u8]) -> Action> Lexer<'c, 's, 'i, C> {
     }
 }
 
-/// What a state does in a part.
+/// The turn of a state in a part.
 #[derive(Clone, Copy)]
 enum Move {
-    Enters(Stand),
-    /// The try is over at this offset, with this last mark.
+    Enters(Status),
+    /// The attempt ends at this offset, with this last mark.
     Acts(Option<(LeafId, usize)>, usize),
-    /// It looks at the end of the part.
+    /// The attempt has reached the end of the part, and can continue from there.
     Waits,
 }
 
-/// What a try finds in a part. The last numbers are how many states were entered.
+/// The result of an attempt in a part. The last numbers are the numbers of states that were
+/// entered.
 #[derive(Clone, Copy)]
 enum Settled {
     /// A match of this leaf up to this offset.
     Matched(LeafId, usize, usize),
     /// No match. The error ends at this offset.
     Failed(usize, usize),
-    /// It looks at the end of the part.
+    /// The attempt has reached the end of the part, and its result is open.
     Open,
 }
 
-/// Does what the entered state does, if it stops before a byte of the part.
-fn move_in_part(code: &Code, part: &[u8], start: usize, at: Stand) -> Move
-    requires { IsStand code.now part.now start (stand_of at) }
-    ensures { Moves code.now part.now start (stand_of at) result }
+/// Returns the turn of the entered state, if no byte after the part can change it.
+fn move_in_part(code: &Code, part: &[u8], start: usize, at: Status) -> Move
+    requires { IsStatus code.now part.now start (status_of at) }
+    ensures { Moves code.now part.now start (status_of at) result }
 {
     let stop = stop_of(code, part, at.state, at.offset);
     let Some(target) = stop.target else {
-        return Move::Waits;
+        return move_at_end(code, part, start, at);
     };
     let context = marked(code.sign(at.state), stop.offset, at.context);
     match target {
-        Some(state) => Move::Enters(Stand {
+        Some(state) => Move::Enters(Status {
             state,
             offset: stop.offset + 1,
             context,
@@ -119,27 +121,60 @@ fn move_in_part(code: &Code, part: &[u8], start: usize, at: Stand) -> Move
     }
 }
 
-/// Returns the end of an error that has come to the offset, if it is the same whatever follows the
-/// part: in UTF-8 mode the character at the part's end may not be whole.
-fn error_end_in_part(code: &Code, part: &[u8], start: usize, offset: usize) -> Option<usize>
-    requires start { start < length part.now }
-    requires offset { offset ≤ length part.now }
-    ensures { MatchOption result (EndsOpen code.now part.now start offset)
-        (EndsHere code.now part.now start offset) }
+/// Returns the turn of a state whose fast loop reaches the end of the part. A state without
+/// transitions ends the attempt at once, so that the match of `;` needs no byte after it.
+fn move_at_end(code: &Code, part: &[u8], start: usize, at: Status) -> Move
+    requires status { IsStatus code.now part.now start (status_of at) }
+    requires past { length part.now
+        ≤ at.offset + looped code.now (state_at code.now at.state).fast_loop (drop at.offset part.now) }
+    ensures { Moves code.now part.now start (status_of at) result }
 {
-    let to = error_end(code, part, start, offset);
-    if code.is_utf8() & (to >= part.len()) {
-        return None;
+    if at.offset <= start {
+        return Move::Waits;
     }
-    Some(to)
+    if is_closed(code, at.state) {
+        let context = marked(code.sign(at.state), at.offset, at.context);
+        return Move::Acts(context, at.offset);
+    }
+    Move::Waits
 }
 
-/// Returns what is found from a point on by a try that looks at the part alone.
+/// Returns whether the state has no transition on a byte or on the end of the input, and no fast
+/// loop.
+fn is_closed(code: &Code, state: usize) -> bool
+    requires { state < length code.now.states }
+    ensures { MatchBool result (IsClosed (state_at code.now state))
+        (IsOpen (state_at code.now state)) }
+{
+    if code.fast_loop(state).is_some() {
+        return false;
+    }
+    if code.at_end(state).is_some() {
+        return false;
+    }
+    if has_branches(&code.parts().states[state].fork) {
+        return false;
+    }
+    true
+}
+
+/// Returns whether a fork has a branch.
+fn has_branches(fork: &Fork) -> bool
+    ensures { (tables : List (List ℕ)) → MatchBool result
+        (HasBranches (fork_of tables fork.now)) (NoBranches (fork_of tables fork.now)) }
+{
+    match fork {
+        Fork::Conditions(branches) => !branches.is_empty(),
+        Fork::Table(_) => true,
+    }
+}
+
+/// Returns the result of an attempt from a point on, if it depends only on the part.
 fn attempt_in_part(code: &Code, part: &[u8], start: usize) -> Settled
     requires { start ≤ length part.now }
     ensures { IsSettled code.now part.now start result }
 {
-    let mut at = Stand {
+    let mut at = Status {
         state: code.root(),
         offset: start,
         context: None,
@@ -150,10 +185,7 @@ fn attempt_in_part(code: &Code, part: &[u8], start: usize) -> Settled
             Move::Enters(next) => at = next,
             Move::Acts(Some((leaf, to)), _) => return Settled::Matched(leaf, to, before + 1),
             Move::Acts(None, offset) => {
-                return match error_end_in_part(code, part, start, offset) {
-                    Some(to) => Settled::Failed(to, before + 1),
-                    None => Settled::Open,
-                };
+                return Settled::Failed(error_end(code, part, start, offset), before + 1);
             }
             Move::Waits => return Settled::Open,
         }

@@ -1,7 +1,8 @@
-//! The fast way of a try: a look at an entry for each byte. `Lexer::next` calls it for each try.
+//! The fast path of an attempt: one load of an entry for each byte. `Lexer::next` calls it for each
+//! attempt.
 
 ghost use Rattle.std.specs.Prelude.{◌≡◌, ◌<◌, ◌≤◌, ◌/◌, ◌%◌, length, slice_index_or};
-ghost use Rattle.logos_machine.specs.Views.{state_at, IsSound, IsEntry, IsPlace, Reaches, LooksAhead, IsOutcome};
+ghost use Rattle.logos_machine.specs.Views.{state_at, IsSound, IsEntry, IsRowStart, Reaches, LooksAhead, IsOutcome};
 
 use super::attempt::{Found, attempt_with_marks, error_end};
 use super::fast_loop::stop;
@@ -12,23 +13,24 @@ use logos_code::code::rows::{
 };
 use logos_hir::leaf::LeafId;
 
-/// What a try finds. The numbers after leaves are the end of the match and how many states were
-/// entered.
+/// The outcome of an attempt. The numbers after leaves are the end of the match and the number of
+/// states that were entered.
 #[derive(Clone, Copy)]
 pub enum Outcome {
-    /// A match up to this offset that is skipped.
+    /// A skipped match up to this offset.
     Skips(usize),
     /// A match that is a token.
     Emits(LeafId, usize, usize),
-    /// A match that may be up to a callback.
-    Asks(LeafId, usize, usize),
-    /// No match. The error ends at this offset, after so many states.
+    /// A match whose leaf may have a callback.
+    CallsBack(LeafId, usize, usize),
+    /// No match. The error ends at this offset, and the second number is the number of states that
+    /// were entered.
     Fails(usize, usize),
-    /// The end of the input, after so many states.
+    /// The end of the input, and the number of states that were entered.
     Ends(usize),
 }
 
-/// Returns what is found from a point of the input on.
+/// Returns the outcome of an attempt from a point of the input on.
 #[inline(always)]
 pub fn attempt(code: &Code, input: &[u8], start: usize) -> Outcome
     requires { start ≤ length input.now }
@@ -42,15 +44,15 @@ pub fn attempt(code: &Code, input: &[u8], start: usize) -> Outcome
         return Outcome::Emits(LeafId((first - CLOSES) as usize), start + 1, 2);
     }
     if first >= STAYS {
-        return end_of(code, input, start, (first, start, 0, code.root_place()));
+        return end_of(code, input, start, (first, start, 0, code.root_row_start()));
     }
     let last = walk(code, input, start, first);
     end_of(code, input, start, last)
 }
 
-/// Returns what is found from a point on by a try that notes the marks passed. Only that try is
-/// called out of line: its result is in memory, and this one is made anew from it, so that the
-/// compiler can hold it in registers.
+/// Returns the outcome of an attempt from a point on that records the marks passed. Only this
+/// attempt is called out of line: its result is in memory, and the outcome is created from it, so
+/// that the compiler can keep the outcome in registers.
 #[inline(always)]
 fn attempt_slowly(code: &Code, input: &[u8], start: usize) -> Outcome
     requires { start ≤ length input.now }
@@ -58,13 +60,14 @@ fn attempt_slowly(code: &Code, input: &[u8], start: usize) -> Outcome
 {
     match attempt_with_marks(code, input, start) {
         (Found::Ended, steps) => Outcome::Ends(steps),
-        (Found::Matched(leaf, to), steps) => Outcome::Asks(leaf, to, steps),
+        (Found::Matched(leaf, to), steps) => Outcome::CallsBack(leaf, to, steps),
         (Found::Failed(to), steps) => Outcome::Fails(to, steps),
     }
 }
 
-/// Returns what a try finds that ends with this entry, where and after so many states, in the state
-/// at a point.
+/// Returns the outcome of an attempt that ends at entry `last`. The numbers of `last` are the
+/// entry, the offset of its byte, the number of states that were entered before its state, and the
+/// row offset of the state.
 #[inline(always)]
 fn end_of(code: &Code, input: &[u8], start: usize, last: (u32, usize, usize, usize)) -> Outcome
     requires sound { IsSound code.now }
@@ -73,7 +76,7 @@ fn end_of(code: &Code, input: &[u8], start: usize, last: (u32, usize, usize, usi
     requires ends { LEAVES ≤ last.0 }
     ensures { IsOutcome code.now input.now start result }
 {
-    let (entry, stop, before, place) = last;
+    let (entry, stop, before, row_start) = last;
     if entry < HALTS {
         return Outcome::Skips(stop);
     }
@@ -89,19 +92,19 @@ fn end_of(code: &Code, input: &[u8], start: usize, last: (u32, usize, usize, usi
     }
     if entry < ASKS_AFTER {
         let (leaf, late) = halted(entry - ASKS);
-        return Outcome::Asks(leaf, stop, before + 1 + late);
+        return Outcome::CallsBack(leaf, stop, before + 1 + late);
     }
     if entry < STUCK {
-        return Outcome::Asks(LeafId((entry - ASKS_AFTER) as usize), stop + 1, before + 2);
+        return Outcome::CallsBack(LeafId((entry - ASKS_AFTER) as usize), stop + 1, before + 2);
     }
     if entry < UNSAID && stop < input.len() {
-        return stuck(code, input, start, (entry, stop, before, place));
+        return stuck(code, input, start, (entry, stop, before, row_start));
     }
     attempt_slowly(code, input, start)
 }
 
-/// Returns what a try finds that ends before a byte that leads nowhere. Where the last mark passed
-/// is known of its last state, the try need not be made again.
+/// Returns the outcome of an attempt that ends before a byte that leads nowhere. If the last mark
+/// passed is known for its last state, the attempt need not be repeated.
 #[inline(always)]
 fn stuck(code: &Code, input: &[u8], start: usize, last: (u32, usize, usize, usize)) -> Outcome
     requires sound { IsSound code.now }
@@ -111,16 +114,16 @@ fn stuck(code: &Code, input: &[u8], start: usize, last: (u32, usize, usize, usiz
     requires inside { last.1 < length input.now }
     ensures { IsOutcome code.now input.now start result }
 {
-    let (_, stop, before, place) = last;
-    match code.last_mark(place) {
-        LastMark::Back(leaf, bytes) => Outcome::Asks(leaf, stop - bytes, before + 1),
+    let (_, stop, before, row_start) = last;
+    match code.last_mark(row_start) {
+        LastMark::Back(leaf, bytes) => Outcome::CallsBack(leaf, stop - bytes, before + 1),
         LastMark::Never => Outcome::Fails(error_end(code, input, start, stop), before + 1),
         _ => attempt_slowly(code, input, start),
     }
 }
 
-/// Returns the leaf of a match that ends before the byte, and how many states were entered after
-/// the one that has the entry, from the entry without its kind.
+/// Returns the leaf of a match that ends before the byte, and the number of states that were
+/// entered after the state of the entry, given the entry without its kind.
 #[inline(always)]
 fn halted(entry: u32) -> (LeafId, usize)
     ensures leaf { result.0.0 ≡ entry % LATE }
@@ -129,8 +132,8 @@ fn halted(entry: u32) -> (LeafId, usize)
     (LeafId((entry % LATE) as usize), (entry / LATE) as usize)
 }
 
-/// Returns the last entry of a try, where its byte is, how many states were entered before the one
-/// that has it, and the offset of this state.
+/// Returns the last entry of an attempt, the offset of its byte, the number of states that were
+/// entered before its state, and the row offset of this state.
 #[inline(always)]
 fn walk(code: &Code, input: &[u8], start: usize, first: u32) -> (u32, usize, usize, usize)
     requires sound { IsSound code.now }
@@ -140,45 +143,45 @@ fn walk(code: &Code, input: &[u8], start: usize, first: u32) -> (u32, usize, usi
     ensures reaches { Reaches code.now input.now start (result.3 / WIDTH) result.0 result.1 result.2 }
     ensures ends { LEAVES ≤ result.0 }
 {
-    let mut place = first as usize;
+    let mut row_start = first as usize;
     let mut at = start + 1;
     let mut before = 1;
     while at < input.len() {
-        let entry = code.entry(place, input[at]);
+        let entry = code.entry(row_start, input[at]);
         if entry < STAYS {
-            place = entry as usize;
+            row_start = entry as usize;
             at += 1;
             before += 1;
             continue;
         }
         if entry >= LEAVES {
-            return (entry, at, before, place);
+            return (entry, at, before, row_start);
         }
-        let (later, stop) = look_far(code, input, place, at, entry);
+        let (later, stop) = look_far(code, input, row_start, at, entry);
         if later >= STAYS {
-            return (later, stop, before, place);
+            return (later, stop, before, row_start);
         }
-        place = later as usize;
+        row_start = later as usize;
         at = stop + 1;
         before += 1;
     }
-    (code.last_entry(place), at, before, place)
+    (code.last_entry(row_start), at, before, row_start)
 }
 
-/// Returns the entry after a fast loop, and where its byte is.
+/// Returns the entry after a fast loop, and the offset of its byte.
 #[inline(always)]
-fn look_far(code: &Code, input: &[u8], place: usize, at: usize, entry: u32) -> (u32, usize)
+fn look_far(code: &Code, input: &[u8], row_start: usize, at: usize, entry: u32) -> (u32, usize)
     requires sound { IsSound code.now }
-    requires place { IsPlace code.now place }
+    requires row_start { IsRowStart code.now row_start }
     requires at { at < length input.now }
     requires stays { (STAYS ≤ entry) × (entry < LEAVES) }
-    requires entry { IsEntry code.now (state_at code.now (place / WIDTH))
+    requires entry { IsEntry code.now (state_at code.now (row_start / WIDTH))
         (slice_index_or input.now at 0) entry }
-    ensures { LooksAhead code.now input.now (place / WIDTH) at result.0 result.1 }
+    ensures { LooksAhead code.now input.now (row_start / WIDTH) at result.0 result.1 }
 {
     let stop = stop(code, (entry - STAYS) as usize, input, at + 1);
     if stop >= input.len() {
-        return (code.last_entry(place), stop);
+        return (code.last_entry(row_start), stop);
     }
-    (code.entry(place, input[stop]), stop)
+    (code.entry(row_start, input[stop]), stop)
 }

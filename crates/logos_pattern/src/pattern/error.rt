@@ -1,3 +1,3 @@
-//! The faults of a pattern.
+//! Re-exports the errors of patterns.
 
 pub use logos_pattern_tokens::error::{Kind, PatternError};

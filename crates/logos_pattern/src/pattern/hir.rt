@@ -1,3 +1,3 @@
-//! The tree of a pattern.
+//! Re-exports the tree of a pattern.
 
 pub use logos_hir::hir::{Class, Hir, Look, Range};

@@ -1,4 +1,5 @@
-//! The literals of patterns, with their values.
+//! The literals of patterns, with their values. The readers of attributes make them, and `pattern`
+//! compiles them.
 
 ghost use Rattle.std.specs.Prelude.{◌≡◌, ◌<◌, ◌++◌, OnOk, string_bytes, IfOk, IfSome, option_map};
 ghost use Rattle.logos_pattern.specs.Views.{flat_map, chars, is_metacharacter, escaped_character, upper_digit, escaped_byte, escaped_bytes, IsValue, token_of, held_value, is_unicode, held_bytes, escaped};
@@ -31,7 +32,7 @@ pub enum Literal<'s> {
     Bytes(ByteStringLiteral<'s>),
 }
 
-/// Returns whether the character means something other than itself in a pattern.
+/// Returns whether the character has a special meaning in a pattern.
 fn is_metacharacter(character: char) -> bool
     ensures { result ≡ is_metacharacter character }
 {
@@ -52,7 +53,7 @@ fn upper_digit(value: u8) -> char
     char::from(b'A' + (value - 10))
 }
 
-/// Appends the text of a pattern that matches the character alone.
+/// Appends the text of a pattern that matches exactly this character.
 fn push_character(text: &mut String, character: char) -> Result<(), AllocError>
     ensures { OnOk result (string_bytes text.new ≡
         string_bytes text.old ++ escaped_character character) }
@@ -63,7 +64,7 @@ fn push_character(text: &mut String, character: char) -> Result<(), AllocError>
     text.push(character)
 }
 
-/// Appends the text of a pattern that matches the string alone.
+/// Appends the text of a pattern that matches exactly this string.
 fn push_text(text: &mut String, value: &str) -> Result<(), AllocError>
     ensures { OnOk result (string_bytes text.new ≡
         string_bytes text.old ++ flat_map escaped_character (chars value.now)) }
@@ -74,8 +75,8 @@ fn push_text(text: &mut String, value: &str) -> Result<(), AllocError>
     Ok(())
 }
 
-/// Appends a byte of a byte string as the text of a pattern. If `literal` holds, that pattern
-/// matches the byte alone.
+/// Appends a byte of a byte string as the text of a pattern. If `literal` is `true`, that pattern
+/// matches exactly this byte.
 fn push_byte(text: &mut String, literal: bool, byte: u8) -> Result<(), AllocError>
     ensures { OnOk result (string_bytes text.new ≡
         string_bytes text.old ++ escaped_byte literal byte) }
@@ -91,8 +92,8 @@ fn push_byte(text: &mut String, literal: bool, byte: u8) -> Result<(), AllocErro
     text.push(char::from(byte))
 }
 
-/// Appends the bytes of a byte string as the text of a pattern. If `literal` holds, that pattern
-/// matches these bytes alone.
+/// Appends the bytes of a byte string as the text of a pattern. If `literal` is `true`, that
+/// pattern matches exactly these bytes.
 fn push_bytes(text: &mut String, literal: bool, value: &[u8]) -> Result<(), AllocError>
     ensures { OnOk result (string_bytes text.new ≡
         string_bytes text.old ++ escaped_bytes literal value.now) }
@@ -105,7 +106,7 @@ fn push_bytes(text: &mut String, literal: bool, value: &[u8]) -> Result<(), Allo
 
 impl<'s> Literal<'s> {
     /// Reads the value of a token that is a string or a byte string. Returns `None` for any other
-    /// literal. Does not look at the token's suffix.
+    /// literal. Ignores the token's suffix.
     ///
     /// # Errors
     ///
@@ -128,7 +129,7 @@ impl<'s> Literal<'s> {
         }
     }
 
-    /// Returns the token that the literal was read from.
+    /// Returns the token from which the literal was read.
     pub fn token(&self) -> token::Literal<'s>
         ensures { result ≡ token_of self.now }
     {
@@ -155,7 +156,7 @@ impl<'s> Literal<'s> {
         self.token().span
     }
 
-    /// Returns the bytes of the literal's value. Those of a string are its UTF-8.
+    /// Returns the bytes of the literal's value. The bytes of a string are its UTF-8.
     pub fn value(&self) -> &[u8]
         ensures { result.now ≡ held_bytes self.now }
     {
@@ -165,9 +166,9 @@ impl<'s> Literal<'s> {
         }
     }
 
-    /// Returns the value as the text of a pattern, in which each byte of a byte string above 7F is
-    /// `\xNN`. If `literal` holds, each of ``\ . + * ? ( ) | [ ] { } ^ $ # & - ~`` has a `\` before
-    /// it, so that the pattern matches the value and nothing else.
+    /// Returns the value as the text of a pattern, where each byte of a byte string above 7F is
+    /// `\xNN`. If `literal` is `true`, each of ``\ . + * ? ( ) | [ ] { } ^ $ # & - ~`` has a `\`
+    /// before it, so that the pattern matches exactly the value.
     ///
     /// # Errors
     ///

@@ -1,11 +1,11 @@
--- A bracket as it is written, from the left.
+-- The parts of a bracket, from the left.
 use Rattle.std.specs.Prelude.{Bool}
 use Rattle.logos_pattern_tokens.specs.declared.bracket.token.BracketItem.{BracketItem}
 use Rattle.logos_pattern_tokens.specs.declared.bracket.token.Lead.{Lead}
 use Rattle.logos_hir.specs.declared.sets.operands.SetOperator.{SetOperator}
 
 mutual
-  -- Whether the bracket is negated, the literals at its front, and what comes after them.
+  -- Whether the bracket is negated, the literals at its front, and the operands after them.
   pub data Bracket : Type 0 where
     bracket : Bool → Lead → Operands → Bracket
 

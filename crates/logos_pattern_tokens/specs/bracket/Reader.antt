@@ -65,7 +65,7 @@ unfoldable pub lead_at : Text → Lead × Text
 lead_at [] = (Dashes 0, [])
 lead_at (c ∷ rest) = if c == 93 then (LoneBracket, rest) else (Dashes (dashes_from 0 (c ∷ rest)).0, (dashes_from 0 (c ∷ rest)).1)
 
--- After `[`.
+-- The text after `[`.
 unfoldable pub open_at : Text → Bool × Lead × Text
 open_at text =
     if begins 94 text then (true, (lead_at (drop 1 text)).0, (lead_at (drop 1 text)).1)
@@ -82,19 +82,19 @@ class_end negated name (c ∷ rest) = if c == 93 then option_map (λ kind. (toke
 unfoldable pub name_end : Bool → Text → Option (BracketToken × Text)
 name_end negated text = cut_at 58 text >>= (λ x. class_end negated x.0 x.1)
 
--- After `[:`.
+-- The text after `[:`.
 unfoldable pub colon_at : Text → Option (BracketToken × Text)
 colon_at [] = None
 colon_at (c ∷ rest) = if c == 94 then name_end true rest else name_end false (c ∷ rest)
 
--- After `[`.
+-- The text after `[`.
 unfoldable pub class_at : Text → Option (BracketToken × Text)
 class_at [] = None
 class_at (c ∷ rest) = if c == 58 then colon_at rest else None
 
 -- ---- tokens.
 
--- A class, or else a nested bracket.
+-- A class, or the start of a nested bracket.
 unfoldable pub inner_at : Text → BracketToken × Text
 inner_at text = unwrap_or (class_at text) (tokens.Open (open_at text).0 (open_at text).1, (open_at text).2)
 

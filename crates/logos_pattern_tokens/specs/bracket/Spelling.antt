@@ -1,4 +1,4 @@
--- How a bracket is written.
+-- The spelling of brackets.
 use Rattle.std.specs.Prelude.{◌≡◌, ◌≢◌, ℕ, ◌≤◌, Bool, true, false, not, ◌&&◌, ◌||◌, ◌==◌, List, [], ◌∷◌, ◌++◌, replicate, Some, if◌then◌else◌}
 use Rattle.unicode.specs.declared.sets.Set.{Set}
 use Rattle.logos_hir.specs.declared.property.AsciiKind.{AsciiKind}
@@ -52,16 +52,17 @@ operator_letter Intersection = 38
 operator_letter Difference = 45
 operator_letter SymmetricDifference = 126
 
--- The text begins with no operator, no `[` and no `]`, so an element may begin here.
+-- The character and the text after it begin with an operator: `&&`, `--` or `~~`.
 abbrev pub begins_operator : ℕ → Text → Bool
 begins_operator c [] = false
 begins_operator c (d ∷ rest) = (c == d) && ((c == 38) || ((c == 45) || (c == 126)))
 
+-- The text does not begin with an operator, `[` or `]`, so that an element can begin here.
 abbrev pub begins_item : Text → Bool
 begins_item [] = false
 begins_item (c ∷ rest) = not ((c == 91) || ((c == 93) || begins_operator c rest))
 
--- A range goes on here: with a `-` that comes before neither `]` nor another `-`.
+-- A range continues here: with a `-` that is followed by neither `]` nor another `-`.
 abbrev pub begins_range : Text → Bool
 begins_range [] = false
 begins_range (c ∷ []) = false
@@ -73,7 +74,7 @@ begins_range (c ∷ d ∷ rest) = (c == 45) && not ((d == 93) || (d == 45))
 abbrev pub class_text : Text → Bool → Text
 class_text name negated = 58 ∷ (if negated then 94 ∷ [] else []) ++ name ++ 58 ∷ 93 ∷ []
 
--- The name of a class; no such name has a `:`.
+-- The name of a class. No such name contains a `:`.
 abbrev pub IsClass : Text → AsciiKind → Type 0
 IsClass name kind = Lacks 58 name × (ascii_named name ≡ Some kind)
 
@@ -88,7 +89,7 @@ pub data Leads : Lead → Text → Text → Type 0 where
   dashes : (n : ℕ) (rest : Text) → NotBegins 45 rest → (n ≡ 0 → NotBegins 93 rest) → Leads (Dashes n) (replicate n 45 ++ rest) rest
   one_bracket : (rest : Text) → Leads LoneBracket (93 ∷ rest) rest
 
--- After `[` comes `^` for the complement, or not, and then the literals.
+-- After `[` comes `^` if the bracket is negated, and then the literals.
 pub data Opens : Bool → Lead → Text → Text → Type 0 where
   positive : (lead : Lead) (text rest : Text) → NotBegins 94 text → Leads lead text rest → Opens false lead text rest
   negative : (lead : Lead) (text rest : Text) → Leads lead text rest → Opens true lead (94 ∷ text) rest
@@ -109,11 +110,11 @@ pub data BracketTakes : BracketToken → Text → Text → Type 0 where
   property : (set : Set) (negated : Bool) (text rest : Text) → Escapes (atoms.Property set negated) text rest → begins_range rest ≡ false →
       BracketTakes (tokens.Item (items.Property set negated)) (92 ∷ text) rest
 
--- The text is these tokens and then the rest.
+-- The text is these tokens followed by the rest.
 abbrev pub BracketCuts : Text → List BracketToken → Text → Type 0
 BracketCuts text [] rest = text ≡ rest
 BracketCuts text (token ∷ others) rest = (after : Text) × BracketTakes token text after × BracketCuts after others rest
 
--- The text, which comes after `[`, is the rest of the bracket and then `rest`.
+-- The text, which comes after `[`, is the rest of the bracket followed by `rest`.
 abbrev pub Encloses : Bracket → Text → Text → Type 0
 Encloses (bracket negated lead inside) text rest = (after : Text) × Opens negated lead text after × BracketCuts after (operands_tokens inside ++ tokens.Close ∷ []) rest

@@ -2,7 +2,7 @@
 //! token between `[` and `]`.
 
 ghost use Rattle.std.specs.Prelude.{◌≡◌, ◌+◌, ◌≤◌, Option, Some, MatchOption, option_map};
-ghost use Rattle.logos_pattern_tokens.specs.Views.{Gives, code_of, begins_operator, begins_range, symbol_of, last_at, range_token, range_at, lone_at, escape_item, item_at, dashes_from, lead_at, open_at, class_end, name_end, colon_at, class_at, inner_at, operator_of, bracket_token_at};
+ghost use Rattle.logos_pattern_tokens.specs.Views.{Yields, code_of, begins_operator, begins_range, symbol_of, last_at, range_token, range_at, lone_at, escape_item, item_at, dashes_from, lead_at, open_at, class_end, name_end, colon_at, class_at, inner_at, operator_of, bracket_token_at};
 
 use crate::bracket::token::{BracketItem, BracketToken, Lead, Symbol};
 use crate::counts::cut_at;
@@ -23,7 +23,8 @@ pub fn code_of(symbol: Symbol) -> u32
     }
 }
 
-/// Returns whether a range goes on here: with a `-` that comes before neither `]` nor another `-`.
+/// Returns whether a range continues here: with a `-` that is followed by neither `]` nor another
+/// `-`.
 fn begins_range(text: &[char]) -> bool
     ensures { result ≡ begins_range text.now }
 {
@@ -43,7 +44,7 @@ fn begins_operator(c: char, rest: &[char]) -> bool
     }
 }
 
-/// Returns the character or the byte that an escape is, or `None` if it is something else.
+/// Returns the character or the byte of an escape, or `None` if the escape is neither.
 fn symbol_of(atom: Atom) -> Option<Symbol>
     ensures { result ≡ symbol_of atom }
 {
@@ -54,7 +55,7 @@ fn symbol_of(atom: Atom) -> Option<Symbol>
     }
 }
 
-/// Returns the fault of an escape that is not a character and stands as the end of a range.
+/// Returns the fault of an escape that is not a character, at the end of a range.
 fn no_symbol(atom: Atom) -> Kind {
     match atom {
         Atom::Perl(_, _) | Atom::Property(_, _) => Kind::ClassRange,
@@ -62,15 +63,15 @@ fn no_symbol(atom: Atom) -> Kind {
     }
 }
 
-/// Reads the end of a range, from after its `-`.
+/// Reads the end of a range from the text after its `-`.
 ///
 /// # Errors
 ///
-/// Returns `Unclosed` if the text is empty, `ClassRange` if a class comes next, `EscapeUnknown` if
-/// another escape does that is not a character; else those of `escape_at`.
+/// Returns `Unclosed` if the text is empty, `ClassRange` if a class follows, `EscapeUnknown` if
+/// another escape follows that is not a character, and otherwise the errors of `escape_at`.
 #[tactic(auto, unfolding(crate::specs::bracket::Reader::last_at))]
 fn last_at(alloc: Global, text: &[char]) -> Result<(Symbol, &[char]), Fault>
-    ensures { Gives (λ x. (x.0, x.1.now)) result (last_at text.now) }
+    ensures { Yields (λ x. (x.0, x.1.now)) result (last_at text.now) }
 {
     match text {
         [] => Err(Fault::Syntax(Kind::Unclosed)),
@@ -96,7 +97,7 @@ fn range_token<'t>(
     last: Symbol,
     rest: &'t [char],
 ) -> Result<(BracketToken, &'t [char]), Fault>
-    ensures { Gives (λ x. (x.0, x.1.now)) result (range_token first (last, rest.now)) }
+    ensures { Yields (λ x. (x.0, x.1.now)) result (range_token first (last, rest.now)) }
 {
     if code_of(first) > code_of(last) {
         return Err(Fault::Syntax(Kind::ClassRange));
@@ -104,15 +105,15 @@ fn range_token<'t>(
     Ok((BracketToken::Item(BracketItem::Range(first, last)), rest))
 }
 
-/// Reads what comes after the character `first`: returns the range that it begins, if it does, or
-/// the character alone.
+/// Reads the text after the character `first`. Returns the range that begins with `first`, or
+/// `first` alone if no range does.
 ///
 /// # Errors
 ///
-/// Those of `last_at` and `range_token`.
+/// Returns the errors of `last_at` and `range_token`.
 #[tactic(auto, unfolding(crate::specs::bracket::Reader::range_at))]
 fn range_at(alloc: Global, first: Symbol, rest: &[char]) -> Result<(BracketToken, &[char]), Fault>
-    ensures { Gives (λ x. (x.0, x.1.now)) result (range_at first rest.now) }
+    ensures { Yields (λ x. (x.0, x.1.now)) result (range_at first rest.now) }
 {
     if !begins_range(rest) {
         return Ok((BracketToken::Item(BracketItem::One(first)), rest));
@@ -125,10 +126,10 @@ fn range_at(alloc: Global, first: Symbol, rest: &[char]) -> Result<(BracketToken
 ///
 /// # Errors
 ///
-/// Returns `ClassRange` if a range goes on here, since a class cannot be the start of one.
+/// Returns `ClassRange` if a range continues here, since a class cannot be the start of a range.
 #[tactic(auto, unfolding(crate::specs::bracket::Reader::lone_at))]
 fn lone_at(item: BracketItem, rest: &[char]) -> Result<(BracketToken, &[char]), Fault>
-    ensures { Gives (λ x. (x.0, x.1.now)) result (lone_at item rest.now) }
+    ensures { Yields (λ x. (x.0, x.1.now)) result (lone_at item rest.now) }
 {
     if begins_range(rest) {
         return Err(Fault::Syntax(Kind::ClassRange));
@@ -136,15 +137,15 @@ fn lone_at(item: BracketItem, rest: &[char]) -> Result<(BracketToken, &[char]), 
     Ok((BracketToken::Item(item), rest))
 }
 
-/// Reads what comes after an escape: returns the element that begins with it.
+/// Reads the text after an escape. Returns the element that begins with the escape.
 ///
 /// # Errors
 ///
-/// Returns `EscapeUnknown` if the escape is neither a character nor a class; else those of
-/// `range_at` or `lone_at`.
+/// Returns `EscapeUnknown` if the escape is neither a character nor a class; otherwise the errors
+/// of `range_at` or `lone_at`.
 #[tactic(auto, unfolding(crate::specs::bracket::Reader::escape_item))]
 fn escape_item(alloc: Global, atom: Atom, rest: &[char]) -> Result<(BracketToken, &[char]), Fault>
-    ensures { Gives (λ x. (x.0, x.1.now)) result (escape_item atom rest.now) }
+    ensures { Yields (λ x. (x.0, x.1.now)) result (escape_item atom rest.now) }
 {
     match atom {
         Atom::Character(c) => range_at(alloc, Symbol::Character(c), rest),
@@ -159,10 +160,11 @@ fn escape_item(alloc: Global, atom: Atom, rest: &[char]) -> Result<(BracketToken
 ///
 /// # Errors
 ///
-/// Returns `Unclosed` if the text is empty; else the fault of the element, and `Memory`.
+/// Returns `Unclosed` if the text is empty, otherwise the fault of the element, and `Memory` if
+/// memory runs out.
 #[tactic(auto, unfolding(crate::specs::bracket::Reader::item_at))]
 fn item_at(alloc: Global, text: &[char]) -> Result<(BracketToken, &[char]), Fault>
-    ensures { Gives (λ x. (x.0, x.1.now)) result (item_at text.now) }
+    ensures { Yields (λ x. (x.0, x.1.now)) result (item_at text.now) }
 {
     match text {
         [] => Err(Fault::Syntax(Kind::Unclosed)),
@@ -188,7 +190,7 @@ fn dashes_at(text: &[char]) -> (usize, &[char])
     (count, rest)
 }
 
-/// Reads the literals after `[` or `[^`: one `]`, or else all dashes that come there.
+/// Reads the literals after `[` or `[^`: one `]`, or all dashes that follow.
 #[tactic(auto, unfolding(crate::specs::bracket::Reader::lead_at))]
 fn lead_at(text: &[char]) -> (Lead, &[char])
     ensures lead { result.0 ≡ (lead_at text.now).0 }
@@ -203,8 +205,8 @@ fn lead_at(text: &[char]) -> (Lead, &[char])
     }
 }
 
-/// Reads what comes after `[`: returns whether `^` negates the bracket, the literals after that,
-/// and the rest of the text.
+/// Reads the text after `[`. Returns whether `^` negates the bracket, the literals after that, and
+/// the rest of the text.
 #[tactic(auto, unfolding(crate::specs::bracket::Reader::open_at))]
 pub fn open_at(text: &[char]) -> (bool, Lead, &[char])
     ensures negated { result.0 ≡ (open_at text.now).0 }
@@ -223,7 +225,7 @@ pub fn open_at(text: &[char]) -> (bool, Lead, &[char])
     }
 }
 
-/// Reads the `]` after `[:name:`. Returns `None` if it is not there, or no class of ASCII
+/// Reads the `]` after `[:name:`. Returns `None` if there is no `]`, or if no class of ASCII
 /// characters has the name.
 #[tactic(auto, unfolding(crate::specs::bracket::Reader::class_end))]
 fn class_end<'t>(
@@ -242,7 +244,7 @@ fn class_end<'t>(
     }
 }
 
-/// Reads `name:]`. Returns `None` if the text does not begin so with the name of a class.
+/// Reads `name:]`. Returns `None` if the text does not begin with the name of a class and `:]`.
 #[tactic(auto, unfolding(crate::specs::bracket::Reader::name_end))]
 fn name_end(negated: bool, text: &[char]) -> Option<(BracketToken, &[char])>
     ensures { option_map (λ x. (x.0, x.1.now)) result ≡ name_end negated text.now }
@@ -253,7 +255,7 @@ fn name_end(negated: bool, text: &[char]) -> Option<(BracketToken, &[char])>
     }
 }
 
-/// Reads `name:]` or `^name:]`. Returns `None` if the text does not begin so.
+/// Reads `name:]` or `^name:]`. Returns `None` if the text does not begin in one of these forms.
 #[tactic(auto, unfolding(crate::specs::bracket::Reader::colon_at))]
 fn colon_at(text: &[char]) -> Option<(BracketToken, &[char])>
     ensures { option_map (λ x. (x.0, x.1.now)) result ≡ colon_at text.now }
@@ -266,7 +268,7 @@ fn colon_at(text: &[char]) -> Option<(BracketToken, &[char])>
 }
 
 /// Reads `:name:]` or `:^name:]`, a class of ASCII characters. Returns `None` if the text does not
-/// begin so.
+/// begin in one of these forms.
 #[tactic(auto, unfolding(crate::specs::bracket::Reader::class_at))]
 fn class_at(text: &[char]) -> Option<(BracketToken, &[char])>
     ensures { option_map (λ x. (x.0, x.1.now)) result ≡ class_at text.now }
@@ -277,8 +279,8 @@ fn class_at(text: &[char]) -> Option<(BracketToken, &[char])>
     }
 }
 
-/// Reads what comes after `[` inside a bracket: a class of ASCII characters, or else the start of a
-/// nested bracket.
+/// Reads the text after `[` inside a bracket: a class of ASCII characters, or the start of a nested
+/// bracket.
 #[tactic(auto, unfolding(crate::specs::bracket::Reader::inner_at))]
 fn inner_at(text: &[char]) -> (BracketToken, &[char])
     ensures token { result.0 ≡ (inner_at text.now).0 }
@@ -309,10 +311,11 @@ fn operator_of(c: char) -> SetOperator
 ///
 /// # Errors
 ///
-/// Returns `Unclosed` if the text is empty; else the fault of the token, and `Memory`.
+/// Returns `Unclosed` if the text is empty, otherwise the fault of the token, and `Memory` if
+/// memory runs out.
 #[tactic(auto, unfolding(crate::specs::bracket::Reader::bracket_token_at))]
 pub fn bracket_token_at(alloc: Global, text: &[char]) -> Result<(BracketToken, &[char]), Fault>
-    ensures { Gives (λ x. (x.0, x.1.now)) result (bracket_token_at text.now) }
+    ensures { Yields (λ x. (x.0, x.1.now)) result (bracket_token_at text.now) }
 {
     let [c, rest @ ..] = text else {
         return Err(Fault::Syntax(Kind::Unclosed));

@@ -1,4 +1,4 @@
-//! The tokens inside brackets.
+//! The tokens inside brackets. `bracket::reader` returns them.
 
 use logos_hir::property::{AsciiKind, PerlKind};
 use logos_hir::sets::operands::SetOperator;
@@ -9,17 +9,17 @@ use unicode::sets::Set;
 pub enum Symbol {
     /// A character, or an escape of one other than `\xNN`.
     Character(char),
-    /// `\xNN`: a byte where the pattern matches bytes, else the character with this number.
+    /// `\xNN`: a byte if the pattern matches bytes, and the character with this number otherwise.
     Byte(u8),
 }
 
-/// A part of an operand that is not a nested bracket. A `bool` is whether it is negated.
+/// A part of an operand that is not a nested bracket. A `bool` is whether the part is negated.
 #[derive(Clone, Copy)]
 pub enum BracketItem {
     One(Symbol),
     /// `a-z`
     Range(Symbol, Symbol),
-    /// `\d`, `\D` and so on.
+    /// `\d`, `\D`, `\s`, `\S`, `\w`, `\W`.
     Perl(PerlKind, bool),
     /// `\p{..}`, `\P{..}`
     Property(Set, bool),
@@ -27,7 +27,7 @@ pub enum BracketItem {
     Ascii(AsciiKind, bool),
 }
 
-/// The literals right after `[` or `[^`, where they have no other meaning.
+/// The literals directly after `[` or `[^`, which have no other meaning there.
 #[derive(Clone, Copy)]
 pub enum Lead {
     /// This number of `-`, which may be 0.
@@ -40,7 +40,7 @@ pub enum Lead {
 #[derive(Clone, Copy)]
 pub enum BracketToken {
     Item(BracketItem),
-    /// `[` or `[^` (then the `bool` is true), and the literals after it.
+    /// `[` or `[^`, and the literals after it. The `bool` is `true` for `[^`.
     Open(bool, Lead),
     Operator(SetOperator),
     /// `]`

@@ -53,18 +53,18 @@ keyed_classes table of keys h = record {
   marks = λ s t hs ht e. let z = one_key s t hs ht e in same_mark (mark table s) (mark table t) (cc);
   edges = λ s t k hs ht e.
       let z = one_key s t hs ht e in
-      let same : slice_index table.rows.places.items s ≡ slice_index table.rows.places.items t = cc in
+      let same : slice_index table.rows.slots.items s ≡ slice_index table.rows.slots.items t = cc in
       ap (λ (row : List ℕ). target_by row k) (row_at s hs ∙ ap (λ (i : ℕ). slice_index_or table.rows.distinct.keys.items i []) same ∙ sym (row_at t ht));
 }
   where
     one_key : (s t : ℕ) → s < size table → t < size table → slice_index of s ≡ slice_index of t → Some (class_key table s) ≡ Some (class_key table t)
     one_key s t hs ht e = sym (h.keyed s hs) ∙ ap (slice_get keys) e ∙ h.keyed t ht
 
-    row_at : (s : ℕ) → s < size table → slice_index_or (rows_of table.rows) s [] ≡ slice_index_or table.rows.distinct.keys.items (slice_index table.rows.places.items s) []
+    row_at : (s : ℕ) → s < size table → slice_index_or (rows_of table.rows) s [] ≡ slice_index_or table.rows.distinct.keys.items (slice_index table.rows.slots.items s) []
     row_at s l =
         let n = table.same_len in
-        let m = rows_length table.rows.places.items table.rows.distinct.keys.items in
-        row_placed table.rows.places.items table.rows.distinct.keys.items s (omega arith)
+        let m = rows_length table.rows.slots.items table.rows.distinct.keys.items in
+        row_placed table.rows.slots.items table.rows.distinct.keys.items s (omega arith)
 
 module _ (table small : Table) (splits : List Split) (b leads class block : ℕ → ℕ) (m : IsMerged small splits b leads) (x : IsClassTable table class small)
     (inside : (s : ℕ) → s < size table → class s < size small) (is : (s : ℕ) → s < size table → block s ≡ b (class s)) where

@@ -28,15 +28,15 @@ before_grows : (r l i k : ℕ) → ComesBefore r l i k → ComesBefore r l i (k 
 before_grows r l i k (inl x) = inl x
 before_grows r l i k (inr x) = inr (x.0, let n = x.1 in omega arith)
 
-module _ (edge : ℕ → ℕ → Option ℕ) (numbers states numbers' states' : List ℕ) (i k : ℕ) (place : i < length states) (h : IsInTurn edge numbers states i k)
+module _ (edge : ℕ → ℕ → Option ℕ) (numbers states numbers' states' : List ℕ) (i k : ℕ) (slot : i < length states) (h : IsInTurn edge numbers states i k)
     (grows : Grows numbers numbers') (met : (b : ℕ) → edge (slice_index states i) k ≡ Some b → IsMet numbers' b) where
   old_same : states' ≡ states → IsInTurn edge numbers' states' i (k + 1)
   old_same e = record {
     met = λ r l b m c q. was r l b (rw e at m) (before_next r l i k c) (rw e at q);
-    place = h.place;
+    slot = h.slot;
     symbol = h.symbol;
     first = rw e (λ j p l. h.first j p l);
-    passed = λ j p l. before_grows (h.place j) (h.symbol j) i k (h.passed j p (rw e at l));
+    passed = λ j p l. before_grows (h.slot j) (h.symbol j) i k (h.passed j p (rw e at l));
     rises = λ j g p l m. h.rises j g p l (rw e at m);
   }
     where
@@ -54,19 +54,19 @@ module _ (edge : ℕ → ℕ → Option ℕ) (numbers states numbers' states' : 
     back : slice_index states' (length states) ≡ b
     back = ap (λ (xs : List ℕ). slice_index xs (length states)) e ∙ get_or_push states b 0 (length states) refl
 
-    new_place : ℕ → ℕ
-    new_place j = if nat_eq j (length states) then i else h.place j
+    new_slot : ℕ → ℕ
+    new_slot j = if nat_eq j (length states) then i else h.slot j
 
     new_symbol : ℕ → ℕ
     new_symbol j = if nat_eq j (length states) then k else h.symbol j
 
-    place_old : (j : ℕ) → j < length states → new_place j ≡ h.place j
-    unfolding new_place
-    place_old j l = let t : nat_eq j (length states) ≡ false = grind (arith, nat_tests) in rw t refl
+    slot_old : (j : ℕ) → j < length states → new_slot j ≡ h.slot j
+    unfolding new_slot
+    slot_old j l = let t : nat_eq j (length states) ≡ false = grind (arith, nat_tests) in rw t refl
 
-    place_new : new_place (length states) ≡ i
-    unfolding new_place
-    place_new = let t : nat_eq (length states) (length states) ≡ true = grind (arith, nat_tests) in rw t refl
+    slot_new : new_slot (length states) ≡ i
+    unfolding new_slot
+    slot_new = let t : nat_eq (length states) (length states) ≡ true = grind (arith, nat_tests) in rw t refl
 
     symbol_old : (j : ℕ) → j < length states → new_symbol j ≡ h.symbol j
     unfolding new_symbol
@@ -76,7 +76,7 @@ module _ (edge : ℕ → ℕ → Option ℕ) (numbers states numbers' states' : 
     unfolding new_symbol
     symbol_new = let t : nat_eq (length states) (length states) ≡ true = grind (arith, nat_tests) in rw t refl
 
-    -- an edge from a place that was there
+    -- an edge from an index that was there
     old_edge : (r l c : ℕ) → r < length states → edge (slice_index states' r) l ≡ Some c → edge (slice_index states r) l ≡ Some c
     old_edge r l c m q = ap (λ (x : ℕ). edge x l) (sym (front r m)) ∙ q
 
@@ -93,8 +93,8 @@ module _ (edge : ℕ → ℕ → Option ℕ) (numbers states numbers' states' : 
 
     first_new : IsFirstInto edge states' (length states) i k
     first_new = record {
-      lower = place;
-      enters = ap (λ (x : ℕ). edge x k) (front i place) ∙ new ∙ ap Some (sym back);
+      lower = slot;
+      enters = ap (λ (x : ℕ). edge x k) (front i slot) ∙ new ∙ ap Some (sym back);
       none = λ s g c q. let m = h.met s g b (source s c) c (old_edge s g b (source s c) (q ∙ ap Some back)) in omega arith;
     }
       where
@@ -105,7 +105,7 @@ module _ (edge : ℕ → ℕ → Option ℕ) (numbers states numbers' states' : 
     one_more : IsInTurn edge numbers' states' i (k + 1)
     one_more = record {
       met = λ r l c m p q. was r l c m (before_next r l i k p) q;
-      place = new_place;
+      slot = new_slot;
       symbol = new_symbol;
       first = λ j p l. first j p (cases_lt j (length states)) l;
       passed = λ j p l. passed j p (cases_lt j (length states)) l;
@@ -122,31 +122,31 @@ module _ (edge : ℕ → ℕ → Option ℕ) (numbers states numbers' states' : 
             let q' = old_edge r l c (omega arith) q in
             met c (sym (ap (λ (y : ℕ). edge (slice_index states y) k) x.0) ∙ sym (ap (λ (y : ℕ). edge (slice_index states r) y) x.1) ∙ q')
 
-        first : (j : ℕ) → 0 < j → (j < length states) ⊎ (length states ≤ j) → j < length states' → IsFirstInto edge states' j (new_place j) (new_symbol j)
-        first j p (inl m) l = rw (place_old j m, symbol_old j m) (first_old j m (h.place j) (h.symbol j) (h.first j p m))
+        first : (j : ℕ) → 0 < j → (j < length states) ⊎ (length states ≤ j) → j < length states' → IsFirstInto edge states' j (new_slot j) (new_symbol j)
+        first j p (inl m) l = rw (slot_old j m, symbol_old j m) (first_old j m (h.slot j) (h.symbol j) (h.first j p m))
         first j p (inr m) l =
             let z = longer in
             let at : length states ≡ j = omega arith in
-            subst (λ (j : ℕ). IsFirstInto edge states' j (new_place j) (new_symbol j)) at (rw (place_new, symbol_new) first_new)
+            subst (λ (j : ℕ). IsFirstInto edge states' j (new_slot j) (new_symbol j)) at (rw (slot_new, symbol_new) first_new)
 
-        passed : (j : ℕ) → 0 < j → (j < length states) ⊎ (length states ≤ j) → j < length states' → ComesBefore (new_place j) (new_symbol j) i (k + 1)
-        passed j p (inl m) l = rw (place_old j m, symbol_old j m) (before_grows (h.place j) (h.symbol j) i k (h.passed j p m))
+        passed : (j : ℕ) → 0 < j → (j < length states) ⊎ (length states ≤ j) → j < length states' → ComesBefore (new_slot j) (new_symbol j) i (k + 1)
+        passed j p (inl m) l = rw (slot_old j m, symbol_old j m) (before_grows (h.slot j) (h.symbol j) i k (h.passed j p m))
         passed j p (inr m) l =
             let z = longer in
             let at : length states ≡ j = omega arith in
-            subst (λ (j : ℕ). ComesBefore (new_place j) (new_symbol j) i (k + 1)) at (rw (place_new, symbol_new) (inr (refl, omega arith)))
+            subst (λ (j : ℕ). ComesBefore (new_slot j) (new_symbol j) i (k + 1)) at (rw (slot_new, symbol_new) (inr (refl, omega arith)))
 
-        rises : (j g : ℕ) → 0 < j → j < g → (g < length states) ⊎ (length states ≤ g) → g < length states' → ComesBefore (new_place j) (new_symbol j) (new_place g) (new_symbol g)
+        rises : (j g : ℕ) → 0 < j → j < g → (g < length states) ⊎ (length states ≤ g) → g < length states' → ComesBefore (new_slot j) (new_symbol j) (new_slot g) (new_symbol g)
         rises j g p l (inl m) n =
             let a = h.rises j g p l m in
             let small : j < length states = omega arith in
-            rw (place_old j small, symbol_old j small, place_old g m, symbol_old g m) a
+            rw (slot_old j small, symbol_old j small, slot_old g m, symbol_old g m) a
         rises j g p l (inr m) n =
             let z = longer in
             let at : length states ≡ g = omega arith in
             let small : j < length states = omega arith in
-            subst (λ (g : ℕ). ComesBefore (new_place j) (new_symbol j) (new_place g) (new_symbol g)) at
-            (rw (place_old j small, symbol_old j small, place_new, symbol_new) (h.passed j p small))
+            subst (λ (g : ℕ). ComesBefore (new_slot j) (new_symbol j) (new_slot g) (new_symbol g)) at
+            (rw (slot_old j small, symbol_old j small, slot_new, symbol_new) (h.passed j p small))
 
   -- the next symbol
   pub turn_more : (states' ≡ states) ⊎ ((b : ℕ) × (edge (slice_index states i) k ≡ Some b) × (slice_index numbers b ≡ 0) × (states' ≡ states ++ b ∷ [])) → IsInTurn edge numbers' states' i (k + 1)
@@ -158,10 +158,10 @@ pub turn_past : (edge : ℕ → ℕ → Option ℕ) (numbers states : List ℕ) 
     ((l : ℕ) → k ≤ l → l < e → edge (slice_index states i) l ≡ edge (slice_index states i) k) → IsInTurn edge numbers states i (k + 1) → IsInTurn edge numbers states i e
 turn_past edge numbers states i k e more same h = record {
   met = λ r l b m c q. met r l b m c q;
-  place = h.place;
+  slot = h.slot;
   symbol = h.symbol;
   first = h.first;
-  passed = λ j p l. up (h.place j) (h.symbol j) (h.passed j p l);
+  passed = λ j p l. up (h.slot j) (h.symbol j) (h.passed j p l);
   rises = h.rises;
 }
   where
@@ -187,14 +187,14 @@ run_goes table block s leader k e row goes at same l p m = ap (option_map block)
     here : (l : ℕ) → target_by row l ≡ to table leader l
     here l = goes l ∙ ap (λ (s : ℕ). to table s l) at
 
--- the next place
+-- the next index
 pub turn_next : (edge : ℕ → ℕ → Option ℕ) → ((b k c : ℕ) → edge b k ≡ Some c → k < 257) → (numbers states : List ℕ) (i : ℕ) → IsInTurn edge numbers states i 257 → IsInTurn edge numbers states (i + 1) 0
 turn_next edge wide numbers states i h = record {
   met = λ r l b m c q. h.met r l b m (down r l c (wide (slice_index states r) l b q)) q;
-  place = h.place;
+  slot = h.slot;
   symbol = h.symbol;
   first = h.first;
-  passed = λ j p l. up (h.place j) (h.symbol j) (h.passed j p l);
+  passed = λ j p l. up (h.slot j) (h.symbol j) (h.passed j p l);
   rises = h.rises;
 }
   where
@@ -210,11 +210,11 @@ turn_next edge wide numbers states i h = record {
     up r l (inl x) = inl (omega arith)
     up r l (inr x) = let z = x.0 in inl (omega arith)
 
--- before the first place
+-- before the first index
 pub turn_first : (edge : ℕ → ℕ → Option ℕ) (numbers states : List ℕ) → length states ≤ 1 → IsInTurn edge numbers states 0 0
 turn_first edge numbers states l = record {
   met = λ r k b m c q. absurd (none r k c);
-  place = λ j. 0;
+  slot = λ j. 0;
   symbol = λ j. 0;
   first = λ j p m. absurd (omega arith);
   passed = λ j p m. absurd (omega arith);
@@ -269,7 +269,7 @@ leader_read states leaders i x y e l q m =
     let a : x ≡ slice_index states i = e ∙ get_or_default_zero states i x l in
     q ∙ get_or_default_zero leaders x y (omega arith) ∙ ap (slice_index leaders) a
 
--- what one target adds
+-- the states that one target adds
 module _ (table : Table) (block : ℕ → ℕ) (s k : ℕ) (numbers states states' : List ℕ) (target : Option ℕ) (goes : target ≡ target_block table block s k)
     (found : (states' ≡ states) ⊎ ((b : ℕ) × (target ≡ Some b) × (slice_index numbers b ≡ 0) × (states' ≡ states ++ b ∷ []))) where
   pub met_by : (states' ≡ states) ⊎ ((b : ℕ) × (target_block table block s k ≡ Some b) × (slice_index numbers b ≡ 0) × (states' ≡ states ++ b ∷ []))
@@ -290,7 +290,7 @@ module _ (table : Table) (block : ℕ → ℕ) (s k : ℕ) (numbers states state
           let t = led_target table block s k x.0 (sym goes ∙ x.1) in
           inr (t.0, t.2, x.3 ∙ ap (λ (b : ℕ). states ++ b ∷ []) (sym t.3))
 
--- the block that a number stands for
+-- the block of a number
 pub target_numbered : (numbers states : List ℕ) → IsOrder numbers states → (o : Option ℕ) (t : ℕ) → option_and_then (λ b. target_of (slice_index numbers b)) o ≡ Some t →
     (b : ℕ) × (o ≡ Some b) × (t < length states) × (slice_index states t ≡ b)
 target_numbered numbers states h None t e = absurd (cc)

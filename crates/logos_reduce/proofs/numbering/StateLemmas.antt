@@ -18,8 +18,8 @@ module _ (old new : Table) (splits : List Split) (block leader : ℕ → ℕ) (r
   abbrev pub IsIn : ℕ → Type 0
   IsIn s = (s < size old) × IsMet n.numbers (block s)
 
-  pub number_place : (s : ℕ) → IsIn s → (number s < length states) × (slice_index states (number s) ≡ block s)
-  number_place s i = n.order.named (block s) (number s) (let p = i.1 in omega arith)
+  pub number_slot : (s : ℕ) → IsIn s → (number s < length states) × (slice_index states (number s) ≡ block s)
+  number_slot s i = n.order.named (block s) (number s) (let p = i.1 in omega arith)
 
   pub numbered_as : (s : ℕ) → IsIn s → target_of (slice_index n.numbers (block s)) ≡ Some (number s)
   numbered_as s i = go (slice_index n.numbers (block s)) i.1
@@ -30,22 +30,22 @@ module _ (old new : Table) (splits : List Split) (block leader : ℕ → ℕ) (r
 
   -- where a state leads, by the leader of its block
   by_leader : (s k : ℕ) → IsIn s → target_block old block (leader (slice_index states (number s))) k ≡ target_block old block s k
-  by_leader s k i = ap (λ (b : ℕ). target_block old block (leader b) k) (number_place s i).1 ∙ sym (m.alike s k i.0)
+  by_leader s k i = ap (λ (b : ℕ). target_block old block (leader b) k) (number_slot s i).1 ∙ sym (m.alike s k i.0)
 
   pub stays_in : (s t k : ℕ) → IsIn s → to old s k ≡ Some t → IsIn t
   stays_in s t k i e =
-      let p = number_place s i in
+      let p = number_slot s i in
       ((edge_within old s k t e).1, n.in_turn.met (number s) k (block t) p.0 (inl p.0) (by_leader s k i ∙ ap (option_map block) e))
 
   pub same_type : (s : ℕ) → IsIn s → (edges new).type_of (number s) ≡ (edges old).type_of s
   same_type s i =
-      let p = number_place s i in
+      let p = number_slot s i in
       let l = m.leaders s i.0 in
       ap type_of (n.marks (number s) p.0 ∙ ap (λ (b : ℕ). mark old (leader b)) p.1 ∙ m.sound.marks (leader (block s)) s l.0 i.0 l.1)
 
   pub same_edge : (s k : ℕ) → IsIn s → to new (number s) k ≡ option_map number (to old s k)
   same_edge s k i =
-      let p = number_place s i in
+      let p = number_slot s i in
       n.edges (number s) k p.0 ∙ ap (option_and_then (λ b. target_of (slice_index n.numbers b))) (by_leader s k i) ∙ go (to old s k) refl
     where
       go : (o : Option ℕ) → to old s k ≡ o → option_and_then (λ b. target_of (slice_index n.numbers b)) (option_map block o) ≡ option_map number o

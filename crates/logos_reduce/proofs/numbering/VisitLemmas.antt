@@ -10,7 +10,7 @@ use Rattle.logos_reduce.proofs.numbering.NumberLemmas.{target_numbered}
 use Rattle.logos_reduce.proofs.tables.EdgeLemmas.{edge_within}
 
 module _ (old new : Table) (block leader : ℕ → ℕ) (root : ℕ) (states : List ℕ) (numbered : IsNumbered old block leader root states new) where
-  -- an edge by places of blocks
+  -- an edge by indexes of blocks
   abbrev by_blocks : ℕ → ℕ → Option ℕ
   by_blocks b k = target_block old block (leader b) k
 
@@ -31,8 +31,8 @@ module _ (old new : Table) (block leader : ℕ → ℕ) (root : ℕ) (states : L
       let p = target_numbered numbered.numbers states numbered.order (by_blocks (slice_index states r) l) j (sym (numbered.edges r l (omega arith)) ∙ e) in
       p.1 ∙ ap Some (sym p.3)
 
-  abbrev pub place : ℕ → ℕ
-  place = numbered.in_turn.place
+  abbrev pub slot : ℕ → ℕ
+  slot = numbered.in_turn.slot
 
   abbrev pub symbol : ℕ → ℕ
   symbol = numbered.in_turn.symbol
@@ -40,20 +40,20 @@ module _ (old new : Table) (block leader : ℕ → ℕ) (root : ℕ) (states : L
   order : (a b : ℕ) → (a < b) ⊎ ((b < a) ⊎ (a ≡ b))
   order a b = grind arith
 
-  pub first_edge : (t : ℕ) → 0 < t → t < size new → (place t < t) × IsFirstEdge new t (place t) (symbol t)
+  pub first_edge : (t : ℕ) → 0 < t → t < size new → (slot t < t) × IsFirstEdge new t (slot t) (symbol t)
   first_edge t p l =
       let n = numbered.states_of in
       let f = numbered.in_turn.first t p (omega arith) in
       let w = f.lower in (
         f.lower,
         record {
-          edge = enters (place t) (symbol t) t (omega arith) (omega arith) f.enters;
-          first = λ other at e. later f other at (entered other at t e) (order other (place t)) (order at (symbol t));
+          edge = enters (slot t) (symbol t) t (omega arith) (omega arith) f.enters;
+          first = λ other at e. later f other at (entered other at t e) (order other (slot t)) (order at (symbol t));
         },
       )
     where
-      later : IsFirstInto by_blocks states t (place t) (symbol t) → (other at : ℕ) → by_blocks (slice_index states other) at ≡ Some (slice_index states t) →
-          (other < place t) ⊎ ((place t < other) ⊎ (other ≡ place t)) → (at < symbol t) ⊎ ((symbol t < at) ⊎ (at ≡ symbol t)) → (place t < other) ⊎ ((place t ≡ other) × (symbol t ≤ at))
+      later : IsFirstInto by_blocks states t (slot t) (symbol t) → (other at : ℕ) → by_blocks (slice_index states other) at ≡ Some (slice_index states t) →
+          (other < slot t) ⊎ ((slot t < other) ⊎ (other ≡ slot t)) → (at < symbol t) ⊎ ((symbol t < at) ⊎ (at ≡ symbol t)) → (slot t < other) ⊎ ((slot t ≡ other) × (symbol t ≤ at))
       later f other at e (inl a) b = absurd (f.none other at (inl a) e)
       later f other at e (inr (inl a)) b = inl a
       later f other at e (inr (inr a)) (inl b) = absurd (f.none other at (inr (a, b)) e)
@@ -74,16 +74,16 @@ module _ (old new : Table) (block leader : ℕ → ℕ) (root : ℕ) (states : L
   rising t u s k r l p m x y =
       let n = numbered.states_of in
       let lu : u < size new = (edge_within new r l u y.edge).1 in
-      let a = one_first t s k (place t) (symbol t) x (first_edge t p (omega arith)).1 in
-      let b = one_first u r l (place u) (symbol u) y (first_edge u (omega arith) (omega arith)).1 in
+      let a = one_first t s k (slot t) (symbol t) x (first_edge t p (omega arith)).1 in
+      let b = one_first u r l (slot u) (symbol u) y (first_edge u (omega arith) (omega arith)).1 in
       turn a.0 a.1 b.0 b.1 (numbered.in_turn.rises t u p m (omega arith))
     where
-      turn : s ≡ place t → k ≡ symbol t → r ≡ place u → l ≡ symbol u → ComesBefore (place t) (symbol t) (place u) (symbol u) → (s < r) ⊎ ((s ≡ r) × (k < l))
+      turn : s ≡ slot t → k ≡ symbol t → r ≡ slot u → l ≡ symbol u → ComesBefore (slot t) (symbol t) (slot u) (symbol u) → (s < r) ⊎ ((s ≡ r) × (k < l))
       turn a b c d (inl z) = inl (omega arith)
       turn a b c d (inr z) = let w = z.0 in let v = z.1 in inr (omega arith, omega arith)
 
   pub in_order : IsInOrder new
   in_order = record {
-    entered = λ t p l. let f = first_edge t p l in (place t, symbol t, f.0, f.1);
+    entered = λ t p l. let f = first_edge t p l in (slot t, symbol t, f.0, f.1);
     rises = rising;
   }

@@ -12,7 +12,7 @@ use Rattle.logos_reduce.specs.Edges.{Leads, to_mark, onward, to_end}
 use Rattle.logos_reduce.specs.declared.table.StateMarks.{StateMarks}
 use Rattle.logos_reduce.specs.declared.table.Table.{Table}
 use Rattle.logos_reduce.proofs.listings.ListLemmas.{has-get, has_in-get}
-use Rattle.logos_reduce.proofs.orders.OrderLemmas.{met_kept, met_place, place_kept}
+use Rattle.logos_reduce.proofs.orders.OrderLemmas.{met_kept, met_slot, slot_kept}
 use Rattle.logos_reduce.proofs.tables.EdgeLemmas.{edge_within, no_edge}
 
 -- the states of the list that are met by now
@@ -24,7 +24,7 @@ met_more list old new i g all one j l = go (cases_lt j i)
     go (inl m) = met_kept old new g (slice_index list j) (all j m)
     go (inr m) = let e : i ≡ j = omega arith in subst (λ j. IsMet new (slice_index list j)) e one
 
--- what is met was met before, or is of the list
+-- a state that is visited was visited before, or is in the list
 pub met_of : (list first old new : List ℕ) (i : ℕ) → i < length list → ((s : ℕ) → IsMet old s → IsMet first s ⊎ (has list s ≡ true)) →
     ((s : ℕ) → IsMet new s → IsMet old s ⊎ (s ≡ slice_index list i)) → (s : ℕ) → IsMet new s → IsMet first s ⊎ (has list s ≡ true)
 met_of list first old new i l all only s m = go (only s m)
@@ -53,7 +53,7 @@ pub seed_of_use : (table : Table) (s : ℕ) → IsSeed table s → IsOfUse table
 seed_of_use table s (inl m) = inl m
 seed_of_use table s (inr e) = inr (to_end e.1 e.2)
 
--- what leads to a state that is of use is of use too
+-- a state that leads to a state that is of use is of use too
 pub use_before : (table : Table) (s b t : ℕ) → b < 256 → to table s b ≡ Some t → IsOfUse table t → IsOfUse table s
 use_before table s b t l e (inl m) = inr (to_mark b l e m)
 use_before table s b t l e (inr h) = inr (onward b l e h)
@@ -66,7 +66,7 @@ all_of_use table numbers states h seeds closed s l (inl m) = seeds s l (inl m)
 all_of_use table numbers states h seeds closed s l (inr m) = leads s l m
   where
     from_met : (s b t : ℕ) → b < 256 → to table s b ≡ Some t → IsMet numbers t → IsMet numbers s
-    from_met s b t l e m = let p = met_place numbers states h t m in closed p.0 s b p.1 l (e ∙ ap Some (sym p.2))
+    from_met s b t l e m = let p = met_slot numbers states h t m in closed p.0 s b p.1 l (e ∙ ap Some (sym p.2))
 
     leads : (s : ℕ) → s < size table → Leads (edges table) s → IsMet numbers s
     leads s l (to_mark {t = t} b k e m) = from_met s b t k e (seeds t (edge_within table s b t e).1 (inl m))
@@ -97,14 +97,14 @@ module _ (table : Table) (from : List (Vec ℕ Global)) (preds : ArePredecessors
       (j s b : ℕ) → j < i + 1 → b < 256 → to table s b ≡ Some (slice_index new_states j) → IsMet new s
   closed_more old old_states new new_states h k g i l e closed all j s b m n q = go (cases_lt j i)
     where
-      place : slice_index new_states j ≡ slice_index old_states j
-      place = (place_kept old old_states new new_states h k g j (omega arith)).1
+      slot : slice_index new_states j ≡ slice_index old_states j
+      slot = (slot_kept old old_states new new_states h k g j (omega arith)).1
 
       go : (j < i) ⊎ (i ≤ j) → IsMet new s
-      go (inl x) = met_kept old new g s (closed j s b x n (q ∙ ap Some place))
+      go (inl x) = met_kept old new g s (closed j s b x n (q ∙ ap Some slot))
       go (inr x) =
           let same : j ≡ i = omega arith in
-          let here : to table s b ≡ Some t = q ∙ ap Some (place ∙ ap (slice_index old_states) same ∙ e) in
+          let here : to table s b ≡ Some t = q ∙ ap Some (slot ∙ ap (slice_index old_states) same ∙ e) in
           all s (sym (in_list s) ∙ preds.all s b t (edge_within table s b t here).0 n here)
 
 kept_met : (numbers : List ℕ) (t : ℕ) → IsMet numbers t → met_target numbers (Some t) ≡ Some t

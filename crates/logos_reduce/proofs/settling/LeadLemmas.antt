@@ -1,4 +1,4 @@
--- What leads to a mark once the marks are settled led to one before.
+-- States that lead to a mark after the marks are settled led to one before.
 use Rattle.std.proofs.Common.{◌≡◌, ℕ, ◌<◌, inl, inr, List, Option, Some, None, IsSome, option_and_then, refl, sym, ◌∙◌, ap, arith}
 use Rattle.logos_reduce.specs.Edges.{Leads, to_mark, onward, to_end}
 use Rattle.logos_reduce.specs.Raw.{IsRaw}

@@ -16,7 +16,7 @@ edge_within table s k t e =
 
 pub edge_symbol : (table : Table) (s k t : ℕ) → to table s k ≡ Some t → k < 257
 edge_symbol table s k t e =
-    symbol_below (rows_of table.rows) (rows_wide table.rows.places.items table.rows.distinct.keys (λ i l. table.rows.placed i (omega arith)) table.rows.wide) s k t e
+    symbol_below (rows_of table.rows) (rows_wide table.rows.slots.items table.rows.distinct.keys (λ i l. table.rows.placed i (omega arith)) table.rows.wide) s k t e
 
 pub no_edge : (table : Table) (s k : ℕ) → size table ≤ s → to table s k ≡ None
 no_edge table s k l = let n = table.same_len in no_source (rows_of table.rows) s k (omega arith)

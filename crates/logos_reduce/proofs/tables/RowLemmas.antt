@@ -5,18 +5,18 @@ use Rattle.std.proofs.lemmas.Bool.{cases_lt}
 use lib.Pointwise.{pointwise, bytes_decides}
 use Rattle.logos_reduce.specs.Rows.{rows_at, target_of, target_by, target_in, AreWide}
 
--- a longer list of distinct rows has the old ones at their places
-same_rows : (places : List ℕ) (distinct distinct' : List (List ℕ)) → ((i : ℕ) → i < length places → slice_index places i < length distinct) →
-    ((place : ℕ) → place < length distinct → slice_index_or distinct' place [] ≡ slice_index_or distinct place []) → rows_at places distinct' ≡ rows_at places distinct
+-- a longer list of distinct rows has the old ones at their indexes
+same_rows : (slots : List ℕ) (distinct distinct' : List (List ℕ)) → ((i : ℕ) → i < length slots → slice_index slots i < length distinct) →
+    ((slot : ℕ) → slot < length distinct → slice_index_or distinct' slot [] ≡ slice_index_or distinct slot []) → rows_at slots distinct' ≡ rows_at slots distinct
 same_rows [] distinct distinct' inside same = refl
-same_rows (place ∷ places) distinct distinct' inside same =
-    let here = same place (inside 0 (omega arith)) in
-    let rest = same_rows places distinct distinct' (λ i l. inside (suc i) (omega arith)) same in
+same_rows (slot ∷ slots) distinct distinct' inside same =
+    let here = same slot (inside 0 (omega arith)) in
+    let rest = same_rows slots distinct distinct' (λ i l. inside (suc i) (omega arith)) same in
     cc
 
-append_rows : (places : List ℕ) (place : ℕ) (distinct : List (List ℕ)) → rows_at (places ++ place ∷ []) distinct ≡ rows_at places distinct ++ slice_index_or distinct place [] ∷ []
-append_rows [] place distinct = refl
-append_rows (p ∷ places) place distinct = ap (λ xs. slice_index_or distinct p [] ∷ xs) (append_rows places place distinct)
+append_rows : (slots : List ℕ) (slot : ℕ) (distinct : List (List ℕ)) → rows_at (slots ++ slot ∷ []) distinct ≡ rows_at slots distinct ++ slice_index_or distinct slot [] ∷ []
+append_rows [] slot distinct = refl
+append_rows (p ∷ slots) slot distinct = ap (λ xs. slice_index_or distinct p [] ∷ xs) (append_rows slots slot distinct)
 
 got : (xs : List (List ℕ)) (i : ℕ) (x : List ℕ) → slice_get xs i ≡ Some x → slice_index_or xs i [] ≡ x
 got [] i x e = absurd (cc)
@@ -24,42 +24,42 @@ got (y ∷ xs) zero x e = cc
 got (y ∷ xs) (suc i) x e = got xs i x e
 
 -- a row more, once it is among the distinct ones
-pub rows_added : (places : List ℕ) (distinct : List (List ℕ)) (row : List ℕ) (distinct' : List (List ℕ)) (place : ℕ) →
-    ((i : ℕ) → i < length places → slice_index places i < length distinct) →
-    ((i : ℕ) → i < length distinct → slice_index_or distinct' i [] ≡ slice_index_or distinct i []) → slice_index_or distinct' place [] ≡ row →
-    rows_at (places ++ place ∷ []) distinct' ≡ rows_at places distinct ++ row ∷ []
-rows_added places distinct row distinct' place inside kept here =
-    append_rows places place distinct'
-    ∙ ap (λ x. rows_at places distinct' ++ x ∷ []) here
-    ∙ ap (λ xs. xs ++ row ∷ []) (same_rows places distinct distinct' inside kept)
+pub rows_added : (slots : List ℕ) (distinct : List (List ℕ)) (row : List ℕ) (distinct' : List (List ℕ)) (slot : ℕ) →
+    ((i : ℕ) → i < length slots → slice_index slots i < length distinct) →
+    ((i : ℕ) → i < length distinct → slice_index_or distinct' i [] ≡ slice_index_or distinct i []) → slice_index_or distinct' slot [] ≡ row →
+    rows_at (slots ++ slot ∷ []) distinct' ≡ rows_at slots distinct ++ row ∷ []
+rows_added slots distinct row distinct' slot inside kept here =
+    append_rows slots slot distinct'
+    ∙ ap (λ x. rows_at slots distinct' ++ x ∷ []) here
+    ∙ ap (λ xs. xs ++ row ∷ []) (same_rows slots distinct distinct' inside kept)
 
-pub rows_pushed : (places : List ℕ) (distinct : List (List ℕ)) (row : List ℕ) (added : Bool) (distinct' : List (List ℕ)) (place : ℕ) (stored : List ℕ) →
-    ((i : ℕ) → i < length places → slice_index places i < length distinct) →
-    distinct' ≡ (if added then distinct else distinct ++ row ∷ []) → slice_get distinct' place ≡ Some stored → pointwise nat_eq row stored ≡ true →
-    rows_at (places ++ place ∷ []) distinct' ≡ rows_at places distinct ++ row ∷ []
-rows_pushed places distinct row added distinct' place stored inside grown at same =
-    rows_added places distinct row distinct' place inside (λ p l. ap (λ xs. slice_index_or xs p []) grown ∙ front added p l) (got distinct' place stored at ∙ sym ((bytes_decides row stored).0 same))
+pub rows_pushed : (slots : List ℕ) (distinct : List (List ℕ)) (row : List ℕ) (added : Bool) (distinct' : List (List ℕ)) (slot : ℕ) (stored : List ℕ) →
+    ((i : ℕ) → i < length slots → slice_index slots i < length distinct) →
+    distinct' ≡ (if added then distinct else distinct ++ row ∷ []) → slice_get distinct' slot ≡ Some stored → pointwise nat_eq row stored ≡ true →
+    rows_at (slots ++ slot ∷ []) distinct' ≡ rows_at slots distinct ++ row ∷ []
+rows_pushed slots distinct row added distinct' slot stored inside grown at same =
+    rows_added slots distinct row distinct' slot inside (λ p l. ap (λ xs. slice_index_or xs p []) grown ∙ front added p l) (got distinct' slot stored at ∙ sym ((bytes_decides row stored).0 same))
   where
     front : (added : Bool) (p : ℕ) → p < length distinct → slice_index_or (if added then distinct else distinct ++ row ∷ []) p [] ≡ slice_index_or distinct p []
     front true p l = refl
     front false p l = get_or_append_left distinct (row ∷ []) [] p l
 
-pub row_placed : (places : List ℕ) (distinct : List (List ℕ)) (s : ℕ) → s < length places → slice_index_or (rows_at places distinct) s [] ≡ slice_index_or distinct (slice_index places s) []
+pub row_placed : (slots : List ℕ) (distinct : List (List ℕ)) (s : ℕ) → s < length slots → slice_index_or (rows_at slots distinct) s [] ≡ slice_index_or distinct (slice_index slots s) []
 row_placed [] distinct s l = absurd (omega arith)
-row_placed (place ∷ places) distinct zero l = refl
-row_placed (place ∷ places) distinct (suc s) l = row_placed places distinct s (omega arith)
+row_placed (slot ∷ slots) distinct zero l = refl
+row_placed (slot ∷ slots) distinct (suc s) l = row_placed slots distinct s (omega arith)
 
-pub rows_length : (places : List ℕ) (distinct : List (List ℕ)) → length (rows_at places distinct) ≡ length places
+pub rows_length : (slots : List ℕ) (distinct : List (List ℕ)) → length (rows_at slots distinct) ≡ length slots
 rows_length [] distinct = refl
-rows_length (place ∷ places) distinct = let e = rows_length places distinct in omega arith
+rows_length (slot ∷ slots) distinct = let e = rows_length slots distinct in omega arith
 
-wide_places : (places : List ℕ) (distinct : List (List ℕ)) → ((i : ℕ) → i < length places → slice_index places i < length distinct) → AreWide distinct → AreWide (rows_at places distinct)
-wide_places [] distinct inside wide i l = absurd (omega arith)
-wide_places (place ∷ places) distinct inside wide zero l = wide place (inside 0 (omega arith))
-wide_places (place ∷ places) distinct inside wide (suc i) l = wide_places places distinct (λ j m. inside (suc j) (omega arith)) wide i (omega arith)
+wide_slots : (slots : List ℕ) (distinct : List (List ℕ)) → ((i : ℕ) → i < length slots → slice_index slots i < length distinct) → AreWide distinct → AreWide (rows_at slots distinct)
+wide_slots [] distinct inside wide i l = absurd (omega arith)
+wide_slots (slot ∷ slots) distinct inside wide zero l = wide slot (inside 0 (omega arith))
+wide_slots (slot ∷ slots) distinct inside wide (suc i) l = wide_slots slots distinct (λ j m. inside (suc j) (omega arith)) wide i (omega arith)
 
-pub rows_wide : (places : List ℕ) (distinct : Vec (List ℕ) Global) → ((i : ℕ) → i < length places → slice_index places i < length distinct.items) → AreWide distinct.items → AreWide (rows_at places distinct.items)
-rows_wide places distinct = wide_places places distinct.items
+pub rows_wide : (slots : List ℕ) (distinct : Vec (List ℕ) Global) → ((i : ℕ) → i < length slots → slice_index slots i < length distinct.items) → AreWide distinct.items → AreWide (rows_at slots distinct.items)
+rows_wide slots distinct = wide_slots slots distinct.items
 
 past : (row : List ℕ) (k : ℕ) → length row ≤ k → slice_index row k ≡ 0
 past row k l = get_or_past row k 0 l

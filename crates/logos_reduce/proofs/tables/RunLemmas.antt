@@ -28,7 +28,7 @@ same_more row other a b c p q = λ k l m. go k l m (cases_lt k b)
 pub same_one : (row other : List ℕ) (b : ℕ) → slice_index row b ≡ slice_index other b → AreSame row other b (b + 1)
 same_one row other b e = λ k l m. let at : b ≡ k = omega arith in subst (λ (k : ℕ). slice_index row k ≡ slice_index other k) at e
 
--- what holds before a run and at its first symbol holds up to its end
+-- a property that holds before a run and at its first symbol holds up to its end
 pub run_more : (P : Option ℕ → Type 0) (row : List ℕ) (k e : ℕ) → HasOnly row k e (slice_index row k) →
     ((j : ℕ) → j < k → P (target_by row j)) → P (target_by row k) → (j : ℕ) → j < e → P (target_by row j)
 run_more P row k e same old here = λ j l. go j l (cases_lt j k)
@@ -47,7 +47,7 @@ fill_more f row made made' k e entry same before filled old here = λ j l. go j 
     go j l (inl m) = ap target_of (before j m) ∙ old j m
     go j l (inr m) = ap target_of (filled j m l) ∙ here ∙ ap (λ (x : ℕ). f (target_of x)) (sym (same j m l))
 
--- what holds of each row of a list once one of them is another
+-- a property of each row of a list once one of them is another
 pub set_row : (P : ℕ → List ℕ → Type 0) (rows : List (List ℕ)) (i : ℕ) (row : List ℕ) → i < length rows → P i row →
     ((j : ℕ) → j ≢ i → P j (slice_index_or rows j [])) → (j : ℕ) → P j (slice_index_or (slice_set rows i row) j [])
 set_row P rows i row l here others j = go (cases_eq j i)

@@ -7,7 +7,7 @@ use Rattle.logos_reduce.specs.Prune.{IsOfUse}
 use Rattle.logos_reduce.specs.Raw.{IsRaw}
 use Rattle.logos_reduce.specs.Reduction.{IsReductionOf, IsLeast}
 use Rattle.logos_reduce.specs.Table.{size, to, mark, type_of, edges}
-use Rattle.logos_reduce.specs.History.{GivesEvidence}
+use Rattle.logos_reduce.specs.History.{YieldsEvidence}
 use Rattle.logos_reduce.specs.declared.reduction.Reduction.{Reduction}
 use Rattle.logos_reduce.specs.declared.table.Table.{Table}
 use Rattle.logos_reduce.proofs.numbering.StateLemmas as num
@@ -36,7 +36,7 @@ module _ (raw : Table) (root : ℕ) (reduction : Reduction) (made : IsReductionO
   abbrev pub number : ℕ → ℕ
   number = num.number pruned final reduction.splits.items made.block made.leader root states made.merged made.numbered
 
-  -- the state that stands for one of the new table
+  -- the state of the old table for one of the new table
   abbrev pub leader_of : ℕ → ℕ
   leader_of i = made.leader (slice_index states i)
 
@@ -142,7 +142,7 @@ module _ (raw : Table) (root : ℕ) (reduction : Reduction) (made : IsReductionO
         let p = final_target i 256 t e in
         ap (λ (j : ℕ). to final j k) (sym p.3) ∙ same_edge p.0 k p.2 ∙ ap (option_map number) (pruned_end (leader_of i) p.0 k p.1)
 
-    pub evidence : GivesEvidence reduction
+    pub evidence : YieldsEvidence reduction
     evidence = record {
       history = history;
       some = some_splits is_raw.root_in;

@@ -7,7 +7,7 @@ use Rattle.std.proofs.lemmas.List.{length-append}
 use Rattle.std.proofs.lemmas.List.Elements.{All-nil, All-push}
 use Rattle.logos_reduce.specs.Merge.{target_block, ArePartedBy, split_at}
 use Rattle.logos_reduce.specs.Table.{size, to, mark}
-use Rattle.logos_reduce.specs.History.{HistoryOf, GivesEvidence}
+use Rattle.logos_reduce.specs.History.{HistoryOf, YieldsEvidence}
 use Rattle.logos_reduce.specs.Evidence.{mark_with_end, mark_after, IsEvidence}
 use Rattle.logos_reduce.specs.SymbolWords.{state_after, WordDistinguishes}
 use Rattle.logos_reduce.specs.inside.Count.{count_blocks}
@@ -36,7 +36,7 @@ parting_symbol table f k s t d = go (to table s k) refl (to table t k) refl
     go (Some a) e p q = edge_symbol table s k a e
     go None e (Some b) q = edge_symbol table t k b q
 
--- what one step more reaches
+-- the states that one more step reaches
 reached_on : (table : Table) (s left k : ℕ) (bytes : List ℕ) (o : Option ℕ) → state_after table (Some s) bytes ≡ Some left → to table left k ≡ o → state_after table (Some s) (bytes ++ k ∷ []) ≡ o
 reached_on table s left k bytes o way e =
     reached_append table bytes (k ∷ []) (Some s) ∙ ap (λ (o : Option ℕ). state_after table o (k ∷ [])) way ∙ ap (λ (o : Option ℕ). state_after table o []) e ∙ same o
@@ -45,7 +45,7 @@ reached_on table s left k bytes o way e =
     same None = refl
     same (Some a) = refl
 
--- what is known once bytes lead from two states to others that are still to be distinguished
+-- the facts once bytes lead from two states to others that are still to be distinguished
 pub record IsStage (r : Reduction) (h : HistoryOf r) (s t : ℕ) (bytes : List ℕ) (left right : ℕ) : Type 0 where
   pub ok : AreBytes bytes
   pub left_in : left < size r.table
@@ -58,11 +58,11 @@ pub record IsStage (r : Reduction) (h : HistoryOf r) (s t : ℕ) (bytes : List �
   pub apart : h.at time left ≢ h.at time right
   pub short : length bytes + count_blocks (size r.table) (h.at time) ≤ size r.table
 
--- the same with another history
-abbrev pub with_history : (r : Reduction) → GivesEvidence r → HistoryOf r → GivesEvidence r
+-- the lemma above with another history
+abbrev pub with_history : (r : Reduction) → YieldsEvidence r → HistoryOf r → YieldsEvidence r
 with_history r x h = record { history = h; some = x.some; states = x.states; different = x.different; ends = x.ends }
 
-module _ (r : Reduction) (evidence : GivesEvidence r) where
+module _ (r : Reduction) (evidence : YieldsEvidence r) where
   abbrev h : HistoryOf r
   h = evidence.history
 
@@ -299,7 +299,7 @@ module _ (r : Reduction) (h : HistoryOf r) where
       go (inl y) = one s hs y.0
       go (inr y) = one t ht y.1
 
-  -- the climb goes on
+  -- the climb continues
   pub climbed : (s t low high a b : ℕ) → s < size r.table → t < size r.table → ArePlaced r h s t low high → a < b →
       ((a ≡ (split_at r.splits.items high).parent) × (b ≡ low)) ⊎ ((a ≡ low) × (b ≡ (split_at r.splits.items high).parent)) → ArePlaced r h s t a b
   climbed s t low high a b hs ht x o same = go x.placed same
@@ -366,7 +366,7 @@ renamed a b x y p q e f (inl h) = inl (h.0 ∙ e, h.1 ∙ f)
 renamed a b x y p q e f (inr h) = inr (h.0 ∙ f, h.1 ∙ e)
 
 -- the climb begins at the last blocks
-pub placed_last : (r : Reduction) (evidence : GivesEvidence r) (s t low high : ℕ) → s < size r.table → t < size r.table → low < high →
+pub placed_last : (r : Reduction) (evidence : YieldsEvidence r) (s t low high : ℕ) → s < size r.table → t < size r.table → low < high →
     ((low ≡ slice_index r.blocks.items s) × (high ≡ slice_index r.blocks.items t)) ⊎ ((low ≡ slice_index r.blocks.items t) × (high ≡ slice_index r.blocks.items s)) →
     (h : HistoryOf r) → ArePlaced r h s t low high
 placed_last r evidence s t low high hs ht o same h =

@@ -15,7 +15,7 @@ use Rattle.logos_reduce.proofs.numbering.NumberLemmas.{used_leader}
 use Rattle.logos_reduce.proofs.numbering.StateLemmas as num
 
 module _ (table : Table) (splits : List Split) (block : ℕ → ℕ) (h : IsHistory table splits block) where
-  -- a word that distinguishes two states, and is shorter than so many
+  -- a word that distinguishes two states, and is shorter than this number
   abbrev pub DistinguishedWithin : ℕ → ℕ → ℕ → Type 0
   DistinguishedWithin n s t = (word : List ℕ) × (length word < n) × WordDistinguishes table s t word
 
@@ -33,21 +33,21 @@ module _ (table : Table) (splits : List Split) (block : ℕ → ℕ) (h : IsHist
       go (inl a) (inr b) = let w = h.below j s p (omega arith) hs in let z = b.0 in absurd (omega arith)
       go (inr a) (inl b) = let w = h.below j t p (omega arith) ht in let z = a.0 in absurd (omega arith)
 
-  -- what a step by a symbol needs
+  -- the conditions of a step by a symbol
   by_targets : (j n : ℕ) (o p : Option ℕ) → AllDistinguished j → count_blocks (size table) (h.at j) < n → 0 < count_blocks (size table) (h.at j) → ((t : ℕ) → o ≡ Some t → t < size table) → ((t : ℕ) → p ≡ Some t → t < size table) →
       option_map (h.at j) o ≢ option_map (h.at j) p → (word : List ℕ) × (length word + 1 < n) × (option_map (mark table) (state_after table o word) ≢ option_map (mark table) (state_after table p word))
-  by_targets j n None None told l some ho hp d = absurd (d refl)
-  by_targets j n None (Some b) told l some ho hp d = ([], omega arith, λ e. cc)
-  by_targets j n (Some a) None told l some ho hp d = ([], omega arith, λ e. cc)
-  by_targets j n (Some a) (Some b) told l some ho hp d =
-      let w = told a b (ho a refl) (hp b refl) (λ e. d (ap Some e)) in
+  by_targets j n None None reported l some ho hp d = absurd (d refl)
+  by_targets j n None (Some b) reported l some ho hp d = ([], omega arith, λ e. cc)
+  by_targets j n (Some a) None reported l some ho hp d = ([], omega arith, λ e. cc)
+  by_targets j n (Some a) (Some b) reported l some ho hp d =
+      let w = reported a b (ho a refl) (hp b refl) (λ e. d (ap Some e)) in
       (w.0, let m = w.1 in omega arith, w.2)
 
   by_symbol : (j n s t : ℕ) (k : Option ℕ) → AllDistinguished j → count_blocks (size table) (h.at j) < n → 0 < count_blocks (size table) (h.at j) → s < size table → t < size table →
       ArePartedBy table (h.at j) k s t → DistinguishedWithin n s t
-  by_symbol j n s t None told l some hs ht d = ([], omega arith, λ e. d (cc))
-  by_symbol j n s t (Some k) told l some hs ht d =
-      let w = by_targets j n (to table s k) (to table t k) told l some (λ u e. (edge_within table s k u e).1) (λ u e. (edge_within table t k u e).1) d in
+  by_symbol j n s t None reported l some hs ht d = ([], omega arith, λ e. d (cc))
+  by_symbol j n s t (Some k) reported l some hs ht d =
+      let w = by_targets j n (to table s k) (to table t k) reported l some (λ u e. (edge_within table s k u e).1) (λ u e. (edge_within table t k u e).1) d in
       (k ∷ w.0, let m = w.1 in omega arith, w.2)
 
   turned : (n s t : ℕ) → DistinguishedWithin n s t → DistinguishedWithin n t s
@@ -72,7 +72,7 @@ module _ (table : Table) (splits : List Split) (block : ℕ → ℕ) (h : IsHist
       next = omega arith
 
       step : AllDistinguished (suc j) → AllDistinguished (suc (suc j))
-      step told s t hs ht d' = subst (λ (n : ℕ). DistinguishedWithin (count_blocks (size table) (h.at n)) s t) (sym next) (go (eqb_tells (h.at (suc j) s) (h.at (suc j) t)))
+      step reported s t hs ht d' = subst (λ (n : ℕ). DistinguishedWithin (count_blocks (size table) (h.at n)) s t) (sym next) (go (eqb_tells (h.at (suc j) s) (h.at (suc j) t)))
         where
           d : h.at (suc j + 1) s ≢ h.at (suc j + 1) t
           d = subst (λ (n : ℕ). h.at n s ≢ h.at n t) next d'
@@ -93,15 +93,15 @@ module _ (table : Table) (splits : List Split) (block : ℕ → ℕ) (h : IsHist
           apart e (inl a) (inl b) = absurd (d (a ∙ e ∙ sym b))
           apart e (inr a) (inr b) = absurd (d (a.0 ∙ sym b.0))
           apart e (inr a) (inl b) =
-              by_symbol (suc j) _ s t (split_at splits (suc j)).symbol told (more e) some hs ht (h.parted (suc j) s t (omega arith) inside hs ht a.0 (b ∙ sym e ∙ a.1))
+              by_symbol (suc j) _ s t (split_at splits (suc j)).symbol reported (more e) some hs ht (h.parted (suc j) s t (omega arith) inside hs ht a.0 (b ∙ sym e ∙ a.1))
           apart e (inl a) (inr b) =
-              turned _ t s (by_symbol (suc j) _ t s (split_at splits (suc j)).symbol told (more e) some ht hs (h.parted (suc j) t s (omega arith) inside ht hs b.0 (a ∙ e ∙ b.1)))
+              turned _ t s (by_symbol (suc j) _ t s (split_at splits (suc j)).symbol reported (more e) some ht hs (h.parted (suc j) t s (omega arith) inside ht hs b.0 (a ∙ e ∙ b.1)))
 
           go : ((nat_eq (h.at (suc j) s) (h.at (suc j) t) ≡ true) × (h.at (suc j) s ≡ h.at (suc j) t)) ⊎ ((nat_eq (h.at (suc j) s) (h.at (suc j) t) ≡ false) × (h.at (suc j) s ≢ h.at (suc j) t)) →
               DistinguishedWithin (count_blocks (size table) (h.at (suc j + 1))) s t
           go (inl e) = apart e.1 (h.step (suc j) s (omega arith) inside hs) (h.step (suc j) t (omega arith) inside ht)
           go (inr x) =
-              let w = told s t hs ht x.1 in
+              let w = reported s t hs ht x.1 in
               let le = blocks_le (size table) (h.at (suc j + 1)) (h.at (suc j)) finer in
               (w.0, let m = w.1 in omega arith, w.2)
 
@@ -112,7 +112,7 @@ module _ (table : Table) (splits : List Split) (block : ℕ → ℕ) (h : IsHist
       let few = blocks_few (size table) (h.at (length splits)) in
       (w.0, let m = w.1 in omega arith, w.2)
 
-  -- what block a state was in is known from any later one
+  -- the earlier block of a state is known from any later one
   pub known_before : (d j s t : ℕ) → j + d ≡ length splits → 0 < j → s < size table → t < size table → block s ≡ block t → h.at j s ≡ h.at j t
   known_before zero j s t q p hs ht e =
       let z : j ≡ length splits = omega arith in
@@ -155,9 +155,9 @@ module _ (old new : Table) (splits : List Split) (block leader : ℕ → ℕ) (r
       go (Some t) e =
           let i_in = (lead_number i l).0 in
           let t_in = num.stays_in old new splits block leader root states m n (lead i) t k i_in e in
-          let place = num.number_place old new splits block leader root states m n t t_in in
-          let here = used_leader (size old) block leader states n.used m.leaders (num.number old new splits block leader root states m n t) place.0 in
-          ap Some (known_before old splits block h (length splits - j) j (lead (num.number old new splits block leader root states m n t)) t (omega arith) p here.0 t_in.0 (here.1 ∙ place.1))
+          let slot = num.number_slot old new splits block leader root states m n t t_in in
+          let here = used_leader (size old) block leader states n.used m.leaders (num.number old new splits block leader root states m n t) slot.0 in
+          ap Some (known_before old splits block h (length splits - j) j (lead (num.number old new splits block leader root states m n t)) t (omega arith) p here.0 t_in.0 (here.1 ∙ slot.1))
 
   pub history_numbered : IsHistory new splits (slice_index states)
   history_numbered = record {

@@ -1,10 +1,10 @@
--- The split that parted two states of a reduced table.
+-- The split that separated two states of a reduced table.
 use Rattle.std.specs.Prelude.{◌≡◌, ◌≢◌, ◌+◌, ◌<◌, ℕ, length}
 use Rattle.logos_reduce.specs.Merge.{ArePartedBy, split_at}
 use Rattle.logos_reduce.specs.History.{HistoryOf}
 use Rattle.logos_reduce.specs.declared.reduction.Reduction.{Reduction}
 
--- The two states were parted when block j was parted from its parent.
+-- The two states were separated when block `j` was separated from its parent.
 pub record ArePartedAt (r : Reduction) (s t j : ℕ) : Type 0 where
   pub some : 0 < j
   pub inside : j < length r.splits.items

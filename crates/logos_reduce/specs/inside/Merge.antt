@@ -6,18 +6,18 @@ use Rattle.logos_reduce.specs.declared.merge.blocks.Split.{Split}
 use Rattle.logos_reduce.specs.declared.table.StateMarks.{StateMarks}
 use Rattle.logos_reduce.specs.declared.table.Table.{Table}
 
--- The first blocks have the blocks of the second, or parts of them.
+-- Each block of the first list is a block of the second, or a part of one.
 abbrev pub IsFiner : ℕ → (ℕ → ℕ) → (ℕ → ℕ) → Type 0
 IsFiner n fine block = (s t : ℕ) → s < n → t < n → fine s ≡ fine t → block s ≡ block t
 
--- A state is alone in a new block, with those of its block that lead where it leads, or stays where
--- it was.
+-- A state is in a new block, together with the states of its block that lead to the same block, or
+-- has not moved.
 abbrev pub IsLanding : ℕ → Option ℕ → ℕ → ℕ → Option ℕ → ℕ → Type 0
 IsLanding home to fresh block target new =
     ((block ≡ home) × (target ≡ to) × (new ≡ fresh))
     ⊎ (((block ≢ home) ⊎ (target ≢ to)) × (new ≡ block))
 
--- The new block of a block whose hit states have left it by the symbol.
+-- The new block of each block whose hit states have left it because of the symbol.
 pub record AreTwins (fresh k : ℕ) (twins : List ℕ) (splits : List Split) : Type 0 where
   pub named : (c : ℕ) → fresh ≤ slice_index twins c →
       (slice_index twins c < length splits) × ((split_at splits (slice_index twins c)).parent ≡ c)
@@ -26,12 +26,12 @@ pub record AreTwins (fresh k : ℕ) (twins : List ℕ) (splits : List Split) : T
   pub older : (j : ℕ) → fresh ≤ j → j < length splits → (split_at splits j).parent < fresh
   pub by : (j : ℕ) → fresh ≤ j → j < length splits → (split_at splits j).symbol ≡ Some k
 
--- The new list of splits begins with the old one.
+-- The old list of splits is a prefix of the new one.
 pub record Continues (old new : List Split) : Type 0 where
   pub longer : length old ≤ length new
   pub same : (j : ℕ) → j < length old → split_at new j ≡ split_at old j
 
--- A leaf as two numbers: whether there is one, and which.
+-- A leaf as two numbers: whether there is one, and its number.
 abbrev pub tagged : Option ℕ → ℕ × ℕ
 tagged None = (0, 0)
 tagged (Some leaf) = (1, leaf)
@@ -40,19 +40,19 @@ tagged (Some leaf) = (1, leaf)
 abbrev pub key_of : StateMarks → List ℕ
 key_of m = (tagged m.accept).0 ∷ (tagged m.accept).1 ∷ (tagged m.early).0 ∷ (tagged m.early).1 ∷ []
 
--- The blocks of the first n states are the numbers of the keys of their marks.
+-- The blocks of the first `n` states are the numbers of the keys of their marks.
 pub record AreKeyNumbers (table : Table) (n : ℕ) (blocks : List ℕ)
     (keys : List (List ℕ)) : Type 0 where
   pub keyed : (s : ℕ) → s < n → slice_get keys (slice_index blocks s) ≡ Some (key_of (mark table s))
   pub distinct : (i j : ℕ) (key : List ℕ) → slice_get keys i ≡ Some key →
       slice_get keys j ≡ Some key → i ≡ j
 
--- The block that a block was parted from, if it is not one of the first ones.
+-- The block from which a block was separated, if it is not one of the first blocks.
 abbrev pub block_before : List Split → ℕ → ℕ → ℕ
 block_before splits fresh c = if nat_lt c fresh then c else (split_at splits c).parent
 
--- The new blocks are the old ones, of which some states have left some, each for the reason that
--- its split gives.
+-- The new blocks are the old ones, some of which some states have left, each for the reason in its
+-- split.
 pub record IsExtension (table : Table) (splits more : List Split) (old new : ℕ → ℕ) : Type 0 where
   pub goes_on : Continues splits more
   pub within : IsWithin (size table) new (length more)

@@ -6,7 +6,7 @@ use Rattle.logos_reduce.specs.Prune.{IsOfUse}
 use Rattle.logos_reduce.specs.Table.{size, to, mark, type_of}
 use Rattle.logos_reduce.specs.declared.table.Table.{Table}
 
--- The state has a mark, or leads to one by the end.
+-- The state has a mark, or leads to one on the end.
 abbrev pub IsSeed : Table → ℕ → Type 0
 IsSeed table s = IsMarked (type_of (mark table s))
     ⊎ ((t : ℕ) × (to table s 256 ≡ Some t) × IsMarked (type_of (mark table t)))

@@ -1,4 +1,4 @@
-//! Blocks of states. Merging begins with a block for each mark, and splits them.
+//! Blocks of states. Merging begins with a block for each mark, and splits the blocks.
 
 ghost use Rattle.std.specs.Prelude.{None, ◌≡◌, ◌≢◌, ℕ, ◌+◌, ◌<◌, ◌≤◌, IfOk, length, vec_len, slice_index, slice_index_or};
 ghost use Rattle.logos_reduce.specs.Merge.{AreLeaders, IsSound, split_at};
@@ -9,22 +9,22 @@ use crate::table::{StateMarks, Table};
 use indexmap::IndexSet;
 use std::alloc::{AllocError, Global};
 
-/// How a block was made: it was parted from another one, by a symbol or by the marks of states.
+/// How a block was made: it was separated from another one, by a symbol or by the marks of states.
 #[derive(Clone, Copy, Drop)]
 pub struct Split {
-    /// The number of the other block, which is a lower one.
+    /// The number of the other block, which is lower.
     pub parent: usize,
-    /// The symbol by which states of the two lead to different blocks, or none where their marks
-    /// differ.
+    /// The symbol on which states of the two blocks lead to different blocks, or `None` if their
+    /// marks differ.
     pub symbol: Option<usize>,
 }
 
 /// The block of each state, and how each block was made.
 #[derive(Drop)]
 pub struct Blocks {
-    /// For each state its block.
+    /// For each state, its block.
     pub of: Vec<usize>,
-    /// For each block but 0 how it was parted from one with a lower number.
+    /// For each block but 0, how it was separated from one with a lower number.
     pub splits: Vec<Split>,
     ghost within: { (s : ℕ) → s < vec_len of → slice_index of.items s < vec_len splits },
 }
@@ -38,7 +38,7 @@ fn key_of(mark: StateMarks) -> [usize; 4]
     [accepts, accept, is_early, early]
 }
 
-/// Returns 1 and the number of the leaf, or zeros where there is none.
+/// Returns 1 and the number of the leaf, or zeros if there is none.
 pub fn tagged(leaf: Option<usize>) -> (usize, usize)
     ensures { result ≡ inside.tagged leaf }
 {
@@ -48,7 +48,7 @@ pub fn tagged(leaf: Option<usize>) -> (usize, usize)
     }
 }
 
-/// Returns the splits of so many blocks that are parted by the marks of states.
+/// Returns the splits of `count` blocks that are separated by the marks of states.
 fn parted_by_marks(alloc: Global, count: usize) -> Result<Vec<Split>, AllocError>
     ensures len { IfOk result (λ v. vec_len v ≡ count) }
     ensures splits { IfOk result (λ v. (j : ℕ) →
@@ -62,7 +62,7 @@ fn parted_by_marks(alloc: Global, count: usize) -> Result<Vec<Split>, AllocError
     Ok(splits)
 }
 
-/// Returns the states in blocks by their marks.
+/// Returns the blocks of states with equal marks.
 pub fn by_marks(alloc: Global, table: &Table) -> Result<Blocks, AllocError>
     ensures len { IfOk result (λ b. vec_len b.of ≡ size table.now) }
     ensures sound { IfOk result (λ b. IsSound table.now b.splits.items (slice_index b.of.items)) }

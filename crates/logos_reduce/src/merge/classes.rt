@@ -1,5 +1,5 @@
-//! Puts states with one mark and one row into one class, so that blocks are split by classes.
-//! `merge` does so first, where many states are alike.
+//! Groups states with equal marks and equal rows into classes, so that classes are split instead of
+//! states. `merge` calls it first, if many states are alike.
 
 ghost use Rattle.std.specs.Prelude.{◌≡◌, ℕ, ◌+◌, ◌<◌, ◌≤◌, ◌^◌, Some, IfOk, length, vec_len, slice_index, option_map};
 ghost use Rattle.logos_reduce.specs.Views.{target_by, target_in, target_of, target_block, rows_of, size, mark, mark_in, AreClasses, IsClassTable};
@@ -12,12 +12,12 @@ use crate::table::{StateMarks, Table};
 use indexmap::IndexSet;
 use std::alloc::{AllocError, Global};
 
-/// Classes of states, of which those of one class have one mark and one row.
+/// Classes of states. The states of a class have equal marks and equal rows.
 #[derive(Drop)]
 pub struct Classes {
-    /// For each state its class.
+    /// For each state, its class.
     pub of: Vec<usize>,
-    /// How many classes there are.
+    /// The number of classes.
     pub count: usize,
     ghost within: { (s : ℕ) → s < vec_len of → slice_index of.items s < count },
     ghost few: { count ≤ vec_len of },
@@ -31,7 +31,7 @@ fn class_key(table: &Table, s: usize) -> [usize; 5]
     let mark = table.mark(s);
     let (accepts, accept) = tagged(mark.accept);
     let (is_early, early) = tagged(mark.early);
-    [table.rows.place(s), accepts, accept, is_early, early]
+    [table.rows.slot(s), accepts, accept, is_early, early]
 }
 
 /// Returns the classes of the states of a table.
@@ -68,7 +68,7 @@ fn class_row(row: &Row, of: &Vec<usize>) -> Row
     made
 }
 
-/// Returns the entry for the class of a target, or 0 where there is no target.
+/// Returns the entry for the class of a target, or 0 if there is no target.
 fn class_entry(target: Option<usize>, of: &Vec<usize>) -> u32
     requires inside { (t : ℕ) → target ≡ Some t → t < vec_len of.now }
     requires few { (s : ℕ) → s < vec_len of.now → slice_index of.now.items s + 1 < 2 ^ 32 }
@@ -80,7 +80,7 @@ fn class_entry(target: Option<usize>, of: &Vec<usize>) -> u32
     }
 }
 
-/// Returns the rows of the classes, each of which leads where its leader does.
+/// Returns the rows of the classes. Each class leads to the classes of the targets of its leader.
 fn class_rows(
     alloc: Global,
     table: &Table,

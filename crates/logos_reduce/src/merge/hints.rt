@@ -1,24 +1,24 @@
-//! Chooses which part of a block becomes the new one, and which blocks to look at: no proof about
-//! blocks depends on it.
+//! Chooses the part of a block that becomes the new block, and the next blocks to process. No proof
+//! about blocks depends on it.
 
 ghost use Rattle.std.specs.Prelude.{◌≡◌, ℕ, ◌+◌, ◌<◌, ◌≤◌, OnSome, IfOk, vec_len, slice_index};
 
 use std::alloc::{AllocError, Global};
 
-/// The sizes of blocks, and the blocks that are still to be looked at.
+/// The sizes of blocks, and the blocks that are still to be processed.
 #[derive(Drop)]
 pub struct Hints {
-    /// For each block how many of its states are hit.
+    /// For each block, the number of its states that are hit.
     counts: Vec<usize>,
-    /// For each block how many states it has.
+    /// For each block, the number of its states.
     sizes: Vec<usize>,
-    /// For each block whether it is still to be looked at.
+    /// For each block, whether it is still to be processed.
     pending: Vec<bool>,
-    /// For each block the first symbol by which it is still to be looked at.
+    /// For each block, the first symbol for which it is still to be processed.
     first: Vec<usize>,
-    /// The blocks that are still to be looked at.
+    /// The blocks that are still to be processed.
     todo: Vec<usize>,
-    /// The block that is looked at.
+    /// The block that is being processed.
     looked: Option<usize>,
     ghost counts_len: { vec_len counts ≡ vec_len sizes },
     ghost pending_len: { vec_len pending ≡ vec_len sizes },
@@ -27,7 +27,7 @@ pub struct Hints {
 }
 
 impl Hints {
-    /// Returns hints by which each of the first `count` blocks is to be looked at.
+    /// Returns hints by which each of the first `count` blocks is still to be processed.
     pub fn new(
         alloc: Global,
         blocks: &Vec<usize>,
@@ -77,12 +77,12 @@ impl Hints {
         0 < self.counts[block] && self.counts[block] < self.sizes[block]
     }
 
-    /// Returns whether the block is still to be looked at.
+    /// Returns whether the block is still to be processed.
     pub fn is_pending(&self, block: usize) -> bool {
         block < self.pending.len() && self.pending[block]
     }
 
-    /// Returns the first symbol by which the block is to be looked at.
+    /// Returns the first symbol for which the block is still to be processed.
     pub fn first_symbol(&self, block: usize) -> usize {
         if block < self.first.len() {
             return self.first[block];
@@ -90,7 +90,7 @@ impl Hints {
         0
     }
 
-    /// Notes that the block is to be looked at by the symbols from `first` on.
+    /// Records that the block is to be processed for the symbols from `first` on.
     ///
     /// # Errors
     ///
@@ -109,8 +109,8 @@ impl Hints {
         Ok(())
     }
 
-    /// Moves the hits of a block to the block `twin`, and returns the larger one of the two and the
-    /// smaller one.
+    /// Moves the hits of a block to the block `twin`. Returns the larger and the smaller of the two
+    /// blocks.
     fn divide(&mut self, block: usize, twin: usize) -> (usize, usize)
         requires block_in { block < vec_len self.old.sizes }
         requires twin_in { twin < vec_len self.old.sizes }
@@ -131,8 +131,8 @@ impl Hints {
         }
     }
 
-    /// Returns the first symbol by which the block is still to be looked at, if there is one, where
-    /// `symbol` is the one by which the block that is looked at splits others now.
+    /// Returns the first symbol for which the block is still to be processed, if there is one.
+    /// `symbol` is the symbol for which the block that is being processed currently splits others.
     fn symbol_left(&self, block: usize, symbol: usize) -> Option<usize>
         requires { block < vec_len self.now.sizes }
     {
@@ -145,8 +145,9 @@ impl Hints {
         None
     }
 
-    /// Notes which parts of a block are to be looked at, once its hits are in the block `twin`: the
-    /// smaller part by all symbols, and the larger part by those that are left for the block.
+    /// Records which parts of a block are to be processed, once its hits are in the block `twin`:
+    /// the smaller part for all symbols, and the larger part for the symbols that are left for the
+    /// block.
     ///
     /// # Errors
     ///
@@ -165,7 +166,7 @@ impl Hints {
         self.note(smaller, 0)
     }
 
-    /// Forgets the hits of a block.
+    /// Resets the number of hits of a block.
     pub fn forget(&mut self, block: usize)
         requires { block < vec_len self.old.sizes }
         ensures todo { vec_len self.new.todo ≡ vec_len self.old.todo }
@@ -174,7 +175,7 @@ impl Hints {
         self.counts[block] = 0;
     }
 
-    /// Takes the next block to look at.
+    /// Removes and returns the next block to process.
     pub fn next(&mut self) -> Option<usize>
         ensures some { OnSome result (vec_len self.new.todo + 1 ≡ vec_len self.old.todo) }
         ensures sizes { vec_len self.new.sizes ≡ vec_len self.old.sizes }
@@ -184,7 +185,7 @@ impl Hints {
         Some(block)
     }
 
-    /// Notes that a block is looked at now.
+    /// Records that a block is being processed.
     fn begin(&mut self, block: usize)
         ensures todo { vec_len self.new.todo ≡ vec_len self.old.todo }
         ensures sizes { vec_len self.new.sizes ≡ vec_len self.old.sizes }

@@ -22,7 +22,7 @@ pub fn block_of(target: Option<usize>, blocks: &Vec<usize>) -> Option<usize>
     Some(blocks[target?])
 }
 
-/// Adds the numbers of the list at index `t`.
+/// Appends the numbers of the list at index `t`.
 fn add_all(sources: &mut Vec<usize>, lists: &Vec<Vec<usize>>, t: usize) -> Result<(), AllocError>
     requires { t < vec_len lists.now }
     ensures stays { (s : ℕ) → has sources.old.items s ≡ true → has sources.new.items s ≡ true }
@@ -33,7 +33,8 @@ fn add_all(sources: &mut Vec<usize>, lists: &Vec<Vec<usize>>, t: usize) -> Resul
     Ok(())
 }
 
-/// Returns the states with an edge into a block, perhaps with others, and perhaps more than once.
+/// Returns the states with an edge into a block, possibly with other states, and possibly with
+/// duplicates.
 fn all_sources(
     alloc: Global,
     parts: &Refinement,
@@ -55,7 +56,7 @@ fn all_sources(
     Ok(sources)
 }
 
-/// Returns the numbers of a list, without those that follow an equal one.
+/// Returns the numbers of a list without those that equal the number before them.
 fn without_repeats(alloc: Global, list: &Vec<usize>) -> Result<Vec<usize>, AllocError>
     ensures { IfOk result (λ v. (s : ℕ) → has list.now.items s ≡ true → has v.items s ≡ true) }
 {
@@ -66,7 +67,7 @@ fn without_repeats(alloc: Global, list: &Vec<usize>) -> Result<Vec<usize>, Alloc
     Ok(once)
 }
 
-/// Returns the states with an edge into a block, perhaps with others.
+/// Returns the states with an edge into a block, possibly with other states.
 fn sources_of(
     alloc: Global,
     parts: &Refinement,
@@ -85,7 +86,7 @@ fn sources_of(
     Ok(once)
 }
 
-/// Returns whether a state leads into the block by the symbol.
+/// Returns whether a state leads into the block `b` on the symbol `k`.
 fn leads_into(table: &Table, blocks: &Vec<usize>, s: usize, b: usize, k: usize) -> bool
     requires len { vec_len blocks.now ≡ size table.now }
     requires k_in { k < WIDTH }
@@ -95,18 +96,18 @@ fn leads_into(table: &Table, blocks: &Vec<usize>, s: usize, b: usize, k: usize) 
     s < table.len() && block_of(table.target(s, k), blocks) == Some(b)
 }
 
-/// What blocks are split by: a block, the states with an edge into it, perhaps with others, and the
-/// symbols of these edges.
+/// A block by which other blocks are split, with the states that have an edge into it, possibly
+/// with other states, and the symbols of these edges.
 #[derive(Drop)]
 struct Splitter {
     block: usize,
-    /// The first symbol by which the block is looked at.
+    /// The first symbol for which the block is processed.
     first: usize,
     sources: Vec<usize>,
     used: Symbols,
 }
 
-/// Returns those of the sources that lead into the block by the symbol.
+/// Returns the sources that lead into the block on the symbol `k`.
 fn hits_of(
     alloc: Global,
     table: &Table,
@@ -129,7 +130,8 @@ fn hits_of(
     Ok(hits)
 }
 
-/// Splits the blocks by the states that lead into a block by one symbol, if it is used.
+/// Splits the blocks by the states that lead into the block of `by` on the symbol `k`, if that
+/// symbol is used.
 fn split_by_symbol(
     alloc: Global,
     table: &Table,
@@ -166,7 +168,7 @@ fn split_by_symbol(
     Ok(split)
 }
 
-/// Returns the symbols by which some state leads into a block.
+/// Returns the symbols on which some state leads into a block.
 fn symbols_into(parts: &Refinement, symbols: &Vec<Symbols>, b: usize) -> Symbols
     requires { b < vec_len parts.now.cuts.splits }
 {
@@ -180,7 +182,7 @@ fn symbols_into(parts: &Refinement, symbols: &Vec<Symbols>, b: usize) -> Symbols
 }
 
 /// Splits the blocks by the states that lead into a block, symbol by symbol, until the block itself
-/// is split. Its parts are then still to be looked at.
+/// is split. Its parts are then still to be processed.
 fn split_by_block(
     alloc: Global,
     table: &Table,
@@ -212,7 +214,7 @@ fn split_by_block(
 }
 
 impl Refinement {
-    /// Takes the next block to look at.
+    /// Removes and returns the next block to process.
     fn next(&mut self) -> Option<usize>
         ensures some { OnSome result (vec_len self.new.cuts.hints.todo + 1
             ≡ vec_len self.old.cuts.hints.todo) }
@@ -223,7 +225,7 @@ impl Refinement {
         self.cuts.hints.next()
     }
 
-    /// Returns the blocks alone.
+    /// Returns the blocks, and drops the rest of the state.
     fn into_blocks(self) -> Blocks
         ensures of { result.of ≡ self.filing.blocks }
         ensures splits { result.splits ≡ self.cuts.splits }
@@ -257,7 +259,7 @@ fn filed_states(
     Ok(lists)
 }
 
-/// Returns the blocks, each of which is still to be looked at.
+/// Returns the blocks, each of which is still to be processed.
 fn start(alloc: Global, blocks: Blocks, room: usize) -> Result<Refinement, AllocError>
     requires some { 0 < vec_len blocks.splits }
     requires room { vec_len blocks.splits ≤ room }
@@ -281,9 +283,9 @@ fn start(alloc: Global, blocks: Blocks, room: usize) -> Result<Refinement, Alloc
 /// The edges into each state.
 #[derive(Drop)]
 struct Edges {
-    /// For each state the states that lead to it.
+    /// For each state, the states that lead to it.
     from: Vec<Vec<usize>>,
-    /// For each state the symbols by which some state leads to it.
+    /// For each state, the symbols on which some state leads to it.
     symbols: Vec<Symbols>,
 }
 
@@ -318,7 +320,7 @@ fn look_at(
     split_by_block(alloc, table, parts, &by)
 }
 
-/// Splits the blocks by each block that is still to be looked at.
+/// Splits the blocks by each block that is still to be processed.
 fn look_at_all(
     alloc: Global,
     table: &Table,
@@ -340,8 +342,7 @@ fn look_at_all(
     Ok(split)
 }
 
-/// Splits the blocks by the blocks to which their states lead, until no block is left to be looked
-/// at.
+/// Splits the blocks by the blocks to which their states lead, until no block is left to process.
 pub fn refine(alloc: Global, table: &Table, blocks: Blocks) -> Result<Blocks, AllocError>
     requires len { vec_len blocks.of ≡ size table.now }
     requires sound { IsSound table.now blocks.splits.items (slice_index blocks.of.items) }

@@ -1,4 +1,4 @@
-//! Sets of symbols, by which a block is looked at: no proof about blocks depends on them.
+//! Sets of symbols for which a block is processed. No proof about blocks depends on them.
 
 ghost use Rattle.std.specs.Prelude.{◌<◌, ◌≤◌};
 
@@ -6,14 +6,14 @@ use crate::rows::{Row, WIDTH, run_end, target_at};
 use crate::table::Table;
 use std::alloc::{AllocError, Global};
 
-/// A set of symbols, a bit for each.
+/// A set of symbols, with one bit for each.
 #[derive(Clone, Copy, Drop)]
 pub struct Symbols {
     words: [u64; 5],
 }
 
 impl Symbols {
-    /// Returns the set without symbols.
+    /// Returns the empty set.
     pub fn new() -> Symbols {
         Symbols { words: [0; 5] }
     }
@@ -25,7 +25,7 @@ impl Symbols {
         (self.words[k / 64] >> (k % 64)) & 1 == 1
     }
 
-    /// Returns a symbol after `k` with none of the set between the two.
+    /// Returns a symbol after `k` such that no symbol of the set is between the two.
     pub fn after(&self, k: usize) -> usize
         requires { k < WIDTH }
         ensures { k < result }
@@ -62,7 +62,7 @@ impl Symbols {
     }
 }
 
-/// Adds the symbols from `from` on, up to `to`, to the set of a target, if there is one.
+/// Adds the symbols from `from` on, up to `to`, to the set of a target, if there is a target.
 fn note_run(symbols: &mut Vec<Symbols>, target: Option<usize>, from: usize, to: usize)
     requires { to ≤ WIDTH }
 {
@@ -83,7 +83,7 @@ fn note_symbols(symbols: &mut Vec<Symbols>, row: &Row) {
     }
 }
 
-/// Returns for each state the symbols by which some state leads to it.
+/// Returns for each state the symbols on which some state leads to it.
 pub fn symbols_of(alloc: Global, table: &Table) -> Result<Vec<Symbols>, AllocError> {
     let mut symbols = vec![in alloc; Symbols::new(); table.len()]?;
     for s in 0..table.len() {

@@ -1,8 +1,8 @@
 //! Cuts blocks into the states that are hit and those that are not. `refine` calls it for each
-//! block and symbol that it looks at.
+//! block and symbol that it processes.
 
 ghost use Rattle.std.specs.Prelude.{true, ◌≡◌, ◌≢◌, ℕ, ◌+◌, ◌-◌, ◌*◌, ◌<◌, ◌≤◌, OnOk, IfOk, length, vec_len, slice_index};
-ghost use Rattle.logos_reduce.specs.Words.{has_in, AreFiled, landing, HaveMoved};
+ghost use Rattle.logos_reduce.specs.Imports.{has_in, AreFiled, landing, HaveMoved};
 ghost use Rattle.logos_reduce.specs.inside.Merge.{AreTwins, Continues};
 
 use crate::lists::file;
@@ -10,22 +10,22 @@ use crate::merge::blocks::Split;
 use crate::merge::hints::Hints;
 use std::alloc::{AllocError, Global};
 
-/// The block of each state, and for each block a list that has its states, and may have states that
-/// have left it.
+/// The block of each state, and for each block a list that contains its states, and may contain
+/// states that have left the block.
 #[derive(Drop)]
 pub struct Filing {
-    /// For each state its block.
+    /// For each state, its block.
     pub blocks: Vec<usize>,
-    /// For each block a list that has its states.
+    /// For each block, a list that contains its states.
     pub lists: Vec<Vec<usize>>,
 }
 
-/// How blocks are cut into two.
+/// How blocks are cut in two.
 #[derive(Drop)]
 pub struct Cuts {
-    /// For each block the block into which its hit states went last.
+    /// For each block, the block into which its hit states last went.
     pub twins: Vec<usize>,
-    /// How each block was parted from one with a lower number.
+    /// For each block, how it was separated from one with a lower number.
     pub splits: Vec<Split>,
     pub hints: Hints,
 }
@@ -56,7 +56,8 @@ fn homes_of(
     Ok(homes)
 }
 
-/// Makes a new block for a block, if some but not all of its states are hit and it has none yet.
+/// Makes a new block for a block, if some but not all of its states are hit and it has no new block
+/// yet.
 fn add_twin(cuts: &mut Cuts, fresh: usize, block: usize, symbol: usize) -> Result<(), AllocError>
     requires room { vec_len cuts.old.twins ≡ vec_len cuts.old.hints.sizes }
     requires fits { vec_len cuts.old.splits ≤ vec_len cuts.old.twins }
@@ -111,7 +112,7 @@ fn add_twins(cuts: &mut Cuts, homes: &Vec<usize>, symbol: usize) -> Result<(), A
     Ok(())
 }
 
-/// Forgets the hits of these blocks.
+/// Resets the numbers of hits of these blocks.
 fn forget_all(hints: &mut Hints, homes: &Vec<usize>)
     requires { (i : ℕ) → i < vec_len homes.now →
         slice_index homes.now.items i < vec_len hints.old.sizes }
@@ -201,7 +202,7 @@ fn move_hits(
     Ok(())
 }
 
-/// Blocks while they are cut: the states in them, and how they were made.
+/// Blocks while they are cut: their states, and how they were made.
 #[derive(Drop)]
 pub struct Refinement {
     pub filing: Filing,
@@ -216,7 +217,7 @@ pub struct Refinement {
         filing.lists.items },
 }
 
-/// Cuts the blocks by the hit states, which lead into one block by the symbol.
+/// Cuts the blocks by the hit states, which lead into one block on the symbol.
 pub fn split_on(
     alloc: Global,
     parts: Refinement,

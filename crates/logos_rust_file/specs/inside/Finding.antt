@@ -3,7 +3,7 @@ use Rattle.std.specs.Prelude.{◌≡◌, ◌<◌, List, [], ◌++◌, Option, So
 use Rattle.logos_token.specs.Tokens.{TokenList, count_of}
 use Rattle.logos_token.specs.declared.token.views.Tokens.{Tokens}
 use Rattle.logos_token.specs.Views.{tokens_of}
-use Rattle.logos_rust_file.specs.declared.finding.FoundEnum.{FoundEnum}
+use Rattle.logos_rust_file.specs.declared.finder.FoundEnum.{FoundEnum}
 use Rattle.logos_rust_file.specs.Files.{Finds}
 
 -- All enums of a run were added.

@@ -1,4 +1,4 @@
--- What is printed of what is left of a source spells it again.
+-- The printed text of a stripped source spells the remaining tokens again.
 use Rattle.std.proofs.Common.{◌≡◌, ◌≢◌, ℕ, ◌⊎◌, inl, inr, Bool, true, List, [], ◌∷◌, ◌++◌, map, length, drop, slice_index, slice_range, IsUtf8, encode_utf8, refl, sym, ◌∙◌, ap, subst, arith}
 use Rattle.std.proofs.lemmas.Bool.{false≢true}
 use Rattle.std.proofs.lemmas.Str.{IsCharBoundary-start, encode_ascii}
@@ -36,7 +36,7 @@ first_text [] = []
 first_text (part ∷ rest) = part.text
 
 module _ (a : List ℕ) (utf8 : IsUtf8 a) (text : HasText a) where
-  -- the lexeme of a piece that is no gap
+  -- the lexeme of a piece that is not a gap
   lexeme_there : (kind : LexemeKind) (span : Span) → kind ≢ Gap → (l : Lexeme) × (lexeme_of a kind span ≡ l ∷ [])
   lexeme_there Gap span f = absurd (f refl)
   lexeme_there Identifier span f = (_, refl)
@@ -75,7 +75,7 @@ module _ (a : List ℕ) (utf8 : IsUtf8 a) (text : HasText a) where
       let shown : encode_utf8 (slice_index a from) ≡ slice_range a from to = ap first_text t in
       sym shown ∙ ap encode_utf8 byte ∙ encode_ascii comma (omega arith)
 
-  -- sites of what is left of pieces
+  -- sites of the rest of pieces
   record Seated (from : ℕ) (stays : Bool) (pieces : List Piece) (ms : List Lexeme) : Type 0 where
     sites : List Site
     linked : Linked a sites
@@ -83,14 +83,14 @@ module _ (a : List ℕ) (utf8 : IsUtf8 a) (text : HasText a) where
     first : stays ≡ true → Follows pieces → Continues from sites
 
   -- a piece, and those after it
-  record Stands (from : ℕ) (piece : Piece) (rest : List Piece) : Type 0 where
+  record Occurs (from : ℕ) (piece : Piece) (rest : List Piece) : Type 0 where
     at : piece.span.from ≡ from
     bound : IsCharBoundary a from
     next : IsNext a from piece.kind piece.span.to
     no_gap : piece.kind ≢ Gap
     follows : piece.kind ≡ Punctuation Joint → Follows rest
 
-  seat_keep : (from : ℕ) (piece : Piece) (rest : List Piece) (l : Lexeme) (ms : List Lexeme) → Stands from piece rest → lexeme_of a piece.kind piece.span ≡ l ∷ [] → (stays : Bool) → (is_joint l ≡ true → stays ≡ true) →
+  seat_keep : (from : ℕ) (piece : Piece) (rest : List Piece) (l : Lexeme) (ms : List Lexeme) → Occurs from piece rest → lexeme_of a piece.kind piece.span ≡ l ∷ [] → (stays : Bool) → (is_joint l ≡ true → stays ≡ true) →
       Seated piece.span.to stays rest ms → Seated from true (piece ∷ rest) (l ∷ ms)
   seat_keep from piece rest l ms s one stays joint r =
       let to = piece.span.to in
@@ -103,7 +103,7 @@ module _ (a : List ℕ) (utf8 : IsUtf8 a) (text : HasText a) where
         first = λ e f. refl;
       }
 
-  seat_loose : (from : ℕ) (piece : Piece) (rest : List Piece) (spacing : Spacing) (span : Span) (ms : List Lexeme) → Stands from piece rest → lexeme_of a piece.kind piece.span ≡ leaf (punctuation comma spacing span) ∷ [] → (stays : Bool) →
+  seat_loose : (from : ℕ) (piece : Piece) (rest : List Piece) (spacing : Spacing) (span : Span) (ms : List Lexeme) → Occurs from piece rest → lexeme_of a piece.kind piece.span ≡ leaf (punctuation comma spacing span) ∷ [] → (stays : Bool) →
       Seated piece.span.to stays rest ms → Seated from true (piece ∷ rest) (leaf (punctuation comma Alone span) ∷ ms)
   seat_loose from piece rest spacing span ms s one stays r =
       let to = piece.span.to in
@@ -119,7 +119,7 @@ module _ (a : List ℕ) (utf8 : IsUtf8 a) (text : HasText a) where
         first = λ e f. refl;
       }
 
-  seat_piece : (from : ℕ) (piece : Piece) (rest : List Piece) (l : Lexeme) → Stands from piece rest → lexeme_of a piece.kind piece.span ≡ l ∷ [] →
+  seat_piece : (from : ℕ) (piece : Piece) (rest : List Piece) (l : Lexeme) → Occurs from piece rest → lexeme_of a piece.kind piece.span ≡ l ∷ [] →
       ((stays : Bool) (ls ms : List Lexeme) → Thins stays ls ms → ls ≡ seen a rest → Seated piece.span.to stays rest ms) → {stays : Bool} {ls ms : List Lexeme} → Thins stays ls ms → ls ≡ l ∷ seen a rest → Seated from stays (piece ∷ rest) ms
   seat_piece from piece rest l s one ih ended e = absurd (cc)
   seat_piece from piece rest l s one ih (drops stays lexeme t) e =
@@ -141,8 +141,8 @@ module _ (a : List ℕ) (utf8 : IsUtf8 a) (text : HasText a) where
         record { sites = r.sites; linked = r.linked; lexemes_are = r.lexemes_are; first = λ f h. absurd (h g) }
     | inr g ↦
         let l = lexeme_there piece.kind piece.span g in
-        let stands : Stands from piece rest = record { at = filled.0; bound = bound; next = filled.1; no_gap = g; follows = joined.0 } in
-        seat_piece from piece rest l.0 stands l.1
+        let occurs : Occurs from piece rest = record { at = filled.0; bound = bound; next = filled.1; no_gap = g; follows = joined.0 } in
+        seat_piece from piece rest l.0 occurs l.1
         (λ stays ls ms t e. seat rest piece.span.to end filled.2 joined.1 (piece-boundary a from piece.kind piece.span.to utf8 bound filled.1) stays ls ms t e)
         t (e ∙ ap (λ x. x ++ seen a rest) l.1)
   ]

@@ -15,7 +15,7 @@ pub data SameEntry : TokenList → TokenList → Type 0 where
   parted : (span : Span) (spacing other : Spacing) (rest next : TokenList) → SameEntry (also (punctuation comma spacing span) rest) (also (punctuation comma other span) next)
   further : (token : Token) {rest next : TokenList} → is_comma token ≡ false → SameEntry rest next → SameEntry (also token rest) (also token next)
 
--- what is after a word or a mark is the same
+-- the tokens after a name or a mark are the same
 module _ (test : TokenList → Bool) (same : (one other : TokenList) → SameEntry one other → test one ≡ test other) where
   if_same : (found : Bool) (one other : TokenList) → SameEntry one other → holds_after test (if found then Some one else None) ≡ holds_after test (if found then Some other else None)
   if_same true one other s = same one other s
@@ -77,7 +77,7 @@ path_same one other s = word_same is_macro_segment segment_same (codes "logos") 
 global_same : (one other : TokenList) → SameEntry one other → is_global_path one ≡ is_global_path other
 global_same one other s = colons_same is_macro_path path_same one other s
 
--- the same entry names the derive macro or does not
+-- an entry names the derive macro in both runs or in neither
 pub entry_same : (one other : TokenList) → SameEntry one other → is_macro_entry one ≡ is_macro_entry other
 entry_same one other s =
     ap (λ t. t || (is_macro_path one || is_global_path one)) (name_same one other s)

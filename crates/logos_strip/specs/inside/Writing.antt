@@ -9,12 +9,12 @@ use Rattle.logos_strip.specs.declared.spots.Scope.TheVariants.{Enum, Attribute, 
 use Rattle.logos_strip.specs.declared.writer.Writer.{Writer}
 use Rattle.logos_strip.specs.Stripping.{left}
 
--- The punctuation that is held back.
+-- The punctuation that is not written yet.
 abbrev pub held : Option Punct → List (Option Token)
 held None = []
 held (Some p) = Some (punctuation p.character p.spacing p.span) ∷ []
 
--- All trees in the end, when these follow the ones so far.
+-- All trees at the end, if these follow the trees written so far.
 abbrev pub completed : Writer → List (Option Token) → TokenList
 completed writer pieces = append (stream_tokens writer.stream) (left (held writer.held ++ pieces))
 
@@ -22,7 +22,7 @@ completed writer pieces = append (stream_tokens writer.stream) (left (held write
 abbrev pub group_token : Group → Token
 group_token g = group g.delimiter g.span (inside_of g)
 
--- The most parts of an enum that can be inside this one, one in another.
+-- The greatest number of parts of an enum that can be nested inside this one.
 abbrev pub rank : Scope → ℕ
 rank Enum = 2
 rank Attribute = 1

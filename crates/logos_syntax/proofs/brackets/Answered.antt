@@ -1,4 +1,4 @@
--- What the bracket reader's answers say of the text.
+-- The meaning of the bracket reader's results for the text.
 use Rattle.std.proofs.Common.{◌≡◌, ℕ, ◌+◌, ◌<◌, ◌≤◌, Bool, true, [], ◌∷◌, length, Some, None, Result, Ok, Err, eqb, refl, sym, ap, subst, ◌∙◌, arith}
 use Rattle.logos_pattern_tokens.specs.declared.error.Fault.{Fault}
 use Rattle.logos_pattern_tokens.specs.declared.error.Fault.TheVariants as faults
@@ -8,7 +8,7 @@ use Rattle.logos_pattern_tokens.specs.declared.token.Flags.{Flags}
 use Rattle.logos_pattern_tokens.specs.declared.bracket.token.Lead.{Lead}
 use Rattle.logos_pattern_tokens.specs.declared.bracket.token.BracketToken.{BracketToken}
 use Rattle.logos_pattern_tokens.specs.declared.bracket.token.BracketToken.TheVariants.{Item, Open, Operator, Close}
-use Rattle.logos_pattern_tokens.specs.Token.{Text, Gives}
+use Rattle.logos_pattern_tokens.specs.Token.{Text, Yields}
 use Rattle.std.specs.Borrow.{Bor}
 use Rattle.logos_syntax.specs.declared.bracket.stack.BracketValue.{BracketValue}
 use Rattle.logos_pattern_tokens.specs.bracket.Form.{Bracket, bracket}
@@ -29,13 +29,13 @@ nothing_there = refl
 module _ (flags : Flags) (base : ℕ) (negated : Bool) (lead : Lead) (text here : Text) (s : Frames) (r : InBracket flags base negated lead text here s) where
   -- there is no token
   pub no_token_here : bracket_token_at here ≡ None → Refuted (λ b. BracketFits flags b → ⊥) negated lead text
-  no_token_here none = no_token (λ b. BracketFits flags b → ⊥) negated lead text here r.place r.walked_to none
+  no_token_here none = no_token (λ b. BracketFits flags b → ⊥) negated lead text here r.slot r.walked_to none
 
   -- nothing is left
   pub unclosed : here ≡ [] → Refuted (λ b. BracketFits flags b → ⊥) negated lead text
   unclosed e = no_token_here (ap bracket_token_at e ∙ nothing_there)
 
-  pub faulted : (fault : Fault) (stop : Stop) → Gives {X = BracketToken × Text} (λ x. x) (Err fault) (bracket_token_at here) → IsStopOf fault stop → Refuted (Denies flags base stop) negated lead text
+  pub faulted : (fault : Fault) (stop : Stop) → Yields {X = BracketToken × Text} (λ x. x) (Err fault) (bracket_token_at here) → IsStopOf fault stop → Refuted (Denies flags base stop) negated lead text
   faulted (faults.Syntax kind) (stops.Syntax other left) none is = no_token_here none
   faulted (faults.Syntax kind) stops.LimitPatternNesting none is = absurd is
   faulted (faults.Syntax kind) stops.Memory none is = absurd is
@@ -45,7 +45,7 @@ module _ (flags : Flags) (base : ℕ) (negated : Bool) (lead : Lead) (text here 
 
   -- the step stopped
   no_step : (token : BracketToken) (after : Text) → bracket_token_at here ≡ Some (token, after) → (token ≡ Close → s.below ≡ [] → ⊥) → NoStep flags s token → Refuted (λ b. BracketFits flags b → ⊥) negated lead text
-  no_step (Item item) after e inner unfit = no_fit flags negated lead text here after r.place item r.walked_to e unfit
+  no_step (Item item) after e inner unfit = no_fit flags negated lead text here after r.slot item r.walked_to e unfit
   no_step (Open n d) after e inner none = absurd none
   no_step (Operator op) after e inner none = absurd none
   no_step Close after e inner last = absurd (inner refl last)
@@ -53,8 +53,8 @@ module _ (flags : Flags) (base : ℕ) (negated : Bool) (lead : Lead) (text here 
   deep_step : (token : BracketToken) (after : Text) → bracket_token_at here ≡ Some (token, after) → TooDeep base s token → Refuted (λ b. 250 < base + bracket_depth b) negated lead text
   deep_step (Item item) after e none = absurd none
   deep_step (Open n d) after e deep =
-      let below : length s.below ≡ size r.place.stack = ap (λ (x : Frames). length x.below) r.frames ∙ length-below_of flags base r.place.stack in
-      too_deep flags base negated lead text here after r.place n d r.walked_to e (omega arith)
+      let below : length s.below ≡ size r.slot.stack = ap (λ (x : Frames). length x.below) r.frames ∙ length-below_of flags base r.slot.stack in
+      too_deep flags base negated lead text here after r.slot n d r.walked_to e (omega arith)
   deep_step (Operator op) after e none = absurd none
   deep_step Close after e none = absurd none
 
@@ -67,7 +67,7 @@ pub empty_text : (t : Text) → true ≡ eqb (length t) 0 → t ≡ []
 empty_text [] e = refl
 empty_text (c ∷ t) e = let h = eqb-true (length (c ∷ t)) 0 (sym e) in absurd (omega arith)
 
--- the inside behind an opening is a bracket
+-- the inside after an opening is a bracket
 whole_bracket : (flags : Flags) (base : ℕ) (text : Text) (n : Bool) (d : Lead) (rest : Text) (r : Result (BracketValue × Bor Text) Stop) → Opens n d text rest → ReadsInside flags base n d rest r → ReadsBracket flags base text r
 whole_bracket flags base text n d rest (Ok x) o h = record {
   written = bracket n d h.inside;

@@ -14,17 +14,17 @@ use Rattle.logos_pattern_tokens.proofs.BracketTokens.{open_taken}
 use Rattle.logos_syntax.specs.Nesting.{LeavesOpen, done, item, operator, opening, closing, InsideFront}
 use Rattle.logos_syntax.specs.inside.BracketStack.{Frames}
 use Rattle.logos_syntax.specs.inside.BracketView.{IsStopOf, BracketSteps, IfDeepInside, IfDeepBracket}
-use Rattle.logos_syntax.proofs.brackets.Levels.{Level, Stack, bottom, over, Place, size, starting, walk, walk_more, length-below_of}
+use Rattle.logos_syntax.proofs.brackets.Levels.{Level, Stack, bottom, over, Slot, size, starting, walk, walk_more, length-below_of}
 use Rattle.logos_syntax.proofs.brackets.Texts.{InBracket, cuts_more, taken, fits_more}
 
-abbrev at : Stack → Level → Place
+abbrev at : Stack → Level → Slot
 at k l = record { level = l; stack = k }
 
--- a walk leaves as many brackets open as its last place is in
-walk_leaves : (k : Stack) (l : Level) (ts : List BracketToken) (q : Place) → walk (at k l) ts ≡ Some q → LeavesOpen (suc (size k)) ts (suc (size q.stack))
+-- a walk leaves as many brackets open as its last point is in
+walk_leaves : (k : Stack) (l : Level) (ts : List BracketToken) (q : Slot) → walk (at k l) ts ≡ Some q → LeavesOpen (suc (size k)) ts (suc (size q.stack))
 walk_leaves k l [] q e =
     let same : at k l ≡ q = cc in
-    subst (λ (x : Place). LeavesOpen (suc (size k)) [] (suc (size x.stack))) same (done (suc (size k)))
+    subst (λ (x : Slot). LeavesOpen (suc (size k)) [] (suc (size x.stack))) same (done (suc (size k)))
 walk_leaves k l (Item i ∷ ts) q e = item _ _ i ts (walk_leaves k _ ts q e)
 walk_leaves k l (Operator op ∷ ts) q e = operator _ _ op ts (walk_leaves k _ ts q e)
 walk_leaves k l (Open negated lead ∷ ts) q e = opening _ _ negated lead ts (walk_leaves (over k l) _ ts q e)
@@ -33,10 +33,10 @@ walk_leaves (over k outer) l (Close ∷ ts) q e = closing _ _ ts (walk_leaves k 
 
 module _ (flags : Flags) (base : ℕ) (negated : Bool) (lead : Lead) (text here : Text) (s : Frames) (r : InBracket flags base negated lead text here s) where
   -- one more bracket opens here
-  opens_here : (n : Bool) (d : Lead) (after : Text) → bracket_token_at here ≡ Some (Open n d, after) → InsideFront flags text (suc (suc (size r.place.stack)))
+  opens_here : (n : Bool) (d : Lead) (after : Text) → bracket_token_at here ≡ Some (Open n d, after) → InsideFront flags text (suc (suc (size r.slot.stack)))
   opens_here n d after e =
       let ts = r.walked_to.tokens in
-      let q : Place = starting n d (over r.place.stack r.place.level) in
+      let q : Slot = starting n d (over r.slot.stack r.slot.level) in
       let w : walk (starting negated lead bottom) (ts ++ Open n d ∷ []) ≡ Some q =
       walk_more (starting negated lead bottom) ts (Open n d ∷ []) ∙ ap (option_and_then (λ x. walk x (Open n d ∷ []))) r.walked_to.walks in
       record {
@@ -47,7 +47,7 @@ module _ (flags : Flags) (base : ℕ) (negated : Bool) (lead : Lead) (text here 
         leaves = walk_leaves bottom (starting negated lead bottom).level (ts ++ Open n d ∷ []) q w;
       }
 
-  -- what a step that stopped says of the text
+  -- the meaning of a stopped step for the text
   pub deep_inside : (token : BracketToken) (after : Text) (stop : Stop) (new : Frames) → bracket_token_at here ≡ Some (token, after) → BracketSteps flags base s token (Err stop) new → IfDeepInside flags base stop text
   deep_inside token after (stops.Syntax kind left) new e h = tt
   deep_inside token after stops.Memory new e h = tt
@@ -55,7 +55,7 @@ module _ (flags : Flags) (base : ℕ) (negated : Bool) (lead : Lead) (text here 
   deep_inside (Operator op) after stops.LimitPatternNesting new e none = absurd none
   deep_inside Close after stops.LimitPatternNesting new e none = absurd none
   deep_inside (Open n d) after stops.LimitPatternNesting new e deep =
-      let below : length s.below ≡ size r.place.stack = ap (λ (x : Frames). length x.below) r.frames ∙ length-below_of flags base r.place.stack in
+      let below : length s.below ≡ size r.slot.stack = ap (λ (x : Frames). length x.below) r.frames ∙ length-below_of flags base r.slot.stack in
       (_, opens_here n d after e, omega arith)
 
 -- a fault is no limit

@@ -1,4 +1,4 @@
--- Brackets read so far: the frames of open brackets are those of what is written.
+-- Brackets that have been read: the frames of open brackets are those of the written ones.
 use Rattle.std.proofs.Common.{◌≡◌, ℕ, suc, ◌+◌, max, Bool, false, List, [], ◌∷◌, ◌++◌, length, Option, Some, None, refl, sym, ap, subst, ◌∙◌, arith, append_assoc, append-nil, option_map, option_and_then}
 use Rattle.logos_pattern_tokens.specs.declared.token.Flags.{Flags}
 use Rattle.logos_pattern_tokens.specs.declared.bracket.token.BracketItem.{BracketItem as ItemOf}
@@ -13,7 +13,7 @@ use Rattle.logos_syntax.specs.bracket.Meaning.{set_or_complement, item_set, lead
 use Rattle.logos_syntax.specs.inside.BracketStack.{BracketFrame, Frames, fresh_frame, value, whole, close, bracket_step}
 use Rattle.logos_syntax.specs.inside.BracketStack.{with_before}
 
--- a bracket that is open: the operands before the last one, with the operator behind them, and the
+-- a bracket that is open: the operands before the last one, with the operator after them, and the
 -- last one
 pub record Level : Type 0 where
   pub negated : Bool
@@ -26,7 +26,7 @@ pub data Stack : Type 0 where
   bottom : Stack
   over : Stack → Level → Stack
 
-pub record Place : Type 0 where
+pub record Slot : Type 0 where
   pub level : Level
   pub stack : Stack
 
@@ -44,7 +44,7 @@ abbrev pub before_set : Flags → Lead → Option (Operands × SetOperator) → 
 before_set flags lead None = None
 before_set flags lead (Some b) = Some (operands_set flags lead b.0, b.1)
 
--- what the last operand starts with
+-- the start of the last operand
 abbrev pub front_set : Lead → Option (Operands × SetOperator) → Set
 front_set lead None = lead_set lead
 front_set lead (Some b) = λ c. false
@@ -69,27 +69,27 @@ abbrev pub below_of : Flags → ℕ → Stack → List BracketFrame
 below_of flags base bottom = []
 below_of flags base (over k l) = frame_of flags (base + size k + 1) l ∷ below_of flags base k
 
-abbrev pub frames_of : Flags → ℕ → Place → Frames
+abbrev pub frames_of : Flags → ℕ → Slot → Frames
 frames_of flags base p = record { top = frame_of flags (base + size p.stack + 1) p.level; below = below_of flags base p.stack }
 
 abbrev pub with_members : Level → Members → Level
 with_members l ms = record l { members = ms }
 
-abbrev pub close_level : Level → Stack → Option Place
+abbrev pub close_level : Level → Stack → Option Slot
 close_level l bottom = None
 close_level l (over k outer) = Some (record { level = with_members outer (nested outer.members (level_bracket l)); stack = k })
 
-abbrev pub starting : Bool → Lead → Stack → Place
+abbrev pub starting : Bool → Lead → Stack → Slot
 starting negated lead k = record { level = record { negated = negated; lead = lead; before = None; members = nobody }; stack = k }
 
--- the same step on brackets
-abbrev pub advance : Place → BracketToken → Option Place
+-- the corresponding step on brackets
+abbrev pub advance : Slot → BracketToken → Option Slot
 advance p (Item item) = Some (record p { level = with_members p.level (member p.level.members item) })
 advance p (Open negated lead) = Some (starting negated lead (over p.stack p.level))
 advance p (Operator op) = Some (record p { level = record p.level { before = Some (level_inside p.level, op); members = nobody } })
 advance p Close = close_level p.level p.stack
 
-abbrev pub walk : Place → List BracketToken → Option Place
+abbrev pub walk : Slot → List BracketToken → Option Slot
 walk p [] = Some p
 walk p (token ∷ others) = option_and_then (λ q. walk q others) (advance p token)
 
@@ -149,7 +149,7 @@ close_is flags base l (over k outer) =
     ap (λ (s : Set). to_frame flags base k (record { negated = outer.negated; before = before_set flags outer.lead outer.before; here = union here s; inner = max (level + inside_depth outer.before outer.members) (inner_level + inside_depth l.before l.members) })) (whole_of flags inner_level l)
     ∙ ap (λ (n : ℕ). to_frame flags base k (record { negated = outer.negated; before = before_set flags outer.lead outer.before; here = union here (bracket_set flags (level_bracket l)); inner = n })) inner
 
-pub step_is : (flags : Flags) (base : ℕ) (p : Place) (t : BracketToken) → bracket_step flags base (frames_of flags base p) t ≡ option_map (frames_of flags base) (advance p t)
+pub step_is : (flags : Flags) (base : ℕ) (p : Slot) (t : BracketToken) → bracket_step flags base (frames_of flags base p) t ≡ option_map (frames_of flags base) (advance p t)
 step_is flags base p (Item item) = ap (to_frame flags base p.stack) (item_is flags (base + size p.stack + 1) p.level item)
 step_is flags base p (Open negated lead) =
     let e = length-below_of flags base p.stack in
@@ -160,15 +160,15 @@ step_is flags base p Close = close_is flags base p.level p.stack
 
 -- ---- walks
 
-pub walk_more : (p : Place) (xs ys : List BracketToken) → walk p (xs ++ ys) ≡ option_and_then (λ q. walk q ys) (walk p xs)
+pub walk_more : (p : Slot) (xs ys : List BracketToken) → walk p (xs ++ ys) ≡ option_and_then (λ q. walk q ys) (walk p xs)
 walk_more p [] ys = refl
 walk_more p (x ∷ xs) ys = from (λ q. walk_more q xs ys) (advance p x)
   where
-    from : ((q : Place) → walk q (xs ++ ys) ≡ option_and_then (λ r. walk r ys) (walk q xs)) → (o : Option Place) → option_and_then (λ q. walk q (xs ++ ys)) o ≡ option_and_then (λ q. walk q ys) (option_and_then (λ q. walk q xs) o)
+    from : ((q : Slot) → walk q (xs ++ ys) ≡ option_and_then (λ r. walk r ys) (walk q xs)) → (o : Option Slot) → option_and_then (λ q. walk q (xs ++ ys)) o ≡ option_and_then (λ q. walk q ys) (option_and_then (λ q. walk q xs) o)
     from more None = refl
     from more (Some q) = more q
 
--- the tokens that a place was read from
+-- the tokens that a point was read from
 abbrev pub tokens_at : Level → Stack → List BracketToken
 tokens_at l bottom = operands_tokens (level_inside l)
 tokens_at l (over k outer) = tokens_at outer k ++ Open l.negated l.lead ∷ operands_tokens (level_inside l)
@@ -186,12 +186,12 @@ level_more l m (over k outer) ts n d e =
     ∙ ap (λ (x : List BracketToken). tokens_at outer k ++ Open l.negated l.lead ∷ x) e
     ∙ sym (append_assoc (tokens_at outer k) (Open l.negated l.lead ∷ operands_tokens (level_inside l)) ts)
 
--- the outermost bracket stays what it is
+-- the outermost bracket is unchanged
 abbrev pub outermost : Level → Stack → Bool × Lead
 outermost l bottom = (l.negated, l.lead)
 outermost l (over k outer) = outermost outer k
 
-record Adds (p : Place) (t : BracketToken) (q : Place) : Type 0 where
+record Adds (p : Slot) (t : BracketToken) (q : Slot) : Type 0 where
   tokens : tokens_at q.level q.stack ≡ tokens_at p.level p.stack ++ t ∷ []
   same : outermost q.level q.stack ≡ outermost p.level p.stack
 
@@ -199,10 +199,10 @@ same_outermost : (l m : Level) (k : Stack) → m.negated ≡ l.negated → m.lea
 same_outermost l m bottom n d = ap (λ b. (b, m.lead)) n ∙ ap (λ x. (l.negated, x)) d
 same_outermost l m (over k outer) n d = refl
 
-adds_at : (p : Place) (t : BracketToken) (q r : Place) → Adds p t q → ◌≡◌ {A = Option Place} (Some q) (Some r) → Adds p t r
+adds_at : (p : Slot) (t : BracketToken) (q r : Slot) → Adds p t q → ◌≡◌ {A = Option Slot} (Some q) (Some r) → Adds p t r
 adds_at p t q r h e = let same : q ≡ r = cc in subst (Adds p t) same h
 
-close_adds : (l : Level) (k : Stack) (q : Place) → close_level l k ≡ Some q → Adds (record { level = l; stack = k }) Close q
+close_adds : (l : Level) (k : Stack) (q : Slot) → close_level l k ≡ Some q → Adds (record { level = l; stack = k }) Close q
 close_adds l bottom q e = absurd cc
 close_adds l (over k outer) q e =
     let x = level_bracket l in
@@ -213,7 +213,7 @@ close_adds l (over k outer) q e =
       same = same_outermost outer made k refl refl;
     }) e
 
-advance_adds : (p : Place) (t : BracketToken) (q : Place) → advance p t ≡ Some q → Adds p t q
+advance_adds : (p : Slot) (t : BracketToken) (q : Slot) → advance p t ≡ Some q → Adds p t q
 advance_adds p (Item item) q e =
     let made : Level = with_members p.level (member p.level.members item) in
     adds_at p (Item item) (record { level = made; stack = p.stack }) q (record {
@@ -231,15 +231,15 @@ advance_adds p (Operator op) q e =
 advance_adds p Close q e = close_adds p.level p.stack q e
 
 -- where a walk leads to
-pub record Walked (p : Place) (ts : List BracketToken) (q : Place) : Type 0 where
+pub record Walked (p : Slot) (ts : List BracketToken) (q : Slot) : Type 0 where
   pub tokens : tokens_at q.level q.stack ≡ tokens_at p.level p.stack ++ ts
   pub same : outermost q.level q.stack ≡ outermost p.level p.stack
 
-pub walked : (p : Place) (ts : List BracketToken) (q : Place) → walk p ts ≡ Some q → Walked p ts q
+pub walked : (p : Slot) (ts : List BracketToken) (q : Slot) → walk p ts ≡ Some q → Walked p ts q
 walked p [] q e = let same : p ≡ q = cc in subst (Walked p []) same (record { tokens = sym (append-nil (tokens_at p.level p.stack)); same = refl })
 walked p (t ∷ ts) q e = from (λ r h. walked r ts q h) (advance p t) refl e
   where
-    from : ((r : Place) → walk r ts ≡ Some q → Walked r ts q) → (o : Option Place) → advance p t ≡ o → option_and_then (λ r. walk r ts) o ≡ Some q → Walked p (t ∷ ts) q
+    from : ((r : Slot) → walk r ts ≡ Some q → Walked r ts q) → (o : Option Slot) → advance p t ≡ o → option_and_then (λ r. walk r ts) o ≡ Some q → Walked p (t ∷ ts) q
     from more None is h = absurd cc
     from more (Some r) is h =
         let a = advance_adds p t r is in
@@ -248,30 +248,30 @@ walked p (t ∷ ts) q e = from (λ r h. walked r ts q h) (advance p t) refl e
 
 -- ---- each bracket is walked through
 
-abbrev at : Bool → Lead → Option (Operands × SetOperator) → Members → Stack → Place
+abbrev at : Bool → Lead → Option (Operands × SetOperator) → Members → Stack → Slot
 at negated lead b ms k = record { level = record { negated = negated; lead = lead; before = b; members = ms }; stack = k }
 
-abbrev pub place_of : Bool → Lead → Operands → Stack → Place
-place_of negated lead (lone ms) k = at negated lead None ms k
-place_of negated lead (joined os op ms) k = at negated lead (Some (os, op)) ms k
+abbrev pub slot_of : Bool → Lead → Operands → Stack → Slot
+slot_of negated lead (lone ms) k = at negated lead None ms k
+slot_of negated lead (joined os op ms) k = at negated lead (Some (os, op)) ms k
 
-pub inside-place_of : (negated : Bool) (lead : Lead) (os : Operands) (k : Stack) → level_inside (place_of negated lead os k).level ≡ os
-inside-place_of negated lead (lone ms) k = refl
-inside-place_of negated lead (joined os op ms) k = refl
+pub inside-slot_of : (negated : Bool) (lead : Lead) (os : Operands) (k : Stack) → level_inside (slot_of negated lead os k).level ≡ os
+inside-slot_of negated lead (lone ms) k = refl
+inside-slot_of negated lead (joined os op ms) k = refl
 
-through : (p q r : Place) (xs ys : List BracketToken) → walk p xs ≡ Some q → walk q ys ≡ Some r → walk p (xs ++ ys) ≡ Some r
+through : (p q r : Slot) (xs ys : List BracketToken) → walk p xs ≡ Some q → walk q ys ≡ Some r → walk p (xs ++ ys) ≡ Some r
 through p q r xs ys a b = walk_more p xs ys ∙ ap (option_and_then (λ x. walk x ys)) a ∙ b
 
 mutual
-  pub operands_walk : (os : Operands) (negated : Bool) (lead : Lead) (k : Stack) → walk (starting negated lead k) (operands_tokens os) ≡ Some (place_of negated lead os k)
+  pub operands_walk : (os : Operands) (negated : Bool) (lead : Lead) (k : Stack) → walk (starting negated lead k) (operands_tokens os) ≡ Some (slot_of negated lead os k)
   operands_walk (lone ms) negated lead k = members_walk ms negated lead None k
   operands_walk (joined os op ms) negated lead k =
-      through (starting negated lead k) (place_of negated lead os k) (at negated lead (Some (os, op)) ms k) (operands_tokens os) (Operator op ∷ members_tokens ms)
+      through (starting negated lead k) (slot_of negated lead os k) (at negated lead (Some (os, op)) ms k) (operands_tokens os) (Operator op ∷ members_tokens ms)
       (operands_walk os negated lead k)
       (operator_walk os op (members_tokens ms) negated lead k
       ∙ members_walk ms negated lead (Some (os, op)) k)
 
-  operator_walk : (os : Operands) (op : SetOperator) (ts : List BracketToken) (negated : Bool) (lead : Lead) (k : Stack) → walk (place_of negated lead os k) (Operator op ∷ ts) ≡ walk (at negated lead (Some (os, op)) nobody k) ts
+  operator_walk : (os : Operands) (op : SetOperator) (ts : List BracketToken) (negated : Bool) (lead : Lead) (k : Stack) → walk (slot_of negated lead os k) (Operator op ∷ ts) ≡ walk (at negated lead (Some (os, op)) nobody k) ts
   operator_walk (lone ms) op ts negated lead k = refl
   operator_walk (joined os p ms) op ts negated lead k = refl
 
@@ -285,9 +285,9 @@ mutual
   bracket_walk : (x : Bracket) (negated : Bool) (lead : Lead) (b : Option (Operands × SetOperator)) (ms : Members) (k : Stack) → walk (at negated lead b ms k) (bracket_tokens x) ≡ Some (at negated lead b (nested ms x) k)
   bracket_walk (bracket n d os) negated lead b ms k =
       let outer : Level = record { negated = negated; lead = lead; before = b; members = ms } in
-      through (starting n d (over k outer)) (place_of n d os (over k outer)) (at negated lead b (nested ms (bracket n d os)) k) (operands_tokens os) (Close ∷ [])
+      through (starting n d (over k outer)) (slot_of n d os (over k outer)) (at negated lead b (nested ms (bracket n d os)) k) (operands_tokens os) (Close ∷ [])
       (operands_walk os n d (over k outer)) (close_walk os n d outer k)
 
-  close_walk : (os : Operands) (n : Bool) (d : Lead) (outer : Level) (k : Stack) → walk (place_of n d os (over k outer)) (Close ∷ []) ≡ Some (record { level = with_members outer (nested outer.members (bracket n d os)); stack = k })
+  close_walk : (os : Operands) (n : Bool) (d : Lead) (outer : Level) (k : Stack) → walk (slot_of n d os (over k outer)) (Close ∷ []) ≡ Some (record { level = with_members outer (nested outer.members (bracket n d os)); stack = k })
   close_walk (lone ms) n d outer k = refl
   close_walk (joined os op ms) n d outer k = refl

@@ -1,4 +1,5 @@
--- Whole brackets: how a text is cut into their tokens, and what the parser's answers say of it.
+-- Whole brackets: how a text is cut into their tokens, and the meaning of the parser's results for
+-- it.
 use Rattle.std.proofs.Common.{◌≡◌, ℕ, ◌+◌, ◌<◌, ◌≤◌, max, Bool, false, ◌⊎◌, inl, inr, List, [], ◌∷◌, ◌++◌, Option, Some, None, refl, sym, ap, subst, ◌∙◌, arith, append_assoc, append-nil, option_map, option_and_then, IfSome}
 use Rattle.logos_pattern_tokens.specs.declared.token.Flags.{Flags}
 use Rattle.logos_pattern_tokens.specs.declared.bracket.token.BracketItem.{BracketItem as ItemOf}
@@ -12,10 +13,10 @@ use Rattle.logos_pattern_tokens.specs.bracket.Spelling.{operands_tokens, Bracket
 use Rattle.logos_syntax.specs.bracket.Meaning.{bracket_set, item_fits, TokensFit, BracketFits, bracket_depth}
 use Rattle.logos_pattern_tokens.specs.bracket.Reader.{bracket_token_at}
 use Rattle.logos_syntax.specs.inside.BracketStack.{BracketFrame, Frames, whole, close, bracket_step, fresh_frame}
-use Rattle.logos_syntax.specs.inside.BracketView.{MayStand}
+use Rattle.logos_syntax.specs.inside.BracketView.{MayOccur}
 use Rattle.logos_pattern_tokens.proofs.Picks.{IsTaken}
 use Rattle.logos_pattern_tokens.proofs.BracketTokens.{open_is, bracket_token_taken, bracket_token_is}
-use Rattle.logos_syntax.proofs.brackets.Levels.{Level, Stack, bottom, over, Place, frames_of, size, starting, advance, walk, walk_more, Walked, walked, tokens_at, outermost, level_inside, depth_inside, place_of, inside-place_of, operands_walk, step_is, whole_of}
+use Rattle.logos_syntax.proofs.brackets.Levels.{Level, Stack, bottom, over, Slot, frames_of, size, starting, advance, walk, walk_more, Walked, walked, tokens_at, outermost, level_inside, depth_inside, slot_of, inside-slot_of, operands_walk, step_is, whole_of}
 
 -- ---- lists
 
@@ -73,11 +74,11 @@ compare (u ∷ us) (t ∷ ts) text here rest h k =
 
 -- ---- walks of whole brackets
 
-close_at_bottom : (negated : Bool) (lead : Lead) (os : Operands) (ts : List BracketToken) → walk (place_of negated lead os bottom) (Close ∷ ts) ≡ None
+close_at_bottom : (negated : Bool) (lead : Lead) (os : Operands) (ts : List BracketToken) → walk (slot_of negated lead os bottom) (Close ∷ ts) ≡ None
 close_at_bottom negated lead (lone ms) ts = refl
 close_at_bottom negated lead (joined os op ms) ts = refl
 
--- nothing is walked behind a whole bracket
+-- nothing is walked after a whole bracket
 ends_there : (negated : Bool) (lead : Lead) (os : Operands) (ts : List BracketToken) → walk (starting negated lead bottom) ((operands_tokens os ++ Close ∷ []) ++ ts) ≡ None
 ends_there negated lead os ts =
     ap (walk (starting negated lead bottom)) (append_assoc (operands_tokens os) (Close ∷ []) ts)
@@ -85,19 +86,19 @@ ends_there negated lead os ts =
     ∙ ap (option_and_then (λ q. walk q (Close ∷ ts))) (operands_walk os negated lead bottom)
     ∙ close_at_bottom negated lead os ts
 
--- a walk of all operands goes on from each place on it
-goes_on : (negated : Bool) (lead : Lead) (os : Operands) (ts front : List BracketToken) (p : Place) → operands_tokens os ≡ ts ++ front → walk (starting negated lead bottom) ts ≡ Some p → walk p front ≡ Some (place_of negated lead os bottom)
+-- a walk of all operands continues from each point on it
+goes_on : (negated : Bool) (lead : Lead) (os : Operands) (ts front : List BracketToken) (p : Slot) → operands_tokens os ≡ ts ++ front → walk (starting negated lead bottom) ts ≡ Some p → walk p front ≡ Some (slot_of negated lead os bottom)
 goes_on negated lead os ts front p e w =
     sym (ap (option_and_then (λ q. walk q front)) w) ∙ sym (walk_more (starting negated lead bottom) ts front) ∙ ap (walk (starting negated lead bottom)) (sym e) ∙ operands_walk os negated lead bottom
 
--- ---- what a reader has read of a bracket, at a place inside of it
+-- ---- the part of a bracket that a reader has read, at a point inside of it
 
-pub record HasWalked (negated : Bool) (lead : Lead) (text here : Text) (p : Place) : Type 0 where
+pub record HasWalked (negated : Bool) (lead : Lead) (text here : Text) (p : Slot) : Type 0 where
   pub tokens : List BracketToken
   pub cut : BracketCuts text tokens here
   pub walks : walk (starting negated lead bottom) tokens ≡ Some p
 
--- how a whole bracket goes on there
+-- how a whole bracket continues there
 pub record Onward (inside : Operands) (here rest : Text) (ts : List BracketToken) : Type 0 where
   pub token : BracketToken
   pub after : Text
@@ -105,7 +106,7 @@ pub record Onward (inside : Operands) (here rest : Text) (ts : List BracketToken
   pub takes : BracketTakes token here after
   pub is_rest : operands_tokens inside ++ Close ∷ [] ≡ ts ++ token ∷ others
 
-pub onward : (negated : Bool) (lead : Lead) (text here rest : Text) (p : Place) (inside : Operands) → (h : HasWalked negated lead text here p) → BracketCuts text (operands_tokens inside ++ Close ∷ []) rest → Onward inside here rest h.tokens
+pub onward : (negated : Bool) (lead : Lead) (text here rest : Text) (p : Slot) (inside : Operands) → (h : HasWalked negated lead text here p) → BracketCuts text (operands_tokens inside ++ Close ∷ []) rest → Onward inside here rest h.tokens
 onward negated lead text here rest p inside h k = from (compare h.tokens (operands_tokens inside ++ Close ∷ []) text here rest h.cut k)
   where
     past : (ts : List BracketToken) → h.tokens ≡ (operands_tokens inside ++ Close ∷ []) ++ ts → Onward inside here rest h.tokens
@@ -119,20 +120,20 @@ onward negated lead text here rest p inside h k = from (compare h.tokens (operan
     from (inl r) = first r.0 r.1 r.2
     from (inr r) = past (r.0 ∷ r.1) r.2
 
--- ---- two brackets at one place
+-- ---- two brackets at one point
 
 same_inside : (os qs : Operands) → operands_tokens os ≡ operands_tokens qs → os ≡ qs
 same_inside os qs e =
-    let places : ◌≡◌ {A = Option Place} (Some (place_of false (Dashes 0) os bottom)) (Some (place_of false (Dashes 0) qs bottom)) =
+    let slots : ◌≡◌ {A = Option Slot} (Some (slot_of false (Dashes 0) os bottom)) (Some (slot_of false (Dashes 0) qs bottom)) =
     sym (operands_walk os false (Dashes 0) bottom) ∙ ap (walk (starting false (Dashes 0) bottom)) e ∙ operands_walk qs false (Dashes 0) bottom in
-    let same : place_of false (Dashes 0) os bottom ≡ place_of false (Dashes 0) qs bottom = cc in
-    sym (inside-place_of false (Dashes 0) os bottom) ∙ ap (λ (p : Place). level_inside p.level) same ∙ inside-place_of false (Dashes 0) qs bottom
+    let same : slot_of false (Dashes 0) os bottom ≡ slot_of false (Dashes 0) qs bottom = cc in
+    sym (inside-slot_of false (Dashes 0) os bottom) ∙ ap (λ (p : Slot). level_inside p.level) same ∙ inside-slot_of false (Dashes 0) qs bottom
 
 -- the tokens of a whole bracket are no front of those of another
 same_whole : (os qs : Operands) (text rest after : Text) → BracketCuts text (operands_tokens os ++ Close ∷ []) rest → BracketCuts text (operands_tokens qs ++ Close ∷ []) after → (os ≡ qs) × (rest ≡ after)
 same_whole os qs text rest after h k = from (compare (operands_tokens os ++ Close ∷ []) (operands_tokens qs ++ Close ∷ []) text rest after h k)
   where
-    -- the one goes on behind the other's end
+    -- the one continues after the other's end
     longer : (xs ys : Operands) (t : BracketToken) (others : List BracketToken) → operands_tokens ys ++ Close ∷ [] ≡ (operands_tokens xs ++ Close ∷ []) ++ t ∷ others → ⊥
     longer xs ys t others e = of_split (snoc_split (operands_tokens ys) (operands_tokens xs ++ Close ∷ []) Close (t ∷ others) e)
       where
@@ -179,11 +180,11 @@ one_bracket (bracket n d os) (bracket m e qs) text rest after h k =
 
 -- ---- refusals
 
--- what is said of each bracket that is written at the text, whose opening is read
+-- the property of each bracket that is written at the text and whose opening is read
 abbrev pub Refuted : (Bracket → Type 0) → Bool → Lead → Text → Type 0
 Refuted Claim negated lead text = (inside : Operands) (rest : Text) → BracketCuts text (operands_tokens inside ++ Close ∷ []) rest → Claim (bracket negated lead inside)
 
--- behind the opening, and as a whole
+-- after the opening, and as a whole
 pub refuted : (Claim : Bracket → Type 0) (negated : Bool) (lead : Lead) (text after : Text) → Opens negated lead text after → Refuted Claim negated lead after →
     (b : Bracket) (rest : Text) → Encloses b text rest → Claim b
 refuted Claim negated lead text after o h (bracket m e os) rest k =
@@ -192,7 +193,7 @@ refuted Claim negated lead text after o h (bracket m e os) rest k =
     (h os rest (subst (λ x. BracketCuts x (operands_tokens os ++ Close ∷ []) rest) (sym same.following) k.2)))
 
 -- there is no token
-pub no_token : (Claim : Bracket → Type 0) (negated : Bool) (lead : Lead) (text here : Text) (p : Place) → HasWalked negated lead text here p → bracket_token_at here ≡ None → Refuted Claim negated lead text
+pub no_token : (Claim : Bracket → Type 0) (negated : Bool) (lead : Lead) (text here : Text) (p : Slot) → HasWalked negated lead text here p → bracket_token_at here ≡ None → Refuted Claim negated lead text
 no_token Claim negated lead text here p h none inside rest k =
     let o = onward negated lead text here rest p inside h k in
     let e = bracket_token_is o.token here o.after o.takes in
@@ -205,8 +206,8 @@ fits_at flags (Open n d ∷ xs) ys t f = fits_at flags xs ys t f
 fits_at flags (Operator op ∷ xs) ys t f = fits_at flags xs ys t f
 fits_at flags (Close ∷ xs) ys t f = fits_at flags xs ys t f
 
--- an item that may not stand there
-pub no_fit : (flags : Flags) (negated : Bool) (lead : Lead) (text here after : Text) (p : Place) (item : ItemOf) → HasWalked negated lead text here p → bracket_token_at here ≡ Some (Item item, after) → item_fits flags item ≡ false →
+-- an element that is not allowed there
+pub no_fit : (flags : Flags) (negated : Bool) (lead : Lead) (text here after : Text) (p : Slot) (item : ItemOf) → HasWalked negated lead text here p → bracket_token_at here ≡ Some (Item item, after) → item_fits flags item ≡ false →
     Refuted (λ b. BracketFits flags b → ⊥) negated lead text
 no_fit flags negated lead text here after p item h e unfit inside rest k fit =
     let o = onward negated lead text here rest p inside h k in
@@ -238,11 +239,11 @@ step_deeper flags base s (Open n d) = omega arith
 step_deeper flags base s (Operator op) = omega arith
 step_deeper flags base s Close = close_deeper flags s.top s.below
 
-walk_deeper : (flags : Flags) (base : ℕ) (p : Place) (ts : List BracketToken) (q : Place) → walk p ts ≡ Some q → deepest (frames_of flags base p) ≤ deepest (frames_of flags base q)
+walk_deeper : (flags : Flags) (base : ℕ) (p : Slot) (ts : List BracketToken) (q : Slot) → walk p ts ≡ Some q → deepest (frames_of flags base p) ≤ deepest (frames_of flags base q)
 walk_deeper flags base p [] q e = let same : p ≡ q = cc in subst (λ x. deepest (frames_of flags base p) ≤ deepest (frames_of flags base x)) same (omega arith)
 walk_deeper flags base p (t ∷ ts) q e = from (λ r h. walk_deeper flags base r ts q h) (advance p t) refl e
   where
-    from : ((r : Place) → walk r ts ≡ Some q → deepest (frames_of flags base r) ≤ deepest (frames_of flags base q)) → (o : Option Place) → advance p t ≡ o → option_and_then (λ r. walk r ts) o ≡ Some q → deepest (frames_of flags base p) ≤ deepest (frames_of flags base q)
+    from : ((r : Slot) → walk r ts ≡ Some q → deepest (frames_of flags base r) ≤ deepest (frames_of flags base q)) → (o : Option Slot) → advance p t ≡ o → option_and_then (λ r. walk r ts) o ≡ Some q → deepest (frames_of flags base p) ≤ deepest (frames_of flags base q)
     from deep None is h = absurd cc
     from deep (Some r) is h =
         let one : IfSome (option_map (frames_of flags base) (Some r)) (λ t. deepest (frames_of flags base p) ≤ deepest t) =
@@ -250,12 +251,12 @@ walk_deeper flags base p (t ∷ ts) q e = from (λ r h. walk_deeper flags base r
         let rest = deep r h in
         omega (arith, one)
 
-place_depth : (flags : Flags) (base : ℕ) (negated : Bool) (lead : Lead) (os : Operands) → deepest (frames_of flags base (place_of negated lead os bottom)) ≡ base + bracket_depth (bracket negated lead os)
-place_depth flags base negated lead (lone ms) = omega arith
-place_depth flags base negated lead (joined os op ms) = omega arith
+slot_depth : (flags : Flags) (base : ℕ) (negated : Bool) (lead : Lead) (os : Operands) → deepest (frames_of flags base (slot_of negated lead os bottom)) ≡ base + bracket_depth (bracket negated lead os)
+slot_depth flags base negated lead (lone ms) = omega arith
+slot_depth flags base negated lead (joined os op ms) = omega arith
 
 -- a nested bracket that is too deep
-pub too_deep : (flags : Flags) (base : ℕ) (negated : Bool) (lead : Lead) (text here after : Text) (p : Place) (n : Bool) (d : Lead) → HasWalked negated lead text here p → bracket_token_at here ≡ Some (Open n d, after) → 250 < base + size p.stack + 2 →
+pub too_deep : (flags : Flags) (base : ℕ) (negated : Bool) (lead : Lead) (text here after : Text) (p : Slot) (n : Bool) (d : Lead) → HasWalked negated lead text here p → bracket_token_at here ≡ Some (Open n d, after) → 250 < base + size p.stack + 2 →
     Refuted (λ b. 250 < base + bracket_depth b) negated lead text
 too_deep flags base negated lead text here after p n d h e deep inside rest k =
     let o = onward negated lead text here rest p inside h k in
@@ -267,9 +268,9 @@ too_deep flags base negated lead text here after p n d h e deep inside rest k =
     next (t ∷ front) others f g =
         let is : Open n d ≡ t = cc in
         let w = goes_on negated lead inside h.tokens (t ∷ front) p g h.walks in
-        let v : walk p (Open n d ∷ front) ≡ Some (place_of negated lead inside bottom) = ap (λ x. walk p (x ∷ front)) is ∙ w in
-        let grown = walk_deeper flags base (starting n d (over p.stack p.level)) front (place_of negated lead inside bottom) v in
-        let total = place_depth flags base negated lead inside in
+        let v : walk p (Open n d ∷ front) ≡ Some (slot_of negated lead inside bottom) = ap (λ x. walk p (x ∷ front)) is ∙ w in
+        let grown = walk_deeper flags base (starting n d (over p.stack p.level)) front (slot_of negated lead inside bottom) v in
+        let total = slot_depth flags base negated lead inside in
         omega arith
 
     of_split : (others_of : List BracketToken) → (((Open n d ∷ others_of ≡ []) × (h.tokens ≡ operands_tokens inside ++ Close ∷ [])) ⊎ ((front : List BracketToken) × (Open n d ∷ others_of ≡ front ++ Close ∷ []) × (operands_tokens inside ≡ h.tokens ++ front))) → 250 < base + bracket_depth (bracket negated lead inside)
@@ -279,24 +280,24 @@ too_deep flags base negated lead text here after p n d h e deep inside rest k =
 pub too_deep_at_once : (base : ℕ) (b : Bracket) → 250 ≤ base → 250 < base + bracket_depth b
 too_deep_at_once base (bracket n d os) h = omega arith
 
--- ---- what a reader has read
+-- ---- the text that a reader has read
 
--- the inside of the bracket up to a place, and the frames there
+-- the inside of the bracket up to a point, and the frames there
 pub record InBracket (flags : Flags) (base : ℕ) (negated : Bool) (lead : Lead) (text here : Text) (s : Frames) : Type 0 where
-  pub place : Place
-  pub walked_to : HasWalked negated lead text here place
+  pub slot : Slot
+  pub walked_to : HasWalked negated lead text here slot
   pub fits : TokensFit flags walked_to.tokens
-  pub frames : s ≡ frames_of flags base place
+  pub frames : s ≡ frames_of flags base slot
 
 pub at_opening : (flags : Flags) (base : ℕ) (negated : Bool) (lead : Lead) (text : Text) (s : Frames) → s ≡ record { top = fresh_frame negated lead (base + 1); below = [] } → InBracket flags base negated lead text text s
 at_opening flags base negated lead text s e = record {
-  place = starting negated lead bottom;
+  slot = starting negated lead bottom;
   walked_to = record { tokens = []; cut = refl; walks = refl };
   fits = tt;
   frames = e ∙ ap (λ (n : ℕ). record { top = fresh_frame negated lead n; below = [] }) (let m : base + 1 ≡ base + 0 + 1 + 0 = omega arith in m);
 }
 
-pub fits_more : (flags : Flags) (ts : List BracketToken) (t : BracketToken) → TokensFit flags ts → MayStand flags t → TokensFit flags (ts ++ t ∷ [])
+pub fits_more : (flags : Flags) (ts : List BracketToken) (t : BracketToken) → TokensFit flags ts → MayOccur flags t → TokensFit flags (ts ++ t ∷ [])
 fits_more flags [] (Item item) f m = (m, tt)
 fits_more flags [] (Open n d) f m = tt
 fits_more flags [] (Operator op) f m = tt
@@ -307,14 +308,14 @@ fits_more flags (Operator op ∷ ts) t f m = fits_more flags ts t f m
 fits_more flags (Close ∷ ts) t f m = fits_more flags ts t f m
 
 pub one_step : (flags : Flags) (base : ℕ) (negated : Bool) (lead : Lead) (text here after : Text) (s u : Frames) (t : BracketToken) → InBracket flags base negated lead text here s → bracket_token_at here ≡ Some (t, after) →
-    MayStand flags t → bracket_step flags base s t ≡ Some u → InBracket flags base negated lead text after u
+    MayOccur flags t → bracket_step flags base s t ≡ Some u → InBracket flags base negated lead text after u
 one_step flags base negated lead text here after s u t r e may moves =
-    from (advance r.place t) refl (sym (step_is flags base r.place t) ∙ ap (λ (x : Frames). bracket_step flags base x t) (sym r.frames) ∙ moves)
+    from (advance r.slot t) refl (sym (step_is flags base r.slot t) ∙ ap (λ (x : Frames). bracket_step flags base x t) (sym r.frames) ∙ moves)
   where
-    from : (o : Option Place) → advance r.place t ≡ o → option_map (frames_of flags base) o ≡ Some u → InBracket flags base negated lead text after u
+    from : (o : Option Slot) → advance r.slot t ≡ o → option_map (frames_of flags base) o ≡ Some u → InBracket flags base negated lead text after u
     from None is h = absurd cc
     from (Some q) is h = record {
-      place = q;
+      slot = q;
       walked_to = record {
         tokens = r.walked_to.tokens ++ t ∷ [];
         cut = cuts_more text r.walked_to.tokens here t after r.walked_to.cut (taken here after t e);
@@ -333,13 +334,13 @@ pub record Closed (flags : Flags) (base : ℕ) (negated : Bool) (lead : Lead) (t
   pub is_depth : s.top.inner ≡ base + bracket_depth (bracket negated lead inside)
 
 pub closed : (flags : Flags) (base : ℕ) (negated : Bool) (lead : Lead) (text here after : Text) (s : Frames) → InBracket flags base negated lead text here s → s.below ≡ [] → bracket_token_at here ≡ Some (Close, after) → Closed flags base negated lead text after s
-closed flags base negated lead text here after s r last e = from r.place.level r.place.stack r.frames (walked (starting negated lead bottom) r.walked_to.tokens r.place r.walked_to.walks) refl refl
+closed flags base negated lead text here after s r last e = from r.slot.level r.slot.stack r.frames (walked (starting negated lead bottom) r.walked_to.tokens r.slot r.walked_to.walks) refl refl
   where
-    from : (l : Level) (k : Stack) → s ≡ frames_of flags base (record { level = l; stack = k }) → Walked (starting negated lead bottom) r.walked_to.tokens r.place → r.place.level ≡ l → r.place.stack ≡ k → Closed flags base negated lead text after s
+    from : (l : Level) (k : Stack) → s ≡ frames_of flags base (record { level = l; stack = k }) → Walked (starting negated lead bottom) r.walked_to.tokens r.slot → r.slot.level ≡ l → r.slot.stack ≡ k → Closed flags base negated lead text after s
     from l (over k outer) frames w el ek = let h = ap (λ (x : Frames). x.below) frames in absurd cc
     from l bottom frames w el ek =
-        let tokens : operands_tokens (level_inside l) ≡ r.walked_to.tokens = ap (λ (x : Level). tokens_at x bottom) (sym el) ∙ ap (tokens_at r.place.level) (sym ek) ∙ w.tokens in
-        let same : ◌≡◌ {A = Bool × Lead} (l.negated, l.lead) (negated, lead) = ap (λ (x : Level). outermost x bottom) (sym el) ∙ ap (outermost r.place.level) (sym ek) ∙ w.same in
+        let tokens : operands_tokens (level_inside l) ≡ r.walked_to.tokens = ap (λ (x : Level). tokens_at x bottom) (sym el) ∙ ap (tokens_at r.slot.level) (sym ek) ∙ w.tokens in
+        let same : ◌≡◌ {A = Bool × Lead} (l.negated, l.lead) (negated, lead) = ap (λ (x : Level). outermost x bottom) (sym el) ∙ ap (outermost r.slot.level) (sym ek) ∙ w.same in
         let b : bracket l.negated l.lead (level_inside l) ≡ bracket negated lead (level_inside l) = ap (λ (x : Bool × Lead). bracket x.0 x.1 (level_inside l)) same in
         record {
           inside = level_inside l;

@@ -1,4 +1,4 @@
--- What is read so far is a beginning of a pattern, and how deep it is.
+-- The part of the text that has been read is a prefix of a pattern, and its nesting depth.
 use Rattle.std.proofs.Common.{◌≡◌, ℕ, suc, ◌+◌, ◌<◌, max, List, [], ◌∷◌, ◌++◌, true, length, Some, Result, Ok, Err, IfErr, refl, sym, ap, subst, ◌∙◌, arith}
 use Rattle.logos_pattern_tokens.specs.declared.error.Fault.{Fault}
 use Rattle.logos_pattern_tokens.specs.declared.error.Fault.TheVariants as faults
@@ -17,7 +17,7 @@ use Rattle.logos_syntax.specs.inside.BracketView.{IsStopOf, IfDeepBracket}
 use Rattle.logos_syntax.specs.inside.GroupsView.{Steps, Ends}
 use Rattle.logos_syntax.specs.inside.GroupNames.{Admits}
 use Rattle.logos_syntax.specs.inside.Reading.{IsDeepAt, token_deep, bracket_deep, IfDeepToken, IfDeepText, names_after, HasRead}
-use Rattle.logos_syntax.proofs.patterns.Levels.{Stack, bottom, over, Place, level_inside, state_of, below_of, size, length-below_of, flags_inside, depth_inside}
+use Rattle.logos_syntax.proofs.patterns.Levels.{Stack, bottom, over, Slot, level_inside, state_of, below_of, size, length-below_of, flags_inside, depth_inside}
 use Rattle.logos_syntax.proofs.patterns.Levels as levels
 use Rattle.logos_syntax.proofs.patterns.Reading.{stack_tokens, tokens_of, StackFits, IsRead, is_read}
 use Rattle.logos_syntax.proofs.patterns.Texts.{reads_on, taken_here}
@@ -53,8 +53,8 @@ depth_around flags (over k l opening) =
     let d = depth_inside l.before l.items in
     omega arith
 
--- what is read, as a beginning of the text
-abbrev front_of : (flags : Flags) (text rest : Text) (ts : List Token) (p : Place) → tokens_of p ≡ ts → StackFits flags p.stack → BranchesFit (levels.front_flags flags p.stack) (level_inside p.level) →
+-- the text that is read, as a prefix of the text
+abbrev front_of : (flags : Flags) (text rest : Text) (ts : List Token) (p : Slot) → tokens_of p ≡ ts → StackFits flags p.stack → BranchesFit (levels.front_flags flags p.stack) (level_inside p.level) →
     Cuts text ts rest → NamesDiffer [] ts → Front flags text rest
 front_of flags text rest ts p is stack_fits fits cut differ =
     let e : around_tokens (around_of p.stack) ++ branches_tokens (level_inside p.level) ≡ ts = ap (λ (x : List Token). x ++ branches_tokens (level_inside p.level)) (tokens_around p.stack) ∙ is in
@@ -72,28 +72,28 @@ module _ (flags : Flags) (text rest : Text) (s : State) (names : GroupNames) (r 
   read = is_read flags r.tokens s r.run
 
   abbrev front : Front flags text rest
-  front = front_of flags text rest r.tokens read.place read.tokens read.fits.0 read.fits.1 r.cut r.differ
+  front = front_of flags text rest r.tokens read.slot read.tokens read.fits.0 read.fits.1 r.cut r.differ
 
   -- it is as deep as the parser is
   pub deep_groups : 250 < deepest s → IsTooDeep flags text
   deep_groups deep =
-      let e : deepest s ≡ deepest (state_of flags read.place) = ap deepest read.state in
-      let b = depth_around flags read.place.stack in
-      let n = count_around read.place.stack in
-      let d = depth_inside read.place.level.before read.place.level.items in
-      let k = read.place.stack in
-      let l = read.place.level in
+      let e : deepest s ≡ deepest (state_of flags read.slot) = ap deepest read.state in
+      let b = depth_around flags read.slot.stack in
+      let n = count_around read.slot.stack in
+      let d = depth_inside read.slot.level.before read.slot.level.items in
+      let k = read.slot.stack in
+      let l = read.slot.level in
       let goal : 250 < max (groups_open (around_of k) + branches_depth (level_inside l)) (around_depth (around_of k)) = omega arith in
       by_groups rest front goal
 
   open_groups : groups_open front.around ≡ length s.below
-  open_groups = count_around read.place.stack ∙ sym (ap (λ (x : State). length x.below) read.state ∙ length-below_of flags read.place.stack)
+  open_groups = count_around read.slot.stack ∙ sym (ap (λ (x : State). length x.below) read.state ∙ length-below_of flags read.slot.stack)
 
   flags_here : s.top.flags ≡ front_flags front
   flags_here =
       ap (λ (x : State). x.top.flags) read.state
-      ∙ flags_inside (levels.front_flags flags read.place.stack) read.place.level.before read.place.level.items
-      ∙ ap (λ (f : Flags). branches_flags f (level_inside read.place.level)) (sym (flags_around flags read.place.stack))
+      ∙ flags_inside (levels.front_flags flags read.slot.stack) read.slot.level.before read.slot.level.items
+      ∙ ap (λ (f : Flags). branches_flags f (level_inside read.slot.level)) (sym (flags_around flags read.slot.stack))
 
 -- a bracket in it opens too deep
 pub deep_brackets : (flags : Flags) (text following : Text) (s : State) (names : GroupNames) → (r : HasRead flags text (91 ∷ following) s names) → (count : ℕ) → BracketFront s.top.flags following count →
@@ -103,7 +103,7 @@ deep_brackets flags text following s names r count b deep =
     by_brackets following (front flags text (91 ∷ following) s names r) count
     (subst (λ f. BracketFront f following count) (flags_here flags text (91 ∷ following) s names r) b) (omega arith)
 
--- what a stop at a token says of the text
+-- the meaning of a stop at a token for the text
 pub deep_text : (flags : Flags) (text rest : Text) (s : State) (names others : GroupNames) (stop : Stop) → (r : HasRead flags text rest s names) → IfDeepToken stop s (names_after [] r.tokens) rest others → IfDeepText flags text stop
 deep_text flags text rest s names others (stops.Syntax kind left) r h = tt
 deep_text flags text rest s names others stops.Memory r h = tt
@@ -122,14 +122,14 @@ shallow_token faults.Memory (stops.Syntax other left) s seen text names h = tt
 shallow_token faults.Memory stops.LimitPatternNesting s seen text names h = absurd h
 shallow_token faults.Memory stops.Memory s seen text names h = tt
 
--- what a bracket that stops says
+-- the meaning of a bracket that stops
 pub bracket_is_deep : (s : State) (seen : List Text) (text : Text) (names : GroupNames) (flags : Flags) (base : ℕ) (stop : Stop) → flags ≡ s.top.flags → base ≡ length s.below → IfDeepBracket flags base stop text → IfDeepToken stop s seen (91 ∷ text) names
 bracket_is_deep s seen text names flags base (stops.Syntax kind left) set is h = tt
 bracket_is_deep s seen text names flags base stops.Memory set is h = tt
 bracket_is_deep s seen text names flags base stops.LimitPatternNesting set is h =
     bracket_deep text h.0 (subst (λ f. BracketFront f text h.0) set h.1) (let deep = h.2 in omega arith)
 
--- what a step that stops says
+-- the meaning of a step that stops
 pub step_is_deep : (s u : State) (seen : List Text) (text rest : Text) (token : Token) (names : GroupNames) (stop : Stop) → token_at text ≡ Some (token, rest) → Admits seen token true names → Steps s token (Err stop) u → IfDeepToken stop s seen text names
 step_is_deep s u seen text rest token names (stops.Syntax kind left) is new h = tt
 step_is_deep s u seen text rest token names stops.Memory is new h = tt

@@ -18,12 +18,13 @@ pub record Level : Type 0 where
   pub before : Option Branches
   pub items : Items
 
--- the groups around a level, the innermost outside: what is read of it, and how the next one opens
+-- the groups around a level, the innermost outside: its part that is read, and how the next one
+-- opens
 pub data Stack : Type 0 where
   bottom : Stack
   over : Stack → Level → Opening → Stack
 
-pub record Place : Type 0 where
+pub record Slot : Type 0 where
   pub level : Level
   pub stack : Stack
 
@@ -89,7 +90,7 @@ abbrev pub below_of : Flags → Stack → List Group
 below_of flags bottom = []
 below_of flags (over k l opening) = top_of flags k l ∷ below_of flags k
 
-abbrev pub state_of : Flags → Place → State
+abbrev pub state_of : Flags → Slot → State
 state_of flags p = record { top = top_of flags p.stack p.level; below = below_of flags p.stack }
 
 abbrev pub with_piece : Level → Piece → Level
@@ -101,18 +102,18 @@ repeated_items (piece its p) op = Some (piece its (repeated p op))
 repeated_items (setting its change) op = None
 
 -- another innermost level
-abbrev pub with_level : Place → Level → Place
+abbrev pub with_level : Slot → Level → Slot
 with_level p l = record p { level = l }
 
-abbrev pub put_piece : Place → Piece → Place
+abbrev pub put_piece : Slot → Piece → Slot
 put_piece p x = with_level p (with_piece p.level x)
 
-abbrev pub close_level : Level → Stack → Option Place
+abbrev pub close_level : Level → Stack → Option Slot
 close_level l bottom = None
 close_level l (over k outer opening) = Some (record { level = with_piece outer (group opening (level_inside l)); stack = k })
 
--- the same step on patterns
-abbrev pub advance : Place → Token → Option Place
+-- the corresponding step on patterns
+abbrev pub advance : Slot → Token → Option Slot
 advance p (atom a) = Some (put_piece p (simple a))
 advance p (bracketed b) = Some (put_piece p (class b))
 advance p bar = Some (with_level p (record { before = Some (level_inside p.level); items = nothing }))
@@ -207,10 +208,10 @@ to_level : (flags : Flags) (k : Stack) (g : Group) (l : Level) → g ≡ top_of 
     ◌≡◌ {A = Option State} (Some (record { top = g; below = below_of flags k })) (Some (state_of flags (record { level = l; stack = k })))
 to_level flags k g l e = ap (λ (x : Group). Some (record { top = x; below = below_of flags k })) e
 
-abbrev pub moved : Flags → Option Place → Option State
+abbrev pub moved : Flags → Option Slot → Option State
 moved flags o = option_map (λ z. state_of flags z) o
 
-with_repeated : (flags : Flags) (p : Place) (o : Option Items) →
+with_repeated : (flags : Flags) (p : Slot) (o : Option Items) →
     option_map (λ g. record { top = g; below = below_of flags p.stack }) (option_map (λ jts. top_of flags p.stack (record { before = p.level.before; items = jts })) o)
     ≡ moved flags (option_map (λ its. with_level p (record { before = p.level.before; items = its })) o)
 with_repeated flags p None = refl
@@ -224,7 +225,7 @@ step_closes flags l (over k outer opening) =
     (finished_of (inner_flags opening (level_flags (front_flags flags k) outer)) (captures opening) (suc (size k)) l)
     (let d = depth_inside l.before l.items in omega arith))
 
-pub step_is : (flags : Flags) (p : Place) (t : Token) → step (state_of flags p) t ≡ moved flags (advance p t)
+pub step_is : (flags : Flags) (p : Slot) (t : Token) → step (state_of flags p) t ≡ moved flags (advance p t)
 step_is flags p (atom a) =
     to_level flags p.stack _ (with_piece p.level (simple a)) (put_is (front_flags flags p.stack) (is_captured p.stack) (size p.stack) p.level (simple a) _ (length (below_of flags p.stack)) refl (length-below_of flags p.stack ∙ omega arith))
 step_is flags p (bracketed b) =

@@ -1,4 +1,4 @@
--- GroupNames in a set, by their characters.
+-- Names of groups in a set, by their characters.
 use Rattle.std.proofs.Common.{◌≡◌, ℕ, Bool, true, false, not, ◌||◌, List, [], ◌∷◌, Vec, Global, bytes_eq, refl, sym, ap, ap₂, ◌∙◌}
 use Rattle.std.specs.List.{list_any}
 use Rattle.std.specs.Ordering.{match_ordering, is_eq, nat_cmp}

@@ -1,4 +1,4 @@
--- What the parser reads is a pattern, and each pattern is read.
+-- A text that the parser reads is a pattern, and each pattern is read.
 use Rattle.std.proofs.Common.{◌≡◌, ◌≤◌, false, List, [], ◌∷◌, ◌++◌, Option, Some, None, refl, sym, ap, subst, ◌∙◌, arith, append_assoc, append-nil, option_map, IfSome}
 use Rattle.logos_pattern_tokens.specs.declared.token.Flags.{Flags}
 use Rattle.logos_pattern_tokens.specs.declared.token.Operator.{Operator}
@@ -6,7 +6,7 @@ use Rattle.logos_pattern_tokens.specs.Token.{Token, atom, bracketed, bar, opens,
 use Rattle.logos_syntax.specs.Written.{Branches, first, next, Items, nothing, piece, setting, Piece, simple, class, group, repeated, branches_tokens, items_tokens, piece_tokens}
 use Rattle.logos_syntax.specs.Grammar.{branches_depth, written_tree, TokenFits, BranchesFit, ItemsFit, PieceFits}
 use Rattle.logos_syntax.specs.inside.Groups.{GroupPart, Group, State, start, whole_tree, step, Runs, stays, goes, deepest, repeat, close}
-use Rattle.logos_syntax.proofs.patterns.Levels.{Level, Stack, bottom, over, Place, inside, branch_flags, level_flags, level_inside, with_level, with_piece, put_piece, front_flags, state_of, advance, close_level, moved, step_is, repeated_items, finished_of, inside_depth, depth_inside}
+use Rattle.logos_syntax.proofs.patterns.Levels.{Level, Stack, bottom, over, Slot, inside, branch_flags, level_flags, level_inside, with_level, with_piece, put_piece, front_flags, state_of, advance, close_level, moved, step_is, repeated_items, finished_of, inside_depth, depth_inside}
 
 -- ---- runs
 
@@ -38,23 +38,23 @@ runs_after s t u xs ys (goes v w last token tokens fit moves k) r =
     let same : f.then ≡ w = (let h = f.moves in cc) in
     runs_after w last u tokens ys k (subst (λ z. Runs z (tokens ++ ys) u) same f.others)
 
--- ---- what is read is a pattern
+-- ---- a text that is read is a pattern
 
 -- the tokens that the groups around were read from, with the next opening
 abbrev pub stack_tokens : Stack → List Token
 stack_tokens bottom = []
 stack_tokens (over k l opening) = (stack_tokens k ++ branches_tokens (level_inside l)) ++ opens opening ∷ []
 
-abbrev pub tokens_of : Place → List Token
+abbrev pub tokens_of : Slot → List Token
 tokens_of p = stack_tokens p.stack ++ branches_tokens (level_inside p.level)
 
--- what is read may stand where it stands
+-- the tokens that are read are allowed where they occur
 abbrev pub StackFits : Flags → Stack → Type 0
 StackFits flags bottom = Unit {0}
 StackFits flags (over k l opening) = StackFits flags k × BranchesFit (front_flags flags k) (level_inside l)
 
-abbrev pub PlaceFits : Flags → Place → Type 0
-PlaceFits flags p = StackFits flags p.stack × BranchesFit (front_flags flags p.stack) (level_inside p.level)
+abbrev pub SlotFits : Flags → Slot → Type 0
+SlotFits flags p = StackFits flags p.stack × BranchesFit (front_flags flags p.stack) (level_inside p.level)
 
 inside_more : (b : Option Branches) (its jts : Items) (ts : List Token) → items_tokens jts ≡ items_tokens its ++ ts → branches_tokens (inside b jts) ≡ branches_tokens (inside b its) ++ ts
 inside_more None its jts ts e = e
@@ -62,7 +62,7 @@ inside_more (Some bs) its jts ts e =
     ap (λ (x : List Token). branches_tokens bs ++ bar ∷ x) e ∙ sym (append_assoc (branches_tokens bs) (bar ∷ items_tokens its) ts)
 
 -- another innermost level
-tokens_more : (p : Place) (k : Level) (ts : List Token) → branches_tokens (level_inside k) ≡ branches_tokens (level_inside p.level) ++ ts → tokens_of (with_level p k) ≡ tokens_of p ++ ts
+tokens_more : (p : Slot) (k : Level) (ts : List Token) → branches_tokens (level_inside k) ≡ branches_tokens (level_inside p.level) ++ ts → tokens_of (with_level p k) ≡ tokens_of p ++ ts
 tokens_more p k ts e = ap (λ (x : List Token). stack_tokens p.stack ++ x) e ∙ sym (append_assoc (stack_tokens p.stack) (branches_tokens (level_inside p.level)) ts)
 
 -- the inside of a group with its last branch changed
@@ -73,18 +73,18 @@ inside_fits flags (Some bs) its jts g f = (f.0, g f.1)
 piece_fits : (flags : Flags) (l : Level) (p : Piece) → PieceFits (level_flags flags l) p → BranchesFit flags (level_inside l) → BranchesFit flags (level_inside (with_piece l p))
 piece_fits flags l p g f = inside_fits flags l.before l.items (piece l.items p) (λ h. (h, g)) f
 
--- how a step goes on with what is read
-record Adds (flags : Flags) (p : Place) (t : Token) (z : Place) : Type 0 where
+-- how a step continues with the text that is read
+record Adds (flags : Flags) (p : Slot) (t : Token) (z : Slot) : Type 0 where
   tokens : tokens_of z ≡ tokens_of p ++ t ∷ []
-  fits : PlaceFits flags p → TokenFits (state_of flags p).top.flags t → PlaceFits flags z
+  fits : SlotFits flags p → TokenFits (state_of flags p).top.flags t → SlotFits flags z
 
-adds_piece : (flags : Flags) (p : Place) (x : Piece) (t : Token) → piece_tokens x ≡ t ∷ [] → (TokenFits (state_of flags p).top.flags t → PieceFits (level_flags (front_flags flags p.stack) p.level) x) → Adds flags p t (put_piece p x)
+adds_piece : (flags : Flags) (p : Slot) (x : Piece) (t : Token) → piece_tokens x ≡ t ∷ [] → (TokenFits (state_of flags p).top.flags t → PieceFits (level_flags (front_flags flags p.stack) p.level) x) → Adds flags p t (put_piece p x)
 adds_piece flags p x t e g = record {
   tokens = tokens_more p (with_piece p.level x) (t ∷ []) (inside_more p.level.before p.level.items (piece p.level.items x) (t ∷ []) (ap (λ (y : List Token). items_tokens p.level.items ++ y) e));
   fits = λ f h. (f.0, piece_fits (front_flags flags p.stack) p.level x (g h) f.1);
 }
 
-adds_at : (flags : Flags) (p : Place) (t : Token) (q z : Place) → Adds flags p t q → ◌≡◌ {A = Option Place} (Some q) (Some z) → Adds flags p t z
+adds_at : (flags : Flags) (p : Slot) (t : Token) (q z : Slot) → Adds flags p t q → ◌≡◌ {A = Option Slot} (Some q) (Some z) → Adds flags p t z
 adds_at flags p t q z h e = let same : q ≡ z = cc in subst (Adds flags p t) same h
 
 repeat_adds : (flags : Flags) (b : Option Branches) (its jts : Items) (op : Operator) → repeated_items its op ≡ Some jts →
@@ -95,19 +95,19 @@ repeat_adds flags b (piece its p) jts op e =
     let same : piece its (repeated p op) ≡ jts = cc in
     (ap items_tokens (sym same) ∙ sym (append_assoc (items_tokens its) (piece_tokens p) (repeats op ∷ [])), λ f. subst (ItemsFit (branch_flags flags b)) same f)
 
-close_adds : (flags : Flags) (l : Level) (k : Stack) (z : Place) → close_level l k ≡ Some z → Adds flags (record { level = l; stack = k }) closes z
+close_adds : (flags : Flags) (l : Level) (k : Stack) (z : Slot) → close_level l k ≡ Some z → Adds flags (record { level = l; stack = k }) closes z
 close_adds flags l bottom z e = absurd cc
 close_adds flags l (over k outer opening) z e =
     let x : Piece = group opening (level_inside l) in
     let mid = branches_tokens (level_inside l) in
-    let q : Place = record { level = outer; stack = k } in
+    let q : Slot = record { level = outer; stack = k } in
     adds_at flags (record { level = l; stack = over k outer opening }) closes (put_piece q x) z (record {
       tokens = tokens_more q (with_piece outer x) (opens opening ∷ mid ++ closes ∷ []) (inside_more outer.before outer.items (piece outer.items x) (opens opening ∷ mid ++ closes ∷ []) refl)
           ∙ sym (append_assoc (tokens_of q) (opens opening ∷ []) (mid ++ closes ∷ [])) ∙ sym (append_assoc (tokens_of q ++ opens opening ∷ []) mid (closes ∷ []));
       fits = λ f h. (f.0.0, piece_fits (front_flags flags k) outer x f.1 f.0.1);
     }) e
 
-advance_adds : (flags : Flags) (p : Place) (t : Token) (z : Place) → advance p t ≡ Some z → Adds flags p t z
+advance_adds : (flags : Flags) (p : Slot) (t : Token) (z : Slot) → advance p t ≡ Some z → Adds flags p t z
 advance_adds flags p (atom a) z e = adds_at flags p (atom a) (put_piece p (simple a)) z (adds_piece flags p (simple a) (atom a) refl (λ h. h)) e
 advance_adds flags p (bracketed b) z e = adds_at flags p (bracketed b) (put_piece p (class b)) z (adds_piece flags p (class b) (bracketed b) refl (λ h. h)) e
 advance_adds flags p bar z e =
@@ -134,29 +134,29 @@ advance_adds flags p (repeats op) z e = from (repeated_items p.level.items op) r
           fits = λ f g. (f.0, inside_fits (front_flags flags p.stack) p.level.before p.level.items jts r.1 f.1);
         }) h
 
--- what the parser has read
+-- the text that the parser has read
 pub record IsRead (flags : Flags) (ts : List Token) (s : State) : Type 0 where
-  pub place : Place
-  pub state : s ≡ state_of flags place
-  pub tokens : tokens_of place ≡ ts
-  pub fits : PlaceFits flags place
+  pub slot : Slot
+  pub state : s ≡ state_of flags slot
+  pub tokens : tokens_of slot ≡ ts
+  pub fits : SlotFits flags slot
 
 abbrev origin : Level
 origin = record { before = None; items = nothing }
 
 starts_read : (flags : Flags) → IsRead flags [] (start flags)
-starts_read flags = record { place = record { level = origin; stack = bottom }; state = refl; tokens = refl; fits = (tt, tt) }
+starts_read flags = record { slot = record { level = origin; stack = bottom }; state = refl; tokens = refl; fits = (tt, tt) }
 
 -- one more token is read
 reads_more : (flags : Flags) (ts : List Token) (s u : State) (t : Token) → IsRead flags ts s → TokenFits s.top.flags t → step s t ≡ Some u → IsRead flags (ts ++ t ∷ []) u
-reads_more flags ts s u t r fit e = from (advance r.place t) refl (sym (step_is flags r.place t) ∙ ap (λ (x : State). step x t) (sym r.state) ∙ e)
+reads_more flags ts s u t r fit e = from (advance r.slot t) refl (sym (step_is flags r.slot t) ∙ ap (λ (x : State). step x t) (sym r.state) ∙ e)
   where
-    from : (o : Option Place) → advance r.place t ≡ o → moved flags o ≡ Some u → IsRead flags (ts ++ t ∷ []) u
+    from : (o : Option Slot) → advance r.slot t ≡ o → moved flags o ≡ Some u → IsRead flags (ts ++ t ∷ []) u
     from None is h = absurd cc
     from (Some z) is h =
-        let a = advance_adds flags r.place t z is in
+        let a = advance_adds flags r.slot t z is in
         record {
-          place = z;
+          slot = z;
           state = (let same : state_of flags z ≡ u = cc in sym same);
           tokens = a.tokens ∙ ap (λ (x : List Token). x ++ t ∷ []) r.tokens;
           fits = a.fits r.fits (subst (λ f. TokenFits f t) (ap (λ (x : State). x.top.flags) r.state) fit);
@@ -187,7 +187,7 @@ inside-level_of (next bs its) = refl
 abbrev pub at_level : Flags → Stack → Level → State
 at_level flags k l = state_of flags (record { level = l; stack = k })
 
-go : (flags : Flags) (k : Stack) (l : Level) (t : Token) (z : Place) → TokenFits (level_flags (front_flags flags k) l) t → advance (record { level = l; stack = k }) t ≡ Some z → Runs (at_level flags k l) (t ∷ []) (state_of flags z)
+go : (flags : Flags) (k : Stack) (l : Level) (t : Token) (z : Slot) → TokenFits (level_flags (front_flags flags k) l) t → advance (record { level = l; stack = k }) t ≡ Some z → Runs (at_level flags k l) (t ∷ []) (state_of flags z)
 go flags k l t z fit e = runs_once (at_level flags k l) (state_of flags z) t fit (step_is flags (record { level = l; stack = k }) t ∙ ap (moved flags) e)
 
 mutual
@@ -277,9 +277,9 @@ pub record IsWhole (flags : Flags) (ts : List Token) (s : State) : Type 0 where
   pub depth : s.top.inner ≡ branches_depth branches
 
 pub is_whole : (flags : Flags) (ts : List Token) (s : State) → s.below ≡ [] → IsRead flags ts s → IsWhole flags ts s
-is_whole flags ts s ended r = from r.place.level r.place.stack r.state r.tokens r.fits
+is_whole flags ts s ended r = from r.slot.level r.slot.stack r.state r.tokens r.fits
   where
-    from : (l : Level) (k : Stack) → s ≡ at_level flags k l → tokens_of (record { level = l; stack = k }) ≡ ts → PlaceFits flags (record { level = l; stack = k }) → IsWhole flags ts s
+    from : (l : Level) (k : Stack) → s ≡ at_level flags k l → tokens_of (record { level = l; stack = k }) ≡ ts → SlotFits flags (record { level = l; stack = k }) → IsWhole flags ts s
     from l bottom state tokens fits = record {
       branches = level_inside l;
       tokens = tokens;

@@ -1,4 +1,4 @@
--- A whole text: how it is cut into tokens, and what the parser's answers say of it.
+-- A whole text: how it is cut into tokens, and the meaning of the parser's results for it.
 use Rattle.std.proofs.Common.{◌≡◌, ◌≢◌, ℕ, ◌+◌, ◌<◌, ◌≤◌, true, false, List, [], ◌∷◌, ◌++◌, length, Option, Some, None, Result, Ok, Err, IfOk, IfErr, refl, sym, ap, subst, ◌∙◌, arith, append-nil}
 use lib.ListN.{get_or}
 use Rattle.logos_pattern_tokens.specs.declared.error.Stop.{Stop}
@@ -15,7 +15,7 @@ use Rattle.logos_pattern_tokens.specs.declared.error.PatternError.{PatternError}
 use Rattle.logos_pattern_tokens.specs.declared.error.PatternError.TheVariants as errors
 use Rattle.logos_pattern_tokens.specs.declared.error.Fault.{Fault}
 use Rattle.logos_pattern_tokens.specs.declared.error.Fault.TheVariants as faults
-use Rattle.logos_pattern_tokens.specs.Token.{Gives, Text, Token, bracketed}
+use Rattle.logos_pattern_tokens.specs.Token.{Yields, Text, Token, bracketed}
 use Rattle.logos_pattern_tokens.specs.Reader.{token_at}
 use Rattle.logos_pattern_tokens.specs.Spelling.{Takes}
 use Rattle.logos_pattern_tokens.specs.bracket.Form.{Bracket}
@@ -109,7 +109,7 @@ differ_after : (seen : List Text) (ts us : List Token) → NamesDiffer seen (ts 
 differ_after seen [] us h = h
 differ_after seen (t ∷ ts) us h = differ_after (with_name seen t) ts us h.1
 
--- ---- what the parser has read
+-- ---- the text that the parser has read
 
 pub nothing_read : (flags : Flags) (text : Text) (s : State) (names : GroupNames) → s ≡ start flags → HasNames names [] → HasRead flags text text s names
 nothing_read flags text s names is has = record { tokens = []; cut = refl; run = subst (Runs (start flags) []) (sym is) (stays (start flags)); differ = tt; has = has }
@@ -123,7 +123,7 @@ reads_on flags text rest after s u names others r g = record {
   has = subst (HasNames others) (sym (names_more [] r.tokens g.token)) g.has;
 }
 
--- what stands behind what is read, in a pattern
+-- the text after the tokens that are read, in a pattern
 record Later (flags : Flags) (rest : Text) (s : State) (names : List Text) (written : Branches) : Type 0 where
   more : List Token
   cut : Cuts rest more []
@@ -142,7 +142,7 @@ later flags text rest s names r tree depth p =
 
 -- ---- refusals
 
--- what the parser stops at says of the text
+-- the meaning of the parser's stop for the text
 pub stopped : (flags : Flags) (text rest : Text) (s : State) (names : GroupNames) (stop : Stop) → (r : HasRead flags text rest s names) → 0 < length rest → ((t : Token) (after : Text) → Starts t rest after → StopsAt stop s (names_after [] r.tokens) t) → StopsText flags text stop
 stopped flags text rest s names (stops.Syntax kind left) r some stop = λ depth spelled. let l = later flags text rest s names r spelled.0 depth spelled.1 in from _ l.more l.cut l.run l.differ
   where
@@ -175,7 +175,7 @@ still_open flags text s names r shut depth spelled =
     let ran = subst (λ x. Runs s x (at_level flags bottom (level_of spelled.1.written))) (no_cut l.more l.cut) l.run in
     shut (ap (λ (x : State). x.below) (no_runs s (at_level flags bottom (level_of spelled.1.written)) ran))
 
--- ---- what is found
+-- ---- the result
 
 pub found : (flags : Flags) (text : Text) (s : State) (names : GroupNames) (tree : Tree) → HasRead flags text [] s names → s.below ≡ [] → tree ≡ whole_tree s.top → s.top.inner ≤ 250 → IsFound flags text tree
 found flags text s names tree r ended is shallow =
@@ -206,7 +206,7 @@ one flags text a b m n p q =
     let depths : branches_depth p.written ≡ branches_depth q.written = sym (whole_depth flags p.written) ∙ ap deepest states ∙ whole_depth flags q.written in
     (sym p.is_tree ∙ trees ∙ q.is_tree, sym p.is_depth ∙ depths ∙ q.is_depth)
 
--- ---- what reading a bracket says
+-- ---- the facts from reading a bracket
 
 pub bracket_stops : (s : State) (seen : List Text) (text : Text) (flags : Flags) (base : ℕ) (stop : Stop) → flags ≡ s.top.flags → base ≡ length s.below → ((b : Bracket) (rest : Text) → Encloses b text rest → Denies flags base stop b) → (t : Token) (rest : Text) → Starts t (91 ∷ text) rest → StopsAt stop s seen t
 bracket_stops s seen text flags base stop set is h t rest (taken u x r k) = absurd (no_simple u text r k)
@@ -225,9 +225,9 @@ bracket_goes s u seen names text rest flags base f set is has b h = record {
   has = has;
 }
 
--- ---- what reading another token says
+-- ---- the facts from reading another token
 
-pub faulted : {X : Type 0} (view : X → Taken) (s : State) (seen : List Text) (text : Text) (fault : Fault) (stop : Stop) → Gives view (Err fault) (token_at text) → IsStopOf fault stop → (t : Token) (rest : Text) → Takes t text rest → StopsAt stop s seen t
+pub faulted : {X : Type 0} (view : X → Taken) (s : State) (seen : List Text) (text : Text) (fault : Fault) (stop : Stop) → Yields view (Err fault) (token_at text) → IsStopOf fault stop → (t : Token) (rest : Text) → Takes t text rest → StopsAt stop s seen t
 faulted view s seen text (faults.Syntax kind) (stops.Syntax other left) none is t rest h = let e = taken_is t text rest h in absurd cc
 faulted view s seen text (faults.Syntax kind) stops.LimitPatternNesting none is t rest h = absurd is
 faulted view s seen text (faults.Syntax kind) stops.Memory none is t rest h = absurd is

@@ -1,4 +1,4 @@
--- What a bracket stands for: a set of characters, or of bytes.
+-- The meaning of a bracket: a set of characters, or of bytes.
 use Rattle.std.specs.Prelude.{◌≡◌, ℕ, ◌+◌, max, Bool, true, false, ◌||◌, ◌&&◌, ◌==◌, nat_lt, List, [], ◌∷◌, if◌then◌else◌}
 use Rattle.logos_pattern_tokens.specs.declared.token.Flags.{Flags}
 use Rattle.logos_pattern_tokens.specs.declared.bracket.token.Symbol.{Symbol}
@@ -21,7 +21,7 @@ use Rattle.logos_pattern_tokens.specs.bracket.Spelling.{code_of, bracket_tokens}
 abbrev pub last_of : Flags → ℕ
 last_of flags = if flags.unicode then 0x10FFFF else 255
 
--- The set, or under `i` the set with all that differs from a member in case alone.
+-- The set. If `i` is on, also all other cases of its members.
 abbrev pub case_closure : Flags → Set → Set
 case_closure flags set = if flags.ignore_case then (if flags.unicode then fold_case set else fold_ascii set) else set
 
@@ -56,7 +56,7 @@ abbrev mutual
   pub bracket_set : Flags → Bracket → Set
   bracket_set flags (bracket negated lead inside) = set_or_complement flags negated (operands_set flags lead inside)
 
-  -- Operators are read from the left.
+  -- Operators are applied from the left.
   pub operands_set : Flags → Lead → Operands → Set
   operands_set flags lead (lone ms) = members_set flags (lead_set lead) ms
   operands_set flags lead (joined os op ms) = combination op (operands_set flags lead os) (members_set flags (λ c. false) ms)
@@ -67,7 +67,7 @@ abbrev mutual
   members_set flags before (member ms item) = union (members_set flags before ms) (item_set flags item)
   members_set flags before (nested ms b) = union (members_set flags before ms) (bracket_set flags b)
 
--- ---- what the flags allow.
+-- ---- the elements that the flags allow.
 
 -- If the pattern matches bytes, a character must be ASCII.
 abbrev pub symbol_fits : Flags → Symbol → Bool
@@ -92,7 +92,7 @@ TokensFit flags (tokens.Close ∷ others) = TokensFit flags others
 abbrev pub BracketFits : Flags → Bracket → Type 0
 BracketFits flags b = TokensFit flags (bracket_tokens b)
 
--- ---- how deeply brackets nest.
+-- ---- the nesting depth of brackets.
 
 abbrev mutual
   pub bracket_depth : Bracket → ℕ

@@ -9,19 +9,19 @@ use Rattle.logos_hir.specs.Sets.{Set, union}
 use Rattle.logos_syntax.specs.bracket.Meaning.{set_or_complement, item_set, lead_set}
 use Rattle.logos_hir.specs.Operands.{combination}
 
--- The inside of an open bracket, as far as it was read.
+-- The inside of an open bracket, as far as it has been read.
 pub record BracketFrame : Type 0 where
   pub negated : Bool
-  -- The set of the operands that were ended by an operator, and the operator after them.
+  -- The set of the operands before the last operator, and that operator.
   pub before : Option (Set × SetOperator)
   -- The operand that is being read.
   pub here : Set
-  -- The depth of its innermost point in the whole pattern.
+  -- The depth of the bracket's innermost point in the whole pattern.
   pub inner : ℕ
 
 pub record Frames : Type 0 where
   pub top : BracketFrame
-  -- The brackets around it, the innermost first.
+  -- The brackets around the innermost one, the innermost first.
   pub below : List BracketFrame
 
 abbrev pub fresh_frame : Bool → Lead → ℕ → BracketFrame
@@ -31,7 +31,7 @@ abbrev pub with_before : Option (Set × SetOperator) → Set → Set
 with_before None set = set
 with_before (Some before) set = combination before.1 before.0 set
 
--- The set of the operands that were read.
+-- The set of the operands that have been read.
 abbrev pub value : BracketFrame → Set
 value f = with_before f.before f.here
 

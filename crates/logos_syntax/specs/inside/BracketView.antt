@@ -1,4 +1,4 @@
--- What the values of the bracket reader stand for, and what its functions promise.
+-- The values of the bracket reader, and the contracts of its functions.
 use Rattle.std.specs.Prelude.{◌≡◌, ℕ, ◌+◌, ◌<◌, ◌≤◌, Bool, true, false, [], ◌∷◌, ◌++◌, map, reverse, length, Some, Result, Ok, Err}
 use Rattle.std.specs.Option.{option_map}
 use Rattle.logos_pattern_tokens.specs.declared.error.Stop.{Stop}
@@ -35,7 +35,7 @@ frame_view f = record {
 abbrev pub frames_view : FramesValue → Frames
 frames_view m = record { top = frame_view m.top; below = reverse (map frame_view m.below.items) }
 
--- The token is no step: it is an element that the flags do not allow, or the end of the whole
+-- The token makes no step: it is an element that the flags do not allow, or the end of the whole
 -- bracket.
 abbrev pub NoStep : Flags → Frames → BracketToken → Type 0
 NoStep flags s (Item item) = item_fits flags item ≡ false
@@ -43,18 +43,18 @@ NoStep flags s (Open negated lead) = ⊥
 NoStep flags s (Operator op) = ⊥
 NoStep flags s Close = s.below ≡ []
 
--- The token opens a bracket that is too deep.
+-- The token opens a bracket that is nested too deeply.
 abbrev pub TooDeep : ℕ → Frames → BracketToken → Type 0
 TooDeep base s (Open negated lead) = 250 < base + length s.below + 2
 TooDeep base s _ = ⊥
 
 -- The flags allow the token.
-abbrev pub MayStand : Flags → BracketToken → Type 0
-MayStand flags (Item item) = item_fits flags item ≡ true
-MayStand flags _ = Unit {0}
+abbrev pub MayOccur : Flags → BracketToken → Type 0
+MayOccur flags (Item item) = item_fits flags item ≡ true
+MayOccur flags _ = Unit {0}
 
 abbrev pub BracketSteps : Flags → ℕ → Frames → BracketToken → Result (Unit {0}) Stop → Frames → Type 0
-BracketSteps flags base old token (Ok _) new = MayStand flags token × (bracket_step flags base old token ≡ Some new)
+BracketSteps flags base old token (Ok _) new = MayOccur flags token × (bracket_step flags base old token ≡ Some new)
 BracketSteps flags base old token (Err (stops.Syntax kind left)) new = NoStep flags old token
 BracketSteps flags base old token (Err stops.LimitPatternNesting) new = TooDeep base old token
 BracketSteps flags base old token (Err stops.Memory) new = Unit {0}
@@ -68,13 +68,13 @@ pub record IsInside (flags : Flags) (base : ℕ) (negated : Bool) (lead : Lead) 
   pub is_depth : found.depth ≡ base + bracket_depth (bracket negated lead inside)
   pub shallow : found.depth ≤ 250
 
--- What a stop means for a bracket.
+-- The condition on a bracket under which reading stops.
 abbrev pub Denies : Flags → ℕ → Stop → Bracket → Type 0
 Denies flags base (stops.Syntax kind left) b = BracketFits flags b → ⊥
 Denies flags base stops.LimitPatternNesting b = 250 < base + bracket_depth b
 Denies flags base stops.Memory b = Unit {0}
 
--- If a reader stops at the limit, some beginning is too deep.
+-- If a reader stops at the limit, some prefix is nested too deeply.
 abbrev pub IfDeepInside : Flags → ℕ → Stop → Text → Type 0
 IfDeepInside flags base (stops.Syntax kind left) text = Unit {0}
 IfDeepInside flags base stops.LimitPatternNesting text = (count : ℕ) × InsideFront flags text count × (250 < base + count)

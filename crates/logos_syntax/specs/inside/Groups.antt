@@ -15,7 +15,7 @@ use Rattle.logos_syntax.specs.Grammar.{atom_tree, class_tree, captures, group_tr
 abbrev pub GroupPart : Type 0
 GroupPart = Tree × ℕ
 
--- The inside of an open group, as far as it was read.
+-- The inside of an open group, as far as it has been read.
 pub record Group : Type 0 where
   pub flags : Flags
   pub captured : Bool
@@ -27,7 +27,7 @@ pub record Group : Type 0 where
 
 pub record State : Type 0 where
   pub top : Group
-  -- The groups around it, the innermost first.
+  -- The groups around the innermost one, the innermost first.
   pub below : List Group
 
 abbrev pub fresh : Flags → Bool → ℕ → Group
@@ -79,12 +79,12 @@ step s closes = close s.top s.below
 step s (sets change) = Some (record s { top = set s.top (flags_after change s.top.flags) })
 step s (repeats op) = option_map (λ g. record s { top = g }) (repeat s.top op s.top.last)
 
--- The parser reads tokens, each of which the flags at its point allow.
+-- The parser reads tokens. The flags at the position of each token allow it.
 pub data Runs : State → List Token → State → Type 0 where
   stays : (s : State) → Runs s [] s
   goes : (s t u : State) (token : Token) (tokens : List Token) → TokenFits s.top.flags token → step s token ≡ Some t → Runs t tokens u → Runs s (token ∷ tokens) u
 
--- The depth of the innermost point so far.
+-- The depth of the innermost point that has been read.
 abbrev pub deepest_below : List Group → ℕ
 deepest_below [] = 0
 deepest_below (g ∷ gs) = max g.inner (deepest_below gs)

@@ -1,4 +1,4 @@
--- What the parser's values stand for, and what its functions promise.
+-- The values of the parser, and the contracts of its functions.
 use Rattle.std.specs.Prelude.{◌≡◌, ◌≢◌, ◌<◌, ◌≤◌, [], map, reverse, Option, Some, None, Result, Ok, Err}
 use Rattle.std.specs.Option.{option_map}
 use Rattle.logos_pattern_tokens.specs.declared.error.Stop.{Stop}
@@ -29,7 +29,8 @@ group_view l = record {
 abbrev pub state_view : Groups → State
 state_view m = record { top = group_view m.top; below = reverse (map group_view m.below.items) }
 
--- What a step did, or why there is none: the flags do not allow the token, or a point is too deep.
+-- The result of a step, or the reason why there is none: the flags do not allow the token, or a
+-- point is nested too deeply.
 abbrev pub Steps : State → Token → Result (Unit {0}) Stop → State → Type 0
 Steps old token (Ok _) new = TokenFits old.top.flags token × (step old token ≡ Some new)
 Steps old token (Err (stops.Syntax kind left)) new = TokenFits old.top.flags token → step old token ≡ None

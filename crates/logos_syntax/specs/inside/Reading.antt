@@ -1,4 +1,4 @@
--- What reading a whole pattern promises.
+-- The contracts of reading a whole pattern.
 use Rattle.std.specs.Prelude.{◌≡◌, ℕ, ◌+◌, ◌<◌, List, [], ◌∷◌, length, Some, None, Result, Ok, Err}
 use Rattle.std.specs.Borrow.{Bor}
 use Rattle.logos_pattern_tokens.specs.declared.error.Stop.{Stop}
@@ -15,7 +15,8 @@ use Rattle.logos_syntax.specs.inside.GroupNames.{HasNames}
 
 -- ---- one token.
 
--- The text begins with a token that is allowed after these names, and the parser goes on after it.
+-- The text begins with a token that is allowed after these names, and the parser continues after
+-- it.
 pub record GoesOn (old : State) (seen : List Text) (text : Text) (new : State) (names : GroupNames) (rest : Text) : Type 0 where
   pub token : Token
   pub starts : Starts token text rest
@@ -24,18 +25,18 @@ pub record GoesOn (old : State) (seen : List Text) (text : Text) (new : State) (
   pub moves : step old token ≡ Some new
   pub has : HasNames names (with_name seen token)
 
--- What a stop means for a token at the front of the text.
+-- The condition on the token at the front of the text under which the parser stops.
 abbrev pub StopsAt : Stop → State → List Text → Token → Type 0
 StopsAt (stops.Syntax kind left) old seen token = TokenFits old.top.flags token → IsNew seen token → step old token ≡ None
 StopsAt stops.LimitPatternNesting old seen token = (new : State) × (step old token ≡ Some new) × (250 < deepest new)
 StopsAt stops.Memory old seen token = Unit {0}
 
--- The parser gets too deep at the front of the text: after a token, or in a bracket.
+-- The parser exceeds the limit at the front of the text: after a token, or in a bracket.
 pub data IsDeepAt (old : State) (seen : List Text) (names : GroupNames) : Text → Type 0 where
   token_deep : (text rest : Text) (new : State) → GoesOn old seen text new names rest → 250 < deepest new → IsDeepAt old seen names text
   bracket_deep : (following : Text) (count : ℕ) → BracketFront old.top.flags following count → 250 < length old.below + count → IsDeepAt old seen names (91 ∷ following)
 
--- A stop at the limit is at such a point.
+-- If the parser stops at the limit, it is at such a position.
 abbrev pub IfDeepToken : Stop → State → List Text → Text → GroupNames → Type 0
 IfDeepToken (stops.Syntax kind left) old seen text names = Unit {0}
 IfDeepToken stops.LimitPatternNesting old seen text names = IsDeepAt old seen names text
@@ -47,7 +48,7 @@ ReadsToken old seen text (Err stop) new names =
     ((token : Token) (rest : Text) → Starts token text rest → StopsAt stop old seen token)
     × IfDeepToken stop old seen text names
 
--- The same for tokens that do not begin a bracket.
+-- The contract of reading one token, for tokens that do not begin a bracket.
 abbrev pub ReadsSimple : State → List Text → Text → Result (Bor Text) Stop → State → GroupNames → Type 0
 ReadsSimple old seen text (Ok rest) new names = GoesOn old seen text new names rest.now
 ReadsSimple old seen text (Err stop) new names =
@@ -69,13 +70,13 @@ pub record HasRead (flags : Flags) (text rest : Text) (s : State) (names : Group
   pub differ : NamesDiffer [] tokens
   pub has : HasNames names (names_after [] tokens)
 
--- What a stop means for the text.
+-- The condition on the text under which reading stops.
 abbrev pub StopsText : Flags → Text → Stop → Type 0
 StopsText flags text (stops.Syntax kind left) = (depth : ℕ) → IsSpelled flags text depth → ⊥
 StopsText flags text stops.LimitPatternNesting = (depth : ℕ) → IsSpelled flags text depth → 250 < depth
 StopsText flags text stops.Memory = Unit {0}
 
--- What a stop at the limit means for the text.
+-- The condition on the text under which reading stops at the limit.
 abbrev pub IfDeepText : Flags → Text → Stop → Type 0
 IfDeepText flags text (stops.Syntax kind left) = Unit {0}
 IfDeepText flags text stops.LimitPatternNesting = IsTooDeep flags text

@@ -1,4 +1,4 @@
-//! Reads a whole bracket. The parser calls it at each `[`.
+//! Reads a whole bracket. The pattern parser calls it at each `[`.
 
 ghost use Rattle.std.specs.Prelude.{◌≡◌, ◌<◌, ◌≤◌};
 ghost use Rattle.logos_syntax.specs.Views.{pattern_nesting, IsStopOf, ReadsInside, ReadsBracket};
@@ -47,7 +47,7 @@ pub(crate) fn stop_for(flags: Flags, fault: Fault, rest: &[char]) -> Stop
     }
 }
 
-/// Returns the kind of a fault under the flags: if the pattern matches bytes, each fault of a
+/// Returns the kind of a fault with these flags. If the pattern matches bytes, each fault of a
 /// property's name is `NotInBytes`.
 fn property_kind(flags: Flags, kind: Kind) -> Kind {
     match kind {
@@ -56,12 +56,14 @@ fn property_kind(flags: Flags, kind: Kind) -> Kind {
     }
 }
 
-/// Reads what comes after the opening of a bracket, up to its end: returns its set, how deeply it
-/// nests, and the rest of the text. `base` is the number of groups that are open around it.
+/// Reads the text after the opening of a bracket, up to its end. Returns the set of the bracket,
+/// its nesting depth, and the rest of the text. `base` is the number of groups that are open around
+/// it.
 ///
 /// # Errors
 ///
-/// Returns the first fault from the left, `LimitPatternNesting`, or `Memory`.
+/// Returns the first fault from the left, `LimitPatternNesting` if the bracket is nested too
+/// deeply, or `Memory` if memory runs out.
 fn read_inside(
     alloc: Global,
     flags: Flags,
@@ -93,12 +95,13 @@ fn read_inside(
     })
 }
 
-/// Reads a bracket, from after its `[`: returns its set, how deeply it nests, and the rest of the
-/// text. `base` is the number of groups that are open around it.
+/// Reads a bracket from the text after its `[`. Returns its set, its nesting depth, and the rest of
+/// the text. `base` is the number of groups that are open around it.
 ///
 /// # Errors
 ///
-/// Returns the first fault from the left, `LimitPatternNesting`, or `Memory`.
+/// Returns the first fault from the left, `LimitPatternNesting` if the bracket is nested too
+/// deeply, or `Memory` if memory runs out.
 pub(crate) fn read_bracket(
     alloc: Global,
     flags: Flags,

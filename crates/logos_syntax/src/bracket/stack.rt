@@ -1,9 +1,10 @@
-//! The stack of the brackets that are open while a bracket is read.
+//! The stack of the brackets that are open while a bracket is read. The reader of brackets adds
+//! each token to it.
 
 ghost use Rattle.std.specs.Prelude.{◌≡◌, ◌+◌, ◌≤◌, ◌<◌, [], IfOk, OnOk, MatchBool, vec_len, length};
-ghost use Rattle.logos_syntax.specs.Words.{pattern_nesting, pairs, members};
+ghost use Rattle.logos_syntax.specs.Imports.{pattern_nesting, pairs, members};
 
-use crate::bracket::translate::{item_fits, lead_ranges, push_item, push_set, set_or_complement};
+use crate::bracket::translation::{item_fits, lead_ranges, push_item, push_set, set_or_complement};
 use logos_hir::hir::Range;
 use logos_hir::sets::RangeSet;
 use logos_hir::sets::operands::{OperandRuns, SetOperator, combination};
@@ -16,7 +17,8 @@ use std::mem;
 /// The greatest number of groups, brackets and repetitions around one point.
 pub(crate) const MAX_NESTING: usize = 250;
 
-/// How a bracket opens. `left` is the number of characters from its `[` to the end of the text.
+/// The opening of a bracket. `left` is the number of characters from its `[` to the end of the
+/// text.
 #[derive(Clone, Copy)]
 pub(crate) struct BracketOpening {
     pub negated: bool,
@@ -24,17 +26,17 @@ pub(crate) struct BracketOpening {
     pub left: usize,
 }
 
-/// The inside of an open bracket, as far as it was read.
+/// The inside of an open bracket, as far as it has been read.
 #[derive(Drop)]
 pub(crate) struct BracketFrame {
     negated: bool,
-    /// The operands that were ended by an operator.
+    /// The operands before the last operator.
     before: OperandRuns,
-    /// The operator after them.
+    /// The operator after them, if there is one.
     operator: Option<SetOperator>,
     /// The ranges of the operand that is being read.
     ranges: Vec<Range>,
-    /// The depth of its innermost point in the whole pattern.
+    /// The depth of the bracket's innermost point in the whole pattern.
     inner: usize,
     /// The number of characters from its `[` to the end of the text.
     left: usize,
@@ -45,7 +47,7 @@ pub(crate) struct BracketFrame {
 #[derive(Drop)]
 pub(crate) struct Frames {
     top: BracketFrame,
-    /// The brackets around it, the outermost first.
+    /// The brackets around the innermost one, the outermost first.
     below: Vec<BracketFrame>,
     ghost shallow: { vec_len below ≤ pattern_nesting },
 }
@@ -60,8 +62,8 @@ pub(crate) struct BracketValue {
 impl BracketFrame {
     ghost use Rattle.logos_syntax.specs.Views.{pattern_nesting, set_of, fresh_frame, value, whole, frame_view};
 
-    /// Returns a bracket of which only the opening was read. `level` is the number of groups and
-    /// brackets around its inside.
+    /// Returns a bracket of which only the opening has been read. `level` is the number of groups
+    /// and brackets around its inside.
     fn new(alloc: Global, opening: BracketOpening, level: usize) -> Result<BracketFrame, AllocError>
         requires { level ≤ pattern_nesting }
         ensures { IfOk result (λ f. frame_view f ≡ fresh_frame opening.negated opening.lead level) }
@@ -76,7 +78,7 @@ impl BracketFrame {
         })
     }
 
-    /// Returns the set of the operands that were read.
+    /// Returns the set of the operands that have been read.
     fn value(&self, alloc: Global) -> Result<RangeSet, AllocError>
         ensures { IfOk result (λ set. set_of set ≡ value (frame_view self.now)) }
     {
@@ -150,7 +152,7 @@ impl Frames {
     ///
     /// # Errors
     ///
-    /// Returns `NotInBytes` if the flags do not allow the element, and `Memory`.
+    /// Returns `NotInBytes` if the flags do not allow the element, and `Memory` if memory runs out.
     fn item(
         &mut self,
         alloc: Global,
@@ -176,7 +178,8 @@ impl Frames {
     ///
     /// # Errors
     ///
-    /// Returns `LimitPatternNesting`, and `Memory`.
+    /// Returns `LimitPatternNesting` if the bracket is nested too deeply, and `Memory` if memory
+    /// runs out.
     fn open(
         &mut self,
         alloc: Global,
@@ -202,7 +205,7 @@ impl Frames {
     ///
     /// # Errors
     ///
-    /// Returns `Memory` alone.
+    /// Returns `Memory` if memory runs out.
     fn operator(
         &mut self,
         alloc: Global,
@@ -225,7 +228,7 @@ impl Frames {
     ///
     /// # Errors
     ///
-    /// Returns `Unopened` if it is not, and `Memory`.
+    /// Returns `Unopened` if it is not inside another one, and `Memory` if memory runs out.
     fn close(&mut self, alloc: Global, flags: Flags, base: usize, left: usize) -> Result<(), Stop>
         ensures { BracketSteps flags base (frames_view self.old) BracketToken.Close result
             (frames_view self.new) }
@@ -243,12 +246,13 @@ impl Frames {
         Ok(())
     }
 
-    /// Takes the next token. `left` is the number of characters from the token to the end of the
+    /// Reads the next token. `left` is the number of characters from the token to the end of the
     /// text, and `base` the number of groups around the outermost bracket.
     ///
     /// # Errors
     ///
-    /// Returns the fault of the token here, `LimitPatternNesting`, or `Memory`.
+    /// Returns the fault of the token at this position, `LimitPatternNesting` if it is nested too
+    /// deeply, or `Memory` if memory runs out.
     pub(crate) fn step(
         &mut self,
         alloc: Global,

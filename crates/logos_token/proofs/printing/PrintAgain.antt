@@ -82,7 +82,7 @@ gap_or_not (Punctuation s) = inr (λ e. absurd (cc))
 gap_or_not (Opening d) = inr (λ e. absurd (cc))
 gap_or_not (Closing d) = inr (λ e. absurd (cc))
 
--- a lexeme is the same in texts with the same bytes there
+-- a lexeme is the same in texts with equal bytes there
 pub same_lexeme : (a b : List ℕ) (kind : LexemeKind) (s t : Span) → slice_range b t.from t.to ≡ slice_range a s.from s.to → get_or b t.from 0 ≡ get_or a s.from 0 → map bare_lexeme (lexeme_of b kind t) ≡ map bare_lexeme (lexeme_of a kind s)
 same_lexeme a b Gap s t e f = refl
 same_lexeme a b Identifier s t e f = rw e refl
@@ -96,7 +96,7 @@ same_lexeme a b (Closing d) s t e f = refl
 abbrev pub HasNoSpace : List ℕ → Type 0
 HasNoSpace a = (kind : LexemeKind) (from to : ℕ) → IsCharBoundary a from → IsNext a from kind to → kind ≢ Gap → is_space (character a from) ≡ false
 
--- the pieces of the printed text from a place on
+-- the pieces of the printed text from an offset on
 record Remade (a b : List ℕ) (q : ℕ) (pieces : List Piece) : Type 0 where
   news : List Piece
   filled : Pieces b q news (length b)
@@ -106,8 +106,8 @@ record Begins (a b : List ℕ) (q : ℕ) (pieces : List Piece) : Type 0 where
   remade : Remade a b q pieces
   no_space : is_space (character b q) ≡ false
 
--- where a `'` stands directly before a place of the second text, one stands directly before that of
--- the first, and another lexeme begins there
+-- if there is a `'` directly before an offset of the second text, there is one directly before that
+-- of the first, and another lexeme begins there
 abbrev IsAfter : List ℕ → List ℕ → ℕ → ℕ → List Piece → Type 0
 IsAfter a b p q pieces = follows_apostrophe b q ≡ true → (follows_apostrophe a p ≡ true) × Follows pieces
 
@@ -171,8 +171,8 @@ module _ (a : List ℕ) (utf8 : IsUtf8 a) (text : HasText a) (docs : HasDocs a) 
         let back : Remade a b q ((record { kind = kind; span = span }) ∷ rest) → Remade a b q (piece ∷ rest) = λ r. record { news = r.news; filled = r.filled; same = r.same ∙ ap (λ s. map bare_lexeme (lexeme_of a kind s ++ seen a rest)) (sym at) } in
         let parted' : (gap_of a kind p to ≡ []) ⊎ IsSeparator (gap_of a kind p to) = elim (joint_or_not kind) [ inl j ↦ inl (ap (λ x. gap_of a x p to) j) | inr j ↦ inr (separates a kind p to j) ] in
         let after_this : (i : ℕ) → drop i b ≡ slice_range a p to ++ tail → gap_of a kind p to ≡ [] → IsAfter a b to (i + (to - p)) rest = λ i f none found.
-        let places : to - 1 + i ≡ i + (to - p) - 1 + p = omega (arith, adv.0) in
-        let byte : get_or b (i + (to - p) - 1) 0 ≡ get_or a (to - 1) 0 = slice_same a utf8 text docs b p to i tail (omega (arith, adv.0)) adv.1 f (to - 1) (i + (to - p) - 1) places (omega (arith, adv.0)) (omega (arith, adv.0)) in
+        let spots : to - 1 + i ≡ i + (to - p) - 1 + p = omega (arith, adv.0) in
+        let byte : get_or b (i + (to - p) - 1) 0 ≡ get_or a (to - 1) 0 = slice_same a utf8 text docs b p to i tail (omega (arith, adv.0)) adv.1 f (to - 1) (i + (to - p) - 1) spots (omega (arith, adv.0)) (omega (arith, adv.0)) in
         (follows-same a b to (i + (to - p)) (omega (arith, adv.0)) byte found, joined.0 (joint_from a kind p to none)) in
         let go : (i : ℕ) → i ≤ length b → (follows_apostrophe b i ≡ true → follows_apostrophe a p ≡ true) → drop i b ≡ slice_range a p to ++ tail → Begins a b i ((record { kind = kind; span = span }) ∷ rest) = λ i l before f.
         lexeme_step kind p to i end rest g filled.1 filled.2 joined.0 joined.1 bound l before f

@@ -1,5 +1,5 @@
--- The printed text of tokens from their lexemes, and tokens from lexemes that are the same spans
--- aside.
+-- The printed text of tokens from their lexemes, and tokens from lexemes that are equal apart from
+-- their spans.
 use Rattle.std.proofs.Common.{◌≡◌, ℕ, Bool, true, false, List, [], ◌∷◌, ◌++◌, map, fold, refl, sym, ◌∙◌, ap, append_assoc, append-nil}
 use Rattle.std.proofs.lemmas.Bool.{true≢false}
 use Rattle.logos_lexeme.specs.declared.lexeme.Span.{Span}
@@ -38,7 +38,7 @@ run_parts-lexemes (also (group delimiter span inside) rest) =
     ∙ ap (λ ps. spaced (opening_text delimiter) ∷ (ps ++ parts (lexemes rest))) (sym (parts-append (lexemes inside) (closes delimiter span.to ∷ [])))
     ∙ sym (ap (λ ps. spaced (opening_text delimiter) ∷ ps) (parts-append (lexemes inside ++ closes delimiter span.to ∷ []) (lexemes rest)))
 
--- the text of parts behind this gap
+-- the text of parts after this gap
 abbrev pub after : List ℕ → List Part → List ℕ
 after gap [] = []
 after gap (part ∷ rest) = gap ++ (part.text ++ after part.gap rest)
@@ -54,7 +54,7 @@ printed-after (part ∷ rest) text gap =
 pub printed-lexemes : (tokens : TokenList) → printed tokens ≡ after [] (parts (lexemes tokens))
 printed-lexemes tokens = printed-after (run_parts tokens) [] [] ∙ ap (after []) (run_parts-lexemes tokens)
 
--- lexemes without their places
+-- lexemes without their offsets
 abbrev pub bare_lexeme : Lexeme → Lexeme
 bare_lexeme (leaf token) = leaf (bare_token token)
 bare_lexeme (opens delimiter from) = opens delimiter 0
@@ -110,12 +110,12 @@ rebuild-close delimiter span inside rest d from ls (closes d' to ∷ ms) more ag
     let same' : d' ≡ delimiter = cc in
     let others : map bare_lexeme ms ≡ map bare_lexeme (lexemes rest ++ more) = cc in
     let r = go ms others in
-    let place : Span = record { from = from; to = to } in
+    let spot : Span = record { from = from; to = to } in
     record {
-      again = also (group delimiter place again) r.again;
+      again = also (group delimiter spot again) r.again;
       rest = r.rest;
       is = ap (λ x. opens x from ∷ ls) same ∙ ap (λ xs. opens delimiter from ∷ xs) is ∙ ap (λ x. opens delimiter from ∷ (lexemes again ++ (closes x to ∷ ms))) same'
-          ∙ ap (λ xs. opens delimiter from ∷ (lexemes again ++ (closes delimiter to ∷ xs))) r.is ∙ sym (run-lexemes delimiter place again r.again r.rest);
+          ∙ ap (λ xs. opens delimiter from ∷ (lexemes again ++ (closes delimiter to ∷ xs))) r.is ∙ sym (run-lexemes delimiter spot again r.again r.rest);
       same = ap (λ xs. also (group delimiter no_span xs) (bare r.again)) bares ∙ ap (λ xs. also (group delimiter no_span (bare inside)) xs) r.same;
       left = r.left;
     }

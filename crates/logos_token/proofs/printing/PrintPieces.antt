@@ -15,7 +15,7 @@ use Rattle.logos_token.proofs.reading.PieceLemmas.{piece-advances, piece-boundar
 use Rattle.logos_lexeme.proofs.again.PrintWindows.{Window}
 use Rattle.logos_token.proofs.printing.PrintParts.{parts, parts-append, after}
 
--- what is printed behind a lexeme of this kind
+-- the text printed after a lexeme of this kind
 abbrev pub gap_of : List ℕ → LexemeKind → ℕ → ℕ → List ℕ
 gap_of bytes (Punctuation spacing) from to = gap_after spacing
 gap_of bytes Doc from to = cond (is_line_comment (slice_range bytes from to)) (10 ∷ []) (32 ∷ [])
@@ -61,7 +61,7 @@ second_slash [] e = absurd (omega arith)
 second_slash (x ∷ []) e = absurd (omega arith)
 second_slash (x ∷ (y ∷ rest)) e = eq-eqb y 47 e
 
--- the bytes of a text behind a place are these and those
+-- the bytes of a text after an offset are these and those
 module _ (b front rest : List ℕ) (q n : ℕ) (long : length front ≡ n) (inside : q ≤ length b) (e : drop q b ≡ front ++ rest) where
   pub whole_length : length b ≡ q + n + length rest
   whole_length = omega (arith, ap length e, length-append front rest, length-drop q b)
@@ -72,7 +72,7 @@ module _ (b front rest : List ℕ) (q n : ℕ) (long : length front ≡ n) (insi
   pub byte_behind : get_or b (q + n) 0 ≡ get_or rest 0 0
   byte_behind = let f : q + n + 0 ≡ q + n = omega arith in sym (ap (λ i. get_or b i 0) f) ∙ sym (get_or-drop (q + n) b 0 0) ∙ ap (λ (xs : List ℕ). get_or xs 0 0) drop_on
 
--- what begins with a gap begins with its byte
+-- a text that begins with a gap begins with its byte
 pub gap_first : (ps : List Part) (gap : List ℕ) (c : ℕ) → gap ≡ c ∷ [] → (get_or (after gap ps) 0 0 ≡ c) ⊎ (after gap ps ≡ [])
 gap_first [] gap c e = inr refl
 gap_first (part ∷ ps) gap c e = inl (ap (λ g. get_or (g ++ (part.text ++ after part.gap ps)) 0 0) e)
@@ -88,15 +88,15 @@ abbrev pub Follows : List Piece → Type 0
 Follows [] = ⊥
 Follows (piece ∷ rest) = piece.kind ≢ Gap
 
--- what is printed of a lexeme
+-- the printed text of a lexeme
 abbrev pub HasText : List ℕ → Type 0
 HasText a = (kind : LexemeKind) (from to : ℕ) → IsCharBoundary a from → IsNext a from kind to → kind ≢ Gap → parts (lexeme_of a kind (record { from = from; to = to })) ≡ (record { text = slice_range a from to; gap = gap_of a kind from to }) ∷ []
 
--- behind joint punctuation another lexeme begins
+-- after joint punctuation another lexeme begins
 abbrev pub HasJoints : List ℕ → Type 0
 HasJoints a = (from to : ℕ) (rest : List Piece) → IsCharBoundary a from → IsNext a from (Punctuation Joint) to → Pieces a to rest (length a) → Follows rest
 
--- behind each joint punctuation among the pieces another lexeme begins
+-- after each joint punctuation among the pieces another lexeme begins
 abbrev pub Joined : List Piece → Type 0
 Joined [] = Unit {0}
 Joined (piece ∷ rest) = (piece.kind ≡ Punctuation Joint → Follows rest) × Joined rest
@@ -110,7 +110,7 @@ module _ (a : List ℕ) (utf8 : IsUtf8 a) (text : HasText a) (docs : HasDocs a) 
   IsPrinted q p to kind rest = drop q b ≡ slice_range a p to ++ after (gap_of a kind p to) (parts (seen a rest))
 
   pub slice_same : (p to q : ℕ) (rest : List ℕ) → p ≤ to → to ≤ length a → drop q b ≡ slice_range a p to ++ rest → (x y : ℕ) → x + q ≡ y + p → p ≤ x → x < to → get_or b y 0 ≡ get_or a x 0
-  slice_same p to q rest le fits e x y places low high =
+  slice_same p to q rest le fits e x y spots low high =
       let i = x - p in
       let long = length-between a p to fits in
       let f : q + i ≡ y = omega arith in
@@ -140,7 +140,7 @@ module _ (a : List ℕ) (utf8 : IsUtf8 a) (text : HasText a) (docs : HasDocs a) 
           filled = omega arith;
           fits = omega arith;
           holds = omega arith;
-          same = λ x y places low high. slice_same p to q tail (omega arith) fits e x y places low (omega arith);
+          same = λ x y spots low high. slice_same p to q tail (omega arith) fits e x y spots low (omega arith);
           blank = elim (separates a kind p to alone) [
             | inl g ↦ elim (blank 32 g) [ inl h ↦ inl h | inr h ↦ inr (inr h) ]
             | inr g ↦ inr (blank 10 g)
@@ -173,8 +173,8 @@ module _ (a : List ℕ) (utf8 : IsUtf8 a) (text : HasText a) (docs : HasDocs a) 
           filled = omega arith;
           fits = omega (arith, w.fits);
           holds = omega (arith, w.holds);
-          same = λ x y places low high. elim (cases_lt x to) [
-            | inl l ↦ slice_same p to q rest (omega arith) fits e x y places low l
+          same = λ x y spots low high. elim (cases_lt x to) [
+            | inl l ↦ slice_same p to q rest (omega arith) fits e x y spots low l
             | inr l ↦ w.same x y (omega arith) l (omega arith)
           ];
           blank = rw (← there) w.blank;

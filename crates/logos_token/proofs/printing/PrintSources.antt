@@ -1,4 +1,4 @@
--- The lexemes of a source have what the printing of its tokens asks for.
+-- The lexemes of a source have the properties that printing its tokens requires.
 use Rattle.std.proofs.Common.{◌≡◌, ◌≢◌, ℕ, ◌+◌, ◌-◌, ◌<◌, ◌≤◌, ◌⊎◌, ◌==◌, ◌&&◌, ◌||◌, not, inl, inr, Bool, true, false, cond, List, [], ◌∷◌, ◌++◌, length, get_or, take, slice_range, Option, Some, None, is_some, IsUtf8, encode_utf8, refl, sym, ◌∙◌, ap, subst, arith, get_or-take, length-take-le}
 use Rattle.std.proofs.lemmas.Bool.{cases_lt, cases_Bool, and_parts, or_cases, eqb-true, false≢true, true≢false}
 use Rattle.std.proofs.lemmas.List.Edits.{between_more, between_none}
@@ -26,14 +26,14 @@ use Rattle.logos_lexeme.proofs.again.PrintFacts.{visible_no_space, start_large, 
 use Rattle.logos_token.proofs.printing.PrintDelimiters.{IsDelimiter, opening, closing, is_delimiter}
 use Rattle.logos_token.proofs.printing.PrintAgain.{HasNoSpace}
 
--- how a lexeme stands at a place
+-- the occurrence of a lexeme at an offset
 data Form (a : List ℕ) (p : ℕ) (kind : LexemeKind) (to : ℕ) : Type 0 where
   literal_form : kind ≡ Literal → Form a p kind to
   doc_form : kind ≡ Doc → p + 2 ≤ to → Form a p kind to
   word_form : kind ≡ Identifier → Form a p kind to
   single_form : single_kind a p ≡ Some kind → to ≡ past a p → Form a p kind to
 
-record Stands (a : List ℕ) (p : ℕ) (kind : LexemeKind) (to : ℕ) : Type 0 where
+record Occurs (a : List ℕ) (p : ℕ) (kind : LexemeKind) (to : ℕ) : Type 0 where
   form : Form a p kind to
   spaceless : is_space (character a p) ≡ false
 
@@ -63,14 +63,14 @@ module _ (a : List ℕ) (utf8 : IsUtf8 a) (p to : ℕ) (bound : IsCharBoundary a
         filled = omega arith;
         fits = omega arith;
         holds = omega arith;
-        same = λ x y places low high. let f : y ≡ x = omega arith in ap (λ i. get_or (take to a) i 0) f ∙ get_or-take to a x 0 (omega arith);
+        same = λ x y spots low high. let f : y ≡ x = omega arith in ap (λ i. get_or (take to a) i 0) f ∙ get_or-take to a x 0 (omega arith);
         blank = inr (inr (omega arith));
       }
 
   ascii_spaceless : 33 ≤ get_or a p 0 → get_or a p 0 < 128 → is_space (character a p) ≡ false
   ascii_spaceless low high = ap is_space (character-ascii a p high) ∙ visible_no_space (get_or a p 0) low high
 
-  other_form : (o : Opening) → Others a (take to a) p p (to - p) here bound o → (end : ℕ) → Ends a p o end → kind_of o ≢ Gap → IsSuffixed a (kind_of o) end to → Stands a p (kind_of o) to
+  other_form : (o : Opening) → Others a (take to a) p p (to - p) here bound o → (end : ℕ) → Ends a p o end → kind_of o ≢ Gap → IsSuffixed a (kind_of o) end to → Occurs a p (kind_of o) to
   other_form o (space_there e) end ends no_gap suffixed = absurd (no_gap refl)
   other_form o (word_opens e) end ends no_gap suffixed = record { form = word_form refl; spaceless = e }
   other_form o (single_opens kind e f g) end ends no_gap suffixed = record {
@@ -82,7 +82,7 @@ module _ (a : List ℕ) (utf8 : IsUtf8 a) (p to : ℕ) (bound : IsCharBoundary a
   doc_long : (kind : LexemeKind) → kind ≡ Doc → (end : ℕ) → IsSuffixed a kind end to → to ≡ end
   doc_long kind doc end suffixed = unsuffixed a (take to a) p p (to - p) here bound kind end to (λ h. absurd (let i : Doc ≡ Literal = sym doc ∙ h in cc)) suffixed
 
-  form_of : (o : Opening) → Opens a p o → (end : ℕ) → Ends a p o end → kind_of o ≢ Gap → IsSuffixed a (kind_of o) end to → Stands a p (kind_of o) to
+  form_of : (o : Opening) → Opens a p o → (end : ℕ) → Ends a p o end → kind_of o ≢ Gap → IsSuffixed a (kind_of o) end to → Occurs a p (kind_of o) to
   form_of o (by_other e f) end ends no_gap suffixed = other_form _ (others a (take to a) p p (to - p) here bound) end ends no_gap suffixed
   form_of o (by_literal _ e) end ends no_gap suffixed =
       let v = literal_visible a p o e in
@@ -104,10 +104,10 @@ module _ (a : List ℕ) (utf8 : IsUtf8 a) (p to : ℕ) (bound : IsCharBoundary a
             record { form = doc_form doc (omega (arith, doc_long (kind_of o) doc end suffixed)); spaceless = ascii_spaceless (omega arith) (omega arith) }
       ]
 
-  stands : (kind : LexemeKind) → IsNext a p kind to → kind ≢ Gap → Stands a p kind to
-  stands kind n no_gap =
+  occurs : (kind : LexemeKind) → IsNext a p kind to → kind ≢ Gap → Occurs a p kind to
+  occurs kind n no_gap =
       let e = n.is_kind in
-      subst (λ x. Stands a p x to) (sym e) (form_of (opening_at a p) (opens_at a p) n.end n.ends (λ f. no_gap (e ∙ f)) (subst (λ x. IsSuffixed a x n.end to) e n.suffixed))
+      subst (λ x. Occurs a p x to) (sym e) (form_of (opening_at a p) (opens_at a p) n.end n.ends (λ f. no_gap (e ∙ f)) (subst (λ x. IsSuffixed a x n.end to) e n.suffixed))
 
   -- a gap begins with white space, with a comment or with the mark at the beginning
   other_gap : (o : Opening) → Others a (take to a) p p (to - p) here bound o → (end : ℕ) → Ends a p o end → kind_of o ≡ Gap → is_space (character a p) ≡ false → 0 < p → ⊥
@@ -140,11 +140,11 @@ module _ (a : List ℕ) (utf8 : IsUtf8 a) (p to : ℕ) (bound : IsCharBoundary a
 -- the four facts
 
 module _ (a : List ℕ) (utf8 : IsUtf8 a) where
-  stands_at : (kind : LexemeKind) (p to : ℕ) → IsCharBoundary a p → IsNext a p kind to → kind ≢ Gap → Stands a p kind to
-  stands_at kind p to bound n no_gap = let adv = piece-advances a p kind to n in stands a utf8 p to bound adv.0 adv.1 (piece-boundary a p kind to utf8 bound n) kind n no_gap
+  occurs_at : (kind : LexemeKind) (p to : ℕ) → IsCharBoundary a p → IsNext a p kind to → kind ≢ Gap → Occurs a p kind to
+  occurs_at kind p to bound n no_gap = let adv = piece-advances a p kind to n in occurs a utf8 p to bound adv.0 adv.1 (piece-boundary a p kind to utf8 bound n) kind n no_gap
 
   pub has_no_space : HasNoSpace a
-  has_no_space kind p to bound n no_gap = (stands_at kind p to bound n no_gap).spaceless
+  has_no_space kind p to bound n no_gap = (occurs_at kind p to bound n no_gap).spaceless
 
   docs_by : (p to : ℕ) → Form a p Doc to → p + 2 ≤ to
   docs_by p to (literal_form e) = absurd (cc)
@@ -160,7 +160,7 @@ module _ (a : List ℕ) (utf8 : IsUtf8 a) where
       no_doc c kind (closing d e f) g = absurd (cc)
 
   pub has_docs : HasDocs a
-  has_docs p to bound n = docs_by p to (stands_at Doc p to bound n (λ e. absurd (cc))).form
+  has_docs p to bound n = docs_by p to (occurs_at Doc p to bound n (λ e. absurd (cc))).form
 
   -- a lexeme of one ASCII character
   delimiter_small : (c : ℕ) (kind : LexemeKind) → IsDelimiter c kind → c < 128
@@ -242,11 +242,11 @@ module _ (a : List ℕ) (utf8 : IsUtf8 a) where
   has_text Identifier p to bound n no_gap = refl
   has_text Literal p to bound n no_gap = refl
   has_text Doc p to bound n no_gap = refl
-  has_text (Punctuation s) p to bound n no_gap = let adv = piece-advances a p (Punctuation s) to n in ap (λ t. part_with t (gap_of a (Punctuation s) p to)) (mark_text p to s bound (omega (arith, adv.0, adv.1)) (stands_at (Punctuation s) p to bound n no_gap).form)
-  has_text (OpeningKind d) p to bound n no_gap = let adv = piece-advances a p (OpeningKind d) to n in ap (λ t. part_with t (gap_of a (OpeningKind d) p to)) (opening_at_text p to d bound (omega (arith, adv.0, adv.1)) (stands_at (OpeningKind d) p to bound n no_gap).form)
-  has_text (Closing d) p to bound n no_gap = let adv = piece-advances a p (Closing d) to n in ap (λ t. part_with t (gap_of a (Closing d) p to)) (closing_at_text p to d bound (omega (arith, adv.0, adv.1)) (stands_at (Closing d) p to bound n no_gap).form)
+  has_text (Punctuation s) p to bound n no_gap = let adv = piece-advances a p (Punctuation s) to n in ap (λ t. part_with t (gap_of a (Punctuation s) p to)) (mark_text p to s bound (omega (arith, adv.0, adv.1)) (occurs_at (Punctuation s) p to bound n no_gap).form)
+  has_text (OpeningKind d) p to bound n no_gap = let adv = piece-advances a p (OpeningKind d) to n in ap (λ t. part_with t (gap_of a (OpeningKind d) p to)) (opening_at_text p to d bound (omega (arith, adv.0, adv.1)) (occurs_at (OpeningKind d) p to bound n no_gap).form)
+  has_text (Closing d) p to bound n no_gap = let adv = piece-advances a p (Closing d) to n in ap (λ t. part_with t (gap_of a (Closing d) p to)) (closing_at_text p to d bound (omega (arith, adv.0, adv.1)) (occurs_at (Closing d) p to bound n no_gap).form)
 
-  -- behind joint punctuation
+  -- after joint punctuation
 
   record IsCharacterHere (x : ℕ) : Type 0 where
     inside : x < length a
@@ -310,9 +310,9 @@ module _ (a : List ℕ) (utf8 : IsUtf8 a) where
       no_mark c kind (closing d e f) g = absurd (cc)
 
   pub has_joints : HasJoints a
-  has_joints p to [] bound n filled = let h = joint_behind p to (stands_at (Punctuation Joint) p to bound n (λ e. absurd (cc))).form in let l = h.inside in omega arith
+  has_joints p to [] bound n filled = let h = joint_behind p to (occurs_at (Punctuation Joint) p to bound n (λ e. absurd (cc))).form in let l = h.inside in omega arith
   has_joints p to (piece ∷ rest) bound n filled = λ gap.
-      let h = joint_behind p to (stands_at (Punctuation Joint) p to bound n (λ e. absurd (cc))).form in
+      let h = joint_behind p to (occurs_at (Punctuation Joint) p to bound n (λ e. absurd (cc))).form in
       let adv = piece-advances a p (Punctuation Joint) to n in
       let next : IsNext a to Gap piece.span.to = subst (λ k. IsNext a to k piece.span.to) gap filled.1 in
       let ahead = piece-advances a to Gap piece.span.to next in

@@ -6,7 +6,7 @@ use Rattle.logos_lexeme.specs.declared.lexeme.Span.{Span}
 use Rattle.logos_lexeme.specs.declared.lexeme.Delimiter.{Delimiter}
 use Rattle.logos_token.specs.Flat.{EntryValue, group_entry, flat, flat_token, trees_of}
 
--- the flat form of tokens gives the tokens back
+-- the tokens of the flat form of tokens are these tokens
 pub trees-flat : (tokens : TokenList) (n : ℕ) → length (flat tokens) ≤ n → trees_of n (flat tokens) ≡ tokens
 trees-flat none zero h = refl
 trees-flat none (suc n) h = refl
@@ -29,7 +29,7 @@ tokens-from_flat tokens entries is = let P : List EntryValue → Type 0 = λ es.
 pub flat-from_flat : (tokens : TokenList) (entries : List EntryValue) → flat tokens ≡ entries → flat (trees_of (length entries) entries) ≡ entries
 flat-from_flat tokens entries is = ap flat (tokens-from_flat tokens entries is) ∙ is
 
--- a group's entry, in front of those inside it and of those behind it
+-- a group's entry, in front of those inside it and of those after it
 pub record OpensRun (delimiter : Delimiter) (span : Span) (size : ℕ) (entries : List EntryValue) : Type 0 where
   pub within : size ≤ length entries
   pub inside : flat (trees_of size (take size entries)) ≡ take size entries

@@ -24,7 +24,7 @@ pub run-lexemes : (delimiter : Delimiter) (span : Span) (inside rest : TokenList
 run-lexemes delimiter span inside rest more =
     append_assoc (token_lexemes (group delimiter span inside)) (lexemes rest) more ∙ group-lexemes delimiter span inside (lexemes rest ++ more)
 
--- behind tokens the same delimiters are open as in front
+-- after tokens the same delimiters are open as in front
 pub opened-lexemes : (tokens : TokenList) (around : List (Delimiter × ℕ)) (more : List Lexeme) → opened around (lexemes tokens ++ more) ≡ opened around more
 opened-lexemes none around more = refl
 opened-lexemes (also (identifier text span) rest) around more = opened-lexemes rest around more
@@ -42,7 +42,7 @@ most_open-least n (leaf token ∷ rest) = most_open-least n rest
 most_open-least n (opens delimiter from ∷ rest) = omega (arith, most_open-least (n + 1) rest)
 most_open-least n (closes delimiter to ∷ rest) = omega arith
 
--- tokens open as many more delimiters as their groups stand inside one another
+-- tokens open as many more delimiters as the depth of their groups
 pub most_open-lexemes : (tokens : TokenList) (n : ℕ) (more : List Lexeme) → most_open n (lexemes tokens ++ more) ≡ max (n + depth_of tokens) (most_open n more)
 most_open-lexemes none n more = omega (arith, most_open-least n more)
 most_open-lexemes (also (identifier text span) rest) n more = omega (arith, most_open-lexemes rest n more)
@@ -74,7 +74,7 @@ closed-most_open : (front back : List Lexeme) (around behind : List (Delimiter �
 closed-most_open front back around behind n true e goes is = rw e (goes is)
 closed-most_open front back around behind n false e goes is = cc
 
--- most delimiters are open in the front or in what is behind
+-- most delimiters are open in the front or in the tokens after it
 pub most_open-append : (front back : List Lexeme) (around behind : List (Delimiter × ℕ)) → opened around front ≡ Some behind →
     most_open (length around) (front ++ back) ≡ max (most_open (length around) front) (most_open (length behind) back)
 most_open-append [] back around behind is = let e : around ≡ behind = cc in rw e (omega (arith, most_open-least (length behind) back))
@@ -89,9 +89,9 @@ most_open-append (closes delimiter to ∷ front) back (innermost ∷ around) beh
     omega (arith, closed-most_open front back around behind (suc (length around) - 1) (is_partner innermost.0 delimiter) e (most_open-append front back around behind) is)
 
 -- The tokens of lexemes: a stack of groups that are begun, innermost first, and the tokens read
--- behind them.
+-- after them.
 
--- a group that is begun: the tokens in front of it, its delimiter, and the place where it stands
+-- a group that is begun: the tokens before it, its delimiter, and its offset
 record OpenGroup : Type 0 where
   before : TokenList
   delimiter : Delimiter

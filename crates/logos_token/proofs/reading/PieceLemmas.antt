@@ -32,7 +32,7 @@ seen-append bytes [] back = refl
 seen-append bytes (piece ∷ rest) back =
     ap (λ ls. lexeme_of bytes piece.kind piece.span ++ ls) (seen-append bytes rest back) ∙ sym (append_assoc (lexeme_of bytes piece.kind piece.span) (seen bytes rest) (seen bytes back))
 
--- pieces up to a place are the front of the pieces of the whole source
+-- pieces up to an offset are the front of the pieces of the whole source
 pub record IsFrontOf (bytes : List ℕ) (front : List Piece) (at : ℕ) (whole : List Piece) : Type 0 where
   pub rest : List Piece
   pub is : whole ≡ front ++ rest
@@ -52,7 +52,7 @@ pieces-front bytes start (piece ∷ front) at (other ∷ whole) f w =
     let same : other ≡ piece = same-piece other piece (sym one.0) (w.0 ∙ sym f.0) (sym one.1) in
     record { rest = inner.rest; is = ap (λ p. p ∷ whole) same ∙ ap (λ ps. piece ∷ ps) inner.is; filled = inner.filled }
 
--- behind the end of the source there is no piece
+-- after the end of the source there is no piece
 pub pieces-end : (bytes : List ℕ) (rest : List Piece) (to : ℕ) → Pieces bytes (length bytes) rest to → rest ≡ []
 pieces-end bytes [] to f = refl
 pieces-end bytes (piece ∷ rest) to f = absurd (let a = piece-advances bytes (length bytes) piece.kind piece.span.to f.1 in omega (arith, a.0, a.1))

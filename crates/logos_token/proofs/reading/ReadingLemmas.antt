@@ -1,4 +1,4 @@
--- What is held while a source is read, piece by piece.
+-- Invariants of reading a source, piece by piece.
 use Rattle.std.proofs.Common.{◌≡◌, ℕ, ◌+◌, ◌<◌, ◌≤◌, max, List, [], ◌∷◌, ◌++◌, length, Some, arith, sym, ◌∙◌, ap, refl, append_assoc}
 use Rattle.std.proofs.lemmas.List.{append-nil, length_push}
 use Rattle.logos_lexeme.specs.declared.lexeme.Span.{Span}
@@ -11,7 +11,7 @@ use Rattle.logos_token.specs.Tokens.{Token, TokenList, none, also, append, depth
 use Rattle.logos_token.specs.Flat.{EntryValue, group_entry, flat, flat_token}
 use Rattle.logos_lexeme.specs.Lexemes.{IsNext}
 use Rattle.logos_token.specs.Spelling.{Piece, leaf, opens, lexeme_of, seen, lexemes, token_lexemes, opened, most_open, Spells, IsFront, IsUnreadable, unmatched, IsTooDeep}
-use Rattle.logos_token.specs.inside.Reading.{Frame, frame_lexemes, frame_entries, frame_places, AreOpenings, IsRead}
+use Rattle.logos_token.specs.inside.Reading.{Frame, frame_lexemes, frame_entries, frame_spots, AreOpenings, IsRead}
 use Rattle.logos_token.proofs.reading.FlatLemmas.{flat-append}
 use Rattle.logos_token.proofs.reading.PieceLemmas.{Pieces-push, seen-append}
 use Rattle.logos_token.proofs.reading.NestingLemmas.{opened-lexemes, opened-append, most_open-lexemes, most_open-append}
@@ -21,9 +21,9 @@ abbrev pub marks : List Frame → List (Delimiter × ℕ)
 marks [] = []
 marks (f ∷ frames) = (f.delimiter, f.span.from) ∷ marks frames
 
-pub marks-length : (frames : List Frame) → length (frame_places frames) ≡ length (marks frames)
+pub marks-length : (frames : List Frame) → length (frame_spots frames) ≡ length (marks frames)
 marks-length [] = refl
-marks-length (f ∷ frames) = length_push (frame_places frames) (record { delimiter = f.delimiter; span = f.span; place = length (frame_entries frames f.before) }) ∙ omega (arith, marks-length frames)
+marks-length (f ∷ frames) = length_push (frame_spots frames) (record { delimiter = f.delimiter; span = f.span; spot = length (frame_entries frames f.before) }) ∙ omega (arith, marks-length frames)
 
 pub frames-opened : (frames : List Frame) (current : TokenList) → opened [] (frame_lexemes frames current) ≡ Some (marks frames)
 frames-opened [] current = ap (opened []) (sym (append-nil (lexemes current))) ∙ opened-lexemes current [] []
@@ -55,7 +55,7 @@ module _ (bytes : List ℕ) (to : ℕ) (entries : List EntryValue) (begun : List
   read-front = record { pieces = r.pieces; filled = r.filled; nested = read-opened; shallow = r.shallow }
 
   pub read-count : length (marks r.frames) ≡ length begun
-  read-count = sym (marks-length r.frames) ∙ ap length r.places
+  read-count = sym (marks-length r.frames) ∙ ap length r.spots
 
   pub read-shallow : length (marks r.frames) ≤ 128
   read-shallow =
@@ -66,7 +66,7 @@ module _ (bytes : List ℕ) (to : ℕ) (entries : List EntryValue) (begun : List
 -- one piece more
 module _ (bytes : List ℕ) (kind : LexemeKind) (span : Span) (entries : List EntryValue) (begun : List OpenGroup) (r : IsRead bytes span.from entries begun) (next : IsNext bytes span.from kind span.to) where
   pub read-more : (frames : List Frame) (current : TokenList) → AreOpenings bytes frames → frame_lexemes frames current ≡ frame_lexemes r.frames r.current ++ lexeme_of bytes kind span →
-      most_open (length (marks r.frames)) (lexeme_of bytes kind span) ≤ 128 → IsRead bytes span.to (frame_entries frames current) (frame_places frames)
+      most_open (length (marks r.frames)) (lexeme_of bytes kind span) ≤ 128 → IsRead bytes span.to (frame_entries frames current) (frame_spots frames)
   read-more frames current openings nested shallow =
       let piece : Piece = record { kind = kind; span = span } in
       let more : seen bytes (r.pieces ++ piece ∷ []) ≡ seen bytes r.pieces ++ lexeme_of bytes kind span = seen-append bytes r.pieces (piece ∷ []) ∙ ap (λ ls. seen bytes r.pieces ++ ls) (append-nil (lexeme_of bytes kind span)) in
@@ -81,13 +81,13 @@ module _ (bytes : List ℕ) (kind : LexemeKind) (span : Span) (entries : List En
         openings = openings;
         nested = nested ∙ ap (λ ls. ls ++ lexeme_of bytes kind span) r.nested ∙ sym more;
         held = refl;
-        places = refl;
+        spots = refl;
       }
 
 pub read-gap : (bytes : List ℕ) (span : Span) (entries : List EntryValue) (begun : List OpenGroup) → IsRead bytes span.from entries begun → IsNext bytes span.from Gap span.to → IsRead bytes span.to entries begun
 read-gap bytes span entries begun r next =
     let more = read-more bytes Gap span entries begun r next r.frames r.current r.openings (sym (append-nil (frame_lexemes r.frames r.current))) (read-shallow bytes span.from entries begun r) in
-    rw (r.held, r.places) at more
+    rw (r.held, r.spots) at more
 
 -- a token without others inside
 pub read-leaf : (bytes : List ℕ) (kind : LexemeKind) (span : Span) (entries : List EntryValue) (begun : List OpenGroup) (token : Token) (value : EntryValue) → IsRead bytes span.from entries begun → IsNext bytes span.from kind span.to →
@@ -100,15 +100,15 @@ read-leaf bytes kind span entries begun token value r next is lexeme entry =
     let more = read-more bytes kind span entries begun r next r.frames (append r.current new) r.openings nested most in
     let held : frame_entries r.frames (append r.current new) ≡ entries ++ value ∷ [] =
     frame_entries-append r.frames r.current new ∙ ap (λ es. es ++ (flat_token token ++ [])) r.held ∙ ap (λ es. entries ++ es) (append-nil (flat_token token) ∙ entry) in
-    rw (held, r.places) at more
+    rw (held, r.spots) at more
 
-pub read-opening : (bytes : List ℕ) (delimiter : Delimiter) (span : Span) (entries : List EntryValue) (begun : List OpenGroup) (place : ℕ) → IsRead bytes span.from entries begun → IsNext bytes span.from (Opening delimiter) span.to →
-    length begun < 128 → length entries ≡ place → IsRead bytes span.to (entries ++ group_entry delimiter span 0 ∷ []) (begun ++ (record { delimiter = delimiter; span = span; place = place }) ∷ [])
-read-opening bytes delimiter span entries begun place r next room is =
+pub read-opening : (bytes : List ℕ) (delimiter : Delimiter) (span : Span) (entries : List EntryValue) (begun : List OpenGroup) (spot : ℕ) → IsRead bytes span.from entries begun → IsNext bytes span.from (Opening delimiter) span.to →
+    length begun < 128 → length entries ≡ spot → IsRead bytes span.to (entries ++ group_entry delimiter span 0 ∷ []) (begun ++ (record { delimiter = delimiter; span = span; spot = spot }) ∷ [])
+read-opening bytes delimiter span entries begun spot r next room is =
     let frame : Frame = record { before = r.current; delimiter = delimiter; span = span } in
     let count = read-count bytes span.from entries begun r in
     let more = read-more bytes (Opening delimiter) span entries begun r next (frame ∷ r.frames) none (next, r.openings) refl (omega arith) in
-    rw (r.held, r.places, is) at more
+    rw (r.held, r.spots, is) at more
 
 pub read-too_deep : (bytes : List ℕ) (delimiter : Delimiter) (span : Span) (entries : List EntryValue) (begun : List OpenGroup) → IsRead bytes span.from entries begun → IsNext bytes span.from (Opening delimiter) span.to →
     128 ≤ length begun → IsTooDeep bytes span
@@ -119,17 +119,17 @@ read-too_deep bytes delimiter span entries begun r next full =
 
 -- nothing is read
 pub read-start : (bytes : List ℕ) → IsRead bytes 0 [] []
-read-start bytes = record { pieces = []; filled = refl; shallow = omega arith; frames = []; current = none; openings = tt; nested = refl; held = refl; places = refl }
+read-start bytes = record { pieces = []; filled = refl; shallow = omega arith; frames = []; current = none; openings = tt; nested = refl; held = refl; spots = refl }
 
 -- no group is begun
-no-frames : (frames : List Frame) → frame_places frames ≡ [] → frames ≡ []
+no-frames : (frames : List Frame) → frame_spots frames ≡ [] → frames ≡ []
 no-frames [] e = refl
-no-frames (f ∷ frames) e = absurd (let n = length_push (frame_places frames) (record { delimiter = f.delimiter; span = f.span; place = length (frame_entries frames f.before) }) in let m = ap length e in omega arith)
+no-frames (f ∷ frames) e = absurd (let n = length_push (frame_spots frames) (record { delimiter = f.delimiter; span = f.span; spot = length (frame_entries frames f.before) }) in let m = ap length e in omega arith)
 
 -- a closing delimiter where no group is begun
 pub read-unmatched : (bytes : List ℕ) (delimiter : Delimiter) (span : Span) (entries : List EntryValue) → IsRead bytes span.from entries [] → IsNext bytes span.from (Closing delimiter) span.to → IsUnreadable bytes Unbalanced span
 read-unmatched bytes delimiter span entries r next =
-    let is = no-frames r.frames r.places in
+    let is = no-frames r.frames r.spots in
     unmatched (record { around = marks r.frames; delimiter = delimiter; front = read-front bytes span.from entries [] r; piece = next; apart = rw is refl })
 
 -- the tokens of a source that is read to its end, with no group begun
@@ -141,7 +141,7 @@ pub record IsWhole (bytes : List ℕ) (entries : List EntryValue) : Type 0 where
 
 pub read-whole : (bytes : List ℕ) (entries : List EntryValue) → IsRead bytes (length bytes) entries [] → IsWhole bytes entries
 read-whole bytes entries r =
-    let is = no-frames r.frames r.places in
+    let is = no-frames r.frames r.spots in
     let nested : lexemes r.current ≡ seen bytes r.pieces = ap (λ fs. frame_lexemes fs r.current) (sym is) ∙ r.nested in
     let depth : max (0 + depth_of r.current) 0 ≡ most_open 0 (seen bytes r.pieces) = sym (most_open-lexemes r.current 0 []) ∙ ap (most_open 0) (append-nil (lexemes r.current) ∙ nested) in
     let shallow = r.shallow in

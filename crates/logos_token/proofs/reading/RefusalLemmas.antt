@@ -21,7 +21,7 @@ refused-memory bytes LimitSource r tokens s short shallow = absurd (omega (arith
 refused-memory bytes (LimitTokenNesting span) r tokens s short shallow = absurd (omega (arith, deep-excludes bytes span tokens r s))
 refused-memory bytes Memory r tokens s short shallow = refl
 
--- what a result says, from what its error says of the source
+-- the meaning of a result, given the meaning of its error for the source
 module _ (bytes : List ℕ) (result : Result TokenStream TokenError) (refused : IfErr result (IsRefusal bytes)) where
   pub result-nothing : IfErr result (SpellsNothing bytes)
   result-nothing = go result refused

@@ -8,7 +8,7 @@ use Rattle.logos_lexeme.specs.declared.lexeme.LexemeKind.TheVariants.{Gap, Ident
 use Rattle.logos_token.specs.Tokens.{Token, TokenList, identifier, punctuation, literal, doc, group, none, also, append, span_of, end_of, run_span}
 use Rattle.logos_token.specs.PrintedAgain.{IsRunOf, here, within}
 use Rattle.logos_token.specs.Spans.{IsSpanOf}
-use Rattle.logos_token.specs.Spelling.{Piece, Pieces, Lexeme, leaf, opens, closes, lexeme_of, seen, lexemes, token_lexemes, Spells, TokenStands, RunStands}
+use Rattle.logos_token.specs.Spelling.{Piece, Pieces, Lexeme, leaf, opens, closes, lexeme_of, seen, lexemes, token_lexemes, Spells, TokenOccurs, RunOccurs}
 use Rattle.logos_token.proofs.reading.PieceLemmas.{piece-boundary}
 use Rattle.logos_token.proofs.reading.OrderLemmas.{spelled-in_order}
 
@@ -29,7 +29,7 @@ abbrev mutual
   RunCut text none = Unit {0}
   RunCut text (also token rest) = TokenCut text token × RunCut text rest
 
--- a lexeme begins and ends between characters, as far as its places are known
+-- a lexeme begins and ends between characters, as far as its offsets are known
 abbrev LexemeCut : List ℕ → Lexeme → Type 0
 LexemeCut text (leaf token) = TokenCut text token
 LexemeCut text (opens delimiter from) = IsCharBoundary text from
@@ -106,31 +106,31 @@ abbrev pub Each : {A : Type 0} → (A → Type 0) → List A → Type 0
 Each P [] = Unit {0}
 Each P (value ∷ rest) = P value × Each P rest
 
--- A run of tokens that stand in order in a text, each of which begins and ends between characters.
+-- A run of tokens that occur in order in a text, each of which begins and ends between characters.
 pub record Fits (text : List ℕ) (run : TokenList) : Type 0 where
   pub from : ℕ
   pub to : ℕ
-  pub stands : RunStands text from run to
+  pub occurs : RunOccurs text from run to
   pub cut : RunCut text run
 
 pub spelled_fits : (text : List ℕ) (tokens : TokenList) → IsUtf8 text → Spells text tokens → Fits text tokens
-spelled_fits text tokens utf8 s = record { from = 0; to = length text; stands = spelled-in_order text tokens s; cut = spelled_cut text tokens utf8 s }
+spelled_fits text tokens utf8 s = record { from = 0; to = length text; occurs = spelled-in_order text tokens s; cut = spelled_cut text tokens utf8 s }
 
--- what stands in order in front of other tokens, and after others
+-- tokens in order, before other tokens and after others
 record Parted (text : List ℕ) (from : ℕ) (front rest : TokenList) (to : ℕ) : Type 0 where
   middle : ℕ
-  before : RunStands text from front middle
-  after : RunStands text middle rest to
+  before : RunOccurs text from front middle
+  after : RunOccurs text middle rest to
 
-parted : (text : List ℕ) (from : ℕ) (front rest : TokenList) (to : ℕ) → RunStands text from (append front rest) to → Parted text from front rest to
+parted : (text : List ℕ) (from : ℕ) (front rest : TokenList) (to : ℕ) → RunOccurs text from (append front rest) to → Parted text from front rest to
 parted text from none rest to s = record { middle = from; before = omega arith; after = s }
 parted text from (also token front) rest to s = let p = parted text (span_of token).to front rest to s.1 in record { middle = p.middle; before = (s.0, p.before); after = p.after }
 
 pub fits_front : (text : List ℕ) (front rest : TokenList) → Fits text (append front rest) → Fits text front
-fits_front text front rest f = let p = parted text f.from front rest f.to f.stands in record { from = f.from; to = p.middle; stands = p.before; cut = append_front text front rest f.cut }
+fits_front text front rest f = let p = parted text f.from front rest f.to f.occurs in record { from = f.from; to = p.middle; occurs = p.before; cut = append_front text front rest f.cut }
 
 pub fits_back : (text : List ℕ) (front rest : TokenList) → Fits text (append front rest) → Fits text rest
-fits_back text front rest f = let p = parted text f.from front rest f.to f.stands in record { from = p.middle; to = f.to; stands = p.after; cut = append_back text front rest f.cut }
+fits_back text front rest f = let p = parted text f.from front rest f.to f.occurs in record { from = p.middle; to = f.to; occurs = p.after; cut = append_back text front rest f.cut }
 
 pub fits_rest : (text : List ℕ) (token : Token) (rest : TokenList) → Fits text (also token rest) → Fits text rest
 fits_rest text token rest f = fits_back text (also token none) rest f
@@ -139,20 +139,20 @@ pub fits_first : (text : List ℕ) (token : Token) (rest : TokenList) → Fits t
 fits_first text token rest f = fits_front text (also token none) rest f
 
 pub fits_inside : (text : List ℕ) (delimiter : Delimiter) (span : Span) (inside rest : TokenList) → Fits text (also (group delimiter span inside) rest) → Fits text inside
-fits_inside text delimiter span inside rest f = record { from = span.from + 1; to = span.to - 1; stands = f.stands.0.2; cut = f.cut.0.1 }
+fits_inside text delimiter span inside rest f = record { from = span.from + 1; to = span.to - 1; occurs = f.occurs.0.2; cut = f.cut.0.1 }
 
 pub fits_none : (text : List ℕ) → Fits text none
-fits_none text = record { from = 0; to = 0; stands = omega arith; cut = tt }
+fits_none text = record { from = 0; to = 0; occurs = omega arith; cut = tt }
 
 -- the span of a run that fits
-token_order : (text : List ℕ) (from : ℕ) (token : Token) → TokenStands text from token → (from ≤ (span_of token).from) × ((span_of token).from < (span_of token).to)
+token_order : (text : List ℕ) (from : ℕ) (token : Token) → TokenOccurs text from token → (from ≤ (span_of token).from) × ((span_of token).from < (span_of token).to)
 token_order text from (identifier name span) s = (s.0, s.1)
 token_order text from (punctuation character spacing span) s = (s.0, s.1)
 token_order text from (literal name span) s = (s.0, s.1)
 token_order text from (doc name span) s = (s.0, s.1)
 token_order text from (group delimiter span inside) s = (s.0, s.1)
 
-run_order : (text : List ℕ) (from : ℕ) (token : Token) (rest : TokenList) (to : ℕ) → RunStands text from (also token rest) to → (span_of token).from < end_of token rest
+run_order : (text : List ℕ) (from : ℕ) (token : Token) (rest : TokenList) (to : ℕ) → RunOccurs text from (also token rest) to → (span_of token).from < end_of token rest
 run_order text from token none to s = (token_order text from token s.0).1
 run_order text from token (also next rest) to s =
     let first = (token_order text from token s.0).1 in
@@ -163,7 +163,7 @@ run_order text from token (also next rest) to s =
 pub span_fits : (text : List ℕ) (run : TokenList) → IsUtf8 text → Fits text run → IsSpanOf text (run_span run)
 span_fits text none utf8 f = record { order = omega arith; begins = IsCharBoundary-start text utf8; ends = IsCharBoundary-start text utf8 }
 span_fits text (also token rest) utf8 f =
-    let order = run_order text f.from token rest f.to f.stands in
+    let order = run_order text f.from token rest f.to f.occurs in
     let cut = span_cut text token rest f.cut in
     record { order = omega (arith, order); begins = cut.0; ends = cut.1 }
 

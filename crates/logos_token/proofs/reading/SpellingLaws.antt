@@ -15,11 +15,11 @@ use Rattle.logos_token.proofs.reading.NestingLemmas.{opened-lexemes, opened-appe
 pub spells-one : (bytes : List ℕ) (tokens other : TokenList) → Spells bytes tokens → Spells bytes other → tokens ≡ other
 spells-one bytes tokens other s t = lexemes-one tokens other (s.nested ∙ ap (seen bytes) (pieces-one bytes t.pieces s.pieces t.filled s.filled) ∙ sym t.nested)
 
--- behind all tokens no delimiter is open
+-- after all tokens no delimiter is open
 spells-closed : (bytes : List ℕ) (tokens : TokenList) (s : Spells bytes tokens) → opened [] (seen bytes s.pieces) ≡ Some []
 spells-closed bytes tokens s = ap (opened []) (sym s.nested ∙ sym (append-nil (lexemes tokens))) ∙ opened-lexemes tokens [] []
 
--- what stands behind a front closes all that is open there
+-- the token after a front closes all that is open there
 module _ (bytes : List ℕ) (at : ℕ) (around : List (Delimiter × ℕ)) (front : IsFront bytes at around) (tokens : TokenList) (s : Spells bytes tokens) where
   part : IsFrontOf bytes front.pieces at s.pieces
   part = pieces-front bytes 0 front.pieces at s.pieces front.filled s.filled
@@ -42,7 +42,7 @@ not-broken : (bytes : List ℕ) (at : ℕ) (kind : LexicalKind) (span : Span) (r
 not-broken bytes at kind span [] inside stuck filled = omega arith
 not-broken bytes at kind span (piece ∷ rest) inside stuck filled = no-piece bytes at kind span piece.kind piece.span.to stuck filled.1
 
--- a piece that stands where others begin is the first of these
+-- a piece that is at the offset of others is the first of these
 begins-with : (bytes : List ℕ) (from : ℕ) (kind : LexemeKind) (to : ℕ) (rest : List Piece) → IsNext bytes from kind to → Pieces bytes from rest (length bytes) →
     (behind : List Lexeme) × (seen bytes rest ≡ lexeme_of bytes kind (record { from = from; to = to }) ++ behind)
 begins-with bytes from kind to [] next filled = absurd (let a = piece-advances bytes from kind to next in omega (arith, a.0, a.1))
@@ -65,7 +65,7 @@ unreadable-excludes bytes kind span tokens (unclosed u) s =
     let f : Some ((u.delimiter, span.from) ∷ u.around) ≡ Some [] = sym u.front.nested ∙ ap (λ ps. opened [] (seen bytes ps)) e ∙ spells-closed bytes tokens s in
     cc
 
--- where more delimiters open than may be, the tokens stand deeper
+-- if more delimiters are open than allowed, the tokens are nested deeper
 pub deep-excludes : (bytes : List ℕ) (span : Span) (tokens : TokenList) → IsTooDeep bytes span → Spells bytes tokens → 128 < depth_of tokens
 deep-excludes bytes span tokens d s =
     let rest = part bytes span.from d.around d.front tokens s in

@@ -1,4 +1,4 @@
--- What a literal holds as a function of its text is what the rules of its pieces say.
+-- The value of a literal as a function of its text is the value by the rules of its pieces.
 use Rattle.std.proofs.Common.{◌≡◌, ◌≢◌, ℕ, zero, suc, ◌+◌, ◌-◌, ◌<◌, ◌≤◌, ◌==◌, ◌||◌, inl, inr, nat_le, Bool, true, false, Option, Some, None, option_map, List, [], ◌++◌, length, drop, get_or, get_or-drop, refl, sym, ◌∙◌, ap, subst, arith, string_bytes}
 use Rattle.std.specs.List.{prefix_len}
 use Rattle.std.specs.Option.{option_and_then}
@@ -8,7 +8,7 @@ use Rattle.std.proofs.lemmas.List.Sums.{prefix_len_passes}
 use Rattle.logos_lexeme.specs.LexemeRuns.{Steps, here, step, IsFirst}
 use Rattle.logos_lexeme.specs.LexemeOpenings.{hashes, opening_at}
 use Rattle.logos_lexeme.specs.LexemeEnds.{InQuotes, escaped, plain as step_plain, ReachesQuote, IsRawEnd, Ends, body_of}
-use Rattle.logos_lexeme.specs.LiteralBodies.{is_hex, is_blank, IsUnicodeEscape, IsContinuation, IsEscape, simple, hex, unicode, StandsFor, plain, return, escape, continuation, Holds, none, more}
+use Rattle.logos_lexeme.specs.LiteralBodies.{is_hex, is_blank, IsUnicodeEscape, IsContinuation, IsEscape, simple, hex, unicode, Represents, plain, return, escape, continuation, Holds, none, more}
 use Rattle.logos_token.specs.LiteralValues.{HoldsIn, BeginsWithString, IsValue}
 use Rattle.logos_lexeme.specs.LiteralPieces.{piece_at}
 use Rattle.logos_token.specs.Held.{Held, of_text, of_bytes, held_from, is_quote, is_raw_quote, held_as, held_in, held, held_value}
@@ -22,7 +22,7 @@ use Rattle.logos_lexeme.proofs.CharacterLaws.{inside_from_byte}
 use Rattle.logos_lexeme.proofs.RunLaws.{Steps-join, Steps-le, IsFirst-one, Until-one}
 use Rattle.logos_lexeme.proofs.OpeningLaws.{at_least}
 use Rattle.logos_lexeme.proofs.EndLaws.{InQuotes-one, InQuotes-apart, InQuotes-moves, quote-back, quote-here, quote-inside}
-use Rattle.logos_lexeme.proofs.BodyLaws.{StandsFor-moves}
+use Rattle.logos_lexeme.proofs.BodyLaws.{Represents-moves}
 use Rattle.logos_token.proofs.values.ValueLaws.{Holds-le}
 use Rattle.logos_lexeme.proofs.PieceLaws.{Tells, piece-tells, piece-all}
 
@@ -32,10 +32,10 @@ record Closing (escapes : Bool) (content : Content) (bytes : List ℕ) (closes :
   pub one : (at to : ℕ) → closes at ≡ true → Close at to → at ≡ to
   pub ahead : (at to : ℕ) → closes at ≡ false → Close at to → at < to
   pub inside : (at to : ℕ) → Close at to → to < length bytes
-  pub back : (at next to : ℕ) (said : List ℕ) → closes at ≡ false → StandsFor escapes content bytes at next said → Close at to → Close next to
-  pub on : (at next to : ℕ) (said : List ℕ) → closes at ≡ false → StandsFor escapes content bytes at next said → Close next to → Close at to
+  pub back : (at next to : ℕ) (said : List ℕ) → closes at ≡ false → Represents escapes content bytes at next said → Close at to → Close next to
+  pub on : (at next to : ℕ) (said : List ℕ) → closes at ≡ false → Represents escapes content bytes at next said → Close next to → Close at to
 
--- what is held up to the place that closes is what the pieces hold that fill the span
+-- the bytes up to the closing offset are those of the pieces that fill the span
 module _ (escapes : Bool) (content : Content) (bytes : List ℕ) (closes : ℕ → Bool) (Close : ℕ → ℕ → Type 0) (closing : Closing escapes content bytes closes Close) where
   abbrev Filled : ℕ → List ℕ → Type 0
   Filled at held = (to : ℕ) × Close at to × Holds escapes content bytes at to held
@@ -46,7 +46,7 @@ module _ (escapes : Bool) (content : Content) (bytes : List ℕ) (closes : ℕ �
   abbrev behind : ℕ → Option (List ℕ × ℕ) → Option (List ℕ)
   behind most found = option_and_then (λ piece. option_map (λ rest. piece.0 ++ rest) (from most piece.1)) found
 
-  rest-some : (most at next : ℕ) (said held : List ℕ) → closes at ≡ false → StandsFor escapes content bytes at next said → ((rest : List ℕ) → from most next ≡ Some rest → Filled next rest) →
+  rest-some : (most at next : ℕ) (said held : List ℕ) → closes at ≡ false → Represents escapes content bytes at next said → ((rest : List ℕ) → from most next ≡ Some rest → Filled next rest) →
       (rest : Option (List ℕ)) → from most next ≡ rest → option_map (λ xs. said ++ xs) rest ≡ Some held → Filled at held
   rest-some most at next said held c s all None e f = absurd (cc)
   rest-some most at next said held c s all (Some rest) e f =
@@ -55,7 +55,7 @@ module _ (escapes : Bool) (content : Content) (bytes : List ℕ) (closes : ℕ �
       (filled.0, closing.on at next filled.0 said c s filled.1, more s filled.2 (sym whole))
 
   piece-some : (most at : ℕ) (held : List ℕ) → closes at ≡ false → ((next : ℕ) (rest : List ℕ) → from most next ≡ Some rest → Filled next rest) →
-      (found : Option (List ℕ × ℕ)) → Tells (StandsFor escapes content bytes at) found → behind most found ≡ Some held → Filled at held
+      (found : Option (List ℕ × ℕ)) → Tells (Represents escapes content bytes at) found → behind most found ≡ Some held → Filled at held
   piece-some most at held c all None t f = absurd (cc)
   piece-some most at held c all (Some piece) t f = rest-some most at piece.1 piece.0 held c t (all piece.1) (from most piece.1) refl f
 
@@ -68,7 +68,7 @@ module _ (escapes : Bool) (content : Content) (bytes : List ℕ) (closes : ℕ �
 
   nothing_more : (at to : ℕ) (held : List ℕ) → at ≡ to → Holds escapes content bytes at to held → held ≡ []
   nothing_more at to held e none = refl
-  nothing_more at to held e (more {mid = mid} {first = said} {rest = rest} s h f) = absurd (omega (arith, StandsFor-moves escapes content bytes at mid said s, Holds-le escapes content bytes mid to rest h))
+  nothing_more at to held e (more {mid = mid} {first = said} {rest = rest} s h f) = absurd (omega (arith, Represents-moves escapes content bytes at mid said s, Holds-le escapes content bytes mid to rest h))
 
   still_open : (at to : ℕ) → Close at to → to < at + 0 → (b : Bool) → closes at ≡ b → ⊥
   still_open at to c l true e = let f = closing.one at to e c in omega arith
@@ -78,7 +78,7 @@ module _ (escapes : Bool) (content : Content) (bytes : List ℕ) (closes : ℕ �
       Holds escapes content bytes at to held → behind most (piece_at escapes content bytes at) ≡ Some held
   goes most at to held e c all none = absurd (let f = closing.ahead at to e c in omega arith)
   goes most at to held e c all (more {mid = mid} {first = said} {rest = rest} s h f) =
-      let others = all mid rest (closing.back at mid to said e s c) h (StandsFor-moves escapes content bytes at mid said s) in
+      let others = all mid rest (closing.back at mid to said e s c) h (Represents-moves escapes content bytes at mid said s) in
       rw (piece-all content bytes at escapes mid said s) (rw others (ap Some (sym f)))
 
   held-all : (most at to : ℕ) (held : List ℕ) → Close at to → Holds escapes content bytes at to held → to < at + most → from most at ≡ Some held
@@ -172,7 +172,7 @@ module _ (bytes : List ℕ) where
     | inr l ↦ l
   ]
 
-  says-steps : (content : Content) (at next : ℕ) (held : List ℕ) → at < length bytes → get_or bytes at 0 ≢ 34 → StandsFor true content bytes at next held → Steps (InQuotes 34 bytes) at next
+  says-steps : (content : Content) (at next : ℕ) (held : List ℕ) → at < length bytes → get_or bytes at 0 ≢ 34 → Represents true content bytes at next held → Steps (InQuotes 34 bytes) at next
   says-steps content at next held i q (plain e a v) = step (step_plain i (e refl) q v) here
   says-steps content at next held i q (return r) = inner-steps 2 at next (omega (arith, r.2)) (λ j b l. elim (cases_lt j (at + 1)) [
     | inl m ↦ let e : at ≡ j = omega (arith, r.2) in byte-inner (get_or bytes j 0) 13 (rw e at r.0) (omega arith) (λ e. absurd (omega arith)) (λ e. absurd (omega arith))
@@ -210,7 +210,7 @@ module _ (bytes : List ℕ) where
     on = λ at next to said f s u.
         let l = quote-le next to u in
         let m = quote-within next to u in
-        let moves = StandsFor-moves true content bytes at next said s in
+        let moves = Represents-moves true content bytes at next said s in
         record { steps = Steps-join (InQuotes 34 bytes) (says-steps content at next said (omega arith) (other_quote at f) s) u.steps; stop = u.stop };
   }
 
@@ -248,7 +248,7 @@ module _ (count : ℕ) (bytes : List ℕ) where
     byte : IsShort at (at + 1)
     pair : get_or bytes (at + 1) 0 ≡ 10 → IsShort at (at + 2)
 
-  short : (content : Content) (at next : ℕ) (held : List ℕ) → StandsFor false content bytes at next held → IsShort at next
+  short : (content : Content) (at next : ℕ) (held : List ℕ) → Represents false content bytes at next held → IsShort at next
   short content at next held (plain e a v) = rw v byte
   short content at next held (return r) = rw r.2 (pair r.1)
   short content at next held (escape t e) = absurd (false≢true t)

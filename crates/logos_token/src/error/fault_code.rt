@@ -1,11 +1,11 @@
-//! The codes of faults.
+//! The codes of faults. Every crate that adds a fault to an `Errors` names one.
 
 ghost use Rattle.std.specs.Prelude.{◌≡◌, Some};
-ghost use Rattle.logos_token.specs.ViewWords.{name_of};
+ghost use Rattle.logos_token.specs.ViewImports.{name_of};
 
 use std::fmt;
 
-/// What is wrong with a source. Each code has a name, by which it is printed.
+/// The kinds of faults of a source. Each code is printed by its name.
 #[derive(Clone, Copy, PartialEq, Eq)]
 pub enum FaultCode {
     /// The source cannot be cut into tokens here.
@@ -14,17 +14,17 @@ pub enum FaultCode {
     NotAnEnum,
     /// The enum is not well formed.
     Grammar,
-    /// A type that Rust has and a lexer cannot hold.
+    /// A type of Rust that a lexer cannot hold.
     TypeUnsupported,
     /// Tokens that are not a type.
     TypeSyntax,
-    /// The source has more bytes than the limit.
+    /// The source is longer than the limit, in bytes.
     LimitSource,
     /// More delimiters are open than the limit.
     LimitTokenNesting,
-    /// More types stand inside one another than the limit.
+    /// More types are nested inside one another than the limit allows.
     LimitTypeNesting,
-    /// More groups, brackets and repetitions nest than the limit allows.
+    /// More groups, brackets and repetitions are nested than the limit allows.
     LimitPatternNesting,
     /// All trees together are larger than the limit.
     LimitSize,
@@ -34,17 +34,18 @@ pub enum FaultCode {
     ManyLifetimes,
     /// A constant parameter.
     ConstGeneric,
-    /// A type is given to a name that is not a type parameter.
+    /// A type is set for a name that is not a type parameter.
     NotTypeParameter,
     /// A second type for a type parameter.
     TypeTwice,
     /// A type parameter without a type.
     NoConcreteType,
-    /// A type parameter whose type leads back to it.
+    /// A type parameter whose type contains the parameter itself, directly or through other
+    /// parameters.
     TypeHoldsItself,
     /// `logos` without its parentheses.
     LogosForm,
-    /// A part of `logos(..)` that no rule fits.
+    /// An argument of `logos(..)` that has none of the known forms.
     InvalidNested,
     /// An unknown name in `logos(..)`.
     UnknownLogos,
@@ -88,9 +89,9 @@ pub enum FaultCode {
     NotText,
     /// Tokens after an argument.
     UnexpectedToken,
-    /// An argument without a name where only named ones may stand.
+    /// An argument without a name where only named ones are allowed.
     NamedExpected,
-    /// The priority is not a number that fits.
+    /// The priority is not a number that fits `usize`.
     PriorityValue,
     /// A second priority.
     PriorityTwice,
@@ -124,7 +125,7 @@ pub enum FaultCode {
     IgnoreToken,
     /// An unknown name among the arguments.
     UnknownNested,
-    /// A variant with another number of fields than one.
+    /// A variant whose number of fields is not one.
     VariantFields,
     /// A variant with named fields.
     NamedFields,
@@ -136,23 +137,23 @@ pub enum FaultCode {
     RegexForm,
     /// A text that is not a pattern.
     Regex,
-    /// The default priority does not fit.
+    /// The default priority does not fit `usize`.
     PriorityOverflow,
     /// A text that is not the name of a subpattern.
     SubpatternName,
     /// A subpattern that is not defined before its use.
     SubpatternMissing,
-    /// A second subpattern of one name.
+    /// A second subpattern with the same name.
     SubpatternTwice,
     /// A pattern that can match invalid UTF-8, in UTF-8 mode.
     Utf8Pattern,
     /// A subpattern that can match invalid UTF-8, in UTF-8 mode.
     Utf8Subpattern,
-    /// A pattern that matches without a byte.
+    /// A pattern that matches the empty string.
     EmptyMatch,
-    /// Patterns of one priority that match the same bytes.
+    /// Patterns with the same priority that match the same bytes.
     Disambiguation,
-    /// A pattern that looks at its surroundings before its first byte.
+    /// A pattern with a look-around assertion before its first byte.
     NoUniversalStart,
     /// A pattern that repeats any character without a bound, greedily.
     GreedyDot,
@@ -160,7 +161,7 @@ pub enum FaultCode {
     Previous,
 }
 
-/// The names of the codes, in the order of the codes.
+/// The names of the codes, in the order of `FaultCode`.
 const NAMES: [&str; 75] = [
     "Lexical",
     "NotAnEnum",
@@ -240,7 +241,7 @@ const NAMES: [&str; 75] = [
 ];
 
 impl FaultCode {
-    /// Returns the name of the code, as it is printed.
+    /// Returns the name of the code, as printed.
     pub fn name(self) -> &'static str
         ensures { result.now ≡ name_of self }
     {

@@ -1,8 +1,8 @@
-//! Renders faults as Rust text that reports them when it is compiled. `logos_codegen` prints it in
-//! place of a lexer where a source has faults.
+//! Renders faults as Rust text that reports them when it is compiled. `logos_codegen` prints this
+//! text instead of a lexer if a source has faults.
 
 ghost use Rattle.std.specs.Prelude.{◌≡◌, ◌++◌, OnOk, string_bytes, IfOk, option_map};
-ghost use Rattle.logos_token.specs.ViewWords.{flat_map, faults_of, fault_of, rendered_fault, rendered};
+ghost use Rattle.logos_token.specs.ViewImports.{flat_map, faults_of, fault_of, rendered_fault, rendered};
 
 use crate::error::{Errors, Memory, SpannedError};
 use crate::util::push_escaped;
@@ -31,8 +31,8 @@ fn push_faults(text: &mut String, faults: &[SpannedError]) -> Result<(), Memory>
 }
 
 impl Errors {
-    /// Returns a function that does not compile and whose compiler errors are the messages of the
-    /// faults. `None` if there is no fault.
+    /// Returns a function that does not compile and whose compile errors are the messages of the
+    /// faults. Returns `None` if there is no fault.
     ///
     /// # Errors
     ///

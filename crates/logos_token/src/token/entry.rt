@@ -1,4 +1,5 @@
-//! The entries of a token buffer.
+//! The entries of a token buffer. `reader` and `views::growing` append them, and `views` reads
+//! them.
 
 use crate::token::{Delimiter, Doc, Ident, Literal, Punct, Span};
 
@@ -9,7 +10,7 @@ pub enum Entry<'s> {
     Punct(Punct),
     Literal(Literal<'s>),
     Doc(Doc<'s>),
-    /// A group with the number of entries inside it. They are the next ones.
+    /// A group with the number of entries inside it, which follow it.
     Group {
         delimiter: Delimiter,
         span: Span,
@@ -19,9 +20,9 @@ pub enum Entry<'s> {
 
 impl Entry<'_> {
     ghost use Rattle.std.specs.Prelude.{◌≡◌};
-    ghost use Rattle.logos_token.specs.ViewWords.{size_of};
+    ghost use Rattle.logos_token.specs.ViewImports.{size_of};
 
-    /// Returns how many of the next entries belong to this one.
+    /// Returns the number of the next entries that belong to this one.
     pub fn size(&self) -> usize
         ensures { result ≡ size_of self.now }
     {

@@ -2,7 +2,7 @@
 //! proved law.
 
 ghost use Rattle.std.specs.Prelude.{List, ℕ, IsUtf8};
-ghost use Rattle.logos_token.specs.Words.{TokenList, run_span, Spells, printed, SpellsAgain, IsRunOf, EndsJoint, IsSpanOf};
+ghost use Rattle.logos_token.specs.Imports.{TokenList, run_span, Spells, printed, SpellsAgain, IsRunOf, EndsJoint, IsSpanOf};
 
 /// The printed text of all tokens of a source spells the same tokens again, apart from their spans.
 pub fn prints_back()
@@ -10,7 +10,7 @@ pub fn prints_back()
         SpellsAgain (printed tokens) tokens }
 {}
 
-/// The printed text of neighbouring tokens of a source, at any depth, spells the same tokens again,
+/// The printed text of neighboring tokens of a source, at any depth, spells the same tokens again,
 /// apart from their spans, unless the last of them is joint punctuation.
 pub fn prints_runs_back()
     ensures { (bytes : List ℕ) → IsUtf8 bytes → (tokens : TokenList) → Spells bytes tokens →
@@ -18,7 +18,7 @@ pub fn prints_runs_back()
         SpellsAgain (printed run) run }
 {}
 
-/// The span of neighbouring tokens of a source, at any depth, is a span of it.
+/// The span of neighboring tokens of a source, at any depth, is a span of the source.
 pub fn runs_have_spans()
     ensures { (bytes : List ℕ) → IsUtf8 bytes → (run tokens : TokenList) → Spells bytes tokens →
         IsRunOf run tokens → IsSpanOf bytes (run_span run) }

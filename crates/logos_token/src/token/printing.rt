@@ -1,7 +1,7 @@
 //! Prints tokens. Callbacks, types and stripped enums are printed with it.
 
 ghost use Rattle.std.specs.Prelude.{◌≡◌, ◌<◌, ◌∷◌, [], List, ℕ, IsUtf8, IfOk, IfSome, MatchOption, string_bytes, codes, if◌then◌else◌, OnOk};
-ghost use Rattle.logos_token.specs.ViewWords.{SpellsAgain, IsRunOf, EndsJoint, Spells, TokenList, none, opening_text, closing_text, gap_after, is_line_comment, printed, encode_utf8, print_part, tokens_of, printed_of, PrintsOn, LeavesFewer, tree_of, PrintsTree};
+ghost use Rattle.logos_token.specs.ViewImports.{SpellsAgain, IsRunOf, EndsJoint, Spells, TokenList, none, opening_text, closing_text, gap_after, is_line_comment, printed, encode_utf8, print_part, tokens_of, printed_of, PrintsOn, LeavesFewer, tree_of, PrintsTree};
 
 use crate::error::Memory;
 use crate::token::{Delimiter, Group, Spacing, TokenTree, Tokens};
@@ -10,13 +10,13 @@ use std::alloc::Global;
 /// Prints lexemes one by one, each with the gap after it.
 #[derive(Drop)]
 pub struct Printer {
-    /// The lexemes so far.
+    /// The lexemes printed so far.
     text: String,
     /// The gap to print before the next lexeme.
     gap: &'static str,
 }
 
-/// A group whose opening delimiter is printed and whose closing one is not.
+/// A group whose opening delimiter is printed and whose closing delimiter is not.
 #[derive(Clone, Copy)]
 struct Outer<'t, 's> {
     /// The delimiters of the group.
@@ -69,7 +69,7 @@ pub fn gap_after_doc(text: &str) -> &'static str
 }
 
 impl Printer {
-    /// Returns a printer of nothing so far. It takes its memory from `alloc`.
+    /// Returns a printer that has printed nothing. It takes its memory from `alloc`.
     pub fn new(alloc: Global) -> Printer
         ensures { printed_of result ≡ record { text = []; gap = [] } }
     {
@@ -87,7 +87,7 @@ impl Printer {
     }
 
     /// Prints a lexeme, and the gap before it. `gap` is the gap after it. After an error a part of
-    /// it can have been printed.
+    /// the lexeme may have been printed.
     pub fn add(&mut self, text: &str, gap: &'static str) -> Result<(), Memory>
         ensures { OnOk result (printed_of self.new ≡
             print_part (printed_of self.old) (record { text = text.now; gap = gap.now })) }
@@ -98,7 +98,7 @@ impl Printer {
         Ok(())
     }
 
-    /// Prints a lexeme of one character in the same way.
+    /// Prints a lexeme of one character, and the gap before it. `gap` is the gap after it.
     pub fn add_character(&mut self, character: char, gap: &'static str) -> Result<(), Memory>
         ensures { OnOk result (printed_of self.new ≡ print_part
             (printed_of self.old) (record { text = encode_utf8 character; gap = gap.now })) }
@@ -131,7 +131,8 @@ impl Printer {
     }
 }
 
-/// Closes the innermost open group and returns the trees after it. `None` if no group is open.
+/// Closes the innermost open group and returns the trees after it. Returns `None` if no group is
+/// open.
 fn leave<'t, 's>(
     printer: &mut Printer,
     outer: &mut Vec<Outer<'t, 's>>,
@@ -147,8 +148,8 @@ fn leave<'t, 's>(
     Ok(Some(group.rest))
 }
 
-/// Prints the first tree of `rest`, or closes a group if `rest` is empty. Returns what is to be
-/// printed next.
+/// Prints the first tree of `rest`, or closes a group if `rest` is empty. Returns the trees to
+/// print next.
 fn step<'t, 's>(
     printer: &mut Printer,
     outer: &mut Vec<Outer<'t, 's>>,
@@ -173,10 +174,10 @@ fn step<'t, 's>(
     Ok(Some(group.run()))
 }
 
-/// Returns the text of the tokens: their lexemes with a space between each two, no space after
-/// joint punctuation, and LF after a line comment.
+/// Returns the text of the tokens: their lexemes, separated by one space, without a space after
+/// joint punctuation, and with LF after a line comment.
 ///
-/// If the tokens stand in a source and the last of them is not joint punctuation, the text spells
+/// If the tokens occur in a source and the last of them is not joint punctuation, the text spells
 /// the same tokens again, apart from their spans.
 ///
 /// # Errors

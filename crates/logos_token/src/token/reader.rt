@@ -1,7 +1,7 @@
-//! Reads a source text into tokens. `tokenize` is the first step of each reading of a source.
+//! Reads a source text into tokens. Each reading of a source first calls `tokenize`.
 
 ghost use Rattle.std.specs.Prelude.{◌≡◌, ℕ, ◌<◌, ◌≤◌, ◌↔◌, List, [], ◌∷◌, ◌++◌, map, length, IfOk, IfErr, OnOk, MatchResult, IsTrue};
-ghost use Rattle.logos_token.specs.ViewWords.{source_limit, delimiter_limit, IsCharBoundary, IsNext, TokenList, depth_of, Spells, RunStands, Memory, value_of, stream_tokens, IsRead, ReadsOn, RefusesAt, SpellsAtEnd, RefusesAtEnd, IsRefusal, SpellsNothing, IsErrOf};
+ghost use Rattle.logos_token.specs.ViewImports.{source_limit, delimiter_limit, IsCharBoundary, IsNext, TokenList, depth_of, Spells, RunOccurs, Memory, value_of, stream_tokens, IsRead, ReadsOn, RefusesAt, SpellsAtEnd, RefusesAtEnd, IsRefusal, SpellsNothing, IsErrOf};
 
 use crate::token::entry::Entry;
 use crate::token::views::TokenStream;
@@ -24,7 +24,7 @@ pub enum TokenError {
     LimitSource,
     /// More than 128 delimiters are open at this opening delimiter.
     LimitTokenNesting { span: Span },
-    /// There is not enough memory for the tokens.
+    /// Memory ran out for the tokens.
     Memory,
 }
 
@@ -50,8 +50,8 @@ struct OpenGroup {
     delimiter: Delimiter,
     /// The opening delimiter.
     span: Span,
-    /// The index of the group among the entries.
-    place: usize,
+    /// The index of the group in the list of entries.
+    spot: usize,
 }
 
 /// Returns whether `closing` closes `opening`.
@@ -79,7 +79,7 @@ fn begin_group(
     open_groups.push(OpenGroup {
         delimiter,
         span,
-        place: entries.len(),
+        spot: entries.len(),
     })?;
     entries.push(Entry::Group {
         delimiter,
@@ -113,8 +113,8 @@ fn end_group(
     if !is_partner(group.delimiter, delimiter) {
         return Err(unbalanced);
     }
-    let size = entries.len() - group.place - 1;
-    entries[group.place] = Entry::Group {
+    let size = entries.len() - group.spot - 1;
+    entries[group.spot] = Entry::Group {
         delimiter,
         span: Span {
             from: group.span.from,
@@ -134,7 +134,7 @@ fn push<'s>(entries: &mut Vec<Entry<'s>>, entry: Entry<'s>) -> Result<(), TokenE
     Ok(())
 }
 
-/// Adds the lexeme of this kind and span; a gap adds nothing.
+/// Adds the lexeme with this kind and span. A gap adds nothing.
 fn add<'s>(
     entries: &mut Vec<Entry<'s>>,
     open_groups: &mut Vec<OpenGroup>,
@@ -204,10 +204,10 @@ fn finish<'s>(
 ///
 /// # Errors
 ///
-/// Returns `LimitSource` if the source is longer than 16,777,216 bytes; then it is not read.
-/// `Lexical` with the first fault from the left; a delimiter that is never closed is met at the end
-/// of the source. `LimitTokenNesting` at the first opening delimiter at which more than 128 are
-/// open. `Memory` if memory runs out.
+/// Returns `LimitSource`, without reading the source, if it is longer than 16,777,216 bytes;
+/// `Lexical` with the first fault from the left, where a delimiter that is never closed counts as a
+/// fault at the end of the source; `LimitTokenNesting` at the first opening delimiter at which more
+/// than 128 delimiters are open; and `Memory` if memory runs out.
 pub fn tokenize<'s>(alloc: Global, src: &'s str) -> Result<TokenStream<'s>, TokenError>
     ensures ok { IfOk result (λ stream. Spells src.now (stream_tokens stream)) }
     ensures shallow { IfOk result (λ stream. depth_of (stream_tokens stream) ≤ delimiter_limit) }
@@ -242,9 +242,9 @@ pub fn spells_once()
         Spells bytes tokens → Spells bytes other → tokens ≡ other }
 {}
 
-/// The tokens that a source spells stand in it in order. The text of each is the source at its
+/// The tokens that a source spells occur in it in order. The text of each is the source at its
 /// span.
 pub fn spelled_in_order()
     ensures { (bytes : List ℕ) (tokens : TokenList) →
-        Spells bytes tokens → RunStands bytes 0 tokens (length bytes) }
+        Spells bytes tokens → RunOccurs bytes 0 tokens (length bytes) }
 {}

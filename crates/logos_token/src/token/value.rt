@@ -1,8 +1,8 @@
-//! Reads the values of string and byte string literals. Definitions, subpatterns and options ask
-//! for the value of each literal that they have.
+//! Reads the values of string and byte string literals. Definitions, subpatterns and options call
+//! it for each of their literals.
 
 ghost use Rattle.std.specs.Prelude.{◌≡◌, ℕ, ◌+◌, ◌<◌, ◌≤◌, ◌++◌, ◌⊎◌, ◌==◌, ◌&&◌, ◌||◌, List, length, slice_index, slice_range, string_bytes, option_map, IfOk, OnOk, MatchOption};
-ghost use Rattle.logos_token.specs.ViewWords.{IsCharBoundary, Holds, bytes_of, IsRest, IsAdded, IsAscii, IsValue, IsHeld, held, held_value};
+ghost use Rattle.logos_token.specs.ViewImports.{IsCharBoundary, Holds, bytes_of, IsRest, IsAdded, IsAscii, IsValue, IsHeld, held, held_value};
 
 use crate::error::Memory;
 use crate::token::Literal;
@@ -21,14 +21,14 @@ pub enum LiteralValue {
     Bytes(Vec<u8>),
 }
 
-/// Returns whether `byte` in the contents of a string does not stand for itself.
+/// Returns whether `byte` in the contents of a string does not represent itself.
 fn is_special(escapes: bool, byte: u8) -> bool
     ensures { result ≡ ((byte == 13) || (escapes && (byte == 92))) }
 {
     (byte == b'\r') | (escapes & (byte == b'\\'))
 }
 
-/// Returns the byte offset, at most `to`, after a run of bytes that stand for themselves.
+/// Returns the byte offset, at most `to`, after a run of bytes that represent themselves.
 fn plain_end(source: &str, escapes: bool, from: usize, to: usize) -> usize
     requires inside { from ≤ to }
     requires within { to ≤ length source.now }
@@ -58,8 +58,8 @@ fn push_text(value: &mut String, piece: Piece) -> Result<(), AllocError>
     }
 }
 
-/// Appends the value of the next run or piece of a string to a text, and returns the byte offset
-/// after it. `None` if no piece stands there.
+/// Appends the value of the next plain bytes or piece of a string to a text, and returns the byte
+/// offset after it. Returns `None` if there is no piece at `at`.
 fn add_text(
     value: &mut String,
     source: &str,
@@ -87,8 +87,8 @@ fn add_text(
     Ok(Some(next))
 }
 
-/// Returns the text of a string whose contents are the span from `from` to `to`. `None` if they do
-/// not consist of pieces.
+/// Returns the text of a string whose contents are the span from `from` to `to`. Returns `None` if
+/// they do not consist of pieces.
 fn text_between(
     alloc: Global,
     source: &str,
@@ -130,8 +130,8 @@ fn push_bytes(value: &mut Vec<u8>, piece: Piece) -> Result<(), AllocError>
     }
 }
 
-/// Returns the bytes of a byte string whose contents are a span. `None` if they do not consist of
-/// pieces.
+/// Returns the bytes of a byte string whose contents are the span from `from` to `to`. Returns
+/// `None` if they do not consist of pieces.
 fn bytes_between(
     alloc: Global,
     source: &str,
@@ -159,8 +159,8 @@ fn bytes_between(
     Ok(Some(value))
 }
 
-/// Returns the value of a string or byte string whose contents are a span. `None` if they break the
-/// rules.
+/// Returns the value of a string or byte string whose contents are the span from `from` to `to`.
+/// Returns `None` if they are malformed.
 fn value_between(
     alloc: Global,
     source: &str,
@@ -186,8 +186,8 @@ fn value_between(
     }
 }
 
-/// Returns the value of the string or byte string with which a text begins. `None` if it begins
-/// with neither.
+/// Returns the value of the string or byte string at the start of a text. Returns `None` if the
+/// text begins with neither.
 fn string_value(alloc: Global, text: &str) -> Result<Option<LiteralValue>, AllocError>
     ensures { IfOk result (λ value. IsValue text.now value) }
 {
@@ -214,9 +214,9 @@ fn string_value(alloc: Global, text: &str) -> Result<Option<LiteralValue>, Alloc
 }
 
 impl Literal<'_> {
-    /// Returns the text of a string or the bytes of a byte string. Escapes are read, each CR LF
-    /// becomes LF, and the suffix is left out. `None` if the literal is neither a string nor a byte
-    /// string, or breaks its rules.
+    /// Returns the text of a string or the bytes of a byte string. Escapes are replaced by their
+    /// values, each CR LF becomes LF, and the suffix is left out. Returns `None` if the literal is
+    /// neither a string nor a byte string, or is malformed.
     ///
     /// # Errors
     ///

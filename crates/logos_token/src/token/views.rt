@@ -1,6 +1,6 @@
-//! Holds the tokens of a source in one flat buffer, and gives views of the runs in it.
+//! Holds the tokens of a source in one flat buffer, and provides views of the runs in it.
 
-ghost use Rattle.logos_token.specs.Words.{props};
+ghost use Rattle.logos_token.specs.Imports.{props};
 ghost use Rattle.logos_token.specs.Flat.{IsFlat};
 
 mod growing;
@@ -17,7 +17,7 @@ pub struct TokenStream<'s> {
     ghost nested: { IsFlat entries.items } by { Prim.hlevel props },
 }
 
-/// A run of neighbouring token trees: a view of a buffer, which copies nothing.
+/// A run of neighboring token trees: a view of a buffer, which copies nothing.
 #[derive(Clone, Copy)]
 pub struct Tokens<'t, 's> {
     entries: &'t [Entry<'s>],
@@ -28,7 +28,7 @@ pub struct Tokens<'t, 's> {
 #[derive(Clone, Copy)]
 pub struct Group<'t, 's> {
     pub delimiter: Delimiter,
-    /// From the opening delimiter to the closing one.
+    /// The span from the opening delimiter to the closing one.
     pub span: Span,
     inside: Tokens<'t, 's>,
 }
@@ -51,9 +51,9 @@ pub struct TokenIter<'t, 's> {
 
 impl<'s> TokenStream<'s> {
     ghost use Rattle.std.specs.Prelude.{◌≡◌, IfOk};
-    ghost use Rattle.logos_token.specs.ViewWords.{identifier, none, also, IsFlat, tokens_in, stream_tokens, tokens_of};
+    ghost use Rattle.logos_token.specs.ViewImports.{identifier, none, also, IsFlat, tokens_in, stream_tokens, tokens_of};
 
-    /// Returns the buffer with these entries.
+    /// Returns a buffer of these entries.
     pub(super) fn from_entries(entries: Vec<Entry<'s>>) -> TokenStream<'s>
         requires { IsFlat entries.items }
         ensures { stream_tokens result ≡ tokens_in entries.entry.items }
@@ -86,7 +86,7 @@ impl<'s> TokenStream<'s> {
 
 impl Clone for TokenStream<'_> {
     ghost use Rattle.std.specs.Prelude.{◌≡◌};
-    ghost use Rattle.logos_token.specs.ViewWords.{stream_tokens};
+    ghost use Rattle.logos_token.specs.ViewImports.{stream_tokens};
 
     // A copy has the same trees, with the same texts, spans and spacings.
     ghost is_clone = { λ stream copy. stream_tokens copy ≡ stream_tokens stream };
@@ -99,7 +99,7 @@ impl Clone for TokenStream<'_> {
 
 impl<'t, 's> Tokens<'t, 's> {
     ghost use Rattle.std.specs.Prelude.{◌≡◌, ◌↔◌, IsTrue, MatchOption, option_map, IfOk};
-    ghost use Rattle.logos_token.specs.ViewWords.{none, also, IsRestOf, first_of, rest_of, run_span, count_of, stream_tokens, tokens_of, tree_of, iter_rest, listed};
+    ghost use Rattle.logos_token.specs.ViewImports.{none, also, IsRestOf, first_of, rest_of, run_span, count_of, stream_tokens, tokens_of, tree_of, iter_rest, listed};
 
     /// Returns whether the run has no tree.
     pub fn is_empty(self) -> bool
@@ -141,7 +141,7 @@ impl<'t, 's> Tokens<'t, 's> {
         }
     }
 
-    /// Returns the trees after the first one. An empty run stays empty.
+    /// Returns the trees after the first one. The rest of an empty run is empty.
     pub fn rest(self) -> Tokens<'t, 's>
         ensures { tokens_of result ≡ rest_of (tokens_of self.entry) }
     {
@@ -202,7 +202,7 @@ impl<'t, 's> Tokens<'t, 's> {
 
 impl<'t, 's> Group<'t, 's> {
     ghost use Rattle.std.specs.Prelude.{◌≡◌};
-    ghost use Rattle.logos_token.specs.ViewWords.{tokens_of, inside_of};
+    ghost use Rattle.logos_token.specs.ViewImports.{tokens_of, inside_of};
 
     /// Returns the run of trees between the delimiters.
     pub fn run(self) -> Tokens<'t, 's>
@@ -214,7 +214,7 @@ impl<'t, 's> Group<'t, 's> {
 
 impl TokenTree<'_, '_> {
     ghost use Rattle.std.specs.Prelude.{◌≡◌};
-    ghost use Rattle.logos_token.specs.ViewWords.{span_of, tree_of};
+    ghost use Rattle.logos_token.specs.ViewImports.{span_of, tree_of};
 
     /// Returns the span of the tree in the source.
     pub fn span(self) -> Span
@@ -233,7 +233,7 @@ impl TokenTree<'_, '_> {
 impl<'t, 's> Iterator for TokenIter<'t, 's> {
     type Item = TokenTree<'t, 's>;
 
-    ghost use Rattle.logos_token.specs.ViewWords.{YieldsFirstBy, item_count, tree_of, iter_rest};
+    ghost use Rattle.logos_token.specs.ViewImports.{YieldsFirstBy, item_count, tree_of, iter_rest};
 
     ghost next_gives = { YieldsFirstBy tree_of iter_rest };
 

@@ -1,11 +1,11 @@
-//! Writes texts as the contents of string literals. Faults that show tokens write them with it.
+//! Escapes texts for string literals. Faults that show tokens escape them with it.
 
 ghost use Rattle.std.specs.Prelude.{◌≡◌, ◌++◌, OnOk, string_bytes};
-ghost use Rattle.logos_token.specs.Words.{escaped_character, escaped};
+ghost use Rattle.logos_token.specs.Imports.{escaped_character, escaped};
 
 use crate::error::Memory;
 
-/// Appends a character as it is written between the quotes of a string literal.
+/// Appends a character as written between the quotes of a string literal.
 fn push_character(text: &mut String, character: char) -> Result<(), Memory>
     ensures { OnOk result
         (string_bytes text.new ≡ string_bytes text.old ++ escaped_character character) }
@@ -21,8 +21,8 @@ fn push_character(text: &mut String, character: char) -> Result<(), Memory>
     Ok(())
 }
 
-/// Appends `value` as it is written between the quotes of a string literal: `"`, `\`, LF, CR and
-/// tab as escapes, each other character as it is.
+/// Appends `value` as written between the quotes of a string literal: `"`, `\`, LF, CR and tab as
+/// escapes, and each other character as itself.
 ///
 /// # Errors
 ///

@@ -1,8 +1,8 @@
-//! Tests the first tokens of a run, and takes them from it. The readers of enums, `logos_strip` and
-//! `logos_rust_file` use it.
+//! Tests the first tokens of a run, and removes them from it. The readers of enums, `logos_strip`
+//! and `logos_rust_file` call it.
 
 ghost use Rattle.std.specs.Prelude.{◌≡◌, None, Some, MatchOption};
-ghost use Rattle.logos_token.specs.ViewWords.{begins_with, after_word, is_path_mark, after_colon, after_path_mark, tokens_of};
+ghost use Rattle.logos_token.specs.ViewImports.{begins_with, after_word, is_path_mark, after_colon, after_path_mark, tokens_of};
 
 use crate::token::{Punct, Spacing, TokenTree, Tokens};
 
@@ -16,7 +16,7 @@ pub fn begins_with(mark: char, tokens: Tokens<'_, '_>) -> bool
     }
 }
 
-/// Returns the tokens after a word, if the run begins with it.
+/// Returns the tokens after `word`, if the run begins with it.
 pub fn after_word<'t, 's>(word: &str, tokens: Tokens<'t, 's>) -> Option<Tokens<'t, 's>>
     ensures { MatchOption result (after_word word.now (tokens_of tokens.entry) ≡ None)
         (λ rest. after_word word.now (tokens_of tokens.entry) ≡ Some (tokens_of rest)) }
@@ -27,7 +27,7 @@ pub fn after_word<'t, 's>(word: &str, tokens: Tokens<'t, 's>) -> Option<Tokens<'
     }
 }
 
-/// Returns whether punctuation is the first `:` of `::`, by its spacing.
+/// Returns whether `punct` is the first `:` of `::`, given its spacing.
 pub fn is_path_mark(punct: Punct) -> bool
     ensures { result ≡ is_path_mark punct.character punct.spacing }
 {

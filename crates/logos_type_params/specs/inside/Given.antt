@@ -1,4 +1,4 @@
--- What replaces a name, as the code has it.
+-- The replacement of a name, in terms of the code.
 use Rattle.std.specs.Prelude.{map}
 use Rattle.logos_type_params.specs.declared.substitution.GivenType.{GivenType as GivenView}
 use Rattle.logos_type_params.specs.declared.substitution.GivenType.TheVariants.{Nothing, Name, Parts}
@@ -12,6 +12,6 @@ given_of Nothing = nothing
 given_of (Name text) = a_name text.now
 given_of (Parts parts) = a_type (trees (map tree_of parts.now))
 
--- The types that are given and the names that hold themselves, as the code has them.
+-- The given types and the names that contain themselves, in terms of the code.
 abbrev pub params_of : Replacing → Params
 params_of replacing = record { types = map param_value replacing.types.now.entries.items; held = texts replacing.held.now.keys }

@@ -1,24 +1,24 @@
--- The rows of the table in terms of the tokens that are left.
+-- The rows of the table as functions of the tokens at the spot.
 use Rattle.std.specs.Prelude.{◌≡◌, ℕ, List, [], Bool, true, false, Option, Some, None, Result, Ok, Err}
 use Rattle.std.specs.Str.{bytes_eq}
 use Rattle.logos_lexeme.specs.declared.lexeme.Span.{Span}
 use Rattle.logos_token.specs.Tokens.{TokenList, identifier, punctuation, literal, doc, group, none, also, rest_of}
-use Rattle.logos_type_reader.specs.declared.table.place.Place.{Place}
-use Rattle.logos_type_reader.specs.declared.table.place.Place.TheVariants as place
-use Rattle.logos_type_reader.specs.declared.table.place.FrontToken.{FrontToken}
-use Rattle.logos_type_reader.specs.declared.table.place.FrontToken.TheVariants as look
-use Rattle.logos_type_reader.specs.declared.table.place.Prefix.{Prefix}
-use Rattle.logos_type_reader.specs.declared.table.place.Prefix.TheVariants as lead
-use Rattle.logos_type_reader.specs.declared.table.place.TableEntry.{TableEntry}
-use Rattle.logos_type_reader.specs.declared.table.place.TableEntry.TheVariants as action
-use Rattle.logos_type_reader.specs.declared.table.place.FirstEntry.{FirstEntry}
-use Rattle.logos_type_reader.specs.declared.table.place.FirstEntry.TheVariants as start
-use Rattle.logos_type_reader.specs.declared.table.place.StepFault.{StepFault}
-use Rattle.logos_type_reader.specs.declared.table.place.StepFault.TheVariants as stop
-use Rattle.logos_type_reader.specs.Table.{Spot, Move, ends, takes, bars, asks, keeps_type, keeps, nests, stops, First, starts, refused, first_span, unsupported, mismatch, mismatches, to, opens, closes, after_two, after_three}
+use Rattle.logos_type_reader.specs.declared.table.stage.Stage.{Stage}
+use Rattle.logos_type_reader.specs.declared.table.stage.Stage.TheVariants as stage
+use Rattle.logos_type_reader.specs.declared.table.stage.FrontToken.{FrontToken}
+use Rattle.logos_type_reader.specs.declared.table.stage.FrontToken.TheVariants as look
+use Rattle.logos_type_reader.specs.declared.table.stage.Prefix.{Prefix}
+use Rattle.logos_type_reader.specs.declared.table.stage.Prefix.TheVariants as lead
+use Rattle.logos_type_reader.specs.declared.table.stage.TableEntry.{TableEntry}
+use Rattle.logos_type_reader.specs.declared.table.stage.TableEntry.TheVariants as action
+use Rattle.logos_type_reader.specs.declared.table.stage.FirstEntry.{FirstEntry}
+use Rattle.logos_type_reader.specs.declared.table.stage.FirstEntry.TheVariants as start
+use Rattle.logos_type_reader.specs.declared.table.stage.StepFault.{StepFault}
+use Rattle.logos_type_reader.specs.declared.table.stage.StepFault.TheVariants as stop
+use Rattle.logos_type_reader.specs.Table.{Spot, Move, ends, takes, bars, needs, keeps_type, keeps, nests, stops, First, starts, refused, first_span, unsupported, mismatch, mismatches, to, opens, closes, after_two, after_three}
 use Rattle.logos_type.specs.Parts.{Sign, word, mark, colons, arrow, value, opening, reference, lifetime, other_lifetime}
 
--- A run begins so.
+-- A run begins with this token.
 abbrev pub Looks : FrontToken → TokenList → Type 0
 Looks look.Nothing run = run ≡ none
 Looks look.Word run = (text : List ℕ) × (span : Span) × (rest : TokenList) × (run ≡ also (identifier text span) rest)
@@ -27,7 +27,7 @@ Looks look.Literal run = (text : List ℕ) × (span : Span) × (rest : TokenList
 Looks look.Doc run = (text : List ℕ) × (span : Span) × (rest : TokenList) × (run ≡ also (doc text span) rest)
 Looks (look.Group delimiter) run = (span : Span) × (inside : TokenList) × (rest : TokenList) × (run ≡ also (group delimiter span inside) rest)
 
--- Whether this name comes first.
+-- Whether the run begins with this name.
 abbrev pub begins_word : List ℕ → TokenList → Bool
 begins_word wanted (also (identifier text span) rest) = bytes_eq text wanted
 begins_word wanted run = false
@@ -52,7 +52,7 @@ lead_sign lead.Lifetime run = lifetime (first_text (rest_of run))
 lead_sign lead.OtherLifetime run = other_lifetime (first_text (rest_of run))
 lead_sign (lead.Group delimiter) run = opening delimiter
 
--- The run after that token.
+-- The run after the tokens that a lead takes.
 abbrev pub after_lead : Prefix → TokenList → TokenList
 after_lead lead.Colons run = after_two run
 after_lead lead.Arrow run = after_two run
@@ -62,46 +62,46 @@ after_lead lead.Lifetime run = rest_of (rest_of run)
 after_lead lead.OtherLifetime run = rest_of (rest_of run)
 after_lead other run = rest_of run
 
--- The group is opened; only one can be open at a time.
-abbrev pub opens_first : Place → TokenList → Option TokenList → Move
-opens_first place (also (group delimiter span inside) rest) outside = opens delimiter span place inside rest outside
-opens_first place run outside = mismatches run
+-- Opens the group at the start of the run. Only one group can be open at a time.
+abbrev pub opens_first : Stage → TokenList → Option TokenList → Move
+opens_first stage (also (group delimiter span inside) rest) outside = opens delimiter span stage inside rest outside
+opens_first stage run outside = mismatches run
 
--- The next step for an action and the run that is left.
+-- The next step for an action and the tokens at the spot.
 abbrev pub acts : TableEntry → TokenList → Option TokenList → Move
 acts action.End run outside = ends
-acts (action.Take l place) run outside = takes (lead_sign l run) (to place (after_lead l run) outside)
-acts (action.Bar l place) run outside = bars (lead_sign l run) (to place (after_lead l run) outside)
-acts (action.Ask plus place) run outside = asks plus place
-acts (action.KeepType place) run outside = keeps_type place
-acts (action.Keep place) run outside = keeps run (to place none outside)
-acts (action.Nest l place next) run outside = nests (lead_sign l run) (to place (after_lead l run) None) next
-acts (action.Open place) run outside = opens_first place run outside
-acts (action.Close delimiter place) run outside = closes delimiter place outside
+acts (action.Take l stage) run outside = takes (lead_sign l run) (to stage (after_lead l run) outside)
+acts (action.Bar l stage) run outside = bars (lead_sign l run) (to stage (after_lead l run) outside)
+acts (action.Need plus stage) run outside = needs plus stage
+acts (action.KeepType stage) run outside = keeps_type stage
+acts (action.Keep stage) run outside = keeps run (to stage none outside)
+acts (action.Nest l stage next) run outside = nests (lead_sign l run) (to stage (after_lead l run) None) next
+acts (action.Open stage) run outside = opens_first stage run outside
+acts (action.Close delimiter stage) run outside = closes delimiter stage outside
 
 -- Whether the spot is in a bound, in `for<..>` or in the type of a function.
-abbrev pub is_in_bounds : Place → Bool
-is_in_bounds (place.Bound plus) = true
-is_in_bounds (place.Question plus) = true
-is_in_bounds (place.Trait kind) = true
-is_in_bounds (place.TraitPath kind) = true
-is_in_bounds (place.BoundEnd plus) = true
-is_in_bounds (place.EnclosedEnd plus) = true
-is_in_bounds (place.For binder) = true
-is_in_bounds (place.ForList binder) = true
-is_in_bounds (place.ForEnd binder) = true
-is_in_bounds place.Further = true
-is_in_bounds place.Qualified = true
-is_in_bounds place.Unsafe = true
-is_in_bounds place.Extern = true
-is_in_bounds place.Linked = true
-is_in_bounds place.Function = true
-is_in_bounds place.Taken = true
-is_in_bounds place.Typed = true
-is_in_bounds place.TypedValue = true
-is_in_bounds place.OneTaken = true
-is_in_bounds place.Variadic = true
-is_in_bounds place.VariadicEnd = true
+abbrev pub is_in_bounds : Stage → Bool
+is_in_bounds (stage.Bound plus) = true
+is_in_bounds (stage.Question plus) = true
+is_in_bounds (stage.Trait kind) = true
+is_in_bounds (stage.TraitPath kind) = true
+is_in_bounds (stage.BoundEnd plus) = true
+is_in_bounds (stage.EnclosedEnd plus) = true
+is_in_bounds (stage.For binder) = true
+is_in_bounds (stage.ForList binder) = true
+is_in_bounds (stage.ForEnd binder) = true
+is_in_bounds stage.Further = true
+is_in_bounds stage.Qualified = true
+is_in_bounds stage.Unsafe = true
+is_in_bounds stage.Extern = true
+is_in_bounds stage.Linked = true
+is_in_bounds stage.Function = true
+is_in_bounds stage.Taken = true
+is_in_bounds stage.Typed = true
+is_in_bounds stage.TypedValue = true
+is_in_bounds stage.OneTaken = true
+is_in_bounds stage.Variadic = true
+is_in_bounds stage.VariadicEnd = true
 is_in_bounds other = false
 
 -- The action leads to this step.
@@ -110,17 +110,17 @@ IsAction (Ok action) spot next = next ≡ acts action spot.run spot.outside
 IsAction (Err (stop.Unsupported span)) spot next = next ≡ stops (unsupported span)
 IsAction (Err (stop.Mismatch span)) spot next = next ≡ stops (mismatch span)
 
--- The group with which a type begins is opened.
-abbrev pub opens_type : Place → TokenList → First
-opens_type place (also (group delimiter span inside) rest) = starts false (opening delimiter) (to place inside (Some rest))
-opens_type place run = refused (mismatch (first_span run))
+-- Opens the group at the start of a type.
+abbrev pub opens_type : Stage → TokenList → First
+opens_type stage (also (group delimiter span inside) rest) = starts false (opening delimiter) (to stage inside (Some rest))
+opens_type stage run = refused (mismatch (first_span run))
 
--- The beginning of a type that begins so.
+-- The beginning of a type that begins in this way.
 abbrev pub begun : FirstEntry → TokenList → First
-begun (start.Lead barred l place) run = starts barred (lead_sign l run) (to place (after_lead l run) None)
-begun (start.Open place) run = opens_type place run
+begun (start.Lead barred l stage) run = starts barred (lead_sign l run) (to stage (after_lead l run) None)
+begun (start.Open stage) run = opens_type stage run
 
--- The same for the first token.
+-- The entry leads to this first token.
 abbrev pub IsStart : Result FirstEntry StepFault → TokenList → First → Type 0
 IsStart (Ok found) run first = first ≡ begun found run
 IsStart (Err (stop.Unsupported span)) run first = first ≡ refused (unsupported span)

@@ -1,50 +1,50 @@
-//! Bounds, and the lifetimes in `for<..>`.
+//! The steps in bounds, and at the lifetimes in `for<..>`. `table` calls one for each stage.
 
 ghost use Rattle.std.specs.Prelude.{◌≡◌};
 ghost use Rattle.logos_type_reader.specs.Views.{rest_of, tokens_of, after_bound, bound_lifetime_move, trait_move, question_move, bound_move, bound_end_move, further_move, enclosed_end_move, after_for, for_move, for_lifetime_move, for_list_move, for_end_move, path_move, OfBound, outside_of, spot_of, IsAction};
 
 use crate::table::paths::path_step;
-use crate::table::place::{
-    Binder, BoundKind, FrontToken, Next, PathKind, Place, Prefix, Spot, TableEntry,
+use crate::table::stage::{
+    Binder, BoundKind, FrontToken, Next, PathKind, Prefix, Spot, Stage, TableEntry,
 };
 use crate::table::tokens::{begins_bound, begins_word, look, mismatch, mismatch_after};
 use logos_token::token::Delimiter;
 
-/// Returns the spot after a bound.
-fn after_bound(kind: BoundKind) -> Place
+/// Returns the stage after a bound.
+fn after_bound(kind: BoundKind) -> Stage
     ensures { result ≡ after_bound kind }
 {
     match kind {
-        BoundKind::Listed(plus) => Place::BoundEnd(plus),
-        BoundKind::Enclosed(plus) => Place::EnclosedEnd(plus),
+        BoundKind::Listed(plus) => Stage::BoundEnd(plus),
+        BoundKind::Enclosed(plus) => Stage::EnclosedEnd(plus),
     }
 }
 
-/// Returns the step at `'` where a bound stands.
+/// Returns the step at `'` where a bound is expected.
 fn bound_lifetime_step(plus: bool, at: &Spot<'_, '_>) -> Next
     ensures { IsAction result (spot_of at.now)
         (bound_lifetime_move plus (rest_of (tokens_of at.now.run)) (outside_of at.now.outside)) }
 {
     match look(at.run.rest()) {
-        FrontToken::Word => Ok(TableEntry::Take(Prefix::OtherLifetime, Place::BoundEnd(plus))),
+        FrontToken::Word => Ok(TableEntry::Take(Prefix::OtherLifetime, Stage::BoundEnd(plus))),
         _ => mismatch_after(at),
     }
 }
 
-/// Returns the step where the path of a bound stands, perhaps after `for<..>`.
+/// Returns the step where the path of a bound is expected, with an optional `for<..>` before it.
 pub(super) fn trait_step(kind: BoundKind, at: &Spot<'_, '_>) -> Next
     ensures { IsAction result (spot_of at.now)
         (trait_move kind (tokens_of at.now.run) (outside_of at.now.outside)) }
 {
     match look(at.run) {
         FrontToken::Word if begins_word("for", at.run) => {
-            Ok(TableEntry::Take(Prefix::Word, Place::For(Binder::OfTrait(kind))))
+            Ok(TableEntry::Take(Prefix::Word, Stage::For(Binder::OfTrait(kind))))
         }
         _ => path_step(PathKind::OfBound, after_bound(kind), at),
     }
 }
 
-/// Returns the step where the path of a bound stands, after `for<..>`.
+/// Returns the step where the path of a bound is expected, after `for<..>`.
 pub(super) fn trait_path_step(kind: BoundKind, at: &Spot<'_, '_>) -> Next
     ensures { IsAction result (spot_of at.now)
         (path_move OfBound (after_bound kind) (tokens_of at.now.run)) }
@@ -52,25 +52,25 @@ pub(super) fn trait_path_step(kind: BoundKind, at: &Spot<'_, '_>) -> Next
     path_step(PathKind::OfBound, after_bound(kind), at)
 }
 
-/// Returns the step where a `?` can stand before the path of a bound.
+/// Returns the step where a `?` is allowed before the path of a bound.
 pub(super) fn question_step(kind: BoundKind, at: &Spot<'_, '_>) -> Next
     ensures { IsAction result (spot_of at.now)
         (question_move kind (tokens_of at.now.run) (outside_of at.now.outside)) }
 {
     match look(at.run) {
-        FrontToken::Mark('?', _) => Ok(TableEntry::Take(Prefix::Mark('?'), Place::Trait(kind))),
+        FrontToken::Mark('?', _) => Ok(TableEntry::Take(Prefix::Mark('?'), Stage::Trait(kind))),
         _ => trait_step(kind, at),
     }
 }
 
-/// Returns the step where a bound stands.
+/// Returns the step where a bound is expected.
 pub(super) fn bound_step(plus: bool, at: &Spot<'_, '_>) -> Next
     ensures { IsAction result (spot_of at.now)
         (bound_move plus (tokens_of at.now.run) (outside_of at.now.outside)) }
 {
     match look(at.run) {
         FrontToken::Mark('\'', _) => bound_lifetime_step(plus, at),
-        FrontToken::Group(Delimiter::Parenthesis) => Ok(TableEntry::Open(Place::Question(plus))),
+        FrontToken::Group(Delimiter::Parenthesis) => Ok(TableEntry::Open(Stage::Question(plus))),
         _ => question_step(BoundKind::Listed(plus), at),
     }
 }
@@ -82,7 +82,7 @@ pub(super) fn bound_end_step(plus: bool, at: &Spot<'_, '_>) -> Next
 {
     match look(at.run) {
         FrontToken::Mark('+', _) if plus => {
-            Ok(TableEntry::Take(Prefix::Mark('+'), Place::Further))
+            Ok(TableEntry::Take(Prefix::Mark('+'), Stage::Further))
         }
         _ => Ok(TableEntry::End),
     }
@@ -105,18 +105,18 @@ pub(super) fn enclosed_end_step(plus: bool, at: &Spot<'_, '_>) -> Next
         (enclosed_end_move plus (tokens_of at.now.run) (outside_of at.now.outside)) }
 {
     match look(at.run) {
-        FrontToken::Nothing => Ok(TableEntry::Close(Delimiter::Parenthesis, Place::BoundEnd(plus))),
+        FrontToken::Nothing => Ok(TableEntry::Close(Delimiter::Parenthesis, Stage::BoundEnd(plus))),
         _ => mismatch(at),
     }
 }
 
-/// Returns the spot after `for<..>`.
-fn after_for(binder: Binder) -> Place
+/// Returns the stage after `for<..>`.
+fn after_for(binder: Binder) -> Stage
     ensures { result ≡ after_for binder }
 {
     match binder {
-        Binder::OfFunction => Place::Qualified,
-        Binder::OfTrait(kind) => Place::TraitPath(kind),
+        Binder::OfFunction => Stage::Qualified,
+        Binder::OfTrait(kind) => Stage::TraitPath(kind),
     }
 }
 
@@ -127,7 +127,7 @@ pub(super) fn for_step(binder: Binder, at: &Spot<'_, '_>) -> Next
 {
     match look(at.run) {
         FrontToken::Mark('<', _) => {
-            Ok(TableEntry::Take(Prefix::Mark('<'), Place::ForList(binder)))
+            Ok(TableEntry::Take(Prefix::Mark('<'), Stage::ForList(binder)))
         }
         _ => mismatch(at),
     }
@@ -139,12 +139,12 @@ fn for_lifetime_step(binder: Binder, at: &Spot<'_, '_>) -> Next
         (for_lifetime_move binder (rest_of (tokens_of at.now.run)) (outside_of at.now.outside)) }
 {
     match look(at.run.rest()) {
-        FrontToken::Word => Ok(TableEntry::Take(Prefix::OtherLifetime, Place::ForEnd(binder))),
+        FrontToken::Word => Ok(TableEntry::Take(Prefix::OtherLifetime, Stage::ForEnd(binder))),
         _ => mismatch_after(at),
     }
 }
 
-/// Returns the step in `for<..>`, where a lifetime may stand.
+/// Returns the step in `for<..>` where a lifetime is allowed.
 pub(super) fn for_list_step(binder: Binder, at: &Spot<'_, '_>) -> Next
     ensures { IsAction result (spot_of at.now)
         (for_list_move binder (tokens_of at.now.run) (outside_of at.now.outside)) }
@@ -163,7 +163,7 @@ pub(super) fn for_end_step(binder: Binder, at: &Spot<'_, '_>) -> Next
 {
     match look(at.run) {
         FrontToken::Mark(',', _) => {
-            Ok(TableEntry::Take(Prefix::Mark(','), Place::ForList(binder)))
+            Ok(TableEntry::Take(Prefix::Mark(','), Stage::ForList(binder)))
         }
         FrontToken::Mark('>', _) => { Ok(TableEntry::Take(Prefix::Mark('>'), after_for(binder))) }
         _ => mismatch(at),

@@ -1,8 +1,8 @@
-//! Function types.
+//! The steps in function types. `table` calls one for each stage.
 
 ghost use Rattle.logos_type_reader.specs.Views.{tokens_of, linked_move, unsafe_move, qualified_move, extern_move, function_move, taken_value, taken_move, typed_move, one_taken_move, variadic_move, variadic_end_move, outside_of, spot_of, IsAction};
 
-use crate::table::place::{FrontToken, Next, Place, Prefix, Spot, TableEntry};
+use crate::table::stage::{FrontToken, Next, Prefix, Spot, Stage, TableEntry};
 use crate::table::tokens::{begins_dots, begins_word, is_typing, look, mismatch};
 use logos_token::token::Delimiter;
 
@@ -14,7 +14,7 @@ pub(super) fn linked_step(at: &Spot<'_, '_>) -> Next
     match look(at.run) {
         FrontToken::Word if begins_word("fn", at.run) => Ok(TableEntry::Take(
             Prefix::Word,
-            Place::Function,
+            Stage::Function,
         )),
         _ => mismatch(at),
     }
@@ -28,7 +28,7 @@ pub(super) fn unsafe_step(at: &Spot<'_, '_>) -> Next
     match look(at.run) {
         FrontToken::Word if begins_word("extern", at.run) => Ok(TableEntry::Take(
             Prefix::Word,
-            Place::Extern,
+            Stage::Extern,
         )),
         _ => linked_step(at),
     }
@@ -42,7 +42,7 @@ pub(super) fn qualified_step(at: &Spot<'_, '_>) -> Next
     match look(at.run) {
         FrontToken::Word if begins_word("unsafe", at.run) => Ok(TableEntry::Take(
             Prefix::Word,
-            Place::Unsafe,
+            Stage::Unsafe,
         )),
         _ => unsafe_step(at),
     }
@@ -54,7 +54,7 @@ pub(super) fn extern_step(at: &Spot<'_, '_>) -> Next
         (extern_move (tokens_of at.now.run) (outside_of at.now.outside)) }
 {
     match look(at.run) {
-        FrontToken::Literal => Ok(TableEntry::Take(Prefix::Literal, Place::Linked)),
+        FrontToken::Literal => Ok(TableEntry::Take(Prefix::Literal, Stage::Linked)),
         _ => linked_step(at),
     }
 }
@@ -65,20 +65,20 @@ pub(super) fn function_step(at: &Spot<'_, '_>) -> Next
         (function_move (tokens_of at.now.run) (outside_of at.now.outside)) }
 {
     match look(at.run) {
-        FrontToken::Group(Delimiter::Parenthesis) => Ok(TableEntry::Open(Place::Taken)),
+        FrontToken::Group(Delimiter::Parenthesis) => Ok(TableEntry::Open(Stage::Taken)),
         _ => mismatch(at),
     }
 }
 
-/// Returns the step where the type of a parameter begins, or `...`.
+/// Returns the step where the type of a parameter or `...` is expected.
 pub(super) fn taken_value_step(at: &Spot<'_, '_>) -> Next
     ensures { IsAction result (spot_of at.now)
         (taken_value (tokens_of at.now.run) (outside_of at.now.outside)) }
 {
     if begins_dots(at.run) {
-        return Ok(TableEntry::Bar(Prefix::Dots, Place::Variadic));
+        return Ok(TableEntry::Bar(Prefix::Dots, Stage::Variadic));
     }
-    Ok(TableEntry::Ask(true, Place::OneTaken))
+    Ok(TableEntry::Need(true, Stage::OneTaken))
 }
 
 /// Returns the step among the parameters of a function.
@@ -87,22 +87,22 @@ pub(super) fn taken_step(at: &Spot<'_, '_>) -> Next
         (taken_move (tokens_of at.now.run) (outside_of at.now.outside)) }
 {
     match look(at.run) {
-        FrontToken::Nothing => Ok(TableEntry::Close(Delimiter::Parenthesis, Place::Output)),
+        FrontToken::Nothing => Ok(TableEntry::Close(Delimiter::Parenthesis, Stage::Output)),
         FrontToken::Word if is_typing(at.run.rest()) => Ok(TableEntry::Take(
             Prefix::Word,
-            Place::Typed,
+            Stage::Typed,
         )),
         _ => taken_value_step(at),
     }
 }
 
-/// Returns the step between a name and `:`.
+/// Returns the step between the name of a parameter and `:`.
 pub(super) fn typed_step(at: &Spot<'_, '_>) -> Next
     ensures { IsAction result (spot_of at.now)
         (typed_move (tokens_of at.now.run) (outside_of at.now.outside)) }
 {
     match look(at.run) {
-        FrontToken::Mark(':', _) => Ok(TableEntry::Take(Prefix::Mark(':'), Place::TypedValue)),
+        FrontToken::Mark(':', _) => Ok(TableEntry::Take(Prefix::Mark(':'), Stage::TypedValue)),
         _ => mismatch(at),
     }
 }
@@ -113,8 +113,8 @@ pub(super) fn one_taken_step(at: &Spot<'_, '_>) -> Next
         (one_taken_move (tokens_of at.now.run) (outside_of at.now.outside)) }
 {
     match look(at.run) {
-        FrontToken::Nothing => Ok(TableEntry::Close(Delimiter::Parenthesis, Place::Output)),
-        FrontToken::Mark(',', _) => Ok(TableEntry::Take(Prefix::Mark(','), Place::Taken)),
+        FrontToken::Nothing => Ok(TableEntry::Close(Delimiter::Parenthesis, Stage::Output)),
+        FrontToken::Mark(',', _) => Ok(TableEntry::Take(Prefix::Mark(','), Stage::Taken)),
         _ => mismatch(at),
     }
 }
@@ -125,8 +125,8 @@ pub(super) fn variadic_step(at: &Spot<'_, '_>) -> Next
         (variadic_move (tokens_of at.now.run) (outside_of at.now.outside)) }
 {
     match look(at.run) {
-        FrontToken::Nothing => Ok(TableEntry::Close(Delimiter::Parenthesis, Place::Output)),
-        FrontToken::Mark(',', _) => Ok(TableEntry::Take(Prefix::Mark(','), Place::VariadicEnd)),
+        FrontToken::Nothing => Ok(TableEntry::Close(Delimiter::Parenthesis, Stage::Output)),
+        FrontToken::Mark(',', _) => Ok(TableEntry::Take(Prefix::Mark(','), Stage::VariadicEnd)),
         _ => mismatch(at),
     }
 }
@@ -137,7 +137,7 @@ pub(super) fn variadic_end_step(at: &Spot<'_, '_>) -> Next
         (variadic_end_move (tokens_of at.now.run) (outside_of at.now.outside)) }
 {
     match look(at.run) {
-        FrontToken::Nothing => Ok(TableEntry::Close(Delimiter::Parenthesis, Place::Output)),
+        FrontToken::Nothing => Ok(TableEntry::Close(Delimiter::Parenthesis, Stage::Output)),
         _ => mismatch(at),
     }
 }

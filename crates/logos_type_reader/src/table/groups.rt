@@ -1,8 +1,8 @@
-//! References, pointers, groups, and `<T as P>`.
+//! The steps in references, pointers, groups, and `<T as P>`. `table` calls one for each stage.
 
 ghost use Rattle.logos_type_reader.specs.Views.{tokens_of, referent_move, pointer_move, list_move, list_end_move, element_end_move, length_move, self_end_move, self_trait_end_move, self_closed_move, outside_of, spot_of, IsAction};
 
-use crate::table::place::{FrontToken, Next, PathKind, Place, Prefix, Spot, TableEntry};
+use crate::table::stage::{FrontToken, Next, PathKind, Prefix, Spot, Stage, TableEntry};
 use crate::table::tokens::{begins_colons, begins_word, look, mismatch};
 use logos_token::token::Delimiter;
 
@@ -14,9 +14,9 @@ pub(super) fn referent_step(at: &Spot<'_, '_>) -> Next
     match look(at.run) {
         FrontToken::Word if begins_word("mut", at.run) => Ok(TableEntry::Take(
             Prefix::Word,
-            Place::Target,
+            Stage::Target,
         )),
-        _ => Ok(TableEntry::Ask(false, Place::End)),
+        _ => Ok(TableEntry::Need(false, Stage::End)),
     }
 }
 
@@ -27,20 +27,20 @@ pub(super) fn pointer_step(at: &Spot<'_, '_>) -> Next
 {
     match look(at.run) {
         FrontToken::Word if begins_word("const", at.run) | begins_word("mut", at.run) => {
-            Ok(TableEntry::Take(Prefix::Word, Place::Target))
+            Ok(TableEntry::Take(Prefix::Word, Stage::Target))
         }
         _ => mismatch(at),
     }
 }
 
-/// Returns the step in parentheses, where a type may begin.
+/// Returns the step in parentheses where a type is allowed.
 pub(super) fn tuple_step(at: &Spot<'_, '_>) -> Next
     ensures { IsAction result (spot_of at.now)
         (list_move (tokens_of at.now.run) (outside_of at.now.outside)) }
 {
     match look(at.run) {
-        FrontToken::Nothing => Ok(TableEntry::Close(Delimiter::Parenthesis, Place::End)),
-        _ => Ok(TableEntry::Ask(true, Place::ListEnd)),
+        FrontToken::Nothing => Ok(TableEntry::Close(Delimiter::Parenthesis, Stage::End)),
+        _ => Ok(TableEntry::Need(true, Stage::ListEnd)),
     }
 }
 
@@ -50,8 +50,8 @@ pub(super) fn tuple_end_step(at: &Spot<'_, '_>) -> Next
         (list_end_move (tokens_of at.now.run) (outside_of at.now.outside)) }
 {
     match look(at.run) {
-        FrontToken::Nothing => Ok(TableEntry::Close(Delimiter::Parenthesis, Place::End)),
-        FrontToken::Mark(',', _) => Ok(TableEntry::Take(Prefix::Mark(','), Place::List)),
+        FrontToken::Nothing => Ok(TableEntry::Close(Delimiter::Parenthesis, Stage::End)),
+        FrontToken::Mark(',', _) => Ok(TableEntry::Take(Prefix::Mark(','), Stage::List)),
         _ => mismatch(at),
     }
 }
@@ -62,8 +62,8 @@ pub(super) fn element_end_step(at: &Spot<'_, '_>) -> Next
         (element_end_move (tokens_of at.now.run) (outside_of at.now.outside)) }
 {
     match look(at.run) {
-        FrontToken::Nothing => Ok(TableEntry::Close(Delimiter::Bracket, Place::End)),
-        FrontToken::Mark(';', _) => Ok(TableEntry::Take(Prefix::Mark(';'), Place::Length)),
+        FrontToken::Nothing => Ok(TableEntry::Close(Delimiter::Bracket, Stage::End)),
+        FrontToken::Mark(';', _) => Ok(TableEntry::Take(Prefix::Mark(';'), Stage::Length)),
         _ => mismatch(at),
     }
 }
@@ -75,7 +75,7 @@ pub(super) fn length_step(at: &Spot<'_, '_>) -> Next
 {
     match look(at.run) {
         FrontToken::Nothing => mismatch(at),
-        _ => Ok(TableEntry::Keep(Place::LengthEnd)),
+        _ => Ok(TableEntry::Keep(Stage::LengthEnd)),
     }
 }
 
@@ -87,9 +87,9 @@ pub(super) fn self_end_step(at: &Spot<'_, '_>) -> Next
     match look(at.run) {
         FrontToken::Word if begins_word("as", at.run) => Ok(TableEntry::Take(
             Prefix::Word,
-            Place::SelfTrait,
+            Stage::SelfTrait,
         )),
-        FrontToken::Mark('>', _) => Ok(TableEntry::Take(Prefix::Mark('>'), Place::SelfClosed)),
+        FrontToken::Mark('>', _) => Ok(TableEntry::Take(Prefix::Mark('>'), Stage::SelfClosed)),
         _ => mismatch(at),
     }
 }
@@ -100,7 +100,7 @@ pub(super) fn self_trait_end_step(at: &Spot<'_, '_>) -> Next
         (self_trait_end_move (tokens_of at.now.run) (outside_of at.now.outside)) }
 {
     match look(at.run) {
-        FrontToken::Mark('>', _) => Ok(TableEntry::Take(Prefix::Mark('>'), Place::SelfClosed)),
+        FrontToken::Mark('>', _) => Ok(TableEntry::Take(Prefix::Mark('>'), Stage::SelfClosed)),
         _ => mismatch(at),
     }
 }
@@ -111,7 +111,7 @@ pub(super) fn self_closed_step(at: &Spot<'_, '_>) -> Next
         (self_closed_move (tokens_of at.now.run) (outside_of at.now.outside)) }
 {
     if begins_colons(at.run) {
-        return Ok(TableEntry::Take(Prefix::Colons, Place::Colons(PathKind::OfType, false)));
+        return Ok(TableEntry::Take(Prefix::Colons, Stage::Colons(PathKind::OfType, false)));
     }
     mismatch(at)
 }

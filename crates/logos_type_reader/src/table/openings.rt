@@ -1,61 +1,61 @@
-//! The beginnings of types.
+//! The steps at the beginnings of types. The reader of types calls `begin` for each type.
 
 ghost use Rattle.std.specs.Prelude.{◌≡◌, Some, None, MatchOption};
-ghost use Rattle.logos_type_reader.specs.Views.{rest_of, tokens_of, first_span, reference_first, reference_lifetime_first, word_place, word_first, mark_first, begin, is_reserved, name_of, IsFirst, first_text, IsStart};
+ghost use Rattle.logos_type_reader.specs.Views.{rest_of, tokens_of, first_span, reference_first, reference_lifetime_first, word_stage, word_first, mark_first, begin, is_reserved, name_of, IsFirst, first_text, IsStart};
 
-use crate::table::acting::begin_by;
-use crate::table::place::{
-    Beginning, Binder, First, FirstEntry, FrontToken, PathKind, Place, Prefix, StepFault,
+use crate::table::actions::begin_by;
+use crate::table::stage::{
+    Beginning, Binder, First, FirstEntry, FrontToken, PathKind, Prefix, Stage, StepFault,
 };
 use crate::table::tokens::{begins_colons, begins_mark, first_span, first_text, goes_on, look};
 use logos_token::token::{Delimiter, Tokens};
 
-/// Returns the step at `&`, with which a type begins.
+/// Returns the step at `&` at the start of a type.
 fn reference_first(run: Tokens<'_, '_>) -> First
     ensures { IsStart result (tokens_of run.entry)
         (reference_first (rest_of (tokens_of run.entry))) }
 {
     match look(run.rest()) {
         FrontToken::Mark('\'', _) => reference_lifetime(run),
-        _ => Ok(FirstEntry::Lead(false, Prefix::Reference, Place::Referent)),
+        _ => Ok(FirstEntry::Lead(false, Prefix::Reference, Stage::Referent)),
     }
 }
 
-/// Returns the step at `&'`, with which a type begins.
+/// Returns the step at `&'` at the start of a type.
 fn reference_lifetime(run: Tokens<'_, '_>) -> First
     ensures { IsStart result (tokens_of run.entry)
         (reference_lifetime_first (rest_of (rest_of (tokens_of run.entry)))) }
 {
     let name = run.rest().rest();
     match look(name) {
-        FrontToken::Word => Ok(FirstEntry::Lead(false, Prefix::ReferenceLifetime, Place::Referent)),
+        FrontToken::Word => Ok(FirstEntry::Lead(false, Prefix::ReferenceLifetime, Stage::Referent)),
         _ => Err(StepFault::Mismatch(first_span(name))),
     }
 }
 
-/// Returns the spot after the word with which a type begins.
-fn word_place(plus: bool, text: &str) -> Place
-    ensures { result ≡ word_place plus text.now }
+/// Returns the stage after the word at the start of a type.
+fn word_stage(plus: bool, text: &str) -> Stage
+    ensures { result ≡ word_stage plus text.now }
 {
     if (text == "dyn") | (text == "impl") {
-        return Place::Bound(plus);
+        return Stage::Bound(plus);
     }
     if text == "fn" {
-        return Place::Function;
+        return Stage::Function;
     }
     if text == "unsafe" {
-        return Place::Unsafe;
+        return Stage::Unsafe;
     }
     if text == "extern" {
-        return Place::Extern;
+        return Stage::Extern;
     }
     if text == "for" {
-        return Place::For(Binder::OfFunction);
+        return Stage::For(Binder::OfFunction);
     }
-    Place::Named(PathKind::Plain)
+    Stage::Named(PathKind::Plain)
 }
 
-/// Returns the step at the word with which a type begins.
+/// Returns the step at the word at the start of a type.
 fn word_first(plus: bool, run: Tokens<'_, '_>) -> First
     ensures { IsStart result (tokens_of run.entry)
         (word_first plus (first_text (tokens_of run.entry)) (first_span (tokens_of run.entry))
@@ -65,10 +65,10 @@ fn word_first(plus: bool, run: Tokens<'_, '_>) -> First
     if text == "_" {
         return Err(StepFault::Unsupported(first_span(run)));
     }
-    Ok(FirstEntry::Lead(text == "impl", Prefix::Word, word_place(plus, text)))
+    Ok(FirstEntry::Lead(text == "impl", Prefix::Word, word_stage(plus, text)))
 }
 
-/// Returns the step at the punctuation with which a type begins.
+/// Returns the step at the punctuation at the start of a type.
 fn mark_first(mark: char, run: Tokens<'_, '_>) -> First
     ensures { IsStart result (tokens_of run.entry)
         (mark_first mark (first_span (tokens_of run.entry)) (tokens_of run.entry)
@@ -76,31 +76,31 @@ fn mark_first(mark: char, run: Tokens<'_, '_>) -> First
 {
     match mark {
         '&' => reference_first(run),
-        '*' => Ok(FirstEntry::Lead(false, Prefix::Mark('*'), Place::Pointer)),
-        '<' => Ok(FirstEntry::Lead(false, Prefix::Mark('<'), Place::SelfType)),
+        '*' => Ok(FirstEntry::Lead(false, Prefix::Mark('*'), Stage::Pointer)),
+        '<' => Ok(FirstEntry::Lead(false, Prefix::Mark('<'), Stage::SelfType)),
         '!' => Err(StepFault::Unsupported(first_span(run))),
         _ if begins_colons(run) => {
-            Ok(FirstEntry::Lead(false, Prefix::Colons, Place::Colons(PathKind::Plain, false)))
+            Ok(FirstEntry::Lead(false, Prefix::Colons, Stage::Colons(PathKind::Plain, false)))
         }
         _ => Err(StepFault::Mismatch(first_span(run))),
     }
 }
 
-/// Returns how the type begins with which the run begins.
+/// Returns the beginning of the type at the start of the run.
 #[tactic(auto, unfolding(crate::specs::Table::begin))]
 fn start_at(plus: bool, run: Tokens<'_, '_>) -> First
     ensures { IsStart result (tokens_of run.entry) (begin plus (tokens_of run.entry)) }
 {
     match look(run) {
         FrontToken::Word => word_first(plus, run),
-        FrontToken::Group(Delimiter::Parenthesis) => Ok(FirstEntry::Open(Place::List)),
-        FrontToken::Group(Delimiter::Bracket) => Ok(FirstEntry::Open(Place::Element)),
+        FrontToken::Group(Delimiter::Parenthesis) => Ok(FirstEntry::Open(Stage::List)),
+        FrontToken::Group(Delimiter::Bracket) => Ok(FirstEntry::Open(Stage::Element)),
         FrontToken::Mark(mark, _) => mark_first(mark, run),
         _ => Err(StepFault::Mismatch(first_span(run))),
     }
 }
 
-/// Returns the first token of a type.
+/// Returns the first token of the type at the start of the run.
 pub(crate) fn begin<'t, 's>(plus: bool, run: Tokens<'t, 's>) -> Result<Beginning<'t, 's>, StepFault>
     ensures { IsFirst result (begin plus (tokens_of run.entry)) }
 {
@@ -118,7 +118,8 @@ fn is_reserved(text: &str) -> bool
         | (((text == "fn") | (text == "unsafe")) | (text == "extern"))
 }
 
-/// Returns the name and the tokens after it if the type is exactly a name.
+/// Returns the name, and the tokens after it, if the type at the start of the tokens is exactly a
+/// name.
 pub(crate) fn read_name<'t, 's>(tokens: Tokens<'t, 's>) -> Option<(&'s str, Tokens<'t, 's>)>
     ensures { MatchOption result (name_of (tokens_of tokens.entry) ≡ None)
         (λ read. (name_of (tokens_of tokens.entry) ≡ Some read.0.now)

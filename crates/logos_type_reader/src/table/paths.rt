@@ -1,9 +1,9 @@
-//! Paths, and their arguments.
+//! The steps in paths and in their arguments. `table` calls one for each stage.
 
 ghost use Rattle.std.specs.Prelude.{◌≡◌};
 ghost use Rattle.logos_type_reader.specs.Views.{rest_of, tokens_of, argued, name_end, segments_move, named_move, macro_move, output_move, inputs_move, input_end_move, colons_move, lifetime_move, argument_word, arguments_move, braced_move, equals_move, constrained_move, argument_end_move, path_move, outside_of, spot_of, first_text, IsAction};
 
-use crate::table::place::{FrontToken, Next, PathKind, Place, Prefix, Spot, TableEntry};
+use crate::table::stage::{FrontToken, Next, PathKind, Prefix, Spot, Stage, TableEntry};
 use crate::table::tokens::{
     begins_arrow, begins_colons, begins_mark, is_typing, look, mismatch, mismatch_after,
 };
@@ -28,7 +28,7 @@ fn name_end(kind: PathKind, at: &Spot<'_, '_>) -> Next
         return Ok(TableEntry::End);
     };
     match look(at.run) {
-        FrontToken::Mark('!', _) => Ok(TableEntry::Bar(Prefix::Mark('!'), Place::Macro)),
+        FrontToken::Mark('!', _) => Ok(TableEntry::Bar(Prefix::Mark('!'), Stage::Macro)),
         _ => Ok(TableEntry::End),
     }
 }
@@ -39,7 +39,7 @@ pub(super) fn segments_step(kind: PathKind, at: &Spot<'_, '_>) -> Next
         (segments_move kind (tokens_of at.now.run) (outside_of at.now.outside)) }
 {
     if begins_colons(at.run) {
-        return Ok(TableEntry::Take(Prefix::Colons, Place::Colons(kind, false)));
+        return Ok(TableEntry::Take(Prefix::Colons, Stage::Colons(kind, false)));
     }
     Ok(TableEntry::End)
 }
@@ -51,11 +51,11 @@ pub(super) fn named_step(kind: PathKind, at: &Spot<'_, '_>) -> Next
 {
     match look(at.run) {
         FrontToken::Mark('<', _) => {
-            Ok(TableEntry::Take(Prefix::Mark('<'), Place::Arguments(argued(kind))))
+            Ok(TableEntry::Take(Prefix::Mark('<'), Stage::Arguments(argued(kind))))
         }
-        FrontToken::Group(Delimiter::Parenthesis) => Ok(TableEntry::Open(Place::Inputs)),
+        FrontToken::Group(Delimiter::Parenthesis) => Ok(TableEntry::Open(Stage::Inputs)),
         _ if begins_colons(at.run) => {
-            Ok(TableEntry::Take(Prefix::Colons, Place::Colons(kind, true)))
+            Ok(TableEntry::Take(Prefix::Colons, Stage::Colons(kind, true)))
         }
         _ => name_end(kind, at),
     }
@@ -67,7 +67,7 @@ pub(super) fn macro_step(at: &Spot<'_, '_>) -> Next
         (macro_move (tokens_of at.now.run) (outside_of at.now.outside)) }
 {
     match look(at.run) {
-        FrontToken::Group(delimiter) => Ok(TableEntry::Take(Prefix::Group(delimiter), Place::End)),
+        FrontToken::Group(delimiter) => Ok(TableEntry::Take(Prefix::Group(delimiter), Stage::End)),
         _ => mismatch(at),
     }
 }
@@ -78,19 +78,19 @@ pub(super) fn output_step(at: &Spot<'_, '_>) -> Next
         (output_move (tokens_of at.now.run) (outside_of at.now.outside)) }
 {
     if begins_arrow(at.run) {
-        return Ok(TableEntry::Take(Prefix::Arrow, Place::Target));
+        return Ok(TableEntry::Take(Prefix::Arrow, Stage::Target));
     }
     Ok(TableEntry::End)
 }
 
-/// Returns the step in the parentheses of a path, where a type may begin.
+/// Returns the step in the parentheses of a path where a type is allowed.
 pub(super) fn inputs_step(at: &Spot<'_, '_>) -> Next
     ensures { IsAction result (spot_of at.now)
         (inputs_move (tokens_of at.now.run) (outside_of at.now.outside)) }
 {
     match look(at.run) {
-        FrontToken::Nothing => Ok(TableEntry::Close(Delimiter::Parenthesis, Place::Output)),
-        _ => Ok(TableEntry::Ask(true, Place::InputEnd)),
+        FrontToken::Nothing => Ok(TableEntry::Close(Delimiter::Parenthesis, Stage::Output)),
+        _ => Ok(TableEntry::Need(true, Stage::InputEnd)),
     }
 }
 
@@ -100,8 +100,8 @@ pub(super) fn input_end_step(at: &Spot<'_, '_>) -> Next
         (input_end_move (tokens_of at.now.run) (outside_of at.now.outside)) }
 {
     match look(at.run) {
-        FrontToken::Nothing => Ok(TableEntry::Close(Delimiter::Parenthesis, Place::Output)),
-        FrontToken::Mark(',', _) => Ok(TableEntry::Take(Prefix::Mark(','), Place::Inputs)),
+        FrontToken::Nothing => Ok(TableEntry::Close(Delimiter::Parenthesis, Stage::Output)),
+        FrontToken::Mark(',', _) => Ok(TableEntry::Take(Prefix::Mark(','), Stage::Inputs)),
         _ => mismatch(at),
     }
 }
@@ -112,9 +112,9 @@ pub(super) fn colons_step(kind: PathKind, arguments: bool, at: &Spot<'_, '_>) ->
         (colons_move kind arguments (tokens_of at.now.run) (outside_of at.now.outside)) }
 {
     match look(at.run) {
-        FrontToken::Word => Ok(TableEntry::Take(Prefix::Word, Place::Named(kind))),
+        FrontToken::Word => Ok(TableEntry::Take(Prefix::Word, Stage::Named(kind))),
         FrontToken::Mark('<', _) if arguments => {
-            Ok(TableEntry::Take(Prefix::Mark('<'), Place::Arguments(argued(kind))))
+            Ok(TableEntry::Take(Prefix::Mark('<'), Stage::Arguments(argued(kind))))
         }
         _ => mismatch(at),
     }
@@ -129,8 +129,8 @@ fn lifetime_step(kind: PathKind, at: &Spot<'_, '_>) -> Next
         return mismatch_after(at);
     };
     match kind {
-        PathKind::OfBound => Ok(TableEntry::Take(Prefix::OtherLifetime, Place::ArgumentEnd(kind))),
-        _ => Ok(TableEntry::Take(Prefix::Lifetime, Place::ArgumentEnd(kind))),
+        PathKind::OfBound => Ok(TableEntry::Take(Prefix::OtherLifetime, Stage::ArgumentEnd(kind))),
+        _ => Ok(TableEntry::Take(Prefix::Lifetime, Stage::ArgumentEnd(kind))),
     }
 }
 
@@ -142,28 +142,28 @@ fn argument_word(kind: PathKind, at: &Spot<'_, '_>) -> Next
 {
     let rest = at.run.rest();
     if begins_mark('=', rest) {
-        return Ok(TableEntry::Take(Prefix::Word, Place::Equals(kind)));
+        return Ok(TableEntry::Take(Prefix::Word, Stage::Equals(kind)));
     }
     if is_typing(rest) {
-        return Ok(TableEntry::Bar(Prefix::Word, Place::Constrained(kind)));
+        return Ok(TableEntry::Bar(Prefix::Word, Stage::Constrained(kind)));
     }
-    Ok(TableEntry::Ask(true, Place::ArgumentEnd(kind)))
+    Ok(TableEntry::Need(true, Stage::ArgumentEnd(kind)))
 }
 
-/// Returns the step among arguments.
+/// Returns the step among the arguments of a path.
 pub(super) fn arguments_step(kind: PathKind, at: &Spot<'_, '_>) -> Next
     ensures { IsAction result (spot_of at.now)
         (arguments_move kind (tokens_of at.now.run) (outside_of at.now.outside)) }
 {
     match look(at.run) {
         FrontToken::Mark('>', _) => {
-            Ok(TableEntry::Take(Prefix::Mark('>'), Place::Segments(kind)))
+            Ok(TableEntry::Take(Prefix::Mark('>'), Stage::Segments(kind)))
         }
         FrontToken::Mark('\'', _) => lifetime_step(kind, at),
-        FrontToken::Literal => Ok(TableEntry::Take(Prefix::Literal, Place::ArgumentEnd(kind))),
+        FrontToken::Literal => Ok(TableEntry::Take(Prefix::Literal, Stage::ArgumentEnd(kind))),
         FrontToken::Word => argument_word(kind, at),
-        FrontToken::Group(Delimiter::Brace) => Ok(TableEntry::Open(Place::Braced(kind))),
-        _ => Ok(TableEntry::Ask(true, Place::ArgumentEnd(kind))),
+        FrontToken::Group(Delimiter::Brace) => Ok(TableEntry::Open(Stage::Braced(kind))),
+        _ => Ok(TableEntry::Need(true, Stage::ArgumentEnd(kind))),
     }
 }
 
@@ -173,23 +173,23 @@ pub(super) fn braced_step(kind: PathKind, at: &Spot<'_, '_>) -> Next
         (braced_move kind (tokens_of at.now.run) (outside_of at.now.outside)) }
 {
     match look(at.run) {
-        FrontToken::Nothing => Ok(TableEntry::Close(Delimiter::Brace, Place::ArgumentEnd(kind))),
-        _ => Ok(TableEntry::Keep(Place::Braced(kind))),
+        FrontToken::Nothing => Ok(TableEntry::Close(Delimiter::Brace, Stage::ArgumentEnd(kind))),
+        _ => Ok(TableEntry::Keep(Stage::Braced(kind))),
     }
 }
 
-/// Returns the step between a name and `=`.
+/// Returns the step between a name and `=` among the arguments of a path.
 pub(super) fn equals_step(kind: PathKind, at: &Spot<'_, '_>) -> Next
     ensures { IsAction result (spot_of at.now)
         (equals_move kind (tokens_of at.now.run) (outside_of at.now.outside)) }
 {
     match look(at.run) {
-        FrontToken::Mark('=', _) => Ok(TableEntry::Take(Prefix::Mark('='), Place::Value(kind))),
+        FrontToken::Mark('=', _) => Ok(TableEntry::Take(Prefix::Mark('='), Stage::Value(kind))),
         _ => mismatch(at),
     }
 }
 
-/// Returns the step between a name and `:` among arguments.
+/// Returns the step between a name and `:` among the arguments of a path.
 pub(super) fn constrained_step(kind: PathKind, at: &Spot<'_, '_>) -> Next
     ensures { IsAction result (spot_of at.now)
         (constrained_move kind (tokens_of at.now.run) (outside_of at.now.outside)) }
@@ -197,8 +197,8 @@ pub(super) fn constrained_step(kind: PathKind, at: &Spot<'_, '_>) -> Next
     match look(at.run) {
         FrontToken::Mark(':', _) => Ok(TableEntry::Nest(
             Prefix::Mark(':'),
-            Place::Bound(true),
-            Place::ArgumentEnd(kind),
+            Stage::Bound(true),
+            Stage::ArgumentEnd(kind),
         )),
         _ => mismatch(at),
     }
@@ -211,23 +211,23 @@ pub(super) fn argument_end_step(kind: PathKind, at: &Spot<'_, '_>) -> Next
 {
     match look(at.run) {
         FrontToken::Mark(',', _) => {
-            Ok(TableEntry::Take(Prefix::Mark(','), Place::Arguments(kind)))
+            Ok(TableEntry::Take(Prefix::Mark(','), Stage::Arguments(kind)))
         }
         FrontToken::Mark('>', _) => {
-            Ok(TableEntry::Take(Prefix::Mark('>'), Place::Segments(kind)))
+            Ok(TableEntry::Take(Prefix::Mark('>'), Stage::Segments(kind)))
         }
         _ => mismatch(at),
     }
 }
 
-/// Returns the step where a path begins. `next` is the spot after it.
-pub(super) fn path_step(kind: PathKind, next: Place, at: &Spot<'_, '_>) -> Next
+/// Returns the step where a path begins. `next` is the stage after it.
+pub(super) fn path_step(kind: PathKind, next: Stage, at: &Spot<'_, '_>) -> Next
     ensures { IsAction result (spot_of at.now) (path_move kind next (tokens_of at.now.run)) }
 {
     match look(at.run) {
-        FrontToken::Word => Ok(TableEntry::Nest(Prefix::Word, Place::Named(kind), next)),
+        FrontToken::Word => Ok(TableEntry::Nest(Prefix::Word, Stage::Named(kind), next)),
         _ if begins_colons(at.run) => {
-            Ok(TableEntry::Nest(Prefix::Colons, Place::Colons(kind, false), next))
+            Ok(TableEntry::Nest(Prefix::Colons, Stage::Colons(kind, false), next))
         }
         _ => mismatch(at),
     }

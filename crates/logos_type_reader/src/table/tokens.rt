@@ -1,12 +1,12 @@
-//! Looks at the first tokens of a run.
+//! Classifies the first tokens of a run. The steps of the grammar call it.
 
 ghost use Rattle.std.specs.Prelude.{◌≡◌};
 ghost use Rattle.logos_type_reader.specs.Views.{rest_of, tokens_of, mismatches, first_span, begins_colons, begins_mark, begins_arrow, begins_dots, begins_parenthesis, begins_bound, typing, goes_on, spot_of, Looks, first_text, begins_word, IsAction};
 
-use crate::table::place::{FrontToken, Next, Spot, StepFault};
+use crate::table::stage::{FrontToken, Next, Spot, StepFault};
 use logos_token::token::{Delimiter, Spacing, Span, TokenTree, Tokens};
 
-/// Returns what the first token of a run is.
+/// Returns the class of the first token of a run.
 pub(super) fn look(run: Tokens<'_, '_>) -> FrontToken
     ensures { Looks result (tokens_of run.entry) }
 {
@@ -20,7 +20,7 @@ pub(super) fn look(run: Tokens<'_, '_>) -> FrontToken
     }
 }
 
-/// Returns the text of the first token if it is a name or a literal, or else an empty text.
+/// Returns the text of the first token if it is a name or a literal, and an empty text otherwise.
 pub(super) fn first_text<'s>(run: Tokens<'_, 's>) -> &'s str
     ensures { result.now ≡ first_text (tokens_of run.entry) }
 {
@@ -113,14 +113,14 @@ pub(super) fn begins_dots(run: Tokens<'_, '_>) -> bool
     ((first == '.') & (second == '.')) & (third == '.')
 }
 
-/// Returns whether `:` comes first that is not the beginning of `::`.
+/// Returns whether the run begins with a `:` that is not the start of `::`.
 pub(super) fn is_typing(run: Tokens<'_, '_>) -> bool
     ensures { result ≡ typing (tokens_of run.entry) }
 {
     begins_mark(':', run) & !begins_colons(run)
 }
 
-/// Returns whether a path goes on after a name.
+/// Returns whether a path continues after a name.
 pub(super) fn goes_on(run: Tokens<'_, '_>) -> bool
     ensures { result ≡ goes_on (tokens_of run.entry) }
 {

@@ -1,4 +1,4 @@
-//! The program `logos`: prints the lexer of an enum or its chart, and lexes files by it.
+//! The program `logos`: prints the lexer of an enum or its state diagram, and lexes files with it.
 
 use std::process::ExitCode;
 

@@ -1,39 +1,38 @@
-//! The budget of memory: how many bytes may be in use.
+//! The budget of memory: the number of bytes that may be in use.
 //!
-//! A program or a macro that takes input of others sets it. Past it growth is refused as if memory
-//! ran out. Everything that this crate allocates is counted, by capacity; the overhead of the
+//! It is set by programs and macros that read untrusted input. Beyond it growth fails as if memory
+//! ran out. The capacity of everything that this crate allocates is counted; the overhead of the
 //! system's allocator is not.
 
 use super::AllocError;
 use core::fmt;
 use core::sync::atomic::{AtomicUsize, Ordering::Relaxed};
 
-/// The budget that programs set where the variable does not name another one: 1 GiB.
+/// The budget that programs set if the variable does not name another one: 1 GiB.
 pub const DEFAULT_BUDGET: usize = 1 << 30;
 
-/// The variable of the environment that names another budget.
+/// The environment variable that names another budget.
 const VARIABLE: &str = "LOGOS_MEMORY";
 
-/// The most bytes that may be in use. The greatest number stands for no budget.
+/// The maximum number of bytes in use. The greatest number means that there is no budget.
 static BUDGET: AtomicUsize = AtomicUsize::new(usize::MAX);
 
 /// The bytes in use that were claimed while there was a budget.
 static IN_USE: AtomicUsize = AtomicUsize::new(0);
 
-/// Sets how many bytes may be in use, or that there is no budget, as at the start.
+/// Sets the maximum number of bytes in use, or removes the budget. At the start there is none.
 ///
-/// What is allocated before is not counted, so this is called first. The setting is that of the
+/// Earlier allocations are not counted, so this is called first. The setting applies to the whole
 /// process.
 pub fn set_budget(bytes: Option<usize>) {
     BUDGET.store(bytes.unwrap_or(usize::MAX), Relaxed);
 }
 
-/// Sets the budget that the variable `LOGOS_MEMORY` names, or [`DEFAULT_BUDGET`] where it is not
-/// set.
+/// Sets the budget that the variable `LOGOS_MEMORY` names, or [`DEFAULT_BUDGET`] if it is not set.
 ///
 /// # Errors
 ///
-/// Returns an error if the variable names no number of bytes. Then the budget is
+/// Returns an error if the variable is not a number of bytes. Then the budget is
 /// [`DEFAULT_BUDGET`].
 pub fn set_budget_of_program() -> Result<(), BudgetError> {
     set_budget(Some(DEFAULT_BUDGET));
@@ -44,8 +43,8 @@ pub fn set_budget_of_program() -> Result<(), BudgetError> {
     Ok(())
 }
 
-/// Returns the number of bytes that a text names: digits, and `M` for MiB or `G` for GiB after
-/// them.
+/// Returns the number of bytes in a text: digits, optionally followed by `M` for MiB or `G` for
+/// GiB.
 pub fn budget_of(text: &str) -> Option<usize> {
     let (digits, unit) = match text.as_bytes() {
         [.., b'M'] => (&text[..text.len() - 1], 1 << 20),
@@ -58,7 +57,7 @@ pub fn budget_of(text: &str) -> Option<usize> {
     digits.parse::<usize>().ok()?.checked_mul(unit)
 }
 
-/// The variable `LOGOS_MEMORY` names no number of bytes.
+/// The variable `LOGOS_MEMORY` is not a number of bytes.
 #[derive(Clone, Copy, Debug, PartialEq, Eq)]
 pub struct BudgetError;
 
@@ -82,7 +81,8 @@ pub(crate) fn claim(bytes: usize) -> Result<(), AllocError> {
         return Ok(());
     }
     let before = IN_USE.fetch_add(bytes, Relaxed);
-    // Bytes of the time before the budget may have been released, so the sum may be below zero.
+    // Bytes that were allocated before the budget was set may have been released, so the sum may be
+    // negative.
     if (before.wrapping_add(bytes) as isize) > budget.min(isize::MAX as usize) as isize {
         IN_USE.fetch_sub(bytes, Relaxed);
         return Err(AllocError);

@@ -1,4 +1,4 @@
-//! A set in order.
+//! A sorted set.
 
 use crate::alloc::{AllocError, AllocFailed, Global};
 use crate::vec::Vec;
@@ -6,12 +6,13 @@ use core::borrow::Borrow;
 use core::iter::Flatten;
 use core::slice::Iter;
 
-/// The most values of a run. To insert a value moves at most as many.
+/// The maximum number of values of a run. Inserting a value moves at most as many.
 const RUN: usize = 512;
 
-/// A set of values in order.
+/// A sorted set of values.
 ///
-/// It is a sorted vector in runs, so that to insert a value moves few others. No run is empty.
+/// It is a sorted vector divided into runs, so that inserting a value moves few others. No run is
+/// empty.
 pub struct BTreeSet<T> {
     runs: Vec<Vec<T>>,
     len: usize,
@@ -26,7 +27,8 @@ impl<T: Ord> BTreeSet<T> {
         }
     }
 
-    /// Returns the run that has a value, or that it belongs to: the last one for the greatest.
+    /// Returns the run that contains a value, or into which it would be inserted: the last one for
+    /// the greatest.
     fn run_of<Q: ?Sized + Ord>(&self, value: &Q) -> usize
     where
         T: Borrow<Q>,
@@ -40,7 +42,7 @@ impl<T: Ord> BTreeSet<T> {
     ///
     /// # Errors
     ///
-    /// Returns the value if memory is refused. Then the set has the same values as before.
+    /// Returns the value if memory is refused. Then the set has its former values.
     pub fn insert(&mut self, value: T) -> Result<bool, AllocFailed<T>> {
         let mut run = self.run_of(&value);
         if self.make_room(run).is_err() {
@@ -59,7 +61,7 @@ impl<T: Ord> BTreeSet<T> {
         }
     }
 
-    /// Makes a first run, or two of a full one.
+    /// Adds the first run, or splits a full one.
     fn make_room(&mut self, run: usize) -> Result<(), AllocError> {
         if self.runs.is_empty() {
             self.runs.push(Vec::new(Global))?;
@@ -87,12 +89,12 @@ impl<T: Ord> BTreeSet<T> {
         self.runs.iter().flatten()
     }
 
-    /// Returns how many values there are.
+    /// Returns the number of values.
     pub fn len(&self) -> usize {
         self.len
     }
 
-    /// Returns whether there is no value.
+    /// Returns whether the set has no values.
     pub fn is_empty(&self) -> bool {
         self.len == 0
     }

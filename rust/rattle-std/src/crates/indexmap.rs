@@ -1,5 +1,5 @@
-//! Stands in for the kit's `indexmap`: sets and maps whose entries have indices, 0 for the one that
-//! was added first.
+//! Replaces the kit's `indexmap`: sets and maps whose entries have indices, which begin with 0 for
+//! the one that was added first.
 
 mod folded;
 mod map;
@@ -33,13 +33,13 @@ impl<E> Entries<E> {
         self.list.reserve(additional)
     }
 
-    /// Returns the index of the entry with a hash that passes a test.
+    /// Returns the index of the entry with this hash for which `is_it` holds.
     #[inline]
     fn find(&self, hash: u32, is_it: impl Fn(&E) -> bool) -> Option<usize> {
         self.table.find(hash, |index| is_it(&self.list[index]))
     }
 
-    /// Adds an entry that is new, and returns its index.
+    /// Adds a new entry, and returns its index.
     #[inline]
     fn push(&mut self, hash: u32, entry: E) -> Result<usize, AllocFailed<E>> {
         let index = self.list.len();
@@ -52,7 +52,7 @@ impl<E> Entries<E> {
     }
 }
 
-/// A hash, and 1 more than the index of the entry that has it. An empty place has index 0.
+/// A hash, and 1 plus the index of the entry that has it. An empty slot has index 0.
 #[derive(Clone, Copy)]
 struct Place {
     hash: u32,
@@ -61,11 +61,11 @@ struct Place {
 
 const EMPTY: Place = Place { hash: 0, entry: 0 };
 
-/// The indices of entries by their hashes: a power of two of places, at most half of them used. A
-/// place that is used by another entry is passed over for the next one.
+/// The indices of entries by their hashes. The number of slots is a power of two, and at most half
+/// of them are used. If a slot is used by another entry, the next one is tried.
 ///
-/// The hashes differ from run to run. No result depends on them, since entries are only listed by
-/// their indices.
+/// The hashes differ between executions. No result depends on them, since entries are only listed
+/// in the order of their indices.
 struct Table {
     places: Vec<Place>,
     nothing: Folded,
@@ -86,7 +86,7 @@ impl Table {
         hash.finish() as u32
     }
 
-    /// Returns the index of the entry with a hash that passes a test.
+    /// Returns the index of the entry with this hash for which `is_it` holds.
     #[inline]
     fn find<F: Fn(usize) -> bool>(&self, hash: u32, is_it: F) -> Option<usize> {
         let mask = self.places.len().wrapping_sub(1);
@@ -101,7 +101,7 @@ impl Table {
         None
     }
 
-    /// Sets the hash of the entry with an index. There has to be room.
+    /// Sets the hash of the entry with an index. There must be an empty slot.
     fn set(&mut self, hash: u32, index: usize) {
         let mask = self.places.len() - 1;
         let mut at = hash as usize & mask;
@@ -114,7 +114,7 @@ impl Table {
         };
     }
 
-    /// Makes room for `additional` entries beside `len`.
+    /// Makes room for `additional` entries in addition to `len`.
     #[inline]
     fn reserve(&mut self, len: usize, additional: usize) -> Result<(), AllocError> {
         let needed = len.checked_add(additional).ok_or(AllocError)?;
@@ -139,8 +139,7 @@ impl Table {
         Ok(())
     }
 
-    /// Removes the entry with a hash and an index. Entries that were passed on over its place move
-    /// back.
+    /// Removes the entry with a hash and an index. Entries that had skipped its slot move back.
     fn remove(&mut self, hash: u32, index: usize) {
         let mask = self.places.len() - 1;
         let mut hole = hash as usize & mask;
@@ -150,7 +149,7 @@ impl Table {
         self.close(hole);
     }
 
-    /// Empties a place.
+    /// Empties a slot.
     fn close(&mut self, mut hole: usize) {
         let mask = self.places.len() - 1;
         let mut at = (hole + 1) & mask;

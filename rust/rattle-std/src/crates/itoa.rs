@@ -1,4 +1,4 @@
-//! Stands in for the kit's `itoa`: numbers in decimal.
+//! Replaces the kit's `itoa`: numbers in decimal.
 
 /// The two digits of each number below 100.
 static PAIRS: [[u8; 2]; 100] = pairs();
@@ -13,15 +13,15 @@ const fn pairs() -> [[u8; 2]; 100] {
     pairs
 }
 
-/// Writes the digits of a number to the bytes that end at an index, and returns where they begin.
-/// The other bytes stay.
+/// Writes the digits of a number to the bytes that end at index `end`, and returns the index at
+/// which they begin. The other bytes stay unchanged.
 ///
 /// # Panics
 ///
-/// Panics if there are more digits than bytes in front of the index.
+/// Panics if there are more digits than bytes before the index.
 #[inline(always)]
 pub fn write_digits(number: u64, buf: &mut [u8], end: usize) -> usize {
-    // One test of the room is enough for all digits of a number that has at most eight.
+    // A single check of the room suffices for all digits of a number that has at most eight.
     if number < 100_000_000
         && let Some([a, b, c, d, e, f, g, h]) = buf[..end].last_chunk_mut()
     {
@@ -34,7 +34,7 @@ pub fn write_digits(number: u64, buf: &mut [u8], end: usize) -> usize {
         return end - 8 + write_four(number / 10_000, [a, b, c, d]);
     }
     let from = write_each(number, buf, end);
-    // This tells the compiler where the digits are, so that it leaves out tests of the caller.
+    // With this the compiler knows the range of the digits, and can omit checks of the caller.
     assert!(from < end && end - from <= 20);
     from
 }
@@ -45,7 +45,7 @@ fn pair(number: u32) -> [u8; 2] {
     PAIRS[number as usize]
 }
 
-/// Writes the digits of a number below 10,000, and returns how many bytes are left in front.
+/// Writes the digits of a number below 10,000, and returns the number of bytes left before them.
 #[inline(always)]
 fn write_four(number: u32, [a, b, c, d]: [&mut u8; 4]) -> usize {
     if number < 100 {
@@ -55,7 +55,7 @@ fn write_four(number: u32, [a, b, c, d]: [&mut u8; 4]) -> usize {
     write_two(number / 100, [a, b])
 }
 
-/// Does what `write_four` does, for a number below 100.
+/// Writes like `write_four`, for a number below 100.
 #[inline(always)]
 fn write_two(number: u32, [a, b]: [&mut u8; 2]) -> usize {
     if number < 10 {
@@ -66,7 +66,7 @@ fn write_two(number: u32, [a, b]: [&mut u8; 2]) -> usize {
     0
 }
 
-/// Does what `write_digits` does, one digit at a time.
+/// Writes like `write_digits`, one digit at a time.
 #[cold]
 #[inline(never)]
 fn write_each(number: u64, buf: &mut [u8], end: usize) -> usize {

@@ -1,17 +1,17 @@
-//! Stands in for the writer of the kit's `json`.
+//! Replaces the writer of the kit's `json`.
 
 use crate::alloc::AllocError;
 use crate::crates::itoa::write_digits;
 use crate::vec::Vec;
 
-/// Writes JSON after the bytes of a vector, a token at a time.
+/// Appends JSON to the bytes of a vector, one token at a time.
 ///
-/// It writes the commas and the colons. Its caller sees to the nesting. A token for which memory is
-/// refused leaves nothing.
+/// It writes the commas and the colons. The caller is responsible for the nesting. If memory is
+/// refused, nothing of a token is written.
 #[derive(Debug)]
 pub struct Writer {
     out: Vec<u8>,
-    /// Whether a comma is due in front of the next value.
+    /// Whether the next value needs a comma before it.
     after_value: bool,
 }
 
@@ -33,7 +33,7 @@ impl Writer {
     ///
     /// # Errors
     ///
-    /// Returns `AllocError` if memory is refused, as each method does.
+    /// Like all methods, returns `AllocError` if memory is refused.
     pub fn begin_object(&mut self) -> Result<(), AllocError> {
         self.token(self.after_value, b"{", false)
     }
@@ -81,7 +81,7 @@ impl Writer {
         self.token(self.after_value, b"null", true)
     }
 
-    /// Writes a token, after a comma if one is due.
+    /// Writes a token, after a comma if one is needed.
     fn token(&mut self, comma: bool, text: &[u8], is_value: bool) -> Result<(), AllocError> {
         self.out.reserve(text.len() + 1)?;
         if comma {
@@ -92,7 +92,7 @@ impl Writer {
         Ok(())
     }
 
-    /// Writes a text in quotes, and what follows it.
+    /// Writes a text in quotes, and the bytes after it.
     fn quoted(&mut self, text: &str, close: &[u8], is_value: bool) -> Result<(), AllocError> {
         let len = self.out.len();
         let done = self.escaped(text, close);

@@ -1,11 +1,11 @@
-//! Stands in for the kit's `unicode`: sets of characters by their names, and simple case folding.
-//! The data is in `unicode_tables.rs`, which a program in Rattle prints from the kit's crates.
+//! Replaces the kit's `unicode`: sets of characters by their names, and simple case folding. The
+//! data is in `unicode_tables.rs`, which a program in Rattle generates from the kit's crates.
 
 pub(super) mod ranges;
 
 pub(super) use ranges::{contains, number_at};
 
-/// The sets that a name stands for, as in `\p{Greek}`.
+/// The sets with a name, such as in `\p{Greek}`.
 pub mod sets {
     use super::ranges::ranges_of;
     use crate::alloc::{AllocError, Global};
@@ -17,17 +17,18 @@ pub mod sets {
     pub enum Set {
         /// All code points.
         Any,
-        /// Those of ASCII.
+        /// The code points of ASCII.
         Ascii,
-        /// Those that have a character.
+        /// The assigned code points.
         Assigned,
-        /// That of a binary property, a general category or a script, by its number.
+        /// The code points with a binary property, a general category or a script, given by its
+        /// number.
         Named(u16),
     }
 
     impl Set {
-        /// Returns the members as ranges in order, each by its first and its last one. They may
-        /// have surrogates.
+        /// Returns the members as sorted ranges, each with its first and its last code point. They
+        /// may contain surrogates.
         ///
         /// # Errors
         ///
@@ -42,14 +43,14 @@ pub mod sets {
         }
     }
 
-    /// Why a name stands for no set.
+    /// The error for a name that has no set.
     #[derive(Clone, Copy, Debug, PartialEq, Eq, Hash)]
     pub enum LookupError {
         /// No property has the name.
         PropertyNotFound,
     }
 
-    /// Returns the set of a binary property, a general category or a script by its normalized name.
+    /// Returns the set of a binary property, a general category or a script with a normalized name.
     ///
     /// # Errors
     ///
@@ -61,8 +62,8 @@ pub mod sets {
         }
     }
 
-    /// Returns the form in which names are compared: in small letters, without the prefix `is`,
-    /// spaces, `_`, `-` and what is not ASCII.
+    /// Returns the form in which names are compared: in lower case, without the prefix `is`,
+    /// spaces, `_`, `-` and characters other than ASCII.
     ///
     /// # Errors
     ///
@@ -97,7 +98,7 @@ pub mod perl {
     ///
     /// # Errors
     ///
-    /// Returns `AllocError` if memory is refused, as the next two do.
+    /// Like the next two functions, returns `AllocError` if memory is refused.
     pub fn digit_ranges(alloc: Global) -> Result<Vec<(u32, u32)>, AllocError> {
         ranges_of(alloc, DIGIT)
     }
@@ -120,12 +121,13 @@ pub mod case {
 
     static PAIRS: [(u32, u32); FOLD_COUNT] = pairs();
 
-    /// Returns each two characters that simple case folding makes equal, in both orders, sorted.
+    /// Returns all pairs of characters that simple case folding makes equal, in both orders,
+    /// sorted.
     pub fn fold_pairs() -> &'static [(u32, u32)] {
         &PAIRS
     }
 
-    /// Reads the table of pairs. This is done when the crate is compiled.
+    /// Reads the table of pairs, at compile time.
     const fn pairs() -> [(u32, u32); FOLD_COUNT] {
         let mut pairs = [(0, 0); FOLD_COUNT];
         let (mut pair, mut at, mut first) = (0, 0, 0);
@@ -148,7 +150,7 @@ pub mod properties {
     use super::contains;
     use super::ranges::{ALPHABETIC, NUMBER};
 
-    /// What the crates need of the general category of a character.
+    /// The general category of a character, as far as the crates need it.
     #[derive(Clone, Copy, Debug, PartialEq, Eq)]
     pub struct GeneralCategory {
         is_number: bool,

@@ -1,4 +1,4 @@
-//! Stands in for the kit's `unicode_ident`: characters of identifiers.
+//! Replaces the kit's `unicode_ident`: characters of identifiers.
 
 use super::unicode::{contains, ranges};
 

@@ -1,18 +1,19 @@
-//! Stands in for the kit's `unicode_width`: how many columns of a terminal a character takes.
+//! Replaces the kit's `unicode_width`: the number of columns of a character on a terminal.
 
 use super::unicode::number_at;
 use super::unicode_tables::WIDTHS;
 
 /// A character that has a width.
 pub trait UnicodeWidthChar {
-    /// Returns how many columns it takes. A control character has no width.
+    /// Returns the number of columns. A control character has no width.
     fn width(self) -> Option<usize>;
 }
 
-/// How many runs of characters with one width there are.
+/// The number of runs of characters with one width.
 const RUNS: usize = count();
 
-/// The last character of each run, and the width of all of it. A width of 4 stands for none.
+/// The last character of each run, and the width of its characters. A width of 4 means that they
+/// have none.
 static WIDTH_RUNS: [(u32, u8); RUNS] = runs();
 
 const fn count() -> usize {

@@ -1,13 +1,13 @@
-//! What the system knows of a file.
+//! The metadata of a file.
 
 use super::Files;
 use crate::io::{self, ErrorKind};
 
-/// What the system knows of a file.
+/// The metadata of a file.
 #[derive(Clone)]
 pub struct Metadata {
     found: std::fs::Metadata,
-    /// The hash of its whole path, which stands for the number of the file.
+    /// The hash of its absolute path, which serves as the number of the file.
     #[cfg(not(unix))]
     name: u64,
 }
@@ -18,26 +18,26 @@ impl Metadata {
         self.found.is_file()
     }
 
-    /// Returns how many bytes the file has.
+    /// Returns the length of the file in bytes.
     #[allow(clippy::len_without_is_empty)]
     pub fn len(&self) -> u64 {
         self.found.len()
     }
 
-    /// Returns who may read, write and run the file.
+    /// Returns the permissions of the file.
     pub fn permissions(&self) -> Permissions {
         Permissions(self.found.permissions())
     }
 }
 
-/// Returns what the system knows of the file at a path.
+/// Returns the metadata of the file at a path.
 ///
 /// # Errors
 ///
 /// Returns the error of the system.
 pub fn metadata<R: Files>(_rt: &R, path: &str) -> io::Result<Metadata> {
     if cfg!(not(target_os = "linux")) && path.starts_with("/proc/") {
-        // Whether a process runs is not known there, so none is said to have ended.
+        // Whether a process runs is unknown on this system, so no process is assumed to have ended.
         return Err(ErrorKind::Unsupported.into());
     }
     Ok(Metadata {
@@ -47,7 +47,7 @@ pub fn metadata<R: Files>(_rt: &R, path: &str) -> io::Result<Metadata> {
     })
 }
 
-/// Returns a hash of the whole path of a file.
+/// Returns a hash of the absolute path of a file.
 #[cfg(not(unix))]
 fn name_of(path: &str) -> io::Result<u64> {
     use std::hash::{DefaultHasher, Hash, Hasher};
@@ -56,10 +56,10 @@ fn name_of(path: &str) -> io::Result<u64> {
     Ok(hasher.finish())
 }
 
-/// Who may read, write and run a file.
+/// The permissions of a file.
 pub struct Permissions(std::fs::Permissions);
 
-/// Sets who may read, write and run a file.
+/// Sets the permissions of a file.
 ///
 /// # Errors
 ///
@@ -70,8 +70,7 @@ pub fn set_permissions<R: Files>(_rt: &R, path: &str, to: Permissions) -> io::Re
 
 macro_rules! known_to_unix {
     ($($(#[$doc:meta])* $name:ident: $type:ty, $elsewhere:expr;)*) => {
-        /// What Unix knows of a file besides. Elsewhere a file is the one that its whole path
-        /// names.
+        /// Further metadata of Unix. On other systems a file is identified by its absolute path.
         pub trait MetadataExt {
             $($(#[$doc])* fn $name(&self) -> $type;)*
         }
@@ -96,13 +95,13 @@ known_to_unix! {
     uid: u32, |_| 0;
     /// Returns the number of the group.
     gid: u32, |_| 0;
-    /// Returns the kind of file, and who may read, write and run it.
+    /// Returns the kind of the file, and its permissions.
     mode: u32, |_| 0;
 }
 
 /// The permissions of Unix.
 pub trait PermissionsExt {
-    /// Sets who may read, write and run the file.
+    /// Sets the permissions of the file.
     fn set_mode(&mut self, mode: u32);
 }
 

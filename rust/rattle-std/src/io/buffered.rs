@@ -4,10 +4,10 @@ use super::{Result, Write};
 use crate::alloc::Global;
 use crate::vec::Vec;
 
-/// The bytes that are collected before they are written.
+/// The number of bytes that are buffered before they are written.
 const BLOCK: usize = 8192;
 
-/// A writer that collects bytes, and writes them to another one in blocks.
+/// A writer that buffers bytes, and writes them to another one in blocks.
 pub struct BufWriter<W: Write> {
     block: Vec<u8>,
     inner: W,
@@ -52,7 +52,7 @@ impl<W: Write> Write for BufWriter<W> {
 
 impl<W: Write> Drop for BufWriter<W> {
     fn drop(&mut self) {
-        // Who needs to know whether it was written calls `flush`.
+        // To learn whether the bytes were written, callers use `flush`.
         let _ = self.write_block();
     }
 }

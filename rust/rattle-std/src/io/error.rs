@@ -3,14 +3,14 @@
 use crate::alloc::{AllocError, AllocFailed};
 use core::fmt;
 
-/// What reading or writing returns.
+/// The result of reading or writing.
 pub type Result<T> = core::result::Result<T, Error>;
 
 /// An error of the system.
 #[derive(Clone, Copy, Debug)]
 pub struct Error {
     kind: ErrorKind,
-    /// The number that the system gave it.
+    /// The number of the error in the system.
     code: Option<i32>,
 }
 
@@ -62,7 +62,7 @@ impl From<std::io::Error> for Error {
     }
 }
 
-/// The system's number of the error of links that lead round. Rust's kind of it has no stable name.
+/// The system's number of the error for links that form a cycle. Rust's kind for it is unstable.
 const LINKS_LEAD_ROUND: i32 = if cfg!(any(target_os = "linux", target_os = "android")) {
     40
 } else if cfg!(windows) {
@@ -73,11 +73,11 @@ const LINKS_LEAD_ROUND: i32 = if cfg!(any(target_os = "linux", target_os = "andr
 
 macro_rules! kinds {
     ($($(#[$doc:meta])* $kind:ident,)*) => {
-        /// Why reading or writing failed.
+        /// The kinds of errors of reading and writing.
         #[derive(Clone, Copy, Debug, PartialEq, Eq, Hash)]
         pub enum ErrorKind {
             $($(#[$doc])* $kind,)*
-            /// The links of a path lead round, or are too many.
+            /// The links of a path form a cycle, or there are too many.
             FilesystemLoop,
             /// Another reason.
             Other,
@@ -99,15 +99,15 @@ kinds! {
     NotFound,
     /// The system does not allow it.
     PermissionDenied,
-    /// There is such a file already.
+    /// The file already exists.
     AlreadyExists,
-    /// A folder has to be a file.
+    /// The file is a folder.
     IsADirectory,
-    /// A part of the path has to be a folder.
+    /// A part of the path is not a folder.
     NotADirectory,
-    /// A name is too long, or has characters that the system does not take.
+    /// A name is too long, or has invalid characters.
     InvalidFilename,
-    /// The data is not as it has to be.
+    /// The data is invalid.
     InvalidData,
     /// The disk is full.
     StorageFull,
@@ -117,11 +117,11 @@ kinds! {
     FileTooLarge,
     /// The file system is read-only.
     ReadOnlyFilesystem,
-    /// Nobody reads what is written.
+    /// The reader has closed its end.
     BrokenPipe,
     /// The call was interrupted, and can be repeated.
     Interrupted,
-    /// The call would have to wait.
+    /// The call would block.
     WouldBlock,
     /// The call took too long.
     TimedOut,

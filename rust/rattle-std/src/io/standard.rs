@@ -6,10 +6,10 @@ use crate::vec::Vec;
 
 /// A system with a standard input.
 pub trait Input {
-    /// What reads it.
+    /// The type of its reader.
     type Reader: Read;
 
-    /// Returns what reads standard input.
+    /// Returns a reader of standard input.
     fn reader(&self) -> Self::Reader;
 }
 
@@ -52,7 +52,7 @@ impl<P: Print> Print for &P {
 
 /// A stream that may be a terminal.
 pub trait IsTerminal {
-    /// Returns whether it is one.
+    /// Returns whether the stream is a terminal.
     fn is_terminal(&self) -> bool;
 }
 

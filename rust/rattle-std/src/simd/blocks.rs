@@ -1,5 +1,5 @@
-//! Blocks of 16 bytes, by the instructions of the machine. This file has the `unsafe` of the crate:
-//! calls of instructions that the machine is known to have.
+//! Blocks of 16 bytes, with the instructions of the machine. This file has all `unsafe` code of the
+//! crate: calls of instructions that the machine is known to have.
 
 #![allow(unsafe_code)]
 
@@ -10,24 +10,24 @@ pub(super) use plain::{and, at, equal, or, shifted, tops};
 #[cfg(target_arch = "x86_64")]
 pub(super) use x86::{and, at, equal, or, shifted, tops};
 
-/// By loops. The tests compare the others with these.
+/// With loops. The tests compare the other implementations with these.
 #[cfg_attr(any(target_arch = "x86_64", target_arch = "aarch64"), allow(dead_code))]
 pub(super) mod plain {
     use core::array::from_fn;
 
-    /// Returns the bytes that both have.
+    /// Returns the bitwise AND.
     #[inline(always)]
     pub fn and(a: [u8; 16], b: [u8; 16]) -> [u8; 16] {
         (u128::from_ne_bytes(a) & u128::from_ne_bytes(b)).to_ne_bytes()
     }
 
-    /// Returns the bits that one of them has.
+    /// Returns the bitwise OR.
     #[inline(always)]
     pub fn or(a: [u8; 16], b: [u8; 16]) -> [u8; 16] {
         (u128::from_ne_bytes(a) | u128::from_ne_bytes(b)).to_ne_bytes()
     }
 
-    /// Returns each byte shifted right by the other one, which is below 8.
+    /// Returns each byte shifted right by the corresponding one in `by`, which is below 8.
     #[inline(always)]
     pub fn shifted(bytes: [u8; 16], by: [u8; 16]) -> [u8; 16] {
         from_fn(|k| bytes[k] >> by[k])
@@ -56,7 +56,7 @@ pub(super) mod plain {
     }
 }
 
-/// By instructions of x86-64: SSE2, which each has, and `pshufb` where the machine has SSSE3.
+/// With instructions of x86-64: SSE2, which every one has, and `pshufb` if the machine has SSSE3.
 #[cfg(target_arch = "x86_64")]
 mod x86 {
     use core::arch::asm;
@@ -95,7 +95,7 @@ mod x86 {
         if by != [count; 16] || count > 7 {
             return super::plain::shifted(shown, by);
         }
-        // There is no shift of bytes: words are shifted, and the bits of the next byte cleared.
+        // There is no shift of bytes: words are shifted, and the bits from the next byte cleared.
         // SAFETY: each x86-64 has SSE2.
         let words = unsafe { _mm_srl_epi16(vector(shown), _mm_cvtsi32_si128(i32::from(count))) };
         and(bytes(words), [0xFF >> count; 16])
@@ -110,8 +110,8 @@ mod x86 {
             return bytes(at_first(vector(table), vector(indices)));
         }
         let mut found = vector(table);
-        // The intrinsic would be a call where the crate is compiled for machines without SSSE3.
-        // SAFETY: the machine has SSSE3. The instruction changes nothing but its first operand.
+        // The intrinsic would be a call if the crate is compiled for machines without SSSE3.
+        // SAFETY: the machine has SSSE3. The instruction changes only its first operand.
         unsafe {
             asm!(
                 "pshufb {found}, {indices}",
@@ -123,7 +123,7 @@ mod x86 {
         bytes(found)
     }
 
-    /// Does what `at` does, the first time or where the machine has no SSSE3.
+    /// Returns the result of `at`, on the first call or if the machine has no SSSE3.
     #[cold]
     #[inline(never)]
     fn at_first(table: __m128i, indices: __m128i) -> __m128i {
@@ -151,7 +151,7 @@ mod x86 {
     }
 }
 
-/// By instructions of 64-bit ARM: NEON, which each has.
+/// With instructions of 64-bit ARM: NEON, which every one has.
 #[cfg(target_arch = "aarch64")]
 mod arm {
     use core::arch::aarch64::*;

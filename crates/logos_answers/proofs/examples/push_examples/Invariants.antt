@@ -1,6 +1,6 @@
 use Rattle.std.proofs.Common.{◌≡◌, ◌≤◌, ◌-◌, [], length}
 use Rattle.logos_graph.specs.GraphOf.{IsGraphOf}
-use Rattle.logos_report.specs.Pages.{PageValue}
+use Rattle.logos_page.specs.Pages.{PageValue}
 use Rattle.logos_answers.specs.Examples.{ShowsExamples}
 use Rattle.logos_answers.proofs.examples.push_examples.Given as goal
 

@@ -1,6 +1,6 @@
 use Rattle.std.proofs.Common.{drop, map}
 use Rattle.std.specs.List.{flat_map}
-use Rattle.logos_report.specs.Pages.{PageValue, Gains}
+use Rattle.logos_page.specs.Pages.{PageValue, Gains}
 use Rattle.logos_answers.specs.Inputs.{input_line}
 use Rattle.logos_answers.proofs.inputs.push_literals.Given as goal
 

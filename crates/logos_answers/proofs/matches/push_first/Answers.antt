@@ -1,6 +1,6 @@
 use Rattle.std.proofs.Common.{subst}
 use Rattle.logos_evidence.specs.Matching.{IsWinner}
-use Rattle.logos_report.proofs.PageLemmas.{gains_then}
+use Rattle.logos_page.proofs.PageLemmas.{gains_then}
 use Rattle.logos_answers.proofs.matches.push_first.Goals as goal
 
 pub returns : goal.returns

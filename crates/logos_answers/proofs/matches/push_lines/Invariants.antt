@@ -1,5 +1,5 @@
 use Rattle.std.proofs.Common.{drop}
-use Rattle.logos_report.specs.Pages.{PageValue, Gains}
+use Rattle.logos_page.specs.Pages.{PageValue, Gains}
 use Rattle.logos_answers.specs.Matches.{lines_of}
 use Rattle.logos_answers.proofs.matches.push_lines.Given as goal
 

@@ -1,4 +1,4 @@
-use Rattle.logos_report.proofs.PageLemmas.{gains_then}
+use Rattle.logos_page.proofs.PageLemmas.{gains_then}
 use Rattle.logos_answers.proofs.names.push_leaf.Goals as goal
 
 pub returns : goal.returns

@@ -1,5 +1,5 @@
 use Rattle.std.proofs.Common.{arith}
-use Rattle.logos_places.proofs.steps.SeveralLemmas.{next_start, node_at}
+use Rattle.logos_positions.proofs.steps.SeveralLemmas.{next_start, node_at}
 use Rattle.logos_automaton.proofs.cache.tree_state.Goals as goal
 
 pub marks_between-requires-clause-order : goal.marks_between-requires-clause-order

@@ -2,7 +2,7 @@ use Rattle.std.proofs.Common.{◌≡◌, ◌+◌, map, drop, ap, sym, ◌∙◌,
 use Rattle.std.proofs.lemmas.List.{at_drop_more}
 use Rattle.logos_hir.specs.Tree.{trees}
 use Rattle.logos_hir.specs.Hir.{tree_of}
-use Rattle.logos_places.specs.Size.{size, sizes}
+use Rattle.logos_positions.specs.Size.{size, sizes}
 use Rattle.logos_automaton.proofs.measures.+size.Goals as goal
 
 pub limited_sizes-loop-hir-preserved : goal.limited_sizes-loop-hir-preserved

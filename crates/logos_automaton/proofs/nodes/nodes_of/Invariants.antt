@@ -1,6 +1,6 @@
 use Rattle.std.proofs.Common.{List, ◌++◌, map, drop}
-use Rattle.logos_places.specs.Core.{Core}
-use Rattle.logos_places.specs.Node.{core_of, AreMeasured}
+use Rattle.logos_positions.specs.Core.{Core}
+use Rattle.logos_positions.specs.Node.{core_of, AreMeasured}
 use Rattle.logos_automaton.specs.Rules.{AreRuleCores}
 use Rattle.logos_automaton.specs.View.{rules_of}
 use Rattle.logos_automaton.proofs.nodes.nodes_of.Given as goal

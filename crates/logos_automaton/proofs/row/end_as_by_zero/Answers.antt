@@ -1,10 +1,10 @@
 use Rattle.std.proofs.Common.{◌≡◌, ℕ, Bool, List, Some, slice_get, refl, sym, ap, ◌∙◌, arith}
-use Rattle.logos_places.specs.Core.{Core}
+use Rattle.logos_positions.specs.Core.{Core}
 use Rattle.logos_automaton.specs.Rules.{AreFree}
 use Rattle.logos_automaton.specs.inside.Prepared.{cores_of}
 use Rattle.logos_automaton.specs.Keys.{ended_state, state_of, IsAt, IsLast, LeadsTo, by_end}
 use Rattle.logos_automaton.specs.declared.key.Key.{Key}
-use Rattle.logos_places.proofs.steps.SeveralLemmas.{no_places}
+use Rattle.logos_positions.proofs.steps.SeveralLemmas.{no_positions}
 use Rattle.logos_automaton.proofs.keys.TargetLemmas.{last_as_next, same_state_at}
 use Rattle.logos_automaton.proofs.row.end_as_by_zero.Goals as goal
 
@@ -28,7 +28,7 @@ returns-clause-extends c = λ looks.
     c.in-Some.key.now made (sym c.in-Some.ensures.key) (rw c.deref.ensures.value at c.in_ok-made-in-Some.ensures) in
     record {
       grows = n.grows;
-      rising = λ h. n.rising h (rw ends.places no_places.rising);
+      rising = λ h. n.rising h (rw ends.positions no_positions.rising);
       distinct = n.distinct;
       reached = λ h. n.reached (cores_of c.args.trees.now) looks h
           (by_end leads.from (state_of made) (h.reached c.args.state leads.from leads.from_is) ends);

@@ -1,7 +1,7 @@
 use Rattle.std.proofs.Common.{refl, sym, arith}
 use Rattle.logos_automaton.specs.inside.Prepared.{cores_of}
 use Rattle.logos_automaton.specs.Keys.{state_of, IsAt, by_end}
-use Rattle.logos_places.proofs.steps.SeveralLemmas.{no_places}
+use Rattle.logos_positions.proofs.steps.SeveralLemmas.{no_positions}
 use Rattle.logos_automaton.proofs.row.end_of.Goals as goal
 
 pub end_key-requires-clause-rising : goal.end_key-requires-clause-rising
@@ -18,7 +18,7 @@ returns-clause-extends c = λ looks.
     let here : IsAt c.args.states.now.keys c.args.state (state_of c.in-Some.key.now) = record { key = c.in-Some.key.now; is = sym c.in-Some.ensures.key; same = refl } in
     record {
       grows = n.grows;
-      rising = λ h. n.rising h (rw c.in_ok-made-in-Some.ensures.places no_places.rising);
+      rising = λ h. n.rising h (rw c.in_ok-made-in-Some.ensures.positions no_positions.rising);
       distinct = n.distinct;
       reached = λ h. n.reached ts looks h
           (by_end (state_of c.in-Some.key.now) (state_of c.in_ok-made-in-Some.made)

@@ -16,11 +16,11 @@ returns-clause-foresees c =
     let key = c.in-Some.key.now in
     let all = c.live_trees.new.self.steps.items in
     let here : IsAt c.args.states.now.keys c.args.state (state_of key) = record { key = key; is = sym c.in-Some.ensures.key; same = refl } in
-    IfOk-weaker c.live_trees.result (λ lives. AreLive trees.nodes.now trees.starts.now key.places.items key.kind all 0 lives.items (length trees.nodes.now))
+    IfOk-weaker c.live_trees.result (λ lives. AreLive trees.nodes.now trees.starts.now key.positions.items key.kind all 0 lives.items (length trees.nodes.now))
     (λ lives. Foresees (cores_of trees) trees.looks c.args.states.now.keys c.args.state all lives.items)
     (λ lives live. record {
       from = state_of key;
       from_is = here;
-      next = next_is trees.nodes.now trees.starts.now c.requires.prepared.starts key.places.items key.kind all trees.looks lives.items key.matches.items live (c.requires.entered (state_of key) here);
+      next = next_is trees.nodes.now trees.starts.now c.requires.prepared.starts key.positions.items key.kind all trees.looks lives.items key.matches.items live (c.requires.entered (state_of key) here);
     })
     c.live_trees.ensures.live

@@ -1,6 +1,6 @@
 use Rattle.std.proofs.Common.{◌≡◌, ℕ, ◌+◌, ◌-◌, ◌<◌, ◌≤◌, Bool, true, false, not, IfSome, List, length-set, slice_index, slice_index_or, refl, ◌∙◌, subst, arith}
 use Rattle.std.specs.Bool.{then_some}
-use Rattle.logos_places.specs.Core.{Core}
+use Rattle.logos_positions.specs.Core.{Core}
 use Rattle.logos_automaton.specs.Rules.{AreFree}
 use Rattle.logos_automaton.specs.inside.Prepared.{cores_of}
 use Rattle.logos_automaton.specs.Keys.{AreFirstIn, Grows, LeadsTo, IsRow}

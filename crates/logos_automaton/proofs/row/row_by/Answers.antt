@@ -4,12 +4,12 @@ use Rattle.logos_automaton.specs.inside.Steps.{Foresees, state_after}
 use Rattle.logos_automaton.specs.declared.cache.LiveTree.{LiveTree}
 use Rattle.logos_automaton.specs.declared.key.Key.{Key}
 use Rattle.logos_automaton.specs.declared.tree_steps.TreeSteps.{TreeSteps}
-use Rattle.logos_places.specs.Core.{Core}
+use Rattle.logos_positions.specs.Core.{Core}
 use Rattle.logos_automaton.proofs.keys.TargetLemmas.{at_first, at_more, extends_both, extends_none}
 use Rattle.logos_automaton.proofs.keys.TreeStepsLemmas.{if_known}
 use Rattle.logos_automaton.proofs.row.row_by.Goals as goal
 
--- what the live trees say holds of more states too
+-- the states that the live trees determine, with more states
 grown : {old new : List Key} (ts : List Core) (looks : Bool) (k : ℕ) (all : List TreeSteps) (lives : List LiveTree) → Grows old new → Foresees ts looks old k all lives →
     Foresees ts looks new k all lives
 grown ts looks k all lives g h = record { from = h.from; from_is = g.keeps k h.from h.from_is; next = h.next }

@@ -1,7 +1,7 @@
 use Rattle.std.proofs.Common.{◌≡◌, ◌<◌, ◌≤◌, ◌+◌, ℕ, List, length, slice_index}
 use Rattle.logos_automaton.specs.inside.Steps.{Foresees, state_after}
 use Rattle.logos_automaton.specs.Keys.{Extends, Grows, IsAt}
-use Rattle.logos_places.specs.Core.{Core}
+use Rattle.logos_positions.specs.Core.{Core}
 use Rattle.logos_automaton.proofs.row.row_by.Given as goal
 
 abbrev pub invariant-loop-byte : goal.invariant-loop-byte

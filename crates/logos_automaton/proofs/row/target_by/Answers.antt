@@ -1,6 +1,6 @@
 use Rattle.std.proofs.Common.{subst, sym, arith}
 use Rattle.logos_automaton.specs.Keys.{State, IsAt, IsReached, by_byte}
-use Rattle.logos_places.specs.Marks.{IsRising}
+use Rattle.logos_positions.specs.Marks.{IsRising}
 use Rattle.logos_automaton.proofs.row.target_by.Goals as goal
 
 pub overflow_cast-result : goal.overflow_cast-result
@@ -14,7 +14,7 @@ returns-clause-extends c = λ ts i h.
     let is = c.in_ok-made.ensures in
     record {
       grows = n.grows;
-      rising = λ r. n.rising r (subst (λ (s : State). IsRising s.places) (sym is) next.places.set.rising);
+      rising = λ r. n.rising r (subst (λ (s : State). IsRising s.positions) (sym is) next.positions.set.rising);
       distinct = n.distinct;
       reached = λ r. n.reached ts looks r (subst (IsReached ts looks) (sym is) (by_byte h.from _ c.args.byte c.ranges.byte.fits (r.reached i h.from h.from_is) next));
       longer = n.longer;

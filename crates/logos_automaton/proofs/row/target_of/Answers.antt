@@ -17,7 +17,7 @@ returns-clause-extends c =
     let here : IsAt c.args.states.now.keys c.args.state (state_of c.in-Some.key.now) = record { key = c.in-Some.key.now; is = sym c.in-Some.ensures.key; same = refl } in
     record {
       grows = n.grows;
-      rising = λ h. n.rising h c.in_ok-made-in-Some.ensures.places.set.rising;
+      rising = λ h. n.rising h c.in_ok-made-in-Some.ensures.positions.set.rising;
       distinct = n.distinct;
       reached = λ h. n.reached ts c.args.trees.now.looks h
           (by_byte (state_of c.in-Some.key.now) (state_of c.in_ok-made-in-Some.made) c.args.byte c.ranges.byte.fits

@@ -1,8 +1,13 @@
 use Rattle.logos_graph.specs.View.{rules_of}
 use Rattle.logos_machine.specs.LexerValue.{answers_of}
 use Rattle.logos_generator.proofs.InputLemmas.{are_bytes}
-use Rattle.logos_codegen.proofs.LexLemmas.{memory_no_refusal, items_of_result, order_of_result, parts_of_result, cut_of_result, shapes_of_result, unlexed_just, unlexed_no_refusal}
+use Rattle.logos_codegen.proofs.LexLemmas.{memory_no_refusal, items_of_result, order_of_result, parts_of_result, cut_of_result, shapes_of_result, takes_by_rules, unlexed_just, unlexed_no_refusal}
 use Rattle.logos_codegen.proofs.lexing.lex_source.Goals as goal
+
+pub lex_input-found-requires : goal.lex_input-found-requires
+lex_input-found-requires g c =
+    let made = c.in-Ok.ensures in
+    takes_by_rules g.C.Fn (rules_of c.in-Ok.generated.graph.leaves) c.in-Ok.generated.code c.args.callbacks made.lexer.uses (c.requires (rules_of c.in-Ok.generated.graph.leaves) c.in-Ok.generated.graph.utf8 made.accepted)
 
 pub returns-in-Err-clause-accepted : goal.returns-in-Err-clause-accepted
 returns-in-Err-clause-accepted g c = λ rules utf8 a limits. memory_no_refusal _ c.from.result c.from.ensures (c.in-Err.ensures.complete rules utf8 a limits)

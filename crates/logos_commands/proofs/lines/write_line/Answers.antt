@@ -5,16 +5,16 @@ use Rattle.logos_commands.proofs.lines.write_line.Goals as goal
 
 pub write_digits-at-requires : goal.write_digits-at-requires
 write_digits-at-requires c =
-    let place : (27 ≤ c.write_span-at.result) × (c.write_span-at.result ≤ 70) = c.write_span-at.ensures.place in
-    let next : c.write_before-at.result + 1 ≡ c.write_span-at.result = c.write_before-at.ensures.place in
+    let row_start : (27 ≤ c.write_span-at.result) × (c.write_span-at.result ≤ 70) = c.write_span-at.ensures.row_start in
+    let next : c.write_before-at.result + 1 ≡ c.write_span-at.result = c.write_before-at.ensures.row_start in
     let few : length (decimal c.in-Token.leaf.0) ≤ 20 = search (rules, few_digits) in
-    (omega (arith, place.0, next, few), omega (arith, place.1, next, c.write_before-at.array_long))
+    (omega (arith, row_start.0, next, few), omega (arith, row_start.1, next, c.write_before-at.array_long))
 
 pub write_before-requires : goal.write_before-requires
 write_before-requires c =
-    let place : (27 ≤ c.write_span-at.result) × (c.write_span-at.result ≤ 70) = c.write_span-at.ensures.place in
-    let next : c.write_before-at.result + 1 ≡ c.write_span-at.result = c.write_before-at.ensures.place in
+    let row_start : (27 ≤ c.write_span-at.result) × (c.write_span-at.result ≤ 70) = c.write_span-at.ensures.row_start in
+    let next : c.write_before-at.result + 1 ≡ c.write_span-at.result = c.write_before-at.ensures.row_start in
     let few : length (decimal c.in-Token.leaf.0) ≤ 20 = search (rules, few_digits) in
-    let low : 6 ≤ c.write_digits-at.result = omega (arith, place.0, next, few, c.write_digits-at.ensures.start) in
-    let high : c.write_digits-at.result ≤ 70 = omega (arith, place.1, next, c.write_digits-at.ensures.start) in
+    let low : 6 ≤ c.write_digits-at.result = omega (arith, row_start.0, next, few, c.write_digits-at.ensures.start) in
+    let high : c.write_digits-at.result ≤ 70 = omega (arith, row_start.1, next, c.write_digits-at.ensures.start) in
     (low, high)

@@ -1,8 +1,7 @@
-use Rattle.std.proofs.lemmas.Result.{err_from_is_err_and}
-use Rattle.logos_commands.proofs.RefusalLemmas.{stripping_refused}
+use Rattle.logos_commands.proofs.RefusalLemmas.{faults_shown, unreadable}
+use Rattle.logos_commands.specs.Runs.{IsUnreadable}
 use Rattle.logos_commands.proofs.outcome.stripped_source.Goals as goal
 
-pub returns-in_err-left-clause-denied : goal.returns-in_err-left-clause-denied
-returns-in_err-left-clause-denied c =
-    let p = err_from_is_err_and c.from_residual.result c.from_residual.ensures.1 in
-    rw p.1 (stripping_refused _ _ _ p.2 c.in_err-left.ensures.err)
+pub returns-in-Err-clause-denied : goal.returns-in-Err-clause-denied
+returns-in-Err-clause-denied c =
+    λ s. faults_shown (IsUnreadable c.args.source.now) c.in-Err.refusal c.refused_source.result c.refused_source.ensures.refusal (unreadable _ c.in-Err.refusal c.in-Err.ensures.err) s

@@ -1,7 +1,7 @@
 use Rattle.std.proofs.Common.{refl, ◌∙◌, arith}
 use Rattle.std.proofs.lemmas.Result.{err_from_is_err_and}
 use Rattle.logos_token.proofs.reading.CountLemmas.{IsRestOf-self}
-use Rattle.logos_enum.specs.Attributes.Attributes.{stand, broken}
+use Rattle.logos_enum.specs.Attributes.Attributes.{occur, broken}
 use Rattle.logos_enum.proofs.RuleLemmas.{IsRestOf-join}
 use Rattle.logos_enum.proofs.attributes.read_attributes.Goals as goal
 
@@ -22,4 +22,4 @@ loop-next-preserved c =
 pub returns-clause-ok : goal.returns-clause-ok
 returns-clause-ok c =
     let h = rw c.in_default.is at c.in_ok-next.ensures.value in
-    stand (c.loop-next.invariant.same ∙ h) (rw (c.before-2.ensures c.loop-next.invariant.front) c.loop-next.invariant.front.is)
+    occur (c.loop-next.invariant.same ∙ h) (rw (c.before-2.ensures c.loop-next.invariant.front) c.loop-next.invariant.front.is)

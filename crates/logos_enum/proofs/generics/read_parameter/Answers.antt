@@ -1,5 +1,5 @@
 use Rattle.std.proofs.lemmas.Result.{err_from_is_err_and}
-use Rattle.logos_enum.specs.Generics.OneParameter.{stands, broken}
+use Rattle.logos_enum.specs.Generics.OneParameter.{occurs, broken}
 use Rattle.logos_enum.proofs.generics.read_parameter.Goals as goal
 
 pub returns-in_err-head-clause-err : goal.returns-in_err-head-clause-err
@@ -8,4 +8,4 @@ returns-in_err-head-clause-err c =
     rw (p.1, p.2) (broken c.in_err-head.ensures.err)
 
 pub returns-clause-ok : goal.returns-clause-ok
-returns-clause-ok c = stands c.in_ok-head.ensures.ok c.extent-run.ensures
+returns-clause-ok c = occurs c.in_ok-head.ensures.ok c.extent-run.ensures

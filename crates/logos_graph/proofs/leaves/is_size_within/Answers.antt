@@ -2,7 +2,7 @@ use Rattle.std.proofs.Common.{◌≡◌, ◌+◌, drop, get_or, ap, sym, ◌∙�
 use Rattle.std.proofs.lemmas.List.{at_drop_more}
 use Rattle.std.proofs.lemmas.List.Sums.{sum_by-cons}
 use Rattle.logos_pattern.specs.Leaf.{pattern_tree}
-use Rattle.logos_places.specs.Size.{size}
+use Rattle.logos_positions.specs.Size.{size}
 use Rattle.logos_automaton.specs.Measures.{size_of}
 use Rattle.logos_graph.specs.View.{rule_of}
 use Rattle.logos_graph.specs.View.{rules_of}

@@ -17,7 +17,7 @@ use Rattle.logos_reduce.specs.declared.table.Table.{Table}
 use Rattle.logos_reduce.proofs.tables.RowLemmas.{rows_wide}
 
 wide : (rows : Rows) → AreWide (rows_of rows)
-wide rows = rows_wide rows.places.items rows.distinct.keys (λ i l. rows.placed i (omega arith)) rows.wide
+wide rows = rows_wide rows.slots.items rows.distinct.keys (λ i l. rows.placed i (omega arith)) rows.wide
 
 no_state : (table : Table) (s : ℕ) → size table ≤ s → mark table s ≡ record { accept = None; early = None }
 no_state table s l = get_or_past table.marks.items s (record { accept = None; early = None }) (omega (arith, l))
@@ -31,7 +31,7 @@ new-requires-clause-closed c =
     let closed = raw_closed (dfa_of c.args.dfa.now) c.requires.total (rows_of c.in_ok-rows.rows) c.in_ok-rows.ensures (wide c.in_ok-rows.rows) in
     λ s k t l e. let w = closed s k t (omega (arith, l, n)) e in omega (arith, w, n)
 
--- what is known of the parts, of a table that has them
+-- the facts about the parts, of a table that has them
 module _ (leaves : List Leaf) (dfa : Automaton) (marks : Vec StateMarks Global) (rows : Rows) (table : Table) (same_marks : table.marks ≡ marks) (same_rows : table.rows ≡ rows) where
   states : vec_len marks ≡ length dfa.matches → size table ≡ length dfa.matches
   states e = ap (λ (v : Vec StateMarks Global). vec_len v) same_marks ∙ e

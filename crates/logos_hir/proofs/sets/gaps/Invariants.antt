@@ -2,14 +2,14 @@ use Rattle.std.proofs.Common.{◌≡◌, ℕ, ◌≤◌, true, ◌&&◌, ◌||�
 use lib.Utf8.{scalar}
 use Rattle.logos_hir.specs.Hir.{pairs}
 use Rattle.logos_hir.specs.Sets.{AreCanonical, in_ranges}
-use Rattle.logos_hir.specs.inside.SetSteps.{IsPlace, free_from}
+use Rattle.logos_hir.specs.inside.SetSteps.{IsLimit, free_from}
 use Rattle.logos_hir.proofs.sets.gaps.Given as goal
 
--- what is found, with what the ranges that are left leave out from here on, is all that the ranges
--- leave out
+-- the result, with the numbers that the remaining ranges leave out from here on, is all that the
+-- ranges leave out
 abbrev pub invariant-loop-range : goal.invariant-loop-range
 invariant-loop-range l = record {
-  place : IsPlace l.first;
+  limit : IsLimit l.first;
   canonical : AreCanonical (pairs l.out.items);
   free : free_from 0 (pairs l.out.items) ≤ l.first;
   members : (c : ℕ) → scalar c ≡ true →

@@ -1,9 +1,9 @@
 use Rattle.std.proofs.Common.{◌≤◌, ◌-◌, length}
 use Rattle.logos_scan.specs.Runs.{IsReady, with_chunk}
-use Rattle.logos_walk.specs.Cursors.{start_of}
+use Rattle.logos_scan.specs.walk.Cursors.{start_of}
 use Rattle.logos_items.proofs.inputs.write_by_chunks.Given as goal
 
--- the run has its chunk, and stands in the input
+-- the run has its chunk, and is inside the input
 abbrev pub invariant-loop-item : goal.invariant-loop-item
 invariant-loop-item g l = record {
   ready : IsReady l.reading (with_chunk l.chunk l.run);

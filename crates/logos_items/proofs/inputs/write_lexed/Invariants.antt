@@ -1,9 +1,10 @@
 use Rattle.std.proofs.Common.{◌≡◌, ◌-◌, length}
 use Rattle.logos_items.proofs.inputs.write_lexed.Given as goal
 
--- the callback stays
+-- code and callback stay
 abbrev pub invariant-loop-item : goal.invariant-loop-item
 invariant-loop-item g l = record {
+  same_code : l.lexer.code ≡ l.fn.lexer.code;
   same_callback : l.lexer.callback ≡ l.fn.lexer.callback;
 }
 

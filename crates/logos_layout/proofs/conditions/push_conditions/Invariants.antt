@@ -5,8 +5,8 @@ use Rattle.logos_layout.specs.Conditions.{conditions_text}
 use Rattle.logos_layout.proofs.conditions.push_conditions.Given as goal
 
 -- with the attributes that are left the text has all of them
-abbrev pub invariant-loop-tree : goal.invariant-loop-tree
-invariant-loop-tree l = string_bytes l.text ++ conditions_text (tokens_of l.rest) ≡ string_bytes l.initial.text ++ conditions_text (tokens_of l.item)
+abbrev pub invariant-loop-attribute : goal.invariant-loop-attribute
+invariant-loop-attribute l = string_bytes l.text ++ conditions_text (tokens_of l.rest) ≡ string_bytes l.initial.text ++ conditions_text (tokens_of l.item)
 
-abbrev pub decreases-loop-tree : goal.decreases-loop-tree
-decreases-loop-tree l = count_of (tokens_of l.rest)
+abbrev pub decreases-loop-attribute : goal.decreases-loop-attribute
+decreases-loop-attribute l = count_of (tokens_of l.rest)

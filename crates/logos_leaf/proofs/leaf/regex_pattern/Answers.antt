@@ -1,6 +1,6 @@
 use Rattle.std.proofs.lemmas.Result.{IfOk-weaker}
 use Rattle.logos_definition.specs.DefinitionViews.{definition_view}
-use Rattle.logos_subpattern.specs.SubpatternViews.{names_of}
+use Rattle.logos_leaf.specs.subpattern.SubpatternViews.{names_of}
 use Rattle.logos_leaf.proofs.LeafLemmas.{whole_is_regex, missing_is_regex}
 use Rattle.logos_leaf.proofs.leaf.regex_pattern.Goals as goal
 

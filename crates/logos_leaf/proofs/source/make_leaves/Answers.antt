@@ -2,7 +2,7 @@ use Rattle.std.proofs.Common.{sym}
 use Rattle.std.proofs.lemmas.Result.{IfOk-weaker}
 use Rattle.logos_type_params.specs.SelfReference.{texts}
 use Rattle.logos_type_params.specs.WrittenTypes.{params_with}
-use Rattle.logos_subpattern.specs.SubpatternViews.{names_of}
+use Rattle.logos_leaf.specs.subpattern.SubpatternViews.{names_of}
 use Rattle.logos_leaf.proofs.VariantLemmas.{param_values}
 use Rattle.logos_leaf.proofs.source.make_leaves.Goals as goal
 

@@ -1,5 +1,5 @@
 use Rattle.std.proofs.Common.{◌≡◌, ◌≤◌, ◌+◌, ◌-◌, length, drop}
-use Rattle.logos_lines.specs.Places.{line_length}
+use Rattle.logos_lines.specs.Locations.{line_length}
 use Rattle.logos_lines.proofs.index.line_end.Given as goal
 
 abbrev pub invariant-loop-end : goal.invariant-loop-end

@@ -1,4 +1,4 @@
-use Rattle.logos_lines.proofs.PlaceLemmas.{starts_begin, starts_more}
+use Rattle.logos_lines.proofs.LocationLemmas.{starts_begin, starts_more}
 use Rattle.logos_lines.proofs.index.line_starts.Goals as goal
 
 pub loop-at-init : goal.loop-at-init

@@ -1,7 +1,7 @@
 use Rattle.std.proofs.Common.{◌≡◌, ℕ, ◌++◌, ◌∷◌, [], List, length, slice_index, arith, ap, sym, ◌∙◌}
 use Rattle.std.proofs.lemmas.Grind.{get_or_default_zero}
 use Rattle.logos_reduce.specs.Merge.{target_block}
-use Rattle.logos_reduce.proofs.orders.OrderLemmas.{order_few, place_kept}
+use Rattle.logos_reduce.proofs.orders.OrderLemmas.{order_few, slot_kept}
 use Rattle.logos_reduce.proofs.numbering.NumberLemmas.{turn_first, not_met}
 use Rattle.logos_reduce.proofs.number.breadth_first.Goals as goal
 
@@ -35,7 +35,7 @@ pub loop-i-preserved : goal.loop-i-preserved
 loop-i-preserved c =
     let o = c.loop-i.order in
     let n = c.meet_targets.new.order in
-    let kept = place_kept o.numbers.items o.states.items n.numbers.items n.states.items o.in_order n.in_order c.meet_targets.ensures.grows in
+    let kept = slot_kept o.numbers.items o.states.items n.numbers.items n.states.items o.in_order n.in_order c.meet_targets.ensures.grows in
     record {
       len = omega (arith, c.loop-i.invariant.len, c.meet_targets.ensures.len);
       some = let p = (kept 0 (omega (arith, c.loop-i.invariant.some))).0 in omega (arith, p);

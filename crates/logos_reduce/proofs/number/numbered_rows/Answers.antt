@@ -16,9 +16,9 @@ loop-block-preserved c =
     let numbers = c.args.order.now.numbers.items in
     let i = c.loop-block.block-index in
     let number = λ (b : ℕ). target_of (slice_index numbers b) in
-    let place = c.args.order.now.in_order.placed i (let n = c.deref-block-items.ensures.len in omega arith) in
+    let slot = c.args.order.now.in_order.placed i (let n = c.deref-block-items.ensures.len in omega arith) in
     let at : c.index.result.now ≡ slice_index leaders (slice_index states i) =
-    (rw c.deref-block-items.ensures.value at c.index.ensures) ∙ get_or_default_zero leaders (slice_index states i) c.index.result.now (omega (arith, place.0, c.requires.room)) in (
+    (rw c.deref-block-items.ensures.value at c.index.ensures) ∙ get_or_default_zero leaders (slice_index states i) c.index.result.now (omega (arith, slot.0, c.requires.room)) in (
       length_pushed (rows_of c.loop-block.rows) (rows_of c.push.new.self) _ i c.in_ok-push.ensures c.loop-block.invariant.0,
       λ h k m. pushed (λ (i : ℕ) (row : List ℕ). (k : ℕ) → target_by row k ≡ option_and_then number (target_block table block (slice_index leaders (slice_index states i)) k))
           (rows_of c.loop-block.rows) (rows_of c.push.new.self) _ [] i c.in_ok-push.ensures c.loop-block.invariant.0 (λ j l k. c.loop-block.invariant.1 j k l)

@@ -7,14 +7,14 @@ use Rattle.logos_reduce.proofs.prune.pruned_rows.Goals as goal
 pub returns-clause-len : goal.returns-clause-len
 returns-clause-len c =
     let rows = c.args.rows in
-    rows_length rows.places.items c.prune_all.new.rows.items ∙ sym (rows_length rows.places.items rows.distinct.keys.items)
+    rows_length rows.slots.items c.prune_all.new.rows.items ∙ sym (rows_length rows.slots.items rows.distinct.keys.items)
 
 pub returns-clause-rows : goal.returns-clause-rows
 returns-clause-rows c = λ s k l.
     let rows = c.args.rows in
-    let m = rows_length rows.places.items rows.distinct.keys.items in
-    let here : s < length rows.places.items = omega arith in
+    let m = rows_length rows.slots.items rows.distinct.keys.items in
+    let here : s < length rows.slots.items = omega arith in
     let p = rows.placed s (omega arith) in
-    ap (λ (row : List ℕ). target_by row k) (row_placed rows.places.items c.prune_all.new.rows.items s here)
-    ∙ c.prune_all.ensures.rows (slice_index rows.places.items s) k (omega (arith, p))
-    ∙ ap (λ (row : List ℕ). met_target c.args.order.now.numbers.items (target_by row k)) (sym (row_placed rows.places.items rows.distinct.keys.items s here))
+    ap (λ (row : List ℕ). target_by row k) (row_placed rows.slots.items c.prune_all.new.rows.items s here)
+    ∙ c.prune_all.ensures.rows (slice_index rows.slots.items s) k (omega (arith, p))
+    ∙ ap (λ (row : List ℕ). met_target c.args.order.now.numbers.items (target_by row k)) (sym (row_placed rows.slots.items rows.distinct.keys.items s here))

@@ -1,7 +1,7 @@
 use Rattle.std.proofs.Common.{◌≡◌, ◌<◌, length, slice_index, arith, ap, sym}
 use Rattle.std.proofs.lemmas.Grind.{common_steps}
 use Rattle.logos_reduce.specs.Table.{size}
-use Rattle.logos_reduce.proofs.orders.OrderLemmas.{order_few, met_kept, place_kept}
+use Rattle.logos_reduce.proofs.orders.OrderLemmas.{order_few, met_kept, slot_kept}
 use Rattle.logos_reduce.proofs.pruning.PruneLemmas.{seed_of_use, listed_within, sound_more, closed_more, all_of_use}
 use Rattle.logos_reduce.proofs.prune.useful_states.Goals as goal
 
@@ -45,7 +45,7 @@ loop-i-preserved c =
       seeds = λ s l k. met_kept o.numbers.items n.numbers.items c.meet_all.ensures.grows s (c.loop-i.invariant.seeds s l k);
       closed = closed_more table c.in_ok-from.from.items c.in_ok-from.ensures.lists from_len c.index-t.result.now here c.index.result.now c.index.ensures
           o.numbers.items o.states.items n.numbers.items n.states.items o.in_order n.in_order c.meet_all.ensures.grows i (omega arith) (sym e) c.loop-i.invariant.closed c.in_ok-meet_all.ensures.all;
-      passed = let q = (place_kept o.numbers.items o.states.items n.numbers.items n.states.items o.in_order n.in_order c.meet_all.ensures.grows i (omega arith)).0 in omega (arith, q);
+      passed = let q = (slot_kept o.numbers.items o.states.items n.numbers.items n.states.items o.in_order n.in_order c.meet_all.ensures.grows i (omega arith)).0 in omega (arith, q);
     }
 
 pub returns-clause-useful : goal.returns-clause-useful

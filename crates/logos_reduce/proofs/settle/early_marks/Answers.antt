@@ -9,25 +9,25 @@ use Rattle.logos_reduce.proofs.settle.early_marks.Goals as goal
 pub index-requires : goal.index-requires
 index-requires c =
     let rows = c.args.table.now.rows in
-    let n = rows_length rows.places.items rows.distinct.keys.items in
+    let n = rows_length rows.slots.items rows.distinct.keys.items in
     let same = c.args.table.now.same_len in
     let p = rows.placed c.loop-s.s (omega arith) in
-    omega (arith, p, c.place.ensures, c.in_ok-leaves.ensures.len)
+    omega (arith, p, c.slot.ensures, c.in_ok-leaves.ensures.len)
 
 pub loop-s-preserved : goal.loop-s-preserved
 loop-s-preserved c =
     let table = c.args.table.now in
-    let places = table.rows.places.items in
+    let slots = table.rows.slots.items in
     let keys = table.rows.distinct.keys.items in
     let s = c.loop-s.s in
-    let n = rows_length places keys in
+    let n = rows_length slots keys in
     let same = table.same_len in
-    let here : s < length places = omega arith in
+    let here : s < length slots = omega arith in
     let p = table.rows.placed s (omega (arith, here)) in
-    let inside : c.place.result < length keys = omega (arith, p, c.place.ensures) in
-    let at : c.index.result.now ≡ slice_index_or c.in_ok-leaves.leaves.items c.place.result None = grind (arith, common_steps) in
-    let one = subst (λ (leaf : Option ℕ). IsCommonIn table (slice_index_or keys c.place.result []) leaf) (sym at) (c.in_ok-leaves.ensures.leaves c.place.result inside) in
-    let row = ap (λ (place : ℕ). slice_index_or keys place []) c.place.ensures ∙ sym (row_placed places keys s here) in (
+    let inside : c.slot.result < length keys = omega (arith, p, c.slot.ensures) in
+    let at : c.index.result.now ≡ slice_index_or c.in_ok-leaves.leaves.items c.slot.result None = grind (arith, common_steps) in
+    let one = subst (λ (leaf : Option ℕ). IsCommonIn table (slice_index_or keys c.slot.result []) leaf) (sym at) (c.in_ok-leaves.ensures.leaves c.slot.result inside) in
+    let row = ap (λ (slot : ℕ). slice_index_or keys slot []) c.slot.ensures ∙ sym (row_placed slots keys s here) in (
       omega (arith, c.in_ok-push.ensures.len),
       pushed (IsCommon table) c.loop-s.early.items c.push.new.self.items c.index.result.now None s
           c.in_ok-push.ensures.items (omega arith) c.loop-s.invariant.1

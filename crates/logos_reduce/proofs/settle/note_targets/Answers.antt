@@ -15,7 +15,7 @@ returns-clause-spare c = λ t. go t (slice_index_or c.loop-k.needed.items t fals
 
     go : (t : ℕ) (b : Bool) → slice_index_or c.loop-k.needed.items t false ≡ b → IsSet c.loop-k.needed.items t ⊎ IsSpare c.args.table.now c.args.s c.args.early t
     go t true e = inl e
-    go t false e = inr (λ k q. at k q (c.loop-k.invariant.3 k t (let l = symbol_below (rows_of rows) (rows_wide rows.places.items rows.distinct.keys (λ i l. rows.placed i (omega arith)) rows.wide) c.args.s k t q in omega arith) q))
+    go t false e = inr (λ k q. at k q (c.loop-k.invariant.3 k t (let l = symbol_below (rows_of rows) (rows_wide rows.slots.items rows.distinct.keys (λ i l. rows.placed i (omega arith)) rows.wide) c.args.s k t q in omega arith) q))
       where
         at : (k : ℕ) → to c.args.table.now c.args.s k ≡ Some t → IsSet c.loop-k.needed.items t ⊎ ((mark c.args.table.now t).accept ≡ c.args.early) → (mark c.args.table.now t).accept ≡ c.args.early
         at k q (inl h) = absurd (cc)

@@ -36,7 +36,7 @@ returns-then-border-target g c =
 pub returns-in_default : goal.returns-in_default
 returns-in_default g c =
     let m = c.loop-border.invariant in
-    record { left = c.loop-border.rest.now; is_rest = m.is_rest; chunks_are = m.chunks_are; follows = c.in_ok-last.ensures.items }
+    record { left = c.loop-border.rest.now; is_rest = m.is_rest; chunks_are = m.chunks_are; follows = (c.in_ok-last.ensures.items, c.in_ok-last.ensures.accepted) }
 
 pub loop-border-preserved : goal.loop-border-preserved
 loop-border-preserved g c =

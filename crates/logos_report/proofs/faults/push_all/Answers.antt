@@ -2,11 +2,11 @@ use Rattle.std.proofs.Common.{◌∙◌, ◌++◌, ap, refl, subst, sym, take, d
 use Rattle.std.proofs.lemmas.List.{append-nil}
 use Rattle.logos_token.specs.FaultView.{fault_of, faults_of}
 use Rattle.logos_report.specs.Faults.{counted_texts, texts_after}
-use Rattle.logos_report.specs.Pages.{Shows}
+use Rattle.logos_page.specs.Pages.{Shows}
 use Rattle.logos_report.specs.Parts.{all_faults, listed_faults}
 use Rattle.logos_report.specs.Sets.{NextValue, next_after, next_value}
 use Rattle.logos_report.proofs.FaultLemmas.{next_shown, none_shown}
-use Rattle.logos_report.proofs.PageLemmas.{shows_as}
+use Rattle.logos_page.proofs.PageLemmas.{shows_as}
 use Rattle.logos_report.proofs.faults.push_all.Goals as goal
 
 pub loop-fault-init : goal.loop-fault-init

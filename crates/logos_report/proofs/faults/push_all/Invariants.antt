@@ -1,7 +1,7 @@
 use Rattle.std.proofs.Common.{◌≡◌, ◌++◌, drop, take}
 use Rattle.logos_token.specs.FaultView.{faults_of}
 use Rattle.logos_report.specs.Faults.{texts_after}
-use Rattle.logos_report.specs.Pages.{PageValue, Shows}
+use Rattle.logos_page.specs.Pages.{PageValue, Shows}
 use Rattle.logos_report.specs.Parts.{all_faults, listed_faults}
 use Rattle.logos_report.specs.Sets.{next_value}
 use Rattle.logos_report.proofs.faults.push_all.Given as goal

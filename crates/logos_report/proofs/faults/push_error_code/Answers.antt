@@ -1,7 +1,7 @@
 use Rattle.std.proofs.Common.{◌++◌, codes}
 use Rattle.logos_token.specs.FaultNames.{name_of}
-use Rattle.logos_report.proofs.PageLemmas.{gains_then, painted_gained}
-use Rattle.logos_report.specs.declared.page.Style.TheVariants.{Error}
+use Rattle.logos_page.proofs.PageLemmas.{gains_then, painted_gained}
+use Rattle.logos_page.specs.declared.page.Style.TheVariants.{Error}
 use Rattle.logos_report.proofs.faults.push_error_code.Goals as goal
 
 pub returns : goal.returns

@@ -1,10 +1,10 @@
 use Rattle.std.proofs.Common.{◌∙◌, ◌++◌, ap, codes}
 use Rattle.logos_token.specs.FaultView.{fault_of}
 use Rattle.logos_report.specs.Faults.{first_line}
-use Rattle.logos_report.specs.Pages.{painted}
-use Rattle.logos_report.specs.declared.page.Style.TheVariants.{Strong}
-use Rattle.logos_report.specs.Shown.{shown_text}
-use Rattle.logos_report.proofs.PageLemmas.{gains_as, gains_then}
+use Rattle.logos_page.specs.Pages.{painted}
+use Rattle.logos_page.specs.declared.page.Style.TheVariants.{Strong}
+use Rattle.logos_page.specs.Shown.{shown_text}
+use Rattle.logos_page.proofs.PageLemmas.{gains_as, gains_then}
 use Rattle.logos_report.proofs.faults.push_head.Goals as goal
 
 pub returns : goal.returns

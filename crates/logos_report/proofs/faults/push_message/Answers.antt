@@ -1,7 +1,7 @@
 use Rattle.std.proofs.Common.{◌++◌, codes}
-use Rattle.logos_report.specs.Shown.{shown_text}
-use Rattle.logos_report.proofs.PageLemmas.{gains_then, painted_gained}
-use Rattle.logos_report.specs.declared.page.Style.TheVariants.{Strong}
+use Rattle.logos_page.specs.Shown.{shown_text}
+use Rattle.logos_page.proofs.PageLemmas.{gains_then, painted_gained}
+use Rattle.logos_page.specs.declared.page.Style.TheVariants.{Strong}
 use Rattle.logos_report.proofs.faults.push_message.Goals as goal
 
 pub returns : goal.returns

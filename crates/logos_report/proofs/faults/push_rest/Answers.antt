@@ -1,4 +1,4 @@
-use Rattle.logos_report.proofs.PageLemmas.{grown, shown, shows_then}
+use Rattle.logos_page.proofs.PageLemmas.{grown, shown, shows_then}
 use Rattle.logos_report.proofs.faults.push_rest.Goals as goal
 
 pub returns : goal.returns

@@ -1,6 +1,6 @@
 use Rattle.logos_report.specs.Faults.{rest_text}
-use Rattle.logos_report.specs.declared.page.Style.TheVariants.{Strong}
-use Rattle.logos_report.proofs.PageLemmas.{gains_then, painted_gained}
+use Rattle.logos_page.specs.declared.page.Style.TheVariants.{Strong}
+use Rattle.logos_page.proofs.PageLemmas.{gains_then, painted_gained}
 use Rattle.logos_report.proofs.faults.push_rest_text.Goals as goal
 
 pub returns : goal.returns

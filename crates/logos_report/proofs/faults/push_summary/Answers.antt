@@ -1,7 +1,7 @@
 use Rattle.logos_report.specs.Faults.{count_text}
-use Rattle.logos_report.specs.Pages.{painted}
-use Rattle.logos_report.specs.declared.page.Style.TheVariants.{Strong}
-use Rattle.logos_report.proofs.PageLemmas.{gains_as, gains_then, painted_gained}
+use Rattle.logos_page.specs.Pages.{painted}
+use Rattle.logos_page.specs.declared.page.Style.TheVariants.{Strong}
+use Rattle.logos_page.proofs.PageLemmas.{gains_as, gains_then, painted_gained}
 use Rattle.logos_report.proofs.faults.push_summary.Goals as goal
 
 pub returns : goal.returns

@@ -1,5 +1,5 @@
 use Rattle.std.proofs.Common.{[]}
-use Rattle.logos_report.specs.Pages.{Shows}
+use Rattle.logos_page.specs.Pages.{Shows}
 use Rattle.logos_report.proofs.sets.push_starts.Given as goal
 
 abbrev pub invariant-loop-start : goal.invariant-loop-start

@@ -1,4 +1,4 @@
-use Rattle.logos_report.proofs.PageLemmas.{first_shown}
+use Rattle.logos_page.proofs.PageLemmas.{first_shown}
 use Rattle.logos_report.proofs.warnings.push_warnings.Goals as goal
 
 pub returns : goal.returns

@@ -9,5 +9,5 @@ returns-clause-run c =
     let input = c.args.reading.now.input.now in
     let l = c.load-loaded in
     let cur = c.new-cursor.ensures in
-    let run : WithChunk = record { chunk = l.new.chunk; cursor = c.new-cursor.result; count = l.result.count; place = l.result.place; low = 0 } in
-    loaded_run code c.args.reading.now.rows.now input run c.args.start c.args.base c.args.place l.new.chunk.entries l.result l.ensures.loaded refl cur.base refl refl refl l.ensures.marked cur.stands (omega arith) c.requires.stands
+    let run : WithChunk = record { chunk = l.new.chunk; cursor = c.new-cursor.result; count = l.result.count; row_start = l.result.row_start; low = 0 } in
+    loaded_run code c.args.reading.now.rows.now input run c.args.start c.args.base c.args.row_start l.new.chunk.entries l.result l.ensures.loaded refl cur.base refl refl refl l.ensures.marked cur.is_at (omega arith) c.requires.is_at

@@ -1,5 +1,5 @@
 use Rattle.std.proofs.Common.{◌≡◌, ◌+◌, ◌-◌, ◌/◌, take, drop, length, sym, refl, subst, rules, arith}
-use Rattle.logos_walk.specs.Walk.{Walked}
+use Rattle.logos_scan.specs.walk.Walk.{Walked}
 use Rattle.logos_scan.specs.Runs.{with_chunk}
 use Rattle.logos_scan.proofs.LoadLemmas.{walked_text, walked_suffix, rest_there, rest_long, marks_beside, repaired_run}
 use Rattle.logos_scan.proofs.run.repaired_from.Goals as goal
@@ -18,8 +18,8 @@ repair-repaired-requires-clause-holds c =
       order = omega (arith, inside);
       in_text = omega (arith, rest_long input base, within);
       in_trace = omega (arith, long, few);
-      walked = walked_text c.args.reading.now.rows.now (drop base input) _ _ run.chunk.entries c.args.from run.count run.place (λ j l. sym (rest_there input base j (omega (arith, l, within))))
-          (walked_suffix c.args.reading.now.rows.now (drop base input) ch.whole.0 run.chunk.entries run.low c.args.from run.count run.place c.requires.left (omega (arith, inside)) ch.whole.1);
+      walked = walked_text c.args.reading.now.rows.now (drop base input) _ _ run.chunk.entries c.args.from run.count run.row_start (λ j l. sym (rest_there input base j (omega (arith, l, within))))
+          (walked_suffix c.args.reading.now.rows.now (drop base input) ch.whole.0 run.chunk.entries run.low c.args.from run.count run.row_start c.requires.left (omega (arith, inside)) ch.whole.1);
       stays = ch.stays;
     }
 
@@ -44,4 +44,4 @@ returns-clause-run c =
     let e = rep.ensures in
     let cur = c.new-cursor.ensures in
     repaired_run code rows input run _ c.args.from rep.result.stop rep.new.trace c.requires.reading c.requires.chunk c.mark.ensures.entries cur.base refl refl (omega (arith, c.requires.inside)) e.within
-    e.beside c.mark.ensures.marked cur.stands e.stays (subst (λ p. Walked rows (take (length input - run.cursor.base) (drop run.cursor.base input)) p rep.new.trace c.args.from run.count rep.result.place) c.root_place-root.ensures.place e.walked)
+    e.beside c.mark.ensures.marked cur.is_at e.stays (subst (λ p. Walked rows (take (length input - run.cursor.base) (drop run.cursor.base input)) p rep.new.trace c.args.from run.count rep.result.row_start) c.root_row_start-root.ensures.row_start e.walked)

@@ -1,13 +1,13 @@
 use Rattle.std.proofs.Common.{ℕ, sym, subst}
-use Rattle.logos_scan.specs.Tries.{StandsIn}
-use Rattle.logos_scan.proofs.LoadLemmas.{root_is_place}
-use Rattle.logos_scan.proofs.TryLemmas.{stands_begun}
+use Rattle.logos_scan.specs.Attempts.{ComesTo}
+use Rattle.logos_scan.proofs.LoadLemmas.{root_is_row_start}
+use Rattle.logos_scan.proofs.TryLemmas.{is_at_begun}
 use Rattle.logos_scan.proofs.run.restarted.Goals as goal
 
-pub filled-requires-clause-stands : goal.filled-requires-clause-stands
-filled-requires-clause-stands c =
-    subst (λ (p : ℕ). StandsIn c.args.reading.now.code.now c.args.reading.now.input.now c.args.to c.args.to p) (sym c.root_place.ensures.place)
-    (stands_begun c.args.reading.now.code.now c.requires.reading.sound c.args.reading.now.input.now c.args.to c.requires.within)
+pub filled-requires-clause-is_at : goal.filled-requires-clause-is_at
+filled-requires-clause-is_at c =
+    subst (λ (p : ℕ). ComesTo c.args.reading.now.code.now c.args.reading.now.input.now c.args.to c.args.to p) (sym c.root_row_start.ensures.row_start)
+    (is_at_begun c.args.reading.now.code.now c.requires.reading.sound c.args.reading.now.input.now c.args.to c.requires.within)
 
-pub filled-requires-clause-place : goal.filled-requires-clause-place
-filled-requires-clause-place c = rw c.root_place.ensures.place (root_is_place c.args.reading.now.code.now c.args.reading.now.rows.now c.requires.reading)
+pub filled-requires-clause-row_start : goal.filled-requires-clause-row_start
+filled-requires-clause-row_start c = rw c.root_row_start.ensures.row_start (root_is_row_start c.args.reading.now.code.now c.args.reading.now.rows.now c.requires.reading)

@@ -12,7 +12,7 @@ returns-then-rest-ge4608 c =
       within = long;
       few = omega arith;
       full = λ h. refl;
-      walked = walked_text c.args.reading.now.rows.now _ (drop base input) c.args.place c.walk_chunk.new.trace 0 4608 c.walk_chunk.result (λ j h. part_there input base j long h) c.walk_chunk.ensures.walked;
+      walked = walked_text c.args.reading.now.rows.now _ (drop base input) c.args.row_start c.walk_chunk.new.trace 0 4608 c.walk_chunk.result (λ j h. part_there input base j long h) c.walk_chunk.ensures.walked;
       stays = c.walk_chunk.ensures.stays;
       rest = λ k f h. absurd (omega (arith, f, h));
     }
@@ -26,7 +26,7 @@ returns c =
       within = omega (arith, long, c.requires.base);
       few = omega (arith, long, c.if-rest-ge4608.false);
       full = λ h. absurd (omega (arith, h, long, c.requires.base));
-      walked = walked_text c.args.reading.now.rows.now _ (drop base input) c.args.place c.walk.new.trace 0 _ c.walk.result (λ j h. rest_there input base j (omega (arith, h, long))) c.walk.ensures.walked;
+      walked = walked_text c.args.reading.now.rows.now _ (drop base input) c.args.row_start c.walk.new.trace 0 _ c.walk.result (λ j h. rest_there input base j (omega (arith, h, long))) c.walk.ensures.walked;
       stays = c.walk.ensures.stays;
       rest = λ k f h. c.walk.ensures.beside k (inr f) ∙ get_or-replicate 4608 k 0 0 h;
     }

@@ -1,10 +1,10 @@
 use Rattle.std.proofs.Common.{List, ℕ, [], ◌∷◌, ◌∙◌, OnOk, codes, string_bytes, subst}
-use Rattle.logos_tables.specs.Texts.{table_text}
+use Rattle.logos_tables.specs.Texts.{field_text}
 use Rattle.logos_tables.specs.inside.Adding.{Appends}
 use Rattle.logos_tables.proofs.MarkLemmas.{skips_seen}
 use Rattle.logos_tables.proofs.lexer.push_skips.Goals as goal
 
 pub returns : goal.returns
 returns c =
-    subst (λ (xs : List ℕ). OnOk c.push_table.result (Appends (table_text (codes "_SKIPS") xs ∷ []) (string_bytes c.args.text.now) (string_bytes c.push_table.new.text)))
-    (c.deref-2.ensures.value ∙ c.in_ok-skips.ensures ∙ skips_seen c.parts.result.now c.args.code.now c.deref.result.now c.deref.ensures.value c.parts.ensures.is) c.push_table.ensures
+    subst (λ (xs : List ℕ). OnOk c.push_field.result (Appends (field_text (codes "skips") xs ∷ []) (string_bytes c.args.text.now) (string_bytes c.push_field.new.text)))
+    (c.deref-2.ensures.value ∙ c.in_ok-skips.ensures ∙ skips_seen c.parts.result.now c.args.code.now c.deref.result.now c.deref.ensures.value c.parts.ensures.is) c.push_field.ensures

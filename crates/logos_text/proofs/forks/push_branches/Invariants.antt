@@ -1,6 +1,6 @@
 use Rattle.std.proofs.Common.{List, ℕ, drop, map, string_bytes}
 use Rattle.logos_code.specs.CodeView.{branch_of}
-use Rattle.logos_text.specs.Standing.{Adds}
+use Rattle.logos_text.specs.Occurrence.{Adds}
 use Rattle.logos_text.specs.Texts.{branch_text}
 use Rattle.logos_text.proofs.forks.push_branches.Given as goal
 

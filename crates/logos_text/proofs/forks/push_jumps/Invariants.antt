@@ -1,5 +1,5 @@
 use Rattle.std.proofs.Common.{string_bytes}
-use Rattle.logos_text.specs.Standing.{Grows}
+use Rattle.logos_text.specs.Occurrence.{Grows}
 use Rattle.logos_text.proofs.forks.push_jumps.Given as goal
 
 abbrev pub invariant-loop-byte : goal.invariant-loop-byte

@@ -1,5 +1,5 @@
-use Rattle.std.proofs.Common.{append_assoc}
+use Rattle.logos_text.proofs.PieceLemmas.{prints_both, prints_last}
 use Rattle.logos_text.proofs.implementation.push_head.Goals as goal
 
 pub returns : goal.returns
-returns c = rw c.in_ok-write.ensures.bytes (simp append_assoc)
+returns c = prints_last (prints_both (prints_last (prints_both c.in_ok-push.ensures c.in_ok-push_library.ensures) c.in_ok-push-2.ensures) c.in_ok-push_this.ensures) c.in_ok-push-3.ensures

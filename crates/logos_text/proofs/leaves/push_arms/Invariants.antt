@@ -1,6 +1,9 @@
-use Rattle.std.proofs.Common.{string_bytes}
-use Rattle.logos_text.specs.Standing.{Grows}
+use Rattle.std.proofs.Common.{drop}
+use Rattle.std.specs.List.{flat_map}
+use Rattle.logos_text.specs.declared.sink.Sink.{Sink}
+use Rattle.logos_text.specs.Pieces.{Notes}
+use Rattle.logos_text.specs.Runs.{leaf_runs}
 use Rattle.logos_text.proofs.leaves.push_arms.Given as goal
 
 abbrev pub invariant-loop-n : goal.invariant-loop-n
-invariant-loop-n l = Grows (string_bytes l.initial.text) (string_bytes l.text)
+invariant-loop-n l = (whole : Sink) → Notes (flat_map (leaf_runs l.names.name) (drop l.n l.leaves)) l.sink whole → Notes (flat_map (leaf_runs l.names.name) l.leaves) l.initial.sink whole

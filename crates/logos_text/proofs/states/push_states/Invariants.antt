@@ -1,7 +1,7 @@
 use Rattle.std.proofs.Common.{List, ℕ, drop, map, string_bytes}
 use Rattle.std.specs.List.{flat_map}
 use Rattle.logos_code.specs.CodeView.{state_of}
-use Rattle.logos_text.specs.Standing.{Adds}
+use Rattle.logos_text.specs.Occurrence.{Adds}
 use Rattle.logos_text.specs.Texts.{state_texts}
 use Rattle.logos_text.proofs.states.push_states.Given as goal
 

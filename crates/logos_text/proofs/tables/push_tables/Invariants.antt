@@ -1,5 +1,5 @@
 use Rattle.std.proofs.Common.{List, ℕ, drop, string_bytes}
-use Rattle.logos_text.specs.Standing.{Adds}
+use Rattle.logos_text.specs.Occurrence.{Adds}
 use Rattle.logos_text.specs.Texts.{table_texts}
 use Rattle.logos_text.proofs.tables.push_tables.Given as goal
 

@@ -1,7 +1,7 @@
-//! Makes buffers tree by tree. Stripping and copies of types and callbacks make buffers.
+//! Builds buffers tree by tree. Stripping, and copying types and callbacks, build buffers with it.
 
 ghost use Rattle.std.specs.Prelude.{◌≡◌, ◌++◌, List, map, IfOk, OnOk};
-ghost use Rattle.logos_token.specs.ViewWords.{group, none, also, append, value_of, flat_token, stream_tokens, tree_of, inside_of};
+ghost use Rattle.logos_token.specs.ViewImports.{group, none, also, append, value_of, flat_token, stream_tokens, tree_of, inside_of};
 
 use crate::error::Memory;
 use crate::token::entry::Entry;
@@ -55,7 +55,7 @@ impl<'s> TokenStream<'s> {
         Ok(TokenStream { entries })
     }
 
-    /// Returns a group that holds all trees.
+    /// Returns a group that holds all trees of the buffer.
     pub fn group(&self, delimiter: Delimiter, span: Span) -> Group<'_, 's>
         ensures { group result.delimiter result.span (inside_of result) ≡
             group delimiter span (stream_tokens self.now) }

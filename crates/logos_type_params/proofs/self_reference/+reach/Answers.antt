@@ -22,4 +22,4 @@ pub returns-after-loop-part : goal.returns-after-loop-part
 returns-after-loop-part t c =
     let rest = at_drop_all (λ ps. trees (map tree_of ps)) c.deref-part-items.result.now c.loop-part.part-index c.loop-part-test.false in
     c.loop-part.invariant c.loop-part.reached.items
-    (rw rest (reaches_none (map param_value c.args.types.now.entries.items) (some_names none) c.loop-part.reached.items (λ text at held stands. absurd (true≢false (sym held)))))
+    (rw rest (reaches_none (map param_value c.args.types.now.entries.items) (some_names none) c.loop-part.reached.items (λ text at held occurs. absurd (true≢false (sym held)))))

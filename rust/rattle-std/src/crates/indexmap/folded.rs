@@ -3,11 +3,11 @@
 use core::hash::{BuildHasher, Hasher};
 use std::hash::RandomState;
 
-/// A hash of words: each is multiplied by a random number, and the halves of the product are put
-/// together. For the short keys and the many bytes one by one of the crates it takes a fraction of
-/// the time of Rust's own.
+/// A hash of words: each is multiplied by a random number, and the halves of the product are
+/// combined. For the short keys of the crates, and for bytes that are hashed one by one, it takes a
+/// fraction of the time of Rust's own.
 ///
-/// It begins at a random number too, so that keys with equal hashes are hard to choose.
+/// Its initial value is random too, so that keys with equal hashes are hard to find.
 #[derive(Clone, Copy)]
 pub(super) struct Folded {
     hash: u64,
@@ -15,7 +15,7 @@ pub(super) struct Folded {
 }
 
 impl Folded {
-    /// Returns the hash of nothing, by numbers of its own.
+    /// Returns the hash of an empty sequence, with new random numbers.
     pub(super) fn new() -> Folded {
         let state = RandomState::new();
         Folded {

@@ -34,7 +34,7 @@ impl<K: Eq + Hash, V> IndexMap<K, V> {
         self.0.find(hash, |entry| entry.0.borrow() == key)
     }
 
-    /// Returns whether there is a key.
+    /// Returns whether the map has a key.
     pub fn contains_key<Q: ?Sized + Eq + Hash>(&self, key: &Q) -> bool
     where
         K: Borrow<Q>,
@@ -51,7 +51,7 @@ impl<K: Eq + Hash, V> IndexMap<K, V> {
         Some(&self.0.list[index].1)
     }
 
-    /// Sets the value of a key, and returns the former one.
+    /// Sets the value of a key, and returns the former one, if there was one.
     ///
     /// # Errors
     ///
@@ -66,7 +66,7 @@ impl<K: Eq + Hash, V> IndexMap<K, V> {
         Ok(None)
     }
 
-    /// Returns the keys and their values by their indices.
+    /// Returns the keys and their values in the order of their indices.
     pub fn iter(&self) -> Pairs<'_, K, V> {
         self.0.list.iter().map(|(key, value)| (key, value))
     }

@@ -31,24 +31,24 @@ impl<T: Eq + Hash> IndexSet<T> {
         self.0.reserve(additional)
     }
 
-    /// Returns how many values there are.
+    /// Returns the number of values.
     #[inline]
     pub fn len(&self) -> usize {
         self.0.list.len()
     }
 
-    /// Returns whether there is no value.
+    /// Returns whether the set has no values.
     pub fn is_empty(&self) -> bool {
         self.0.list.is_empty()
     }
 
-    /// Returns the values by their indices.
+    /// Returns the values in the order of their indices.
     #[inline]
     pub fn as_slice(&self) -> &[T] {
         &self.0.list
     }
 
-    /// Returns the values by their indices.
+    /// Returns the values in the order of their indices.
     pub fn iter(&self) -> Iter<'_, T> {
         self.0.list.iter()
     }
@@ -106,7 +106,7 @@ impl<T: Eq + Hash> IndexSet<T> {
         self.0.table.clear();
     }
 
-    /// Keeps the first `len` values.
+    /// Removes all except the first `len` values.
     pub fn truncate(&mut self, len: usize) {
         for index in (len..self.len()).rev() {
             let hash = self.0.table.hash_of(&self.0.list[index]);

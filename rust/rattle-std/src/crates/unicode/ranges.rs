@@ -1,5 +1,5 @@
-//! Sets of characters as ranges. Those of functions that are called often are read from the tables
-//! when the crate is compiled.
+//! Sets of characters as ranges. Those for functions that are called often are read from the tables
+//! at compile time.
 
 use crate::alloc::{AllocError, Global};
 use crate::crates::unicode_tables as tables;
@@ -7,7 +7,7 @@ use crate::crates::unicode_tables::{OFFSETS, RANGES};
 use crate::vec::Vec;
 use core::cmp::Ordering;
 
-/// A set whose ranges are read when the crate is compiled.
+/// A set whose ranges are read at compile time.
 macro_rules! set {
     ($name:ident) => {
         pub(crate) static $name: [(u32, u32); count(tables::$name)] = ranges(tables::$name);
@@ -19,7 +19,7 @@ set!(NUMBER);
 set!(XID_START);
 set!(XID_CONTINUE);
 
-/// Returns the number that begins at an index of a table, and where the next one begins.
+/// Returns the number at an index of a table, and the index of the next one.
 pub(crate) const fn number_at(table: &[u8], mut at: usize) -> (u32, usize) {
     let (mut number, mut shift) = (0, 0);
     while table[at] >= b']' {
@@ -30,7 +30,7 @@ pub(crate) const fn number_at(table: &[u8], mut at: usize) -> (u32, usize) {
     (number | ((table[at] - b'0') as u32) << shift, at + 1)
 }
 
-/// Returns how many ranges a set has.
+/// Returns the number of ranges of a set.
 const fn count(set: usize) -> usize {
     let mut at = OFFSETS[set] as usize;
     let mut numbers = 0;
@@ -41,8 +41,8 @@ const fn count(set: usize) -> usize {
     numbers / 2
 }
 
-/// Returns the range that begins at an index of the table, for a range before that ends in front of
-/// `from`, and where the next one begins.
+/// Returns the range at an index of the table, if its predecessor ends before `from`, and the index
+/// of the next one.
 const fn range_at(at: usize, from: u32) -> ((u32, u32), usize) {
     let (gap, at) = number_at(RANGES, at);
     let (more, at) = number_at(RANGES, at);
@@ -73,7 +73,7 @@ pub(super) fn ranges_of(alloc: Global, set: usize) -> Result<Vec<(u32, u32)>, Al
     Ok(ranges)
 }
 
-/// Returns whether ranges in order have a character.
+/// Returns whether sorted ranges contain a character.
 pub(crate) fn contains(ranges: &[(u32, u32)], c: char) -> bool {
     let code = c as u32;
     let place = |&(first, last): &(u32, u32)| match (code < first, last < code) {

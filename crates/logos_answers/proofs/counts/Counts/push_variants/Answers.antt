@@ -1,5 +1,5 @@
 use Rattle.std.proofs.Common.{◌+◌, ◌-◌, ◌^◌, ◌∙◌, min, length, ap, subst, arith}
-use Rattle.logos_report.specs.Pages.{Gains}
+use Rattle.logos_page.specs.Pages.{Gains}
 use Rattle.logos_answers.specs.Counts.{lines_from}
 use Rattle.logos_answers.proofs.CountLemmas.{next_line, no_line}
 use Rattle.logos_answers.proofs.counts.Counts.push_variants.Goals as goal

@@ -1,5 +1,5 @@
 use Rattle.std.proofs.Common.{◌≤◌, ◌-◌, length}
-use Rattle.logos_report.specs.Pages.{PageValue, Gains}
+use Rattle.logos_page.specs.Pages.{PageValue, Gains}
 use Rattle.logos_answers.specs.Counts.{lines_from, variant_lines}
 use Rattle.logos_answers.proofs.counts.Counts.push_variants.Given as goal
 

@@ -1,5 +1,5 @@
 use Rattle.std.proofs.Common.{◌≡◌, ℕ, ◌+◌, ◌<◌, IsTrue, false, slice_index_or, drop}
-use Rattle.logos_places.specs.Kinds.{kind_of_byte}
+use Rattle.logos_positions.specs.Kinds.{kind_of_byte}
 use Rattle.logos_automaton.specs.inside.Steps.{AreSameBy}
 use Rattle.logos_automaton.proofs.cache.StateSteps.changes.Given as goal
 

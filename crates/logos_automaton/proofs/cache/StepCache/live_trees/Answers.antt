@@ -32,10 +32,10 @@ loop-tree-preserved c =
       within = omega (arith, n.bound, are.count);
       cached = c.in_ok-steps.ensures.cached;
       live = rw c.in_ok-push.ensures.items
-          (live_more nodes starts are key.places.items key.kind all c.loop-tree.lives.items 0 tree c.next_tree-tree-in-loop-tree.result live
-          (live_grown nodes starts are key.places.items key.kind c.loop-tree.self.steps.items all c.in_ok-steps.ensures.keeps c.loop-tree.lives.items 0 tree i.live)
+          (live_more nodes starts are key.positions.items key.kind all c.loop-tree.lives.items 0 tree c.next_tree-tree-in-loop-tree.result live
+          (live_grown nodes starts are key.positions.items key.kind c.loop-tree.self.steps.items all c.in_ok-steps.ensures.keeps c.loop-tree.lives.items 0 tree i.live)
           refl
-          (live_by nodes starts are key.places.items key.kind all (tree_view state) index live (sym made.tree) refl made.kind c.loop-tree-test.true made.has c.in_ok-steps.ensures.has)
+          (live_by nodes starts are key.positions.items key.kind all (tree_view state) index live (sym made.tree) refl made.kind c.loop-tree-test.true made.has c.in_ok-steps.ensures.has)
           (record { order = n.after; none = rw (← c.deref-in-loop-tree.ensures.value) n.unmarked }));
     }
 
@@ -45,4 +45,4 @@ returns-clause-live c =
     let key = c.args.key.now in
     let i = c.loop-tree.invariant in
     let all : c.loop-tree.tree ≡ length trees.nodes.now = omega (arith, i.within, c.loop-tree-test.false) in
-    subst (λ j. AreLive trees.nodes.now trees.starts.now key.places.items key.kind c.loop-tree.self.steps.items 0 c.loop-tree.lives.items j) all i.live
+    subst (λ j. AreLive trees.nodes.now trees.starts.now key.positions.items key.kind c.loop-tree.self.steps.items 0 c.loop-tree.lives.items j) all i.live

@@ -7,7 +7,7 @@ abbrev pub invariant-loop-tree : goal.invariant-loop-tree
 invariant-loop-tree l = record {
   within : l.tree ≤ length l.trees.nodes.now;
   cached : IsCacheOf l.trees l.self;
-  live : AreLive l.trees.nodes.now l.trees.starts.now l.key.places.items l.key.kind l.self.steps.items 0 l.lives.items l.tree;
+  live : AreLive l.trees.nodes.now l.trees.starts.now l.key.positions.items l.key.kind l.self.steps.items 0 l.lives.items l.tree;
 }
 
 abbrev pub decreases-loop-tree : goal.decreases-loop-tree

@@ -1,7 +1,7 @@
 use Rattle.std.proofs.Common.{string_bytes, arith}
 use Rattle.logos_graph.specs.GraphView.{edge_of}
 use Rattle.logos_graph.specs.Mermaid.{byte_edge_lines}
-use Rattle.logos_graph.proofs.ChartLemmas.{item_added, all_added}
+use Rattle.logos_graph.proofs.DiagramLemmas.{item_added, all_added}
 use Rattle.logos_graph.proofs.graph.mermaid.push_byte_edges.Goals as goal
 
 pub loop-edge-preserved : goal.loop-edge-preserved

@@ -1,7 +1,7 @@
 use Rattle.std.proofs.Common.{string_bytes, arith}
 use Rattle.logos_byte_class.specs.Bytes.{bounds}
 use Rattle.logos_graph.specs.Mermaid.{next_label}
-use Rattle.logos_graph.proofs.ChartLemmas.{next_added, all_added}
+use Rattle.logos_graph.proofs.DiagramLemmas.{next_added, all_added}
 use Rattle.logos_graph.proofs.graph.mermaid.push_next_ranges.Goals as goal
 
 pub loop-range-preserved : goal.loop-range-preserved

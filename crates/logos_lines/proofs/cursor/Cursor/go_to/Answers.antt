@@ -1,7 +1,7 @@
 use Rattle.std.proofs.Common.{◌≡◌, ℕ, ◌<◌, max, min, List, length, get_or, sym, ap, refl, ◌∙◌, arith}
-use Rattle.logos_lines.specs.Places.{after_byte}
+use Rattle.logos_lines.specs.Locations.{after_byte}
 use Rattle.logos_lines.specs.Cursors.{CursorValue}
-use Rattle.logos_lines.proofs.PlaceLemmas.{place_next, bounds}
+use Rattle.logos_lines.proofs.LocationLemmas.{location_next, bounds}
 use Rattle.logos_lines.proofs.cursor.Cursor.go_to.Goals as goal
 
 same_cursor : (text other : List ℕ) (at there : ℕ) → text ≡ other → at ≡ there → ◌≡◌ {A = CursorValue} (record { text = text; at = at }) (record { text = other; at = there })
@@ -10,13 +10,13 @@ same_cursor text other at there e f = rw (e, f) refl
 pub after-self-inside-requires-clause-line : goal.after-self-inside-requires-clause-line
 after-self-inside-requires-clause-line c =
     let b = bounds c.loop-self.self-inside.bytes.now c.loop-self.self-inside.offset c.loop-self.invariant.inside in
-    let line = rw (← c.loop-self.invariant.place) at b.line in
+    let line = rw (← c.loop-self.invariant.location) at b.line in
     omega (arith, line, c.loop-self-test.true, c.min-end.ensures, c.self.told.1)
 
 pub after-self-inside-requires-clause-column : goal.after-self-inside-requires-clause-column
 after-self-inside-requires-clause-column c =
     let b = bounds c.loop-self.self-inside.bytes.now c.loop-self.self-inside.offset c.loop-self.invariant.inside in
-    let column = rw (← c.loop-self.invariant.place) at b.column in
+    let column = rw (← c.loop-self.invariant.location) at b.column in
     omega (arith, column, c.loop-self-test.true, c.min-end.ensures, c.self.told.1)
 
 pub loop-self-preserved : goal.loop-self-preserved
@@ -29,8 +29,8 @@ loop-self-preserved c =
       bounded = omega (arith, c.loop-self-test.true);
       inside = omega (arith, inside);
       end_inside = i.end_inside;
-      place = c.after-self-inside.ensures ∙ ap (λ p. after_byte p (get_or c.loop-self.self-inside.bytes.now c.loop-self.self-inside.offset 0)) i.place
-          ∙ sym (place_next c.loop-self.self-inside.bytes.now c.loop-self.self-inside.offset inside);
+      location = c.after-self-inside.ensures ∙ ap (λ p. after_byte p (get_or c.loop-self.self-inside.bytes.now c.loop-self.self-inside.offset 0)) i.location
+          ∙ sym (location_next c.loop-self.self-inside.bytes.now c.loop-self.self-inside.offset inside);
     }
 
 pub returns : goal.returns

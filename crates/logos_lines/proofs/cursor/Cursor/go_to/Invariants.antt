@@ -1,5 +1,5 @@
 use Rattle.std.proofs.Common.{◌≡◌, ◌≤◌, ◌-◌, length, max}
-use Rattle.logos_lines.specs.Places.{place_at}
+use Rattle.logos_lines.specs.Locations.{location_at}
 use Rattle.logos_lines.proofs.cursor.Cursor.go_to.Given as goal
 
 abbrev pub invariant-loop-self : goal.invariant-loop-self
@@ -9,7 +9,7 @@ invariant-loop-self l = record {
   bounded : l.self-inside.offset ≤ max l.initial.self-inside.offset l.end;
   inside : l.self-inside.offset ≤ length l.self-inside.bytes.now;
   end_inside : l.end ≤ length l.self-inside.bytes.now;
-  place : l.self-inside.position ≡ place_at l.self-inside.bytes.now l.self-inside.offset;
+  location : l.self-inside.location ≡ location_at l.self-inside.bytes.now l.self-inside.offset;
 }
 
 abbrev pub decreases-loop-self : goal.decreases-loop-self

@@ -1,4 +1,4 @@
-use Rattle.logos_lines.proofs.PlaceLemmas.{no_line}
+use Rattle.logos_lines.proofs.LocationLemmas.{no_line}
 use Rattle.logos_lines.proofs.index.LineIndex.offset.Goals as goal
 
 pub returns-in_err-start-clause-every : goal.returns-in_err-start-clause-every

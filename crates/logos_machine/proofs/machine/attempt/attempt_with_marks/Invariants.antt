@@ -1,16 +1,16 @@
 use Rattle.std.proofs.Common.{ℕ, ◌+◌, ◌-◌, ◌≤◌, length}
 use Rattle.logos_automaton.specs.Munch.{Found}
-use Rattle.logos_code.specs.Runs.{Goes, Tries}
-use Rattle.logos_machine.specs.inside.Stands.{IsStand}
-use Rattle.logos_machine.specs.inside.Attempts.{stand_of}
+use Rattle.logos_code.specs.Runs.{Goes, Attempts}
+use Rattle.logos_machine.specs.inside.IsAt.{IsStatus}
+use Rattle.logos_machine.specs.inside.Attempts.{status_of}
 use Rattle.logos_machine.proofs.machine.attempt.attempt_with_marks.Given as goal
 
--- what goes on from here is the whole try
+-- a continuation from here is the whole attempt
 abbrev pub invariant-loop-next : goal.invariant-loop-next
 invariant-loop-next l = record {
-  stands : IsStand l.code l.input l.start (stand_of l.at);
+  is_at : IsStatus l.code l.input l.start (status_of l.at);
   few : l.before + l.start ≤ l.at.offset;
-  goes_on : (found : Found) (n : ℕ) → Goes l.code l.input l.start (stand_of l.at) found n → Tries l.code l.input l.start found (l.before + n);
+  goes_on : (found : Found) (n : ℕ) → Goes l.code l.input l.start (status_of l.at) found n → Attempts l.code l.input l.start found (l.before + n);
 }
 
 abbrev pub decreases-loop-next : goal.decreases-loop-next

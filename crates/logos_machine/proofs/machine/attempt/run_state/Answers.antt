@@ -1,7 +1,7 @@
 use Rattle.std.proofs.Common.{◌≡◌, ◌≢◌, ◌⊎◌, inl, inr, Some, None, sym, ◌∙◌}
 use Rattle.std.proofs.lemmas.Option.{slice_get-get_or}
 use Rattle.logos_code.specs.CodeView.{state_at, no_state}
-use Rattle.logos_machine.specs.inside.Attempts.{context_of, stand_of}
+use Rattle.logos_machine.specs.inside.Attempts.{context_of, status_of}
 use Rattle.logos_machine.proofs.StepLemmas.{does_return, does_lead, late_behind}
 use Rattle.logos_machine.proofs.machine.attempt.run_state.Goals.{in-Some, in-None-2, then-at-root+else-stop-start, else-at-root}
 use Rattle.logos_machine.proofs.machine.attempt.run_state.Goals as goal
@@ -11,19 +11,19 @@ returns-in-None c =
     let code = c.args.code.now in
     let stop = c.stop_of-stop in
     let there = slice_get-get_or code.states c.args.at.state no_state c.requires.state in
-    does_return code c.args.input.now c.args.start (stand_of c.args.at) (state_at code c.args.at.state) there stop.result.offset stop.result.target stop.ensures.offset stop.ensures.target c.in-None.is (c.if-at-root.true ∙ c.root.ensures.root) c.if-stop-start.true
+    does_return code c.args.input.now c.args.start (status_of c.args.at) (state_at code c.args.at.state) there stop.result.offset stop.result.target stop.ensures.offset stop.ensures.target c.in-None.is (c.if-at-root.true ∙ c.root.ensures.root) c.if-stop-start.true
 
 pub marked-context-requires : goal.marked-context-requires
 marked-context-requires c =
     let code = c.args.code.now in
     let there = slice_get-get_or code.states c.args.at.state no_state c.requires.state in
-    late_behind code c.args.input.now c.args.start (stand_of c.args.at) (state_at code c.args.at.state) there c.requires.second c.stop_of-stop.result.offset c.stop_of-stop.ensures.offset _ (sym c.sign.ensures)
+    late_behind code c.args.input.now c.args.start (status_of c.args.at) (state_at code c.args.at.state) there c.requires.second c.stop_of-stop.result.offset c.stop_of-stop.ensures.offset _ (sym c.sign.ensures)
 
 pub returns-in-Some-target : goal.returns-in-Some-target
 returns-in-Some-target c =
     let code = c.args.code.now in
     let stop = c.stop_of-stop in
-    let at = stand_of c.args.at in
+    let at = status_of c.args.at in
     let state = state_at code c.args.at.state in
     let to = c.match-stop.target in
     let there = slice_get-get_or code.states c.args.at.state no_state c.requires.state in
@@ -44,7 +44,7 @@ pub returns-in-None-target : goal.returns-in-None-target
 returns-in-None-target c =
     let code = c.args.code.now in
     let stop = c.stop_of-stop in
-    let at = stand_of c.args.at in
+    let at = status_of c.args.at in
     let state = state_at code c.args.at.state in
     let to = c.match-stop.target in
     let there = slice_get-get_or code.states c.args.at.state no_state c.requires.state in

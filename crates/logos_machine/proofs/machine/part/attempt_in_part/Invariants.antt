@@ -1,17 +1,17 @@
 use Rattle.std.proofs.Common.{ℕ, ◌+◌, ◌-◌, ◌≤◌, length}
 use Rattle.logos_automaton.specs.Munch.{Found}
-use Rattle.logos_machine.specs.Streams.{first_stand, GoesWithin, TriesWithin, LooksPast}
-use Rattle.logos_machine.specs.inside.Stands.{IsStand}
-use Rattle.logos_machine.specs.inside.Attempts.{stand_of}
+use Rattle.logos_machine.specs.Streams.{first_status, GoesWithin, AttemptsWithin, LooksPast}
+use Rattle.logos_machine.specs.inside.IsAt.{IsStatus}
+use Rattle.logos_machine.specs.inside.Attempts.{status_of}
 use Rattle.logos_machine.proofs.machine.part.attempt_in_part.Given as goal
 
--- what goes on from here is the whole try, and it looks at the end if this does
+-- a continuation from here is the whole attempt, and it looks at the end if this does
 abbrev pub invariant-loop-next : goal.invariant-loop-next
 invariant-loop-next l = record {
-  stands : IsStand l.code l.part l.start (stand_of l.at);
+  is_at : IsStatus l.code l.part l.start (status_of l.at);
   few : l.before + l.start ≤ l.at.offset;
-  goes_on : (found : Found) (n : ℕ) → GoesWithin l.code l.part l.start (length l.part) (stand_of l.at) found n → TriesWithin l.code l.part l.start (length l.part) found (l.before + n);
-  looks : LooksPast l.code l.part l.start (stand_of l.at) → LooksPast l.code l.part l.start (first_stand l.code l.start);
+  goes_on : (found : Found) (n : ℕ) → GoesWithin l.code l.part l.start (length l.part) (status_of l.at) found n → AttemptsWithin l.code l.part l.start (length l.part) found (l.before + n);
+  looks : LooksPast l.code l.part l.start (status_of l.at) → LooksPast l.code l.part l.start (first_status l.code l.start);
 }
 
 abbrev pub decreases-loop-next : goal.decreases-loop-next

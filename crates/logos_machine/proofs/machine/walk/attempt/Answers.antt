@@ -15,7 +15,7 @@ returns-then-first-lt-SHUTS c =
 pub end_of-requires-clause-reaches : goal.end_of-requires-clause-reaches
 end_of-requires-clause-reaches c =
     let here = c.if-start-input.false in
-    rw c.root_place.ensures.state (looks_here c.args.code.now c.first_entry-first.ensures.sound c.args.input.now c.args.start c.requires c.args.code.now.root c.args.start 0 c.first_entry-first.result (comes_first c.args.code.now c.first_entry-first.ensures.sound c.args.input.now c.args.start c.requires) (omega (arith, here)) c.first_entry-first.ensures.first.0)
+    rw c.root_row_start.ensures.state (looks_here c.args.code.now c.first_entry-first.ensures.sound c.args.input.now c.args.start c.requires c.args.code.now.root c.args.start 0 c.first_entry-first.result (comes_first c.args.code.now c.first_entry-first.ensures.sound c.args.input.now c.args.start c.requires) (omega (arith, here)) c.first_entry-first.ensures.first.0)
 
 pub walk-last-requires-clause-reaches : goal.walk-last-requires-clause-reaches
 walk-last-requires-clause-reaches c =

@@ -1,5 +1,5 @@
 use Rattle.std.proofs.Common.{◌+◌, ◌-◌, ◌/◌, ◌%◌, arith}
-use Rattle.logos_code.specs.declared.code.rows.MatchUse.TheVariants.{Emits, Skips, Asks}
+use Rattle.logos_code.specs.declared.code.rows.MatchUse.TheVariants.{Emits, Skips, CallsBack}
 use Rattle.logos_machine.proofs.WalkLemmas.{ends_before, closes_soon}
 use Rattle.logos_machine.proofs.machine.walk.end_of.Goals as goal
 
@@ -36,12 +36,12 @@ pub returns-then-entry-lt-ASKS_AFTER : goal.returns-then-entry-lt-ASKS_AFTER
 returns-then-entry-lt-ASKS_AFTER c =
     let ends = c.requires.ends in
     let f = ends_before c.args.code.now c.requires.sound c.args.input.now c.args.start c.requires.start (c.args.last.3 / 272) c.args.last.0 c.args.last.1 c.args.last.2 c.requires.reaches
-    (c.args.last.0 - 1610612736) Asks (omega (arith, ends, c.if-entry-lt-HALTS.false, c.if-entry-lt-CLOSES.false, c.if-entry-lt-SHUTS.false, c.if-entry-lt-ASKS.false)) (omega (arith, ends, c.if-entry-lt-HALTS.false, c.if-entry-lt-CLOSES.false, c.if-entry-lt-SHUTS.false, c.if-entry-lt-ASKS.false, c.if-entry-lt-ASKS_AFTER.true)) in
+    (c.args.last.0 - 1610612736) CallsBack (omega (arith, ends, c.if-entry-lt-HALTS.false, c.if-entry-lt-CLOSES.false, c.if-entry-lt-SHUTS.false, c.if-entry-lt-ASKS.false)) (omega (arith, ends, c.if-entry-lt-HALTS.false, c.if-entry-lt-CLOSES.false, c.if-entry-lt-SHUTS.false, c.if-entry-lt-ASKS.false, c.if-entry-lt-ASKS_AFTER.true)) in
     rw (c.halted-late-then-entry-lt-ASKS_AFTER.ensures.leaf, c.halted-late-then-entry-lt-ASKS_AFTER.ensures.late) f.0
 
 pub returns-then-entry-lt-STUCK : goal.returns-then-entry-lt-STUCK
 returns-then-entry-lt-STUCK c =
     let ends = c.requires.ends in
     let f = closes_soon c.args.code.now c.requires.sound c.args.input.now c.args.start c.requires.start (c.args.last.3 / 272) c.args.last.0 c.args.last.1 c.args.last.2 c.requires.reaches
-    (c.args.last.0 - 1879048192) Asks (omega (arith, ends, c.if-entry-lt-HALTS.false, c.if-entry-lt-CLOSES.false, c.if-entry-lt-SHUTS.false, c.if-entry-lt-ASKS.false, c.if-entry-lt-ASKS_AFTER.false)) (omega (arith, ends, c.if-entry-lt-HALTS.false, c.if-entry-lt-CLOSES.false, c.if-entry-lt-SHUTS.false, c.if-entry-lt-ASKS.false, c.if-entry-lt-ASKS_AFTER.false, c.if-entry-lt-STUCK.true)) in
+    (c.args.last.0 - 1879048192) CallsBack (omega (arith, ends, c.if-entry-lt-HALTS.false, c.if-entry-lt-CLOSES.false, c.if-entry-lt-SHUTS.false, c.if-entry-lt-ASKS.false, c.if-entry-lt-ASKS_AFTER.false)) (omega (arith, ends, c.if-entry-lt-HALTS.false, c.if-entry-lt-CLOSES.false, c.if-entry-lt-SHUTS.false, c.if-entry-lt-ASKS.false, c.if-entry-lt-ASKS_AFTER.false, c.if-entry-lt-STUCK.true)) in
     f.0

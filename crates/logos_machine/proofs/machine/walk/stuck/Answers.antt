@@ -3,7 +3,7 @@ use Rattle.std.proofs.lemmas.List.Elements.{All-from_get_or}
 use Rattle.logos_hir.specs.Text.{IsBytes}
 use Rattle.logos_code.specs.LastMarks.{IsLastMark}
 use Rattle.logos_code.specs.declared.code.last_marks.LastMark.TheVariants.{Never, Back}
-use Rattle.logos_machine.specs.inside.Stands.{IsMatch}
+use Rattle.logos_machine.specs.inside.IsAt.{IsMatch}
 use Rattle.logos_machine.proofs.WalkLemmas.{goes_back, fails_soon}
 use Rattle.logos_machine.proofs.machine.walk.stuck.Goals as goal
 

@@ -2,11 +2,11 @@ use Rattle.std.proofs.Common.{◌≡◌, ◌-◌, ◌*◌, ◌/◌, ◌≤◌, l
 use Rattle.logos_machine.specs.inside.Looks.{Comes}
 use Rattle.logos_machine.proofs.machine.walk.walk.Given as goal
 
--- what goes on from here is the whole try
+-- a continuation from here is the whole attempt
 abbrev pub invariant-loop-at : goal.invariant-loop-at
 invariant-loop-at l = record {
-  comes : Comes l.code l.input l.start (l.place / 272) l.at l.before;
-  place : 272 * (l.place / 272) ≡ l.place;
+  comes : Comes l.code l.input l.start (l.row_start / 272) l.at l.before;
+  row_start : 272 * (l.row_start / 272) ≡ l.row_start;
   within : l.at ≤ length l.input;
 }
 

@@ -6,7 +6,7 @@ use Rattle.logos_reduce.proofs.rows.Rows.push.Goals as goal
 pub returns : goal.returns
 returns c =
     let old = c.args.self.now in
-    let rows = c.place_of.new.self.distinct.keys.items in
+    let rows = c.slot_of.new.self.distinct.keys.items in
     ap (λ (xs : List ℕ). rows_at xs rows) c.in_ok-push.ensures.items
-    ∙ ap (λ (places : Vec ℕ Global). rows_at (places.items ++ c.in_ok-place.place ∷ []) rows) c.place_of.ensures.places
-    ∙ rows_added old.places.items old.distinct.keys.items c.args.row.now rows c.in_ok-place.place (λ i l. old.placed i (omega arith)) (λ i l. c.in_ok-place.ensures.rows i (omega arith)) c.in_ok-place.ensures.place.1
+    ∙ ap (λ (slots : Vec ℕ Global). rows_at (slots.items ++ c.in_ok-slot.slot ∷ []) rows) c.slot_of.ensures.slots
+    ∙ rows_added old.slots.items old.distinct.keys.items c.args.row.now rows c.in_ok-slot.slot (λ i l. old.placed i (omega arith)) (λ i l. c.in_ok-slot.ensures.rows i (omega arith)) c.in_ok-slot.ensures.slot.1

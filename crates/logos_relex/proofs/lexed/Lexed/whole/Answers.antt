@@ -13,6 +13,7 @@ returns-clause-lexed g c =
         rest = input;
         chunks_are = subst (λ (l : List Chunk). AreChunks c.args.code.now (answers_of g.C.Fn c.args.callback.now) input l input) (sym c.new-chunks.ensures.items) refl;
         last_are = c.in_ok-last.ensures.items;
+        text = c.in_ok-last.ensures.accepted;
       };
       length_is = refl;
     }

@@ -1,4 +1,4 @@
-use Rattle.logos_report.proofs.PageLemmas.{grown, shows_then}
+use Rattle.logos_page.proofs.PageLemmas.{grown, shows_then}
 use Rattle.logos_report.proofs.window.LineWindow.push_characters.Goals as goal
 
 pub loop-character-preserved : goal.loop-character-preserved

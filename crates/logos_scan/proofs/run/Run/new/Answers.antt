@@ -1,18 +1,18 @@
 use Rattle.std.proofs.Common.{◌≡◌, ℕ, min, sym, subst, arith}
 use Rattle.logos_scan.specs.Runs.{with_chunk}
-use Rattle.logos_scan.specs.Tries.{StandsIn}
-use Rattle.logos_scan.proofs.LoadLemmas.{ready_run, root_is_place}
-use Rattle.logos_scan.proofs.TryLemmas.{stands_begun}
+use Rattle.logos_scan.specs.Attempts.{ComesTo}
+use Rattle.logos_scan.proofs.LoadLemmas.{ready_run, root_is_row_start}
+use Rattle.logos_scan.proofs.TryLemmas.{is_at_begun}
 use Rattle.logos_scan.proofs.run.Run.new.Goals as goal
 
-pub filled-requires-clause-place : goal.filled-requires-clause-place
-filled-requires-clause-place c = rw c.root_place.ensures.place (root_is_place c.args.reading.now.code.now c.args.reading.now.rows.now c.requires.reading)
+pub filled-requires-clause-row_start : goal.filled-requires-clause-row_start
+filled-requires-clause-row_start c = rw c.root_row_start.ensures.row_start (root_is_row_start c.args.reading.now.code.now c.args.reading.now.rows.now c.requires.reading)
 
-pub filled-requires-clause-stands : goal.filled-requires-clause-stands
-filled-requires-clause-stands c =
+pub filled-requires-clause-is_at : goal.filled-requires-clause-is_at
+filled-requires-clause-is_at c =
     let code = c.args.reading.now.code.now in
     let input = c.args.reading.now.input.now in
-    subst (λ (p : ℕ). StandsIn code input 0 0 p) (sym c.root_place.ensures.place) (stands_begun code c.requires.reading.sound input 0 (omega arith))
+    subst (λ (p : ℕ). ComesTo code input 0 0 p) (sym c.root_row_start.ensures.row_start) (is_at_begun code c.requires.reading.sound input 0 (omega arith))
 
 pub returns-clause-ready : goal.returns-clause-ready
 returns-clause-ready c =

@@ -1,10 +1,10 @@
 use Rattle.std.proofs.Common.{◌≡◌, ℕ, ◌+◌, ◌/◌, bit_and, min, slice_index, subst, sym, arith}
 use Rattle.logos_automaton.specs.Munch.{matched}
 use Rattle.logos_machine.specs.inside.Looks.{Tried}
-use Rattle.logos_scan.specs.Tries.{SkipsTo}
+use Rattle.logos_scan.specs.Attempts.{SkipsTo}
 use Rattle.logos_scan.specs.Runs.{with_chunk}
 use Rattle.logos_scan.proofs.LoadLemmas.{bytes_at, calls_not, found_match, found_next, found_use, is_ended, leaf_is, ready_run, taken_after}
-use Rattle.logos_walk.specs.Cursors.{start_at, start_of}
+use Rattle.logos_scan.specs.walk.Cursors.{start_at, start_of}
 use Rattle.logos_scan.proofs.run.Run.next.Goals as goal
 
 pub returns-in_default-clause-taken : goal.returns-in_default-clause-taken
@@ -32,7 +32,7 @@ returns-then-calls-eq0-clause-ready c =
     let ended = is_ended (slice_index n.chunk.entries at) (omega (arith, c.if-ended-eq0.false)) in
     let point : min n.cursor.from n.count ≡ at + 1 = omega (arith, f.inside, f.after) in
     ready_run code rows input n (n.cursor.base + at) (at + 1) (f.ended ended) point
-    (found_next code rows c.requires.reading input (bytes_at input c.are_bytes.ensures) n (start_at n.cursor at) at f.stands f.inside ended)
+    (found_next code rows c.requires.reading input (bytes_at input c.are_bytes.ensures) n (start_at n.cursor at) at f.is_at f.inside ended)
 
 pub returns-then-calls-eq0-clause-taken : goal.returns-then-calls-eq0-clause-taken
 returns-then-calls-eq0-clause-taken c =
@@ -47,10 +47,10 @@ returns-then-calls-eq0-clause-taken c =
     let start = start_at n.cursor at in
     let back = sym c.start_before-from.ensures in
     let ended = is_ended entry (omega (arith, c.if-ended-eq0.false)) in
-    let m = found_match code rows c.requires.reading input are n start at f.stands f.inside ended in (
+    let m = found_match code rows c.requires.reading input are n start at f.is_at f.inside ended in (
       subst (λ (k : ℕ). SkipsTo code input (start_of c.args.self.now.cursor) k) back f.skips,
       (m.0, subst (λ (k : ℕ). Tried code input k (matched (bit_and (entry / 1048576) 511) (n.cursor.base + at)) m.0) back (rw (leaf_is entry) m.1)),
-      rw (leaf_is entry) (found_use code rows c.requires.reading input are n start at f.stands f.inside ended f.token (calls_not entry c.if-calls-eq0.true)),
+      rw (leaf_is entry) (found_use code rows c.requires.reading input are n start at f.is_at f.inside ended f.token (calls_not entry c.if-calls-eq0.true)),
       f.ended ended,
     )
 
@@ -65,7 +65,7 @@ returns-else-calls-eq0-clause-ready c =
     let ended = is_ended (slice_index n.chunk.entries at) (omega (arith, c.if-ended-eq0.false)) in
     let point : min n.cursor.from n.count ≡ at + 1 = omega (arith, f.inside, f.after) in
     ready_run code rows input n (n.cursor.base + at) (at + 1) (f.ended ended) point
-    (found_next code rows c.requires.reading input (bytes_at input c.are_bytes.ensures) n (start_at n.cursor at) at f.stands f.inside ended)
+    (found_next code rows c.requires.reading input (bytes_at input c.are_bytes.ensures) n (start_at n.cursor at) at f.is_at f.inside ended)
 
 pub returns-else-calls-eq0-clause-taken : goal.returns-else-calls-eq0-clause-taken
 returns-else-calls-eq0-clause-taken c =
@@ -80,7 +80,7 @@ returns-else-calls-eq0-clause-taken c =
     let start = start_at n.cursor at in
     let back = sym c.start_before-from-else-calls-eq0.ensures in
     let ended = is_ended entry (omega (arith, c.if-ended-eq0.false)) in
-    let m = found_match code rows c.requires.reading input are n start at f.stands f.inside ended in (
+    let m = found_match code rows c.requires.reading input are n start at f.is_at f.inside ended in (
       subst (λ (k : ℕ). SkipsTo code input (start_of c.args.self.now.cursor) k) back f.skips,
       (m.0, subst (λ (k : ℕ). Tried code input k (matched (bit_and (entry / 1048576) 511) (n.cursor.base + at)) m.0) back (rw (leaf_is entry) m.1)),
       f.ended ended,

@@ -1,7 +1,7 @@
 use Rattle.std.proofs.Common.{◌-◌, length}
 use Rattle.logos_scan.specs.Runs.{IsReady, with_chunk}
-use Rattle.logos_scan.specs.Tries.{SkipsTo}
-use Rattle.logos_walk.specs.Cursors.{start_of}
+use Rattle.logos_scan.specs.Attempts.{SkipsTo}
+use Rattle.logos_scan.specs.walk.Cursors.{start_of}
 use Rattle.logos_scan.proofs.run.Run.next_flag.Given as goal
 
 abbrev pub invariant-loop-at : goal.invariant-loop-at

@@ -3,10 +3,10 @@ use Rattle.logos_machine.specs.LexerValue.{answers_of}
 use Rattle.logos_machine.proofs.LexerLemmas.{GoesOn}
 use Rattle.logos_scan.specs.Items.{lexer_at}
 use Rattle.logos_scan.specs.Runs.{IsReady, with_chunk}
-use Rattle.logos_walk.specs.Cursors.{start_of}
+use Rattle.logos_scan.specs.walk.Cursors.{start_of}
 use Rattle.logos_scan.proofs.run.Run.next_item.Given as goal
 
--- what goes on after the matches that gave no item goes on from where the run stood
+-- a continuation after the matches without an item continues from the former start of the run
 abbrev pub invariant-loop-leaf : goal.invariant-loop-leaf
 invariant-loop-leaf g l = record {
   ready : IsReady l.reading (with_chunk l.chunk l.self);

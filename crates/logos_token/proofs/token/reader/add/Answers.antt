@@ -15,7 +15,7 @@ use Rattle.logos_token.proofs.reading.ReadingLemmas.{read-gap, read-leaf}
 use Rattle.logos_lexeme.proofs.LexemeLaws.{next_advances}
 use Rattle.logos_token.proofs.token.reader.add.Goals as goal
 
--- a piece is not empty, and stands in the source
+-- a piece is not empty, and is in the source
 
 pub range-text-requires-clause-start_le_end : goal.range-text-requires-clause-start_le_end
 range-text-requires-clause-start_le_end c = omega (arith, (next_advances c.requires.next).0)

@@ -12,5 +12,5 @@ returns-then-len-ge-MAX_NESTING-clause-err c = λ bytes next r.
 pub returns-clause-ok : goal.returns-clause-ok
 returns-clause-ok c = λ bytes next r.
     let room : length c.args.open_groups.now.items < 128 = omega arith in
-    let place : length (map value_of c.args.entries.now.items) ≡ c.len-2.result = length-map c.args.entries.now.items value_of ∙ omega arith in
-    rw (c.in_ok-push.ensures.items, c.in_ok-push-2.ensures.items, map_push) (read-opening bytes c.args.delimiter c.args.span _ _ c.len-2.result r next room place)
+    let spot : length (map value_of c.args.entries.now.items) ≡ c.len-2.result = length-map c.args.entries.now.items value_of ∙ omega arith in
+    rw (c.in_ok-push.ensures.items, c.in_ok-push-2.ensures.items, map_push) (read-opening bytes c.args.delimiter c.args.span _ _ c.len-2.result r next room spot)

@@ -13,7 +13,7 @@ pub returns-in_default-clause-err : goal.returns-in_default-clause-err
 returns-in_default-clause-err c = λ bytes next r.
     read-unmatched bytes c.args.delimiter c.args.span _ (rw (no-groups c) at r) next
 
-within : (c : In-Some) → c.in-Some.group.place + 1 ≤ length c.args.entries.now.items
+within : (c : In-Some) → c.in-Some.group.spot + 1 ≤ length c.args.entries.now.items
 within c =
     let h = top-within c.requires.0 c.args.delimiter c.args.span _ _ _ (rw c.in-Some.ensures.items at c.requires.1) in
     rw (length-map c.args.entries.now.items value_of) at h

@@ -1,6 +1,6 @@
 use Rattle.std.proofs.Common.{◌∙◌, arith}
-use Rattle.logos_type_params.specs.inside.Places.{ArePlaced}
-use Rattle.logos_type_params.proofs.PlaceLemmas.{placed_push}
+use Rattle.logos_type_params.specs.inside.Slots.{ArePlaced}
+use Rattle.logos_type_params.proofs.SlotLemmas.{placed_push}
 use Rattle.logos_type_params.proofs.SettledLemmas.{on_ok_is}
 use Rattle.logos_type_params.proofs.given_types.GivenTypes.add.Goals as goal
 

@@ -17,6 +17,6 @@ returns-then-not-contains-clause-ok c =
 pub returns-clause-ok : goal.returns-clause-ok
 returns-clause-ok c =
     let r = rw (c.in-Some.is, c.span-span.ensures) at c.in_ok-written.ensures.ok in
-    on_ok_two c.give.result
-    (λ t f. set_given (value_of c.args.self.now) _ (named_of c.args.name) (tokens_of c.args.value) c.args.errors.now c.read_value.new.errors c.give.new.errors (type_tree c.in-Some.written) (tree_of c.in_ok-part.part) c.span-span.result r (sym c.contains.ensures ∙ c.if-not-contains.false) c.in_ok-part.ensures c.span-span.ensures refl refl t f)
-    c.give.ensures.types c.give.ensures.faults
+    on_ok_two c.emit.result
+    (λ t f. set_given (value_of c.args.self.now) _ (named_of c.args.name) (tokens_of c.args.value) c.args.errors.now c.read_value.new.errors c.emit.new.errors (type_tree c.in-Some.written) (tree_of c.in_ok-part.part) c.span-span.result r (sym c.contains.ensures ∙ c.if-not-contains.false) c.in_ok-part.ensures c.span-span.ensures refl refl t f)
+    c.emit.ensures.types c.emit.ensures.faults

@@ -1,0 +1,163 @@
+#!/usr/bin/env python3
+"""Measures `Token::lexer` on lexers and texts on which nothing was fitted: those of
+bench/inputs/held_rules.py, and the eight of examples/lexers. Change no constant of the runtime by
+what this script prints; `bench/lexer.py` has the texts for that.
+
+  python3 bench/held.py [RUNS [KIND..]]
+
+Each program reads the leaf and the end of each item, and prints their sums: where two find
+different items the script fails. In Rust these are lexers of the shape `tables`, by a loop over
+`spanned`, by `for_each` and, as `parser`, by calls of `next` from three places, and of the shapes
+`tailcall` and `state_machine`. In C these are the scanners of the new kinds by flex (-CF, -Cf),
+re2c (-b, -g) and ragel (-G2), as their users build the fast ones. Those of examples/lexers have
+callbacks and Unicode names, and so none in C.
+
+A text has 2 MiB, and no part of it is repeated as a whole. It is read as a whole, and in fresh
+pieces that end with lines: single lines, and of at least 256 bytes, 1, 4 and 16 KiB. Each piece has
+a lexer of its own. Programs take turns in an order of chance, and the fastest run counts: of six,
+if no number is given.
+
+The variable OTHER names the folder `src` of another version of rust/logos to measure beside this
+one, whose lexers are then `other`. KEEP names a folder in which programs are kept for the next
+time, CLI a `logos_cli`, SIZE the bytes of a text, and BEFORE words in front of each program that is
+measured, such as `chrt -f 1 taskset -c 3`. JOBS is how many compilers run at once, two without it.
+
+It needs rustc, cargo and gcc; flex, re2c and ragel where they are found. A shape for which rustc
+takes more than 60 processor seconds is left out."""
+import os
+import random
+import shutil
+import subprocess
+import sys
+from concurrent.futures import ThreadPoolExecutor
+
+import scanners
+from common import BENCH, ROOT, Room, Runs, print_means, print_table, said_by, shown, write
+from inputs import held, held_rules
+
+SHAPES = ["tailcall", "state_machine"]
+FLAGS = {"flex": ("-CF", "-Cf"), "re2c": ("-b", "-g"), "ragel": ("-G2",)}
+IN_C = [f"{tool}{flag}" for tool, flags in FLAGS.items() for flag in flags]
+# The lexers of the shape `tables`, with what rustc gets for each, and those of the other version.
+TABLES = {"lexer": (), "folded": ("--cfg", "folded"), "parser": ("--cfg", "parser")}
+OTHER = {"other": (), "other_parser": ("--cfg", "parser")}
+PIECES = {"1": "a line", "256": "256", "1024": "1,024", "4096": "4,096", "16384": "16,384"}
+IN_PIECES = ["lexer", "other", "parser", "other_parser"]
+# The examples, with the type of their tokens.
+EXAMPLES = {"access_log": "Part", "css": "Token", "json": "Token", "mustache": "Part<'static>",
+            "pythonic": "Token", "rusty": "Token", "sql": "Token", "toml": "Token<'static>"}
+KINDS = [*held_rules.KINDS, *(f"examples/{name}" for name in EXAMPLES)]
+# For the means of whole texts, and of pieces: a program, and by which others its speed is shown.
+RATIOS = {
+    "lexer by the faster shape": ("lexer", SHAPES),
+    "for_each by it": ("folded", SHAPES),
+    "parser by it": ("parser", SHAPES),
+    "lexer by the fastest in C": ("lexer", IN_C),
+    "lexer by the other version": ("lexer", ["other"]),
+    "parser by its parser": ("parser", ["other_parser"]),
+}
+BY_OTHER = list(RATIOS)[-2:]
+SECONDS = 60
+
+
+def logos_cli():
+    """Returns the path of `logos_cli`, which is built if none is named."""
+    if "CLI" not in os.environ:
+        manifest = f"{ROOT}/Cargo.toml"
+        words = ["cargo", "build", "-q", "--release", "-p", "logos-cli", "--manifest-path", manifest]
+        subprocess.run(words, check=True)
+    return os.environ.get("CLI", f"{ROOT}/target/release/logos_cli")
+
+
+def lay_out(folder, cli, kind, shape):
+    """Writes the parts of the program of a kind and a shape. Returns their paths."""
+    name = kind.removeprefix("examples/")
+    if name == kind:
+        write(f"{folder}/source.rs", held_rules.source(kind, "rust"))
+    else:
+        os.makedirs(folder, exist_ok=True)
+        shutil.copy(f"{ROOT}/examples/lexers/{name}.rs", f"{folder}/source.rs")
+    write(f"{folder}/rules.rs", said_by([cli, f"{folder}/source.rs", "--shape", shape]))
+    write(f"{folder}/alias.rs", f"type Rules = rules::{EXAMPLES.get(name, 'Token')};\n")
+    return [f"{folder}/rules.rs", f"{folder}/alias.rs"]
+
+
+def compiled(room, kind, cli, library, other):
+    """Compiles all programs of a kind. Returns their paths by their names."""
+    name, found = kind.replace("/", "_"), {}
+    for shape in ["tables", *SHAPES]:
+        parts = lay_out(f"{room.folder}/{name}.{shape}.source", cli, kind, shape)
+        ways = [(way, words, library) for way, words in (TABLES if shape == "tables" else {shape: ()}).items()]
+        if other and shape == "tables":
+            ways += [(way, words, other) for way, words in OTHER.items()]
+        for way, words, of in ways:
+            main = f"{BENCH}/held/main.rs"
+            found[way] = scanners.in_rust(room, f"{name}.{way}", parts, main, of, SECONDS, words)
+    for tool in (it for it in FLAGS if kind in held_rules.KINDS and shutil.which(it)):
+        source = f"{room.folder}/{name}.{tool}.source"
+        write(source, held_rules.source(kind, tool))
+        for flag in FLAGS[tool]:
+            way = f"{tool}{flag}"
+            found[way] = scanners.in_c(room, f"{name}.{way}", [tool, flag], source, f"{BENCH}/held")
+    return {way: path for way, path in found.items() if path}
+
+
+def measure(runs, name, ways, path):
+    """Runs the programs of a text once, one right after another, since a machine has slow
+    times."""
+    jobs = [((name, "0"), way) for way in ways]
+    jobs += [((name, piece), way) for piece in PIECES for way in IN_PIECES if way in ways]
+    random.shuffle(jobs)
+    for key, way in sorted(jobs, key=lambda job: job[0]):
+        runs.measure(key, way, [ways[way], path, key[1]])
+
+
+def print_ratios(runs, names, piece, kinds):
+    """Prints the means of some ratios."""
+    print_means({kind: {name: runs.ratio((name, piece), *RATIOS[kind]) for name in names} for kind in kinds})
+
+
+def print_pieces(runs, names):
+    """Prints the ratios of fresh pieces."""
+    print("\nFresh pieces: lexer by the other version's, and parser by its parser")
+    pair = lambda key: ", ".join(shown(runs.ratio(key, *RATIOS[kind])) for kind in BY_OTHER)
+    rows = [[name, *(pair((name, piece)) for piece in PIECES)] for name in names]
+    print_table(["Text", *PIECES.values()], rows)
+    for piece in PIECES:
+        print(f"\nPieces of {piece}")
+        print_ratios(runs, names, piece, BY_OTHER)
+
+
+def main(count=6, *kinds):
+    room, runs, size = Room(), Runs(), int(os.environ.get("SIZE", 2 << 20))
+    names = {kind: kind.replace("/", "_") for kind in kinds or KINDS}
+    cli = logos_cli()
+    library = scanners.runtime(f"{room.folder}/liblogos.rlib")
+    source = os.environ.get("OTHER")
+    other = source and scanners.runtime(f"{room.folder}/libother.rlib", source)
+    with ThreadPoolExecutor(int(os.environ.get("JOBS", 2))) as pool:
+        jobs = [pool.submit(compiled, room, kind, cli, library, other) for kind in names]
+        all_ways = {name: job.result() for name, job in zip(names.values(), jobs)}
+    paths = {name: f"{room.folder}/{name}.text" for name in all_ways}
+    for kind, name in names.items():
+        write(paths[name], held.text(kind, size))
+    for _ in range(int(count)):
+        for name, ways in all_ways.items():
+            measure(runs, name, ways, paths[name])
+    shown_ways = [it for it in [*TABLES, *OTHER, *SHAPES, *IN_C] if any(it in ways for ways in all_ways.values())]
+    first = ["lexer by the faster shape", "lexer by the fastest in C"]
+    rows = []
+    for name, path in paths.items():
+        key, bytes_there = (name, "0"), os.path.getsize(path)
+        speeds = [runs.speed(key, way, bytes_there) for way in shown_ways]
+        rows.append([name, *speeds, *(shown(runs.ratio(key, *RATIOS[kind])) for kind in first)])
+    print("MB/s on whole texts")
+    print_table(["Text", *shown_ways, *first], rows)
+    print_ratios(runs, paths, "0", RATIOS)
+    if other:
+        print_pieces(runs, paths)
+    runs.end()
+
+
+if __name__ == "__main__":
+    main(*sys.argv[1:])

@@ -1,0 +1,5 @@
+use Rattle.logos_page.proofs.PageLemmas.{gains_then}
+use Rattle.logos_answers.proofs.expectation.push_line.Goals as goal
+
+pub returns : goal.returns
+returns c = gains_then c.push.ensures (gains_then c.push_quoted.ensures c.push-2.ensures)

@@ -1,5 +1,0 @@
-use Rattle.logos_report.proofs.PageLemmas.{gains_then}
-use Rattle.logos_answers.proofs.quoting.push_string.Goals as goal
-
-pub returns : goal.returns
-returns c = gains_then c.push.ensures (gains_then c.push_text.ensures c.push-2.ensures)

@@ -1,0 +1,73 @@
+//! A line and a column in an argument. Used by `logos_questions`.
+
+ghost use Rattle.std.specs.Prelude.{◌≡◌, Some};
+ghost use Rattle.logos_answers.specs.Locations.{digits_after, number_named, location_named, location_of, positive, with_digit};
+
+use logos_lines::Location;
+
+/// Returns the line and the column in an argument such as `2:14`, or `None` if it has another form.
+/// Both are counted from 1, and have at most seventeen digits.
+pub fn location_by_word(word: &str) -> Option<Location>
+    ensures { result ≡ location_named word.now }
+{
+    match word.split_once(':') {
+        Some((line, column)) => location_of(number_by_text(line), number_by_text(column)),
+        None => None,
+    }
+}
+
+/// Returns a location, if both its parts are valid.
+fn location_of(line: Option<usize>, column: Option<usize>) -> Option<Location>
+    ensures { result ≡ location_of line column }
+{
+    match (line, column) {
+        (Some(line), Some(column)) => Some(Location { line, column }),
+        (Some(_), None) => None,
+        (None, _) => None,
+    }
+}
+
+/// Returns the number in a text, which is at least 1, or `None` if the text is not a number. It has
+/// at most seventeen digits.
+pub fn number_by_text(text: &str) -> Option<usize>
+    ensures { result ≡ number_named text.now }
+{
+    digits_after(0, text.as_bytes())
+}
+
+/// Returns the number whose digits are those of `number` followed by `digits`. A number has at most
+/// seventeen digits, which bounds the depth of the recursion.
+fn digits_after(number: usize, digits: &[u8]) -> Option<usize>
+    ensures { result ≡ digits_after (Some number) digits.now }
+{
+    let [byte, rest @ ..] = digits else {
+        return positive(number);
+    };
+    match with_digit(number, *byte) {
+        Some(next) => digits_after(next, rest),
+        None => None,
+    }
+}
+
+/// Returns a number with one more digit, unless the result is 0 or has more than seventeen digits.
+fn with_digit(number: usize, byte: u8) -> Option<usize>
+    ensures { result ≡ with_digit number byte }
+{
+    if byte < b'0' {
+        return None;
+    }
+    if byte > b'9' {
+        return None;
+    }
+    if number as u64 >= 10_000_000_000_000_000 {
+        return None;
+    }
+    positive(number * 10 + (byte - b'0') as usize)
+}
+
+/// Returns a number, unless it is 0.
+fn positive(number: usize) -> Option<usize>
+    ensures { result ≡ positive number }
+{
+    if number == 0 { None } else { Some(number) }
+}

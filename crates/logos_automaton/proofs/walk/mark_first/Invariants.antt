@@ -1,8 +1,0 @@
-use Rattle.logos_automaton.specs.inside.Alike.{OpensAlike}
-use Rattle.logos_places.specs.Core as core
-use Rattle.logos_places.specs.Table.{reader_of}
-use Rattle.logos_automaton.proofs.keys.MarkLemmas.{AreMarkedBelow}
-use Rattle.logos_automaton.proofs.walk.mark_first.Given as goal
-
-abbrev pub invariant-loop-byte : goal.invariant-loop-byte
-invariant-loop-byte l = AreMarkedBelow (OpensAlike (core.character (reader_of l.table))) l.initial.marked l.marked l.byte

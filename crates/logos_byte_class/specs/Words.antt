@@ -1,3 +1,0 @@
--- Definitions that clauses cite: of lower crates, and those of this one that name no type of it.
-pub use Rattle.logos_hir.specs.ByteRanges.{is_in}
-pub use Rattle.logos_byte_class.specs.ClassText.{byte_text, class_text, letter_of, lower_digit, next_ranges_text, range_text}

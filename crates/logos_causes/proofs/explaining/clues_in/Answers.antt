@@ -1,9 +1,0 @@
-use Rattle.logos_enum.specs.EnumValues.{enum_value}
-use Rattle.logos_report.specs.Sets.{sizes_of}
-use Rattle.logos_causes.proofs.SetLemmas.{analysis_all}
-use Rattle.logos_causes.proofs.explaining.clues_in.Goals as goal
-
-pub returns-in-Ok : goal.returns-in-Ok
-returns-in-Ok c =
-    analysis_all sizes_of c.clues_of_analysis-clues.result c.args.source.now (enum_value c.args.item.now) c.args.span c.in-Ok.analysis c.requires c.in-Ok.ensures
-    c.clues_of_analysis-clues.ensures

@@ -1,4 +1,0 @@
-use Rattle.logos_causes.proofs.explaining.clues_of_analysis.Goals as goal
-
-pub returns : goal.returns
-returns c = rw c.leaves_of.ensures at c.clues_of_leaves.ensures

@@ -1,4 +1,0 @@
-use Rattle.logos_causes.proofs.quoting.front_of.Given as goal
-
-abbrev pub decreases-loop-end : goal.decreases-loop-end
-decreases-loop-end l = l.end

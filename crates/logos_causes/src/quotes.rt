@@ -1,0 +1,58 @@
+//! Formats inputs for messages. Used by `meetings` and `shadowed_leaves`.
+
+use logos_page::Page;
+use std::str;
+
+/// The maximum number of bytes of an input that are shown.
+const MOST: usize = 60;
+
+/// Appends bytes in quotes: as a text if they are UTF-8, otherwise as numbers.
+pub(crate) fn push_quoted(page: &mut Page, bytes: &[u8]) {
+    page.push("\"");
+    match str::from_utf8(bytes) {
+        Ok(text) => push_text(page, text),
+        Err(_) => push_bytes(page, bytes),
+    }
+    page.push("\"");
+}
+
+/// Appends a prefix of a text, in the form in which it is shown on a terminal.
+fn push_text(page: &mut Page, text: &str) {
+    if text.len() > MOST {
+        page.push_shown(front_of(text));
+        page.push("..");
+    } else {
+        page.push_shown(text);
+    }
+}
+
+/// Returns the longest prefix of a text that fits into `MOST` bytes.
+fn front_of(text: &str) -> &str {
+    let mut end = MOST;
+    while end > 0 {
+        if let Some(front) = text.get(..end) {
+            return front;
+        }
+        end -= 1;
+    }
+    ""
+}
+
+/// Appends a prefix of some bytes, each as a number.
+fn push_bytes(page: &mut Page, bytes: &[u8]) {
+    for byte in bytes.iter().take(MOST) {
+        page.push("\\x");
+        page.push(digit(*byte / 16));
+        page.push(digit(*byte % 16));
+    }
+    if bytes.len() > MOST {
+        page.push("..");
+    }
+}
+
+/// Returns a hexadecimal digit.
+fn digit(value: u8) -> &'static str {
+    const DIGITS: &str = "0123456789ABCDEF";
+    let at = usize::from(value);
+    DIGITS.get(at..at + 1).unwrap_or("")
+}

@@ -1,0 +1,154 @@
+//! Leaves that are never found, with the leaves that hide them. Used by `explanation`.
+
+use crate::names::{name_of, text_with};
+use crate::quotes::push_quoted;
+use logos_automaton::dfa::{Dfa, Matches, StateId};
+use logos_evidence::{loses, matches_from, winner};
+use logos_graph::graph::Graph;
+use logos_inspect::marked_leaves;
+use logos_page::Page;
+use logos_pattern::leaf::Leaf;
+use logos_report::Warning;
+use logos_warnings::plain_warning;
+use std::alloc::{AllocError, Global};
+
+/// The maximum number of leaves for which a hiding leaf is searched.
+const SEARCHED: usize = 10;
+
+/// Adds a warning for each leaf of a graph that is never found.
+pub(crate) fn add_hidden(
+    alloc: Global,
+    graph: &Graph<'_>,
+    warnings: &mut Vec<Warning>,
+) -> Result<(), AllocError> {
+    let marked = marked_leaves(alloc, graph)?;
+    let mut count: usize = 0;
+    for number in 0..graph.leaves().len() {
+        if marked.get(number) == Some(&false) {
+            add_leaf(graph, number, count < SEARCHED, warnings)?;
+            count = count.saturating_add(1);
+        }
+    }
+    Ok(())
+}
+
+/// Adds the warning for a leaf that is never found.
+fn add_leaf(
+    graph: &Graph<'_>,
+    number: usize,
+    is_searched: bool,
+    warnings: &mut Vec<Warning>,
+) -> Result<(), AllocError> {
+    let alloc = *warnings.allocator();
+    let Some(leaf) = graph.leaves().get(number) else {
+        return Ok(());
+    };
+    let mut warning = warning_of(alloc, leaf)?;
+    if is_searched {
+        explain(alloc, graph, number, &mut warning)?;
+    }
+    warnings.push(warning)?;
+    Ok(())
+}
+
+/// Returns the warning for a leaf that is never found.
+fn warning_of(alloc: Global, leaf: &Leaf<'_>) -> Result<Warning, AllocError> {
+    let message = text_with(
+        alloc,
+        "this pattern of `",
+        leaf,
+        "` is never found: where it matches, others match more or have a higher priority",
+    )?;
+    Ok(plain_warning(message, leaf.span, None))
+}
+
+/// Adds to the warning for a leaf the leaf that is found instead, if there is one.
+fn explain(
+    alloc: Global,
+    graph: &Graph<'_>,
+    number: usize,
+    warning: &mut Warning,
+) -> Result<(), AllocError> {
+    let Some(bytes) = loses(alloc, graph, number)? else {
+        return Ok(());
+    };
+    let matches = matches_from(alloc, graph, &bytes, 0)?;
+    let Some(taken) = winner(&matches) else {
+        return Ok(());
+    };
+    let Some(other) = graph.leaves().get(taken.leaf) else {
+        return Ok(());
+    };
+    let likeness = likeness_of(graph, number, taken.leaf);
+    warning.note = Some(note_of(alloc, &bytes, other, likeness)?);
+    warning.also = Some(other.span);
+    Ok(())
+}
+
+/// Returns the relation between the patterns of two leaves, as the end of a sentence.
+fn likeness_of(graph: &Graph<'_>, one: usize, other: usize) -> &'static str {
+    if is_written_alike(graph.leaves(), one, other) {
+        ": its pattern is the same"
+    } else if are_twins(graph.dfa(), one, other) {
+        ": its pattern matches the same texts"
+    } else {
+        ""
+    }
+}
+
+/// Returns whether two leaves have patterns with equal text.
+fn is_written_alike(leaves: &[Leaf<'_>], one: usize, other: usize) -> bool {
+    match (leaves.get(one), leaves.get(other)) {
+        (Some(one), Some(other)) => one.pattern.source() == other.pattern.source(),
+        _ => false,
+    }
+}
+
+/// Returns whether two leaves match exactly the same texts: whether each state lists both or
+/// neither.
+fn are_twins(dfa: &Dfa, one: usize, other: usize) -> bool {
+    for state in dfa.get_states() {
+        if parts_leaves(dfa, state, one, other) {
+            return false;
+        }
+    }
+    true
+}
+
+/// Returns whether a state lists exactly one of two leaves.
+fn parts_leaves(dfa: &Dfa, state: StateId, one: usize, other: usize) -> bool {
+    if !dfa.contains(state) {
+        return false;
+    }
+    let matches = dfa.iter_matches(state);
+    lists(matches, one) != lists(matches, other)
+}
+
+/// Returns whether a leaf is among `leaves`.
+fn lists(leaves: Matches<'_>, number: usize) -> bool {
+    for leaf in leaves {
+        if leaf.0 == number {
+            return true;
+        }
+    }
+    false
+}
+
+/// Returns the note with the leaf that is found instead of another one, the text, and the relation
+/// between their patterns.
+fn note_of(
+    alloc: Global,
+    bytes: &[u8],
+    other: &Leaf<'_>,
+    likeness: &str,
+) -> Result<String, AllocError> {
+    let mut page = Page::new(alloc, false);
+    page.push("on ");
+    push_quoted(&mut page, bytes);
+    page.push(" `");
+    page.push(name_of(other));
+    page.push("` is found, with priority ");
+    page.push_number(other.priority);
+    page.push(likeness);
+    page.finish()
+}

@@ -1,9 +1,0 @@
--- Definitions that clauses cite: of lower crates, and those of this one that name no type of it.
-pub use Rattle.logos_expand.specs.Expanding.{IsExpanded}
-pub use Rattle.logos_expand.specs.Gathering.{FailsBy, IsRefusedFor}
-pub use Rattle.logos_host.specs.Failures.{status_of}
-pub use Rattle.logos_host.specs.Messages.{message_of}
-pub use Rattle.logos_host.specs.Reading.{Reads}
-pub use Rattle.logos_options.specs.Given.{given_value}
-pub use Rattle.logos_options.specs.Paths.{texts_of}
-pub use Rattle.std.specs.Io.KnownBytes.{Appends, Keeps}

@@ -1,6 +1,0 @@
--- Definitions that clauses cite: of lower crates, and those of this one that name no type of it.
-pub use Rattle.logos_byte_class.specs.Bytes.{comparison_of, compares, is_among, some_compares}
-pub use Rattle.std.specs.Coded.{codes}
-pub use Rattle.std.specs.Int.{bit_at}
-pub use mir.Syntax.{named}
-pub use Rattle.logos_code.specs.Bytes.{passes_test}

@@ -1,0 +1,83 @@
+//! The text around the body of a lexer. `Generated` prints its text with it.
+
+ghost use Rattle.std.specs.Prelude.{◌≡◌, option_map, option_copied};
+ghost use Rattle.logos_codegen.specs.Views.{around_options, around_value, error_run, error_tree, error_view, input_text, run_in, stream_tokens, tokens_of, type_tree};
+
+use logos_definition::error_type::ErrorType;
+use logos_text::Around;
+use logos_token::token::{TokenStream, Tokens};
+use logos_token::util::MaybeVoid;
+use logos_type::TypeExpr;
+
+/// The options of a source that the texts around its code depend on.
+#[derive(Drop)]
+pub(crate) struct AroundOptions<'s> {
+    /// The path of the library, if the source has one.
+    pub(crate) library: Option<TokenStream<'s>>,
+    pub(crate) error_type: Option<ErrorType<'s>>,
+    pub(crate) extras: MaybeVoid<'s>,
+}
+
+impl<'s> AroundOptions<'s> {
+    /// Returns the text around a code with these options.
+    pub(crate) fn around(&self, utf8_mode: bool) -> Around<'_, 's>
+        ensures { around_value result ≡ around_options self.now utf8_mode }
+    {
+        Around {
+            logos: run_of(self.library.as_ref()),
+            error: error_run(self.error_type.as_ref()),
+            error_type: read_type(self.error_type.as_ref()),
+            extras: run_in(&self.extras),
+            source: input_text(utf8_mode),
+        }
+    }
+}
+
+/// Returns the text of the type of inputs, with the gap after it.
+fn input_text(utf8_mode: bool) -> &'static str
+    ensures { result.now ≡ input_text utf8_mode }
+{
+    if utf8_mode { "str " } else { "[ u8 ] " }
+}
+
+/// Returns the tokens of a path, if there is one.
+fn run_of<'t, 's>(path: Option<&'t TokenStream<'s>>) -> Option<Tokens<'t, 's>>
+    ensures { option_map tokens_of result ≡ option_map stream_tokens (option_copied path.entry) }
+{
+    match path {
+        Some(stream) => Some(stream.run()),
+        None => None,
+    }
+}
+
+/// Returns the tokens of a type, if it has some.
+fn run_in<'t, 's>(tokens: &'t MaybeVoid<'s>) -> Option<Tokens<'t, 's>>
+    ensures { option_map tokens_of result ≡ run_in tokens.now }
+{
+    match tokens {
+        MaybeVoid::Some(stream) => Some(stream.run()),
+        MaybeVoid::Void => None,
+    }
+}
+
+/// Returns the tokens of the type of errors, if it has some.
+fn error_run<'t, 's>(error: Option<&'t ErrorType<'s>>) -> Option<Tokens<'t, 's>>
+    ensures { option_map tokens_of result
+        ≡ error_run (option_map error_view (option_copied error.entry)) }
+{
+    match error {
+        Some(error) => run_in(&error.ty),
+        None => None,
+    }
+}
+
+/// Returns the type of errors as it was read, if it was.
+fn read_type<'t, 's>(error: Option<&'t ErrorType<'s>>) -> Option<&'t TypeExpr<'s>>
+    ensures { option_map type_tree (option_copied result)
+        ≡ error_tree (option_map error_view (option_copied error.entry)) }
+{
+    match error {
+        Some(error) => error.type_expr.as_ref(),
+        None => None,
+    }
+}

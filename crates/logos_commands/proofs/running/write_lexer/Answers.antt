@@ -1,7 +1,0 @@
-use Rattle.logos_commands.proofs.RunLemmas.{carried}
-use Rattle.logos_commands.specs.Runs.{IsPartOf}
-use Rattle.logos_commands.proofs.running.write_lexer.Goals as goal
-
-pub returns-in-Ok-clause-done : goal.returns-in-Ok-clause-done
-returns-in-Ok-clause-done g c =
-    carried g.F.Files.read_gives g.F.Files.write_makes _ _ _ _ _ _ _ (IsPartOf c.args.asked) c.in-Ok.ensures.done c.deliver.result c.deliver.ensures.done

@@ -1,0 +1,81 @@
+//! The path of the file to which `export` writes a state diagram. Used by `outcome`.
+
+ghost use Rattle.std.specs.Prelude.{◌≡◌, IfErr, IfOk, option_copied, string_bytes};
+ghost use Rattle.logos_commands.specs.Views.{with_separator, destination, extension, file_at, file_in, refusal_by, FailsAt, IsNoMisuse};
+
+use crate::refusals::{ExportRefusal, refused_export};
+use logos_host::{Failure, file_name};
+use std::alloc::{AllocError, Global};
+
+/// Returns the path of the file for the state diagram of an enum. `path` is the export path of its
+/// source: the path of a file, or of a folder, in which the file has the enum's name.
+///
+/// # Errors
+///
+/// Returns `Refused` if the path has an extension other than `mmd`, and `Memory` if memory runs
+/// out.
+pub(super) fn diagram_path(
+    alloc: Global,
+    path: &str,
+    name: &str,
+) -> Result<String, Failure<'static>>
+    ensures file { IfOk result (λ diagram.
+        file_at (string_bytes diagram) ≡ destination path.now name.now) }
+    ensures failure { IfErr result (FailsAt (destination path.now name.now)) }
+    ensures known { IfErr result IsNoMisuse }
+{
+    let Some(extension) = extension_of(file_name(path)) else {
+        return Ok(path_in(alloc, path, name)?);
+    };
+    if extension == "mmd" {
+        return Ok(String::from_str(alloc, path)?);
+    }
+    Err(refused_export(alloc, refused_by(extension)))
+}
+
+/// Returns why a diagram's path must not have this extension, which is not `mmd`.
+fn refused_by(extension: &str) -> ExportRefusal
+    ensures { result ≡ refusal_by extension.now }
+{
+    if extension == "dot" {
+        ExportRefusal::Dot
+    } else {
+        ExportRefusal::Extension
+    }
+}
+
+/// Returns the extension of a name: the part after its last `.`. A leading `.` begins no extension,
+/// and `..` has none.
+fn extension_of(name: &str) -> Option<&str>
+    ensures { option_copied result ≡ extension name.now }
+{
+    if name == ".." {
+        return None;
+    }
+    match name.rsplit_once('.') {
+        Some((stem, extension)) if !stem.is_empty() => Some(extension),
+        _ => None,
+    }
+}
+
+/// Returns the path of the diagram of an enum in a folder.
+fn path_in(alloc: Global, folder: &str, name: &str) -> Result<String, AllocError>
+    ensures { IfOk result (λ path. string_bytes path ≡ file_in folder.now name.now) }
+{
+    let mut path = with_separator(alloc, folder)?;
+    path.push_str(name.to_ascii_lowercase(alloc)?.as_str())?;
+    path.push_str(".mmd")?;
+    Ok(path)
+}
+
+/// Returns the folder's path, ready for a name to be appended: with `/` at its end, unless it is
+/// empty.
+fn with_separator(alloc: Global, folder: &str) -> Result<String, AllocError>
+    ensures { IfOk result (λ path. string_bytes path ≡ with_separator folder.now) }
+{
+    let mut path = String::from_str(alloc, folder)?;
+    if !folder.is_empty() && !folder.ends_with('/') {
+        path.push('/')?;
+    }
+    Ok(path)
+}

@@ -1,0 +1,127 @@
+//! Refusals as failures whose text `logos` prints: a line for each fault, or the reason that a
+//! diagram is not exported. Used by `diagram_path`, `item_lines` and `outcome`.
+
+ghost use Rattle.std.specs.Prelude.{◌≡◌, ◌++◌, IfOk, OnOk, string_bytes};
+ghost use Rattle.logos_commands.specs.Views.{IsNoMisuse, IsRefusalOf, IsUnexportedBy, export_line, fault_head, fault_line, fault_lines, fault_of, faults_of, flat_map, line_character, on_one_line};
+
+use logos_codegen::Refusal;
+use logos_codegen::error::{Errors, Memory, SpannedError};
+use logos_host::Failure;
+use std::alloc::Global;
+
+/// The reason that a diagram is not exported.
+#[derive(Clone, Copy)]
+pub(super) enum ExportRefusal {
+    /// The source has no export path.
+    NoPath,
+    /// The path is for a diagram in the language DOT.
+    Dot,
+    /// The path has an extension that no diagram has.
+    Extension,
+}
+
+/// Returns the failure for a refused source, or `Memory` if memory runs out.
+pub(super) fn refused_source(refusal: Refusal) -> Failure<'static>
+    ensures refusal { IsRefusalOf refusal result }
+    ensures known { IsNoMisuse result }
+{
+    let Refusal::Errors(errors) = refusal else {
+        return Failure::Memory;
+    };
+    match fault_lines(&errors) {
+        Ok(text) => Failure::Refused(text),
+        Err(Memory) => Failure::Memory,
+    }
+}
+
+/// Returns the failure for a diagram that is not exported, or `Memory` if memory runs out.
+pub(super) fn refused_export(alloc: Global, why: ExportRefusal) -> Failure<'static>
+    ensures refusal { IsUnexportedBy why result }
+    ensures known { IsNoMisuse result }
+{
+    match String::from_str(alloc, export_line(why)) {
+        Ok(text) => Failure::Refused(text),
+        Err(_) => Failure::Memory,
+    }
+}
+
+/// Returns the line with the reason that a diagram is not exported.
+fn export_line(why: ExportRefusal) -> &'static str
+    ensures { result.now ≡ export_line why }
+{
+    match why {
+        ExportRefusal::NoPath => "no export path\n",
+        ExportRefusal::Dot => "DOT export is left out\n",
+        ExportRefusal::Extension => {
+            "Export path must end in '.dot' or '.mmd', or it must be a directory.\n"
+        }
+    }
+}
+
+/// Returns the lines of all faults.
+fn fault_lines(errors: &Errors) -> Result<String, Memory>
+    ensures { IfOk result (λ text. string_bytes text ≡ fault_lines errors.now) }
+{
+    let mut text = String::new(errors.alloc());
+    push_lines(&mut text, errors.list())?;
+    Ok(text)
+}
+
+/// Appends the lines of these faults.
+fn push_lines(text: &mut String, faults: &[SpannedError]) -> Result<(), Memory>
+    ensures { OnOk result (string_bytes text.new
+        ≡ string_bytes text.old ++ flat_map fault_line (faults_of faults.now)) }
+{
+    for fault in faults {
+        push_line(text, fault)?;
+    }
+    Ok(())
+}
+
+/// Appends the line of a fault.
+fn push_line(text: &mut String, fault: &SpannedError) -> Result<(), Memory>
+    ensures { OnOk result (string_bytes text.new
+        ≡ string_bytes text.old ++ fault_line (fault_of fault.now)) }
+{
+    push_head(text, fault)?;
+    push_on_one_line(text, fault.message.as_str())?;
+    text.push('\n')?;
+    Ok(())
+}
+
+/// Appends the span and the code of a fault.
+fn push_head(text: &mut String, fault: &SpannedError) -> Result<(), Memory>
+    ensures { OnOk result (string_bytes text.new
+        ≡ string_bytes text.old ++ fault_head (fault_of fault.now)) }
+{
+    let from = fault.span.from;
+    let to = fault.span.to;
+    let code = fault.code;
+    if write!(text, "{from}..{to} {code}: ").is_err() {
+        return Err(Memory);
+    }
+    Ok(())
+}
+
+/// Appends a text with `\n` in place of each LF.
+fn push_on_one_line(text: &mut String, message: &str) -> Result<(), Memory>
+    ensures { OnOk result (string_bytes text.new
+        ≡ string_bytes text.old ++ on_one_line message.now) }
+{
+    for character in message.chars() {
+        push_character(text, character)?;
+    }
+    Ok(())
+}
+
+/// Appends a character, or `\n` in place of LF.
+fn push_character(text: &mut String, character: char) -> Result<(), Memory>
+    ensures { OnOk result (string_bytes text.new
+        ≡ string_bytes text.old ++ line_character character) }
+{
+    match character {
+        '\n' => text.push_str("\\n")?,
+        _ => text.push(character)?,
+    }
+    Ok(())
+}

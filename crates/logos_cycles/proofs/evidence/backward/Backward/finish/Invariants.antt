@@ -1,5 +1,0 @@
-use Rattle.std.proofs.Common.{◌-◌, ◌^◌}
-use Rattle.logos_cycles.proofs.evidence.backward.Backward.finish.Given as goal
-
-abbrev pub decreases-loop-node : goal.decreases-loop-node
-decreases-loop-node l = 2 ^ 64 - l.at

@@ -1,9 +1,0 @@
-use Rattle.std.proofs.Common.{List, ℕ, Bool, drop}
-use Rattle.logos_cycles.specs.inside.Traversals.{Reaches}
-use Rattle.logos_cycles.proofs.plain.add_all.Given as goal
-
--- what completes the rest completes the whole
-abbrev pub invariant-loop-to : goal.invariant-loop-to
-invariant-loop-to l = (found : List Bool) (waiting : List ℕ) →
-    Reaches (drop l.to-index l.targets) l.traversal.found.items l.traversal.waiting.items found waiting →
-    Reaches l.targets l.fn.traversal.found.items l.fn.traversal.waiting.items found waiting

@@ -1,4 +1,0 @@
-pub mod Cycles
-pub mod inside
-pub mod Words
-pub mod Views

@@ -1,3 +1,0 @@
--- Definitions that clauses cite: those of `Words`, and those that name types of this crate.
-pub use Rattle.logos_cycles.specs.Words.{Leads, Reaches, slice_get, targets_of}
-pub use Rattle.logos_cycles.specs.inside.Memberships.{ComesFrom, Edge, FollowAll, Follows, GoesToward, HasInner, HasRoot, IsEvidence, IsPlaced, graph}

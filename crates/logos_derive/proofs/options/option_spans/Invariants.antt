@@ -1,5 +1,0 @@
-use Rattle.logos_enum.specs.Words.{count_of, tokens_of}
-use Rattle.logos_derive.proofs.options.option_spans.Given as goal
-
-abbrev pub decreases-loop-attribute : goal.decreases-loop-attribute
-decreases-loop-attribute l = count_of (tokens_of l.rest)

@@ -1,5 +1,0 @@
--- Definitions that clauses cite: of lower crates, and those of this one that name no type of it.
-pub use Rattle.std.specs.List.{All}
-pub use Rattle.logos_report.specs.Sets.{next_value, sizes_of}
-pub use Rattle.logos_token.specs.FaultView.{fault_of, faults_of}
-pub use Rattle.logos_derive.specs.Parts.{IsPartOf, StandsAt}

@@ -1,0 +1,157 @@
+//! Compares two lexers. Called for `logos_show --compare`.
+
+ghost use Rattle.std.specs.Prelude.{◌≡◌, ℕ, List, [], IfOk, Option, is_some, slice_get};
+ghost use Rattle.logos_evidence.specs.Views.{IsGraphOf, rules_of, IsShortestDifference, FindTheSame, pair_next, pair_goal, shown, IsAnswer};
+ghost use Rattle.logos_evidence.specs.inside.Machines as machines;
+
+use crate::examples::point_from;
+use crate::graph_steps::{next_at_end, next_by, seen_by, states_of};
+use crate::search::{Machine, Point, shortest};
+use logos_graph::graph::{Graph, StateData};
+use std::alloc::{AllocError, Global};
+
+/// The result of a comparison of two lexers.
+#[derive(Debug, Drop)]
+pub enum Comparison {
+    /// From each offset of each input the two find the same match or error.
+    Same,
+    /// At the beginning of this input they find different ones.
+    Differ(Vec<u8>),
+}
+
+/// A graph, and the names of its leaves as numbers.
+#[derive(Clone, Copy)]
+pub struct Named<'g, 's> {
+    pub graph: &'g Graph<'s>,
+    /// For each leaf the number of its name. Leaves with the same number count as equal.
+    pub names: &'g [usize],
+}
+
+/// A machine that follows two graphs, and searches for inputs at whose beginning they find
+/// different matches or errors.
+#[derive(Clone, Copy)]
+struct GraphPair<'g> {
+    one: &'g [&'g StateData],
+    names: &'g [usize],
+    other: &'g [&'g StateData],
+    others: &'g [usize],
+    utf8: bool,
+}
+
+/// Returns whether two marks are leaves of the same name.
+fn same_mark(names: &[usize], mark: usize, others: &[usize], twin: usize) -> bool
+    ensures { result ≡ machines.same_option (slice_get names.now mark) (slice_get others.now twin) }
+{
+    match (names.get(mark), others.get(twin)) {
+        (Some(name), Some(other)) => *name == *other,
+        (None, None) => true,
+        _ => false,
+    }
+}
+
+/// Returns whether `byte` can begin a character, or inputs are any bytes.
+fn is_cut(utf8: bool, byte: u8) -> bool
+    ensures { result ≡ machines.is_cut utf8 byte }
+{
+    !utf8 | ((byte < 0x80) | (0xC0 <= byte))
+}
+
+/// Returns whether exactly one of two steps leads to a state.
+fn one_leads(next: Option<usize>, twin: Option<usize>) -> bool
+    ensures { result ≡ machines.one_leads next twin }
+{
+    (next.is_some() & !twin.is_some()) | (!next.is_some() & twin.is_some())
+}
+
+impl GraphPair<'_> {
+    /// Returns whether the last matches differ after one more step with these marks. `parts` is
+    /// whether errors may end at different offsets.
+    fn differs_after(
+        &self,
+        at: Point,
+        mark: Option<usize>,
+        twin: Option<usize>,
+        parts: bool,
+    ) -> bool
+        ensures { result ≡
+            machines.differs_after self.now.names.now self.now.others.now
+            at.met at.last mark twin parts }
+    {
+        match (mark, twin) {
+            (Some(mark), Some(twin)) => !same_mark(self.names, mark, self.others, twin),
+            (None, None) => if at.met { at.last } else { at.last | parts },
+            _ => true,
+        }
+    }
+}
+
+impl Machine for GraphPair<'_> {
+    ghost leads = { λ it. pair_next (shown it.one.now) (shown it.other.now) it.names.now it.others.now it.utf8 };
+
+    ghost goal = { λ it. pair_goal (shown it.one.now) (shown it.other.now) it.names.now it.others.now it.utf8 };
+
+    fn next(&self, at: Point, byte: u8) -> Option<Point> {
+        let next = next_by(self.one, at.here, byte);
+        let twin = next_by(self.other, at.there, byte);
+        let mark = seen_by(self.one, at.here, next);
+        let twin_mark = seen_by(self.other, at.there, twin);
+        let parts = at.begun & (is_cut(self.utf8, byte) & one_leads(next, twin));
+        Some(Point {
+            here: next.unwrap_or(self.one.len()),
+            there: twin.unwrap_or(self.other.len()),
+            begun: true,
+            met: at.met | (mark.is_some() | twin_mark.is_some()),
+            last: self.differs_after(at, mark, twin_mark, parts),
+        })
+    }
+
+    fn is_goal(&self, at: Point) -> bool {
+        let next = next_at_end(self.one, at.here);
+        let twin = next_at_end(self.other, at.there);
+        let mark = seen_by(self.one, at.here, next);
+        let twin_mark = seen_by(self.other, at.there, twin);
+        self.differs_after(at, mark, twin_mark, false)
+    }
+}
+
+/// Compares two lexers of the same mode. Returns `Same` if they find equal matches and errors from
+/// each offset of each input; otherwise a shortest input at whose beginning they do not. Matches
+/// are equal if they end at the same offset and their leaves have the same name; errors, if they
+/// end at the same offset. Of inputs of the same length it is the one with letters, digits and
+/// punctuation first.
+///
+/// The graphs must have no faults. Callbacks are not compared. Skips are matches too: a lexer that
+/// skips two blanks one by one differs from one that skips them at once.
+///
+/// # Errors
+///
+/// Returns `AllocError` if memory runs out.
+pub fn compare(
+    alloc: Global,
+    one: Named<'_, '_>,
+    other: Named<'_, '_>,
+) -> Result<Comparison, AllocError>
+    requires { one.graph.now.utf8 ≡ other.graph.now.utf8 }
+    ensures { IfOk result (λ made.
+        IsGraphOf one.entry.graph.now.leaves one.entry.graph.now.utf8 one.entry.graph.now →
+        IsGraphOf other.entry.graph.now.leaves other.entry.graph.now.utf8 other.entry.graph.now →
+        one.entry.graph.now.faults ≡ [] → other.entry.graph.now.faults ≡ [] →
+        IsAnswer (rules_of one.entry.graph.now.leaves) one.entry.names.now
+        (rules_of other.entry.graph.now.leaves) other.entry.names.now
+        one.entry.graph.now.utf8 made) }
+{
+    let states = states_of(alloc, one.graph)?;
+    let twins = states_of(alloc, other.graph)?;
+    let utf8 = one.graph.utf8_mode();
+    let machine = GraphPair {
+        one: &states,
+        names: one.names,
+        other: &twins,
+        others: other.names,
+        utf8,
+    };
+    match shortest(alloc, &machine, utf8, point_from(0))? {
+        Some(input) => Ok(Comparison::Differ(input)),
+        None => Ok(Comparison::Same),
+    }
+}

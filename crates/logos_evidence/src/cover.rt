@@ -1,0 +1,53 @@
+//! Inputs that together take all edges of a graph. Called for `--inputs`.
+
+ghost use Rattle.std.specs.Prelude.{◌≡◌, IfOk, map};
+ghost use Rattle.logos_evidence.specs.Imports.{AreCoveringInputs, edge_next, edge_goal, shown};
+
+use crate::examples::point_from;
+use crate::graph_steps::{next_at_end, next_by, states_of};
+use crate::search::{Machine, Point, covering};
+use logos_graph::graph::{Graph, StateData};
+use std::alloc::{AllocError, Global};
+
+/// A machine that follows the edges of a graph.
+#[derive(Clone, Copy)]
+struct EdgeMachine<'g> {
+    states: &'g [&'g StateData],
+}
+
+impl Machine for EdgeMachine<'_> {
+    ghost leads = { λ it. edge_next (shown it.states.now) };
+
+    ghost goal = { λ it. edge_goal (shown it.states.now) };
+
+    fn next(&self, at: Point, byte: u8) -> Option<Point> {
+        let here = next_by(self.states, at.here, byte)?;
+        Some(point_from(here))
+    }
+
+    fn is_goal(&self, at: Point) -> bool {
+        next_at_end(self.states, at.here).is_some()
+    }
+}
+
+/// Returns inputs that together take all edges of a graph that any input takes: each edge from one
+/// state to another by a byte, and each edge at the end of an input. They are seeds for tests and
+/// fuzzers.
+///
+/// Each input takes an edge that no earlier one takes, so there are at most as many inputs as
+/// edges. In UTF-8 mode they are UTF-8. Deep states come first. Each input has at most one byte for
+/// each state on its way, and up to four more. If the enum has many long keywords and a leaf for
+/// names, the total length of all inputs can be the square of the number of states.
+///
+/// # Errors
+///
+/// Returns `AllocError` if memory runs out.
+pub fn covering_inputs(alloc: Global, graph: &Graph<'_>) -> Result<Vec<Vec<u8>>, AllocError>
+    ensures { IfOk result (λ inputs. AreCoveringInputs graph.now.states graph.now.utf8
+        (map (λ v. v.items) inputs.items)) }
+{
+    let states = states_of(alloc, graph)?;
+    let machine = EdgeMachine { states: &states };
+    let inputs = covering(alloc, &machine, graph.utf8_mode(), point_from(0))?;
+    Ok(inputs)
+}

@@ -1,0 +1,113 @@
+//! Steps of a graph, and the matches that end on them.
+
+ghost use Rattle.std.specs.Prelude.{◌≡◌, [], IfOk, find, length, map, option_map};
+ghost use Rattle.logos_evidence.specs.Imports.{has_byte, IsFinished, edge_of, graph_state_of, is_in, shown};
+ghost use Rattle.logos_graph.specs.Graph as graphs;
+ghost use Rattle.logos_evidence.specs.inside.Lasts as lasts;
+
+use logos_byte_class::byte_class::ByteClass;
+use logos_graph::graph::{Graph, State, StateData};
+use std::alloc::{AllocError, Global};
+
+/// Returns the states of a graph, by their numbers.
+///
+/// # Errors
+///
+/// Returns `AllocError` if memory runs out.
+pub(crate) fn states_of<'g>(
+    alloc: Global,
+    graph: &'g Graph<'_>,
+) -> Result<Vec<&'g StateData>, AllocError>
+    ensures states { IfOk result (λ states. shown states.items ≡ graph.now.states) }
+    ensures finished { IfOk result (λ states. graph.now.faults ≡ [] →
+        IsFinished graph.now.states (length graph.now.leaves)) }
+{
+    let mut states = Vec::new(alloc);
+    for state in graph.iter_states() {
+        states.push(graph.get_state(state))?;
+    }
+    Ok(states)
+}
+
+/// Returns whether a class holds a byte.
+fn holds(class: &ByteClass, byte: u8) -> bool
+    ensures { result ≡ has_byte class.now byte }
+{
+    for range in &class.ranges {
+        if *range.start() <= byte && byte <= *range.end() {
+            return true;
+        }
+    }
+    false
+}
+
+/// Returns the target of the edge that holds a byte.
+fn target_of(edges: &[(ByteClass, State)], byte: u8) -> Option<usize>
+    ensures { result ≡ option_map (λ edge. edge.1)
+        (find (λ edge. is_in edge.0 byte) (map edge_of edges.now)) }
+{
+    for edge in edges {
+        if holds(&edge.0, byte) {
+            return Some(edge.1.index());
+        }
+    }
+    None
+}
+
+/// Returns the target of the edge of a state that holds a byte.
+fn target_in(from: &StateData, byte: u8) -> Option<usize>
+    ensures { result ≡ option_map (λ edge. edge.1)
+        (find (λ edge. is_in edge.0 byte) (graph_state_of from.now).normal) }
+{
+    target_of(&from.normal, byte)
+}
+
+/// Returns the state to which a byte leads.
+pub(crate) fn next_by(states: &[&StateData], state: usize, byte: u8) -> Option<usize>
+    ensures { result ≡ graphs.next_by (shown states.now) state byte }
+{
+    let data = states.get(state)?;
+    let target = target_in(data, byte)?;
+    Some(target)
+}
+
+/// Returns the state to which the end of the input leads.
+pub(crate) fn next_at_end(states: &[&StateData], state: usize) -> Option<usize>
+    ensures { result ≡ graphs.next_at_end (shown states.now) state }
+{
+    let data = states.get(state)?;
+    let next = data.eoi?;
+    Some(next.index())
+}
+
+/// Returns the leaf whose match ends at a state.
+fn early_of(states: &[&StateData], state: usize) -> Option<usize>
+    ensures { result ≡ lasts.early_of (shown states.now) state }
+{
+    let data = states.get(state)?;
+    let leaf = data.state_type.early?;
+    Some(leaf.0)
+}
+
+/// Returns the leaf whose match ends one byte before a state.
+fn late_of(states: &[&StateData], state: usize) -> Option<usize>
+    ensures { result ≡ lasts.late_of (shown states.now) state }
+{
+    let data = states.get(state)?;
+    let leaf = data.state_type.accept?;
+    Some(leaf.0)
+}
+
+/// Returns the leaf whose match ends at a state, as a step to the state `next` determines it, if
+/// there is one.
+pub(crate) fn seen_by(states: &[&StateData], state: usize, next: Option<usize>) -> Option<usize>
+    ensures { result ≡ lasts.seen_by (shown states.now) state next }
+{
+    let Some(next) = next else {
+        return early_of(states, state);
+    };
+    match late_of(states, next) {
+        Some(leaf) => Some(leaf),
+        None => early_of(states, state),
+    }
+}

@@ -1,0 +1,75 @@
+//! The steps that a machine takes on its way over an input. Used by `cover`.
+
+ghost use Rattle.std.specs.Prelude.{◌≡◌, ◌⊎◌, false, IfOk, OnOk, Contains};
+ghost use Rattle.logos_evidence.specs.search.Views.{Adds, InputStep as Taken};
+
+use crate::search::point::{Machine, Point};
+use indexmap::IndexSet;
+use std::alloc::AllocError;
+
+/// A step of a machine over an input: a byte leads from a point to another one, or the input ends.
+#[derive(Clone, Copy, PartialEq, Eq, Hash)]
+pub(crate) struct InputStep {
+    pub(crate) from: Point,
+    /// The next point, or the same point if the input ends.
+    pub(crate) to: Point,
+    /// Whether the input ends.
+    pub(crate) ends: bool,
+}
+
+/// Adds a step, if the set does not contain it. Returns whether it is new.
+///
+/// # Errors
+///
+/// Returns `AllocError` if memory runs out.
+pub(crate) fn add_step(steps: &mut IndexSet<InputStep>, step: InputStep) -> Result<bool, AllocError>
+    ensures has { OnOk result (Contains steps.new.keys step) }
+    ensures only { OnOk result ((other : Taken) → Contains steps.new.keys other →
+        Contains steps.old.keys other ⊎ (other ≡ step)) }
+    ensures grows { OnOk result ((other : Taken) → Contains steps.old.keys other →
+        Contains steps.new.keys other) }
+    ensures stays { IfOk result (λ is_new. is_new ≡ false → steps.new.keys ≡ steps.old.keys) }
+{
+    let (_, is_new) = steps.insert_full(step)?;
+    Ok(is_new)
+}
+
+/// Adds the steps that a machine takes from a point over an input.
+///
+/// # Errors
+///
+/// Returns `AllocError` if memory runs out.
+pub(crate) fn add_steps<M: Machine>(
+    machine: &M,
+    start: Point,
+    input: &[u8],
+    steps: &mut IndexSet<InputStep>,
+) -> Result<(), AllocError>
+    ensures { OnOk result (Adds (M.leads machine.now) start steps.old.keys input.now
+        steps.new.keys) }
+{
+    let mut at = start;
+    for byte in input {
+        let Some(to) = machine.next(at, *byte) else {
+            return Ok(());
+        };
+        add_step(
+            steps,
+            InputStep {
+                from: at,
+                to,
+                ends: false,
+            },
+        )?;
+        at = to;
+    }
+    add_step(
+        steps,
+        InputStep {
+            from: at,
+            to: at,
+            ends: true,
+        },
+    )?;
+    Ok(())
+}

@@ -1,5 +1,0 @@
-use Rattle.std.proofs.Common.{inr, refl}
-use Rattle.logos_expand.proofs.expanding.denied_file.Goals as goal
-
-pub returns-in-Ok : goal.returns-in-Ok
-returns-in-Ok c = λ shape. inr (refl, inr c.requires)

@@ -1,4 +1,0 @@
-use Rattle.logos_expand.proofs.expanding.fault_lines.Goals as goal
-
-pub returns : goal.returns
-returns c = let m = c.in_ok-push_refused_messages.ensures.pushed in (c.in_ok-lines.lines.items, m.0, m.1, m.2)

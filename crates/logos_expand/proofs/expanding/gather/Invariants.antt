@@ -1,6 +1,0 @@
-use Rattle.std.proofs.Common.{drop}
-use Rattle.logos_expand.proofs.GatherLemmas.{SoFar}
-use Rattle.logos_expand.proofs.expanding.gather.Given as goal
-
-abbrev pub invariant-loop-one : goal.invariant-loop-one
-invariant-loop-one l = SoFar l.site.shape l.text l.found (drop l.one-index l.found) l.gathered

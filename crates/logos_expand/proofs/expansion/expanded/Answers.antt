@@ -1,0 +1,8 @@
+use Rattle.logos_expand.proofs.GatherLemmas.{expansion_made, spells_enum}
+use Rattle.logos_expand.proofs.expansion.expanded.Goals as goal
+
+pub expansion_by-requires : goal.expansion_by-requires
+expansion_by-requires c = spells_enum c.args.source.now _ _ c.in-Ok.ensures.accepted c.in-Ok.ensures.within
+
+pub returns-in-Ok-expansion_by-clause-done : goal.returns-in-Ok-expansion_by-clause-done
+returns-in-Ok-expansion_by-clause-done c = expansion_made _ _ _ _ _ _ _ _ (rw c.config_of.ensures at c.in-Ok.ensures.given) c.in-Ok.ensures.around c.in-Ok-expansion_by.ensures

@@ -1,0 +1,434 @@
+//! Expands the derive of the lexers in a file. Called by `logos_cli`.
+
+ghost use Rattle.std.specs.Prelude.{◌≡◌, ◌<◌, ◌≤◌, ◌++◌, ◌^◌, ◌-◌, All, IfErr, IfOk, IfSome, IsTrue, OnOk, length, map, min, string_bytes};
+ghost use Rattle.logos_expand.specs.Views.{IsRefused, AreInOrder, IsFoundCut, found_span, part_span, AreEnumsOf, OccurInOrder, Refuses, IsExpanded, IsExpansion, IsUnreadable, AreRefused, AreReportLines, FailsFor, GathersAll, ShowsRefused, errors_in, report_texts, AddsRefusal, GathersOne, HasSets, IsExpansionBy, around_made, sizes_of, Spells, SpellsEnum, tokens_of};
+ghost use Rattle.logos_expand.specs.Views.{IsFileOf, IsPlainly, IsWithoutInner};
+
+use crate::head::with_head;
+use crate::printer::{Site, printed_with};
+use logos_causes::{Explained, Lexer, explain_enum};
+use logos_codegen::error::Memory;
+use logos_codegen::{Generated, Refusal, generate};
+use logos_file_warnings::{
+    Showing, add_accepted, add_missing, add_passed, add_text, add_warnings, denial_text,
+    push_warned, text_of, warning_lines, warning_text,
+};
+use logos_help::add_helps;
+use logos_host::{Failure, MessageFormat};
+use logos_layout::{has_inner, without_inner};
+use logos_messages::push_refused_messages;
+use logos_page::Page;
+use logos_report::{
+    Clues, Part, Refused, Source, Warning, count_errors, push_refused, push_summary,
+};
+use logos_rust_file::{FoundEnum, ReadFile, Replacement, read_file, replace};
+use logos_strip::stripper::strip_enum;
+use logos_tables::{Shape, config_of};
+use logos_token::token::{Span, Tokens, tokenize};
+use logos_warnings::Origin;
+use std::alloc::{AllocError, Global};
+
+/// A file with the derive of its lexers expanded.
+#[derive(Drop)]
+pub struct Expansion {
+    pub bytes: Vec<u8>,
+    /// The text of the warnings.
+    pub warnings: Vec<u8>,
+}
+
+/// The replacements of the enums of a file, and the faults of those that are refused.
+#[derive(Drop)]
+struct Gathered {
+    parts: Vec<Replacement>,
+    refused: Vec<Refused>,
+}
+
+/// Returns a file in which each enum that derives `Logos` is replaced by the enum without the
+/// derive and its attributes, followed by the implementation. All other text stays unchanged.
+///
+/// # Errors
+///
+/// Returns `Refused` with all faults of all these enums, in the order of the file, or with the one
+/// fault of a file that cannot be read into tokens, after its warnings, or with only these if they
+/// are denied. Returns `Memory` if memory runs out.
+pub fn expand<'w>(
+    source: &Source<'_>,
+    shape: Shape,
+    showing: Showing,
+) -> Result<Expansion, Failure<'w>>
+    ensures done { IfOk result (λ made. IsExpanded shape source.now.path source.now.text made.bytes.items) }
+    ensures denied { IfErr result (FailsFor showing.format showing.denies shape source.now) }
+{
+    let file = match read_file(showing.alloc, source.text()) {
+        Ok(file) => file,
+        Err(refusal) => return Err(refused_whole(source, showing, refusal)),
+    };
+    expand_enums(source, shape, showing, &file)
+}
+
+/// Returns the refusal of a file that cannot be read into tokens.
+fn refused_whole<'w>(source: &Source<'_>, showing: Showing, refusal: Refusal) -> Failure<'w>
+    requires { Refuses (IsUnreadable source.now.text) refusal }
+    ensures { (shape : Shape) → FailsFor showing.format showing.denies shape source.now result }
+{
+    let mut refused = Vec::new(showing.alloc);
+    let part = Part { source, offset: 0 };
+    match push_refusal(&mut refused, part, refusal, Clues::none(showing.alloc)) {
+        Ok(()) => refused_file(source, showing, &refused, &[]),
+        Err(Memory) => Failure::Memory,
+    }
+}
+
+/// Returns a file that was read with its enums expanded.
+fn expand_enums<'w>(
+    source: &Source<'_>,
+    shape: Shape,
+    showing: Showing,
+    file: &ReadFile<'_>,
+) -> Result<Expansion, Failure<'w>>
+    requires enums { AreEnumsOf source.now.text file.now.found.items }
+    requires order { AreInOrder 0 (map found_span file.now.found.items) (length source.now.text) }
+    requires cut { All (IsFoundCut source.now.text) file.now.found.items }
+    ensures done { IfOk result (λ made. IsExpanded shape source.now.path source.now.text made.bytes.items) }
+    ensures denied { IfErr result (FailsFor showing.format showing.denies shape source.now) }
+{
+    let mut warned = Vec::new(showing.alloc);
+    let site = Site {
+        shape,
+        file: source,
+        offset: 0,
+        by_name: has_import(source),
+    };
+    let gathered = gather(source.text(), site, &file.found, &mut warned)?;
+    add_passed(file.stream.run(), &file.found, &mut warned)?;
+    add_missing(showing, &file.found, &mut warned)?;
+    if gathered.refused.is_empty() {
+        let tokens = file.stream.run();
+        return accepted_file(source, shape, showing, tokens, &gathered.parts, &warned);
+    }
+    Err(refused_file(source, showing, &gathered.refused, &warned))
+}
+
+/// Returns whether a file may have an import of `Logos`, because it contains such a path.
+fn has_import(source: &Source<'_>) -> bool {
+    let text = source.text();
+    text.contains("::Logos") | text.contains("logos::{") | text.contains("::*")
+}
+
+/// Returns a file that has these tokens with parts replaced, unless its warnings are denied.
+fn accepted_file<'w>(
+    source: &Source<'_>,
+    shape: Shape,
+    showing: Showing,
+    tokens: Tokens<'_, '_>,
+    parts: &[Replacement],
+    warned: &[Warning],
+) -> Result<Expansion, Failure<'w>>
+    requires { AreInOrder 0 (map part_span parts.now) (length source.now.text) }
+    ensures done { IfOk result (λ made.
+        IsFileOf shape source.now.path source.now.text parts.now made.bytes.items) }
+    ensures denied { IfErr result (FailsFor showing.format showing.denies shape source.now) }
+{
+    if showing.denies && !warned.is_empty() {
+        return Err(denied_file(source, showing, warned));
+    }
+    Ok(Expansion {
+        bytes: expanded_file(showing.alloc, source, shape, tokens, parts)?,
+        warnings: warning_text(source, showing, warned, parts.is_empty())?,
+    })
+}
+
+/// Returns the refusal of a file for its warnings, which are denied.
+fn denied_file<'w>(source: &Source<'_>, showing: Showing, warned: &[Warning]) -> Failure<'w>
+    requires denies { IsTrue showing.denies }
+    requires some { 0 < length warned.now }
+    ensures { (shape : Shape) → FailsFor showing.format showing.denies shape source.now result }
+{
+    match denial_text(source, showing, warned) {
+        Ok(text) => Failure::Refused(text),
+        Err(Memory) => Failure::Memory,
+    }
+}
+
+/// Returns a file that has these tokens with parts replaced. If there are any, its first line
+/// states that it is generated, and its own documentation and attributes are plain comments.
+fn expanded_file(
+    alloc: Global,
+    source: &Source<'_>,
+    shape: Shape,
+    tokens: Tokens<'_, '_>,
+    parts: &[Replacement],
+) -> Result<Vec<u8>, Memory>
+    requires { AreInOrder 0 (map part_span parts.now) (length source.now.text) }
+    ensures { IfOk result (λ made.
+        IsFileOf shape source.now.path source.now.text parts.now made.items) }
+{
+    let bytes = replace(alloc, source.text(), parts)?;
+    if parts.is_empty() {
+        return Ok(bytes);
+    }
+    let body = plain_file(alloc, bytes, tokens)?;
+    with_head(alloc, source.path(), shape, &body)
+}
+
+/// Returns a file with plain comments for its own documentation and attributes, if it begins with
+/// such. These are the tokens of the file before parts of it were replaced.
+fn plain_file(alloc: Global, bytes: Vec<u8>, tokens: Tokens<'_, '_>) -> Result<Vec<u8>, Memory>
+    ensures { IfOk result (λ body. IsWithoutInner bytes.items body.items) }
+{
+    if !has_inner(tokens) {
+        return Ok(bytes);
+    }
+    match plain_bytes(alloc, &bytes)? {
+        Some(body) => Ok(body),
+        None => Ok(bytes),
+    }
+}
+
+/// Returns a file with plain comments for the documentation and the attributes of the file itself.
+/// `None` if it cannot have them.
+fn plain_bytes(alloc: Global, bytes: &[u8]) -> Result<Option<Vec<u8>>, Memory>
+    ensures { IfOk result (λ found. IfSome found (λ body. IsPlainly bytes.now body.items)) }
+{
+    let Ok(text) = str::from_utf8(bytes) else {
+        return Ok(None);
+    };
+    match without_inner(alloc, text)? {
+        Some(plain) => Ok(Some(plain.into_bytes())),
+        None => Ok(None),
+    }
+}
+
+/// Returns the replacements of these enums of a file, and the faults of those that are refused.
+/// Adds their warnings.
+fn gather(
+    text: &str,
+    site: Site<'_, '_>,
+    found: &[FoundEnum],
+    warned: &mut Vec<Warning>,
+) -> Result<Gathered, Memory>
+    requires order { AreInOrder 0 (map found_span found.now) (length text.now) }
+    requires cut { All (IsFoundCut text.now) found.now }
+    ensures gathers { IfOk result (GathersAll site.entry.shape text.now found.now) }
+    ensures order { IfOk result (λ gathered.
+        AreInOrder 0 (map part_span gathered.parts.items) (length text.now)) }
+{
+    let alloc = *warned.allocator();
+    let mut gathered = Gathered {
+        parts: Vec::new(alloc),
+        refused: Vec::new(alloc),
+    };
+    for one in found {
+        gather_enum(text, site, *one, &mut gathered, warned)?;
+    }
+    Ok(gathered)
+}
+
+/// Adds the replacement or the faults of an enum, if it derives `Logos`, and its warnings.
+fn gather_enum(
+    text: &str,
+    site: Site<'_, '_>,
+    one: FoundEnum,
+    gathered: &mut Gathered,
+    warned: &mut Vec<Warning>,
+) -> Result<(), Memory>
+    requires order { one.span.from ≤ one.span.to }
+    requires cut { IsFoundCut text.now one }
+    ensures { OnOk result (GathersOne site.entry.shape text.now one gathered.old gathered.new) }
+{
+    let span = one.span;
+    let source = &text[span.from..span.to];
+    if !one.derives {
+        return add_text(source, span.from, false, warned);
+    }
+    let site = Site {
+        offset: span.from,
+        by_name: one.by_name & site.by_name,
+        ..site
+    };
+    match expanded(source, site, warned) {
+        Ok(text) => {
+            gathered.parts.push(Replacement { span, text })?;
+            Ok(())
+        }
+        Err(refusal) => {
+            let clues = clues_of(source, span.from, warned)?;
+            let part = Part {
+                source: site.file,
+                offset: span.from,
+            };
+            push_refusal(&mut gathered.refused, part, refusal, clues)
+        }
+    }
+}
+
+/// Returns the clues about a refused enum, and adds all its warnings. Its text begins at an offset
+/// of the file.
+fn clues_of(text: &str, offset: usize, warned: &mut Vec<Warning>) -> Result<Clues, Memory>
+    ensures { IfOk result (λ clues. HasSets text.now (sizes_of clues)) }
+{
+    let Explained { clues, warnings } = explain_enum(*warned.allocator(), text, Origin::File)?;
+    add_warnings(offset, warnings, warned)?;
+    Ok(clues)
+}
+
+/// Appends the faults of a part of a file, with the clues and the helps for them.
+fn push_refusal(
+    refused: &mut Vec<Refused>,
+    part: Part<'_, '_>,
+    refusal: Refusal,
+    mut clues: Clues,
+) -> Result<(), Memory>
+    ensures { OnOk result
+        (AddsRefusal part.entry.offset refusal clues refused.old.items refused.new.items) }
+{
+    match refusal {
+        Refusal::Errors(errors) => {
+            add_helps(part, &errors, &mut clues)?;
+            refused.push(Refused {
+                offset: part.offset,
+                errors,
+                clues,
+            })?;
+            Ok(())
+        }
+        Refusal::Memory => Err(Memory),
+    }
+}
+
+/// Returns an enum without the derive and its attributes, and the implementation. Adds the warnings
+/// for the enum and for its lexer.
+fn expanded(source: &str, site: Site<'_, '_>, warned: &mut Vec<Warning>) -> Result<String, Refusal>
+    ensures done { IfOk result
+        (λ text. IsExpansion site.entry.shape source.now (string_bytes text)) }
+    ensures refused { IfErr result (Refuses (IsRefused source.now)) }
+{
+    match generate(*warned.allocator(), source, config_of(site.shape)) {
+        Ok(made) => match expansion_by(source, site, &made, warned) {
+            Ok(text) => Ok(text),
+            Err(Memory) => Err(Refusal::Memory),
+        },
+        Err(refusal) => Err(refusal),
+    }
+}
+
+/// Returns an enum without the derive and its attributes, and the generated code of its lexer. Adds
+/// the warnings for both.
+fn expansion_by(
+    source: &str,
+    site: Site<'_, '_>,
+    made: &Generated<'_>,
+    warned: &mut Vec<Warning>,
+) -> Result<String, Memory>
+    requires { SpellsEnum source.now }
+    ensures { IfOk result (λ text.
+        IsExpansionBy site.entry.shape (around_made made.now) made.now.code source.now (string_bytes text)) }
+{
+    match tokenize(*warned.allocator(), source) {
+        Ok(stream) => expansion_with(source, stream.run(), site, made, warned),
+        // The source has tokens, within the limits.
+        Err(_) => Err(Memory),
+    }
+}
+
+/// Returns the same of an enum with these tokens.
+fn expansion_with(
+    source: &str,
+    tokens: Tokens<'_, '_>,
+    site: Site<'_, '_>,
+    made: &Generated<'_>,
+    warned: &mut Vec<Warning>,
+) -> Result<String, Memory>
+    requires known { SpellsEnum source.now }
+    requires spelled { Spells source.now (tokens_of tokens) }
+    ensures { IfOk result (λ text.
+        IsExpansionBy site.entry.shape (around_made made.now) made.now.code source.now (string_bytes text)) }
+{
+    let alloc = *warned.allocator();
+    let lexer = Lexer {
+        graph: &made.graph,
+        error: made.code.error_callback(),
+    };
+    add_accepted(tokens, site.offset, lexer, warned)?;
+    let left = strip_enum(alloc, source, tokens)?;
+    printed_with(alloc, source, left.run(), site, made)
+}
+
+/// Returns the refusal of a file, with the text of all its faults.
+fn refused_file<'w>(
+    source: &Source<'_>,
+    showing: Showing,
+    refused: &[Refused],
+    warned: &[Warning],
+) -> Failure<'w>
+    ensures { (shape : Shape) → AreRefused shape source.now.text refused.now →
+        FailsFor showing.format showing.denies shape source.now result }
+{
+    match faults_text(source, showing, refused, warned) {
+        Ok(text) => Failure::Refused(text),
+        Err(Memory) => Failure::Memory,
+    }
+}
+
+/// Returns the text of all faults of a file, after its warnings.
+fn faults_text(
+    source: &Source<'_>,
+    showing: Showing,
+    refused: &[Refused],
+    warned: &[Warning],
+) -> Result<String, Memory>
+    ensures { IfOk result (λ text. ShowsRefused showing.format source.now refused.now
+        (string_bytes text)) }
+{
+    match showing.format {
+        MessageFormat::Human => match refusal_text(source, showing, refused, warned) {
+            Ok(text) => Ok(text),
+            Err(AllocError) => Err(Memory),
+        },
+        MessageFormat::Json => text_of(fault_lines(showing.alloc, source, refused, warned)?),
+    }
+}
+
+/// Returns a line of JSON for each warning and each fault of a file, but at most 50 of one code.
+fn fault_lines(
+    alloc: Global,
+    source: &Source<'_>,
+    refused: &[Refused],
+    warned: &[Warning],
+) -> Result<Vec<u8>, Memory>
+    ensures { IfOk result (λ lines. AreReportLines source.now refused.now lines.items) }
+{
+    let mut lines = warning_lines(alloc, source, warned)?;
+    push_refused_messages(alloc, &mut lines, source, refused)?;
+    Ok(lines)
+}
+
+/// Returns the text of all faults of a file, in order, with their number, after its warnings. For
+/// each, the text has a line with the name of its code and the first line of its message, and one
+/// with its position in the file.
+fn refusal_text(
+    source: &Source<'_>,
+    showing: Showing,
+    refused: &[Refused],
+    warned: &[Warning],
+) -> Result<String, AllocError>
+    ensures { IfOk result (λ text. OccurInOrder
+        (report_texts showing.is_colored source.now refused.now) (string_bytes text)) }
+{
+    let mut page = Page::new(showing.alloc, showing.is_colored);
+    push_warned(&mut page, source, warned);
+    push_refused(&mut page, source, refused);
+    push_summary(&mut page, count_refused(refused));
+    page.finish()
+}
+
+/// Returns how many of these faults are errors, saturating at the greatest number.
+fn count_refused(refused: &[Refused]) -> usize
+    ensures { result ≡ min (errors_in refused.now) (2 ^ 64 - 1) }
+{
+    let mut count: usize = 0;
+    for one in refused {
+        count = count.saturating_add(count_errors(&one.errors, &one.clues));
+    }
+    count
+}

@@ -1,0 +1,240 @@
+//! The replacement of an enum: the enum without the derive and its attributes, and the
+//! implementation. Called by `expansion`.
+
+ghost use Rattle.std.specs.Prelude.{◌≡◌, ◌++◌, true, IfOk, OnOk, string_bytes};
+ghost use Rattle.logos_expand.specs.Views.{around_made, tokens_of, IsLaidOut, IsGuard, IsGuarded, are_blanks, guard_text, import_under, lexer_under, under, IsPrintedWith};
+
+use logos_codegen::Generated;
+use logos_codegen::error::Memory;
+use logos_codegen::token::Tokens;
+use logos_layout::{Note, Setting, lay_out, push_conditions, write_left};
+use logos_report::Source;
+use logos_tables::{Shape, lexer_text};
+use logos_text::{Call, Sink};
+use std::alloc::Global;
+
+/// The location of an enum, and the shape of its lexer.
+#[derive(Clone, Copy)]
+pub(crate) struct Site<'f, 't> {
+    /// The shape of its lexer.
+    pub(crate) shape: Shape,
+    /// The file.
+    pub(crate) file: &'f Source<'t>,
+    /// The byte offset of the enum in the file.
+    pub(crate) offset: usize,
+    /// Whether the file may have an import of `Logos`, and the enum derives it without a path.
+    pub(crate) by_name: bool,
+}
+
+/// The import of `Logos`, marked as used.
+const IMPORT: &str = "#[allow(unused_imports)]\nuse self::Logos as _;\n";
+
+/// The attributes of an implementation: they disable lints of rustc and clippy that generated code
+/// violates, and rustfmt.
+const ATTRIBUTES: &str = "\
+#[allow(dead_code, deprecated, unused_assignments, unused_imports)]
+#[allow(unused_parens, unused_variables)]
+#[allow(clippy::large_const_arrays, clippy::let_unit_value, clippy::manual_is_ascii_check)]
+#[allow(clippy::manual_range_contains, clippy::needless_else, clippy::question_mark)]
+#[allow(clippy::redundant_locals, clippy::type_complexity, clippy::unit_arg)]
+#[allow(clippy::useless_asref, clippy::useless_conversion)]
+#[rustfmt::skip]
+";
+
+/// The attribute that excludes an enum from rustfmt, on a line.
+const GUARD: &str = "#[rustfmt::skip]\n";
+
+/// Returns the text of the remaining tokens of a source, and after LF the generated code of a lexer
+/// with attributes, laid out.
+pub(crate) fn printed_with(
+    alloc: Global,
+    source: &str,
+    left: Tokens<'_, '_>,
+    site: Site<'_, '_>,
+    made: &Generated<'_>,
+) -> Result<String, Memory>
+    ensures { IfOk result (λ text.
+        IsPrintedWith site.entry.shape (around_made made.now) made.now.code
+        (tokens_of left.entry) (string_bytes text)) }
+{
+    let lexer = lexer_text(alloc, site.shape, made)?;
+    let whole = under(alloc, site.by_name, left, lexer.text.as_str())?;
+    let laid = laid_out(alloc, whole.as_str(), site, &lexer)?;
+    let mut text = guarded(alloc, source, left, site)?;
+    text.push('\n')?;
+    text.push_str(laid.as_str())?;
+    Ok(text)
+}
+
+/// Returns the text of the remaining tokens, after `#[rustfmt::skip]` if rustfmt would change it.
+fn guarded(
+    alloc: Global,
+    source: &str,
+    left: Tokens<'_, '_>,
+    site: Site<'_, '_>,
+) -> Result<String, Memory>
+    ensures { IfOk result (λ text. IsGuarded (tokens_of left.entry) (string_bytes text)) }
+{
+    let written = write_left(alloc, source, left)?;
+    let mut text = guard_of(alloc, written.as_str(), site)?;
+    text.push_str(written.as_str())?;
+    Ok(text)
+}
+
+/// Returns the line that excludes an enum from rustfmt, with the blanks before the enum; or nothing
+/// if rustfmt would not change it.
+fn guard_of(alloc: Global, written: &str, site: Site<'_, '_>) -> Result<String, Memory>
+    ensures { IfOk result (λ guard. IsGuard (string_bytes guard)) }
+{
+    let mut guard = String::new(alloc);
+    if has_last_comma(written.as_bytes()) {
+        push_guard(&mut guard, margin_at(site.file.text(), site.offset))?;
+    }
+    Ok(guard)
+}
+
+/// Appends the line that excludes an enum from rustfmt, and the blanks before the enum.
+fn push_guard(text: &mut String, margin: &str) -> Result<(), Memory>
+    ensures { OnOk result (string_bytes text.new
+        ≡ string_bytes text.old ++ (guard_text ++ margin.now)) }
+{
+    text.push_str(GUARD)?;
+    text.push_str(margin)?;
+    Ok(())
+}
+
+/// Returns whether a comma precedes a closing parenthesis, for example after the last entry of a
+/// `derive` was removed.
+fn has_last_comma(bytes: &[u8]) -> bool {
+    let mut last = b' ';
+    for byte in bytes {
+        if (last == b',') & (*byte == b')') {
+            return true;
+        }
+        last = last_of(last, *byte);
+    }
+    false
+}
+
+/// Returns the last byte that is not white space, after one more byte.
+fn last_of(last: u8, byte: u8) -> u8 {
+    if byte.is_ascii_whitespace() {
+        last
+    } else {
+        byte
+    }
+}
+
+/// Returns the blanks before an offset of a text, if its line has nothing else before it.
+fn margin_at(text: &str, offset: usize) -> &str
+    ensures { are_blanks result.now ≡ true }
+{
+    let Some((before, _)) = text.split_at_checked(offset) else {
+        return "";
+    };
+    let line = last_line(before);
+    if are_blanks(line.as_bytes()) {
+        line
+    } else {
+        ""
+    }
+}
+
+/// Returns the text after the last line end of a text.
+fn last_line(text: &str) -> &str {
+    match text.rsplit_once('\n') {
+        Some((_, line)) => line,
+        None => text,
+    }
+}
+
+/// Returns whether all these bytes are blanks: spaces and tabs.
+fn are_blanks(bytes: &[u8]) -> bool
+    ensures { result ≡ are_blanks bytes.now }
+{
+    for byte in bytes {
+        if (*byte != b' ') & (*byte != b'\t') {
+            return false;
+        }
+    }
+    true
+}
+
+/// Returns a text that ends with a lexer, laid out, with the line of the file at each callback.
+fn laid_out(alloc: Global, whole: &str, site: Site<'_, '_>, lexer: &Sink) -> Result<String, Memory>
+    ensures { IfOk result (λ laid. IsLaidOut whole.now (string_bytes laid)) }
+{
+    let start = whole.len().saturating_sub(lexer.text.len());
+    let notes = notes_of(alloc, start, site, &lexer.calls)?;
+    let margin = margin_at(site.file.text(), site.offset);
+    let setting = Setting {
+        margin,
+        notes: &notes,
+    };
+    lay_out(alloc, whole, setting)
+}
+
+/// Returns the lines of the file that contain the callbacks of a lexer, whose text begins at an
+/// offset.
+fn notes_of(
+    alloc: Global,
+    start: usize,
+    site: Site<'_, '_>,
+    calls: &[Call],
+) -> Result<Vec<Note>, Memory> {
+    let mut notes = Vec::new(alloc);
+    for call in calls {
+        let from = site.offset.saturating_add(call.from);
+        notes.push(Note {
+            offset: start.saturating_add(call.offset),
+            line: site.file.location(from).line,
+        })?;
+    }
+    Ok(notes)
+}
+
+/// Returns the text of a lexer with its attributes, and perhaps with the import of `Logos` before
+/// it. Both have the conditions of the enum with these tokens.
+fn under(alloc: Global, by_name: bool, left: Tokens<'_, '_>, lexer: &str) -> Result<String, Memory>
+    ensures { IfOk result (λ text.
+        string_bytes text ≡ under by_name (tokens_of left.entry) lexer.now) }
+{
+    let mut text = String::new(alloc);
+    push_import(alloc, &mut text, by_name, left)?;
+    push_lexer(alloc, &mut text, left, lexer)?;
+    Ok(text)
+}
+
+/// Appends the import of `Logos`, if it is requested, under the conditions of an enum.
+fn push_import(
+    alloc: Global,
+    text: &mut String,
+    by_name: bool,
+    left: Tokens<'_, '_>,
+) -> Result<(), Memory>
+    ensures { OnOk result (string_bytes text.new
+        ≡ string_bytes text.old ++ import_under by_name (tokens_of left.entry)) }
+{
+    if !by_name {
+        return Ok(());
+    }
+    push_conditions(alloc, text, left)?;
+    text.push_str(IMPORT)?;
+    Ok(())
+}
+
+/// Appends the generated code of a lexer with its attributes, under the conditions of an enum.
+fn push_lexer(
+    alloc: Global,
+    text: &mut String,
+    left: Tokens<'_, '_>,
+    lexer: &str,
+) -> Result<(), Memory>
+    ensures { OnOk result (string_bytes text.new
+        ≡ string_bytes text.old ++ lexer_under (tokens_of left.entry) lexer.now) }
+{
+    push_conditions(alloc, text, left)?;
+    text.push_str(ATTRIBUTES)?;
+    text.push_str(lexer)?;
+    Ok(())
+}

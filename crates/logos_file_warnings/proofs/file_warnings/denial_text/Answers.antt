@@ -1,0 +1,8 @@
+use Rattle.std.proofs.Common.{codes, string_bytes}
+use Rattle.logos_file_warnings.proofs.ShownLemmas.{human_before}
+use Rattle.logos_file_warnings.proofs.file_warnings.denial_text.Goals as goal
+
+pub returns-in-Human : goal.returns-in-Human
+returns-in-Human c =
+    human_before string_bytes c.denied.result c.args.showing.format c.args.source.now c.args.warned.now (string_bytes c.in_ok-text.text) (codes "error: warnings are denied by `--deny-warnings`\n") c.in-Human.is
+    (rw c.in_ok-text.ensures c.in_ok-warning_text.ensures) c.denied.ensures

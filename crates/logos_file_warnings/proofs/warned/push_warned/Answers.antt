@@ -1,5 +1,0 @@
-use Rattle.logos_report.proofs.PageLemmas.{unseen}
-use Rattle.logos_file_warnings.proofs.warned.push_warned.Goals as goal
-
-pub returns : goal.returns
-returns c = unseen c.push_warnings.ensures

@@ -1,0 +1,247 @@
+//! Collects and formats the warnings of a file. Called by `logos_cli`, `logos_expand` and
+//! `logos_show`.
+
+ghost use Rattle.std.specs.Prelude.{◌≡◌, ◌++◌, IfOk, [], codes, string_bytes};
+ghost use Rattle.logos_file_warnings.specs.Imports.{AreWarnings, OccurInOrder, Shows, ShowsWarnings, shown_of, warnings_texts};
+
+use logos_causes::{Lexer, accepted_warnings};
+use logos_host::MessageFormat;
+use logos_messages::push_warning_messages;
+use logos_page::Page;
+use logos_report::{Part, Source, Warning, push_warnings};
+use logos_rust_file::FoundEnum;
+use logos_token::error::Memory;
+use logos_token::token::{Span, Tokens};
+use logos_warnings::{Origin, enum_warnings, fixed_warning, passed_over};
+use std::alloc::{AllocError, Global};
+
+/// The settings for showing the faults and warnings of a file.
+#[derive(Clone, Copy)]
+pub struct Showing {
+    /// The allocator for messages.
+    pub alloc: Global,
+    pub format: MessageFormat,
+    /// Whether messages have colors.
+    pub is_colored: bool,
+    /// Whether a file with warnings is refused.
+    pub denies: bool,
+}
+
+/// Adds warnings for a text that begins at an offset of a file. Their spans are then relative to
+/// the beginning of the file.
+pub fn add_warnings(
+    offset: usize,
+    warnings: Vec<Warning>,
+    warned: &mut Vec<Warning>,
+) -> Result<(), Memory> {
+    for warning in warnings {
+        warned.push(moved(warning, offset))?;
+    }
+    Ok(())
+}
+
+/// Returns a warning with its spans moved by an offset.
+fn moved(warning: Warning, offset: usize) -> Warning {
+    let mut moved = warning;
+    moved.span = moved_span(moved.span, offset);
+    moved.also = match moved.also {
+        Some(span) => Some(moved_span(span, offset)),
+        None => None,
+    };
+    moved
+}
+
+/// Returns a span relative to an offset as a span of the file.
+fn moved_span(span: Span, offset: usize) -> Span {
+    Span {
+        from: span.from.saturating_add(offset),
+        to: span.to.saturating_add(offset),
+    }
+}
+
+/// Adds the warnings for the text of an enum that begins at an offset of a file, and that may
+/// derive `Logos`.
+pub fn add_text(
+    text: &str,
+    offset: usize,
+    derives: bool,
+    warned: &mut Vec<Warning>,
+) -> Result<(), Memory> {
+    let warnings = enum_warnings(*warned.allocator(), text, derives, Origin::File)?;
+    add_warnings(offset, warnings, warned)
+}
+
+/// Adds the warnings of an enum without faults that derives `Logos`, and of its lexer. The enum has
+/// these tokens, and begins at an offset of a file.
+pub fn add_accepted(
+    tokens: Tokens<'_, '_>,
+    offset: usize,
+    lexer: Lexer<'_, '_>,
+    warned: &mut Vec<Warning>,
+) -> Result<(), Memory> {
+    let warnings = accepted_warnings(*warned.allocator(), tokens, lexer, Origin::File)?;
+    add_warnings(offset, warnings, warned)
+}
+
+/// Adds the warnings of entries of `derive` that are passed over in a file with these tokens and
+/// these enums.
+pub fn add_passed(
+    tokens: Tokens<'_, '_>,
+    found: &[FoundEnum],
+    warned: &mut Vec<Warning>,
+) -> Result<(), Memory> {
+    let alloc = *warned.allocator();
+    let spans = spans_of(alloc, found)?;
+    let warnings = passed_over(alloc, tokens, &spans)?;
+    add_warnings(0, warnings, warned)
+}
+
+const MISSING: &str = "no enum in this file derives `Logos`";
+
+/// Adds a warning if none of `found` derives `Logos` and the format is JSON or warnings are denied.
+/// Its span is the beginning of the file.
+pub fn add_missing(
+    showing: Showing,
+    found: &[FoundEnum],
+    warned: &mut Vec<Warning>,
+) -> Result<(), Memory> {
+    let is_requested = showing.denies | matches!(showing.format, MessageFormat::Json);
+    if !is_requested || has_lexer(found) {
+        return Ok(());
+    }
+    let mut warnings = Vec::new(showing.alloc);
+    let start = Span { from: 0, to: 0 };
+    warnings.push(fixed_warning(showing.alloc, MISSING, start, None)?)?;
+    add_warnings(0, warnings, warned)
+}
+
+/// Returns whether one of these enums derives `Logos`.
+pub fn has_lexer(found: &[FoundEnum]) -> bool {
+    for one in found {
+        if one.derives {
+            return true;
+        }
+    }
+    false
+}
+
+/// Returns the spans of the enums that derive `Logos`.
+fn spans_of(alloc: Global, found: &[FoundEnum]) -> Result<Vec<Span>, AllocError> {
+    let mut spans = Vec::new(alloc);
+    for one in found {
+        if one.derives {
+            spans.push(one.span)?;
+        }
+    }
+    Ok(spans)
+}
+
+/// Appends the warnings of a file.
+pub fn push_warned(page: &mut Page, source: &Source<'_>, warned: &[Warning])
+    ensures { Shows (warnings_texts page.old.is_colored source.now 0 warned.now) page.old page.new }
+{
+    push_warnings(page, Part { source, offset: 0 }, warned);
+}
+
+/// Returns the text of the warnings of a file. If `is_missing` is set, none of its enums derives
+/// `Logos`, and the text has a line about that.
+pub fn warning_text(
+    source: &Source<'_>,
+    showing: Showing,
+    warned: &[Warning],
+    is_missing: bool,
+) -> Result<Vec<u8>, Memory>
+    ensures { IfOk result (λ text. ShowsWarnings showing.format source.now warned.now text.items) }
+{
+    match showing.format {
+        MessageFormat::Human => match warning_report(source, showing, warned, is_missing) {
+            Ok(report) => Ok(report.into_bytes()),
+            Err(AllocError) => Err(Memory),
+        },
+        MessageFormat::Json => warning_lines(showing.alloc, source, warned),
+    }
+}
+
+/// Returns the report of the warnings of a file. `is_missing` is whether none of its enums derives
+/// `Logos`, which is a line of the report.
+fn warning_report(
+    source: &Source<'_>,
+    showing: Showing,
+    warned: &[Warning],
+    is_missing: bool,
+) -> Result<String, AllocError>
+    ensures { IfOk result (λ report. OccurInOrder
+        (warnings_texts showing.is_colored source.now 0 warned.now) (string_bytes report)) }
+{
+    let mut page = Page::new(showing.alloc, showing.is_colored);
+    push_warned(&mut page, source, warned);
+    push_missing(&mut page, source, is_missing);
+    page.finish()
+}
+
+/// Appends that no enum of a file derives `Logos`, if `is_missing` is set.
+fn push_missing(page: &mut Page, source: &Source<'_>, is_missing: bool)
+    ensures { Shows [] page.old page.new }
+{
+    if is_missing {
+        push_missing_line(page, source);
+    }
+}
+
+/// Appends that no enum of a file derives `Logos`.
+fn push_missing_line(page: &mut Page, source: &Source<'_>)
+    ensures { Shows [] page.old page.new }
+{
+    page.push("warning: no enum in ");
+    page.push_shown(source.path());
+    page.push(" derives `Logos`\n");
+}
+
+/// Returns a line of JSON for each warning.
+pub fn warning_lines(
+    alloc: Global,
+    source: &Source<'_>,
+    warned: &[Warning],
+) -> Result<Vec<u8>, Memory>
+    ensures { IfOk result (λ lines. AreWarnings source.now 0 (shown_of warned.now) lines.items) }
+{
+    let mut lines = Vec::new(alloc);
+    push_warning_messages(alloc, &mut lines, Part { source, offset: 0 }, warned)?;
+    Ok(lines)
+}
+
+/// Returns the text about a file whose warnings are denied.
+pub fn denial_text(
+    source: &Source<'_>,
+    showing: Showing,
+    warned: &[Warning],
+) -> Result<String, Memory>
+    ensures { IfOk result (λ text. ShowsWarnings showing.format source.now warned.now
+        (string_bytes text)) }
+{
+    let text = text_of(warning_text(source, showing, warned, false)?)?;
+    match showing.format {
+        MessageFormat::Human => denied(text),
+        MessageFormat::Json => Ok(text),
+    }
+}
+
+/// Returns a report of warnings with the line that they are denied.
+fn denied(report: String) -> Result<String, Memory>
+    ensures { IfOk result (λ text. string_bytes text ≡ string_bytes report
+        ++ codes "error: warnings are denied by `--deny-warnings`\n") }
+{
+    let mut text = report;
+    text.push_str("error: warnings are denied by `--deny-warnings`\n")?;
+    Ok(text)
+}
+
+/// Returns the text that these bytes spell.
+pub fn text_of(bytes: Vec<u8>) -> Result<String, Memory>
+    ensures { IfOk result (λ text. string_bytes text ≡ bytes.items) }
+{
+    match String::from_utf8(bytes) {
+        Ok(text) => Ok(text),
+        Err(_) => Err(Memory),
+    }
+}

@@ -1,9 +1,0 @@
--- Definitions that clauses cite, and that name no type of this crate.
-pub use Rattle.logos_code.specs.CodeView.{state_at}
-pub use Rattle.logos_code.specs.Headline.{IsSound}
-pub use Rattle.logos_code.specs.Rows.{IsStepOf, LeadsToPlace, Says, first_halting}
-pub use Rattle.logos_code.specs.Runs.{stays}
-pub use Rattle.logos_fold.specs.Folds.{AreFolded, FoldedValue, Goes, IsEnded, IsFew, IsFolded, IsFoldedRow, IsWithin, flags_of}
-pub use Rattle.logos_walk.specs.Walk.{place_of}
-pub use Rattle.std.specs.Coded.{codes}
-pub use mir.Syntax.{named}

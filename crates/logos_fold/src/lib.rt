@@ -1,7 +1,0 @@
-//! Folded rows: what each byte does in each state, where a byte that ends a try also begins the
-//! next one.
-
-#![tactic(auto)]
-
-pub mod entries;
-pub mod folded;

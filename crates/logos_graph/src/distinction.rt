@@ -1,0 +1,141 @@
+//! Distinguishes two states of a reduced table by bytes. `Graph` calls it for two states that a
+//! caller names.
+
+ghost use Rattle.std.specs.Prelude.{◌≡◌, ◌≢◌, ◌⊎◌, ◌↔◌, ◌<◌, ℕ, IsTrue, IfOk, IfSome, MatchOption, Some, None};
+ghost use Rattle.logos_reduce.specs.Views.{size, to, YieldsEvidence, mark_with_end, mark_after, Distinguishes, IsEvidence, state_after, ArePartedAt};
+
+use logos_reduce::reduction::Reduction;
+use logos_reduce::rows::{END, WIDTH};
+use logos_reduce::table::{StateMarks, Table};
+use std::alloc::{AllocError, Global};
+
+/// Returns the state to which bytes lead from a state.
+fn state_after(table: &Table, s: usize, bytes: &[u8]) -> Option<usize>
+    requires { s < size table.now }
+    ensures state { result ≡ state_after table.now (Some s) bytes.now }
+    ensures within { IfSome result (λ t. t < size table.now) }
+{
+    let mut at = s;
+    for b in bytes {
+        at = table.target(at, usize::from(*b))?;
+    }
+    Some(at)
+}
+
+/// Returns the mark of a state, or of the state to which the end leads from it if `at_end` is
+/// `true`.
+fn mark_with_end(table: &Table, s: usize, at_end: bool) -> Option<StateMarks>
+    requires { s < size table.now }
+    ensures { result ≡ mark_with_end table.now s at_end }
+{
+    if !at_end {
+        return Some(table.mark(s));
+    }
+    let t = table.target(s, END)?;
+    Some(table.mark(t))
+}
+
+/// Returns the mark to which bytes lead from a state, with or without the end after them.
+fn mark_after(table: &Table, s: usize, bytes: &[u8], at_end: bool) -> Option<StateMarks>
+    requires { s < size table.now }
+    ensures { result ≡ mark_after table.now s bytes.now at_end }
+{
+    let t = state_after(table, s, bytes)?;
+    mark_with_end(table, t, at_end)
+}
+
+/// Returns whether two marks differ, or exactly one of them exists.
+fn differ(one: Option<StateMarks>, other: Option<StateMarks>) -> bool
+    ensures { IsTrue result ↔ (one ≢ other) }
+{
+    one != other
+}
+
+/// Returns the states to which two states lead on the symbol `k`, if both lead to one.
+fn both_targets(table: &Table, s: usize, t: usize, k: usize) -> Option<(usize, usize)>
+    requires s_in { s < size table.now }
+    requires t_in { t < size table.now }
+    requires k_in { k < WIDTH }
+    ensures { MatchOption result
+        ((to table.now s k ≡ None) ⊎ (to table.now t k ≡ None))
+        (λ p. (to table.now s k ≡ Some p.0) × (to table.now t k ≡ Some p.1)) }
+{
+    Some((table.target(s, k)?, table.target(t, k)?))
+}
+
+/// Returns the two numbers in ascending order.
+fn ordered(a: usize, b: usize) -> (usize, usize)
+    requires { a ≢ b }
+    ensures order { result.0 < result.1 }
+    ensures same { ((result.0 ≡ a) × (result.1 ≡ b)) ⊎ ((result.0 ≡ b) × (result.1 ≡ a)) }
+{
+    if a < b { (a, b) } else { (b, a) }
+}
+
+/// Returns the block whose split separated two states.
+fn parted_at(reduced: &Reduction, s: usize, t: usize) -> usize
+    requires evidence { YieldsEvidence reduced.now }
+    requires s_in { s < size reduced.now.table }
+    requires t_in { t < size reduced.now.table }
+    requires different { s ≢ t }
+    ensures { ArePartedAt reduced.now s t result }
+{
+    let (mut low, mut high) = ordered(reduced.blocks[s], reduced.blocks[t]);
+    loop {
+        let parent = reduced.splits[high].parent;
+        if parent == low {
+            return high;
+        }
+        (low, high) = ordered(parent, low);
+    }
+}
+
+/// Returns whether the bytes, with or without the end after them, distinguish the two states.
+/// Does not allocate.
+pub fn checks(reduced: &Reduction, s: usize, t: usize, bytes: &[u8], at_end: bool) -> bool
+    requires s_in { s < size reduced.now.table }
+    requires t_in { t < size reduced.now.table }
+    ensures { IsTrue result ↔ Distinguishes reduced.now.table s t bytes.now at_end }
+{
+    let one = mark_after(&reduced.table, s, bytes, at_end);
+    let other = mark_after(&reduced.table, t, bytes, at_end);
+    differ(one, other)
+}
+
+/// Returns bytes that distinguish two different states, fewer bytes than there are states, and
+/// whether the end follows them.
+///
+/// # Errors
+///
+/// Returns `AllocError` if memory runs out.
+pub fn evidence(
+    alloc: Global,
+    reduced: &Reduction,
+    s: usize,
+    t: usize,
+) -> Result<(Vec<u8>, bool), AllocError>
+    requires evidence { YieldsEvidence reduced.now }
+    requires s_in { s < size reduced.now.table }
+    requires t_in { t < size reduced.now.table }
+    requires different { s ≢ t }
+    ensures { IfOk result (λ p. IsEvidence reduced.now.table s t p.0.items p.1) }
+{
+    let mut bytes = Vec::new(alloc);
+    let mut left = s;
+    let mut right = t;
+    loop {
+        let split = reduced.splits[parted_at(reduced, left, right)];
+        let Some(k) = split.symbol else {
+            return Ok((bytes, false));
+        };
+        if k == END {
+            return Ok((bytes, true));
+        }
+        bytes.push(k as u8)?;
+        let Some((a, b)) = both_targets(&reduced.table, left, right, k) else {
+            return Ok((bytes, false));
+        };
+        left = a;
+        right = b;
+    }
+}

@@ -1,0 +1,53 @@
+//! Adds helps to the faults of a source. Called by the programs and the derive macro.
+
+ghost use Rattle.std.specs.Prelude.{◌≡◌, OnOk, OnErr};
+ghost use Rattle.logos_report.specs.Views.{sizes_of};
+
+use crate::codes::help_for;
+use crate::sight::Sight;
+use logos_report::{Clues, Helps, Part};
+use logos_token::error::{Errors, Memory, SpannedError};
+use logos_token::token::Span;
+
+/// The helps of this crate, for callers that take any.
+#[derive(Clone, Copy)]
+pub struct FaultHelps;
+
+impl Helps for FaultHelps {
+    fn add(&self, part: Part<'_, '_>, errors: &Errors, clues: &mut Clues) -> Result<(), Memory> {
+        add_helps(part, errors, clues)
+    }
+}
+
+/// Adds to `clues` the help for each of the faults of a part of a file, in order. Reports show it
+/// under the fault.
+///
+/// # Errors
+///
+/// Returns `Memory` if memory runs out. Then some of the helps may have been added.
+pub fn add_helps(part: Part<'_, '_>, errors: &Errors, clues: &mut Clues) -> Result<(), Memory>
+    ensures { sizes_of clues.new ≡ sizes_of clues.old }
+{
+    add_all(part, errors.list(), &mut clues.helps)
+}
+
+/// Adds the help for each of these faults of a part of a file.
+fn add_all(
+    part: Part<'_, '_>,
+    faults: &[SpannedError],
+    helps: &mut Vec<Option<&'static str>>,
+) -> Result<(), Memory> {
+    for fault in faults {
+        helps.push(help_for(fault, sight_at(part, fault.span)))?;
+    }
+    Ok(())
+}
+
+/// Returns the text of a part of a file at a span, and after it. Both are empty if the file has no
+/// such span.
+fn sight_at<'t>(part: Part<'_, 't>, span: Span) -> Sight<'t> {
+    Sight {
+        text: part.text_at(span),
+        after: part.text_from(span.to),
+    }
+}

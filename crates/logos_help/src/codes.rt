@@ -1,0 +1,191 @@
+//! The help for a fault, chosen by its code. `docs/FAULTS.md` has the same words, and
+//! `tests/lints/faults.py` compares them. Used by `adding`.
+
+ghost use Rattle.std.specs.Prelude.{option_map};
+ghost use Rattle.logos_help.specs.Patterns.{IsHelp};
+
+use crate::patterns::{help_for_dot, help_for_pattern};
+use crate::sight::Sight;
+use crate::sights::{
+    help_for_body, help_for_closure, help_for_empty, help_for_literal, help_for_name,
+    help_for_named, help_for_nested, help_for_unknown,
+};
+use logos_token::error::{Detail, FaultCode, SpannedError};
+use logos_token::token::LexicalKind;
+
+const TWICE: &str = "keep one of them";
+
+const DOUBLE: &str = "put it in double quotes, as in `\"..\"`";
+
+const NEST: &str = "nest less deep";
+
+const RENAME: &str = "rename it: a name has ASCII letters, digits and `_`";
+
+/// Returns the help for a fault, chosen by its detail, by its code and by the text at its span, if
+/// there is one.
+pub fn help_for(fault: &SpannedError, sight: Sight<'_>) -> Option<&'static str>
+    ensures { IsHelp fault.now.detail (option_map (λ help. help.now) result) }
+{
+    match fault.detail {
+        Detail::Lexical(kind) => Some(help_for_lexical(kind, sight)),
+        Detail::Pattern(detail) => Some(help_for_pattern(detail)),
+        Detail::ErrorArgument => Some("write `callback = ..`, or the callback alone"),
+        Detail::Plain => help_by_code(fault.code, sight),
+        Detail::Ambiguous { .. } => help_by_code(fault.code, sight),
+    }
+}
+
+/// Returns the help for a fault without a detail, if there is one.
+fn help_by_code(code: FaultCode, sight: Sight<'_>) -> Option<&'static str> {
+    let help = match code {
+        FaultCode::Previous => return None,
+        FaultCode::GreedyDot => help_for_dot(sight),
+        FaultCode::InvalidNested => help_for_nested(sight),
+        FaultCode::UnknownLogos => help_for_unknown(sight),
+        FaultCode::LiteralSyntax => help_for_literal(sight),
+        FaultCode::UnknownNested => help_for_name(sight),
+        FaultCode::NamedExpected => help_for_named(sight),
+        FaultCode::CallbackClosure => help_for_closure(sight),
+        FaultCode::CallbackBody => help_for_body(sight),
+        FaultCode::EmptyMatch => help_for_empty(sight),
+        _ => help_for_code(code),
+    };
+    Some(help)
+}
+
+/// Returns the help for a source that cannot be cut into tokens, chosen by the reason and by the
+/// text that is not a token.
+fn help_for_lexical(kind: LexicalKind, sight: Sight<'_>) -> &'static str {
+    if sight.text.starts_with('\'') {
+        return DOUBLE;
+    }
+    match kind {
+        LexicalKind::BadCharacter => "remove this character: no token of Rust begins with it",
+        LexicalKind::Unterminated => "close the string or the comment that begins here",
+        LexicalKind::Unbalanced => "close this delimiter, or remove it: it has no partner",
+        LexicalKind::BadLiteral => help_for_escapes(sight),
+    }
+}
+
+/// Returns the help for a literal with escapes that Rust does not have.
+fn help_for_escapes(sight: Sight<'_>) -> &'static str {
+    if sight.text.contains("\\x") {
+        "a string has `\\x00` to `\\x7F` and `\\u{..}`: write a byte string for other bytes"
+    } else {
+        "write a raw string, as `r\"\\d\"`: in it a backslash belongs to the pattern"
+    }
+}
+
+/// Returns the help for a fault with this code, whatever the text at its span is.
+fn help_for_code(code: FaultCode) -> &'static str {
+    match code {
+        FaultCode::NotAnEnum => "derive `Logos` for an enum alone",
+        FaultCode::Grammar => "often a comma is missing in front of this token",
+        FaultCode::LimitSource => "split the enum",
+        FaultCode::LimitTokenNesting => NEST,
+        FaultCode::LimitPatternNesting => NEST,
+        FaultCode::LimitTypeNesting => "use a type alias",
+        FaultCode::LimitSize => "write smaller counts",
+        FaultCode::LimitStates => "write smaller counts, or smaller classes",
+        FaultCode::VariantFields => {
+            "give the variant one field or none, as in `Name(Type)`, where the type may be a tuple"
+        }
+        FaultCode::NamedFields => "write the field without its name, as in `Name(Type)`",
+        FaultCode::ErrorVariant => {
+            "remove the variant: an error is `Err`, and `#[logos(error = ..)]` sets its type"
+        }
+        _ => help_for_type(code),
+    }
+}
+
+/// Returns the help for a fault in parameters and types.
+fn help_for_type(code: FaultCode) -> &'static str {
+    match code {
+        FaultCode::ManyLifetimes => "use one lifetime, that of the input",
+        FaultCode::ConstGeneric => "write the number where it is used",
+        FaultCode::NoConcreteType => "write `#[logos(type T = ..)]` in front of the enum",
+        FaultCode::NotTypeParameter => {
+            "declare the parameter after the enum's name, or drop the option"
+        }
+        FaultCode::TypeTwice => TWICE,
+        FaultCode::TypeHoldsItself => "write the whole type",
+        FaultCode::TypeUnsupported => "name the type",
+        FaultCode::TypeSyntax => "write a type, and an alias for a type with a comma in it",
+        FaultCode::TypeForm => "name the parameter, as in `type T = u8`",
+        _ => help_for_option(code),
+    }
+}
+
+/// Returns the help for a fault in the options of an enum.
+fn help_for_option(code: FaultCode) -> &'static str {
+    match code {
+        FaultCode::LogosForm => "write `#[logos(..)]`, or drop it",
+        FaultCode::CrateForm => "write `crate = path::to::logos`",
+        FaultCode::ErrorTwice => TWICE,
+        FaultCode::ErrorEmpty => "write `error(SomeType)`, or `error(SomeType, callback)`",
+        FaultCode::ErrorForm => "write `error = SomeType`, or `error(SomeType, callback)`",
+        FaultCode::ExportTwice => TWICE,
+        FaultCode::ExportBytes => "drop the `b`",
+        FaultCode::ExportForm => "write the `=`, as in `export_dir = \"..\"`",
+        FaultCode::ExtrasTwice =>
+            "keep one of them, and write an alias for a type with a comma in it",
+        FaultCode::ExtrasForm => "write the `=`, as in `extras = SomeType`",
+        FaultCode::SkipForm => "write `skip \"..\"`, without `=`",
+        FaultCode::SkipGroup => "write the pattern first, as in `skip(\"..\", callback)`",
+        FaultCode::SourceOld => "drop it, or write `utf8 = false` for inputs of bytes",
+        FaultCode::Utf8Twice => TWICE,
+        FaultCode::Utf8Value => "write `utf8 = false` for inputs of bytes",
+        FaultCode::Utf8Form => "write the `=`, as in `utf8 = false`",
+        _ => help_for_argument(code),
+    }
+}
+
+/// Returns the help for a fault in the arguments of a pattern.
+fn help_for_argument(code: FaultCode) -> &'static str {
+    match code {
+        FaultCode::TokenForm => "write `#[token(\"..\")]`",
+        FaultCode::RegexForm => "write `#[regex(\"..\")]`",
+        FaultCode::NotText => DOUBLE,
+        FaultCode::UnexpectedToken => "remove it, or write the comma in front of it",
+        FaultCode::PriorityValue => {
+            "write a whole number, as in `priority = 3`, without `_` and without a suffix"
+        }
+        FaultCode::PriorityTwice => TWICE,
+        FaultCode::PriorityForm => "write the `=`, as in `priority = 3`",
+        FaultCode::PriorityOverflow => "write smaller counts, or give the pattern a `priority`",
+        FaultCode::GreedyValue => "write `allow_greedy = true`",
+        FaultCode::GreedyTwice => TWICE,
+        FaultCode::GreedyForm => "write the `=`, as in `allow_greedy = true`",
+        _ => help_for_callback(code),
+    }
+}
+
+/// Returns the help for a fault in flags, callbacks and subpatterns, and for one of the whole
+/// lexer.
+fn help_for_callback(code: FaultCode) -> &'static str {
+    match code {
+        FaultCode::IgnoreForm => "write `ignore(case)`",
+        FaultCode::IgnoreEmpty => "write `ignore(case)`",
+        FaultCode::IgnoreAscii => {
+            "write `ignore(case)`, or `(?i-u:..)` in a pattern for ASCII letters alone"
+        }
+        FaultCode::IgnoreUnknown => "the only flag is `case`",
+        FaultCode::IgnoreToken => "remove it",
+        FaultCode::CallbackValue => {
+            "write the name of a function, or a closure with one parameter, as `|lex| ..`"
+        }
+        FaultCode::CallbackTwice => TWICE,
+        FaultCode::CallbackForm => "write the `=`, or the callback alone",
+        FaultCode::SubpatternForm => "give it a name, as in `subpattern name = \"..\"`",
+        FaultCode::SubpatternName => RENAME,
+        FaultCode::SubpatternMissing => {
+            "define it before its use, as in `#[logos(subpattern name = \"..\")]`"
+        }
+        FaultCode::SubpatternTwice => "rename one of them",
+        FaultCode::Disambiguation => "give the one that is to have the text a higher `priority`",
+        FaultCode::NoUniversalStart => {
+            "take away the `^`, `$` or `\\b` with which a pattern can begin"
+        }
+        _ => "match whole characters, or write `#[logos(utf8 = false)]` for inputs of bytes",
+    }
+}

@@ -1,0 +1,230 @@
+//! The help for a fault in a pattern, chosen by its kind and by the bytes at it. `docs/FAULTS.md`
+//! has the same words, and `tests/lints/faults.py` compares them. Used by `codes`.
+
+ghost use Rattle.std.specs.Prelude.{◌≡◌};
+ghost use Rattle.logos_help.specs.Patterns.{boundary_help, escape_help, escapes, flag_help, group_help, is_digit, looks_ahead, looks_back, opens_with, pattern_help, refers_back};
+
+use crate::sight::{Sight, between_quotes};
+use logos_token::error::{PatternDetail, PatternFront, PatternKind};
+
+/// Returns the help for a text that is not a pattern, chosen by its fault.
+pub(crate) fn help_for_pattern(detail: PatternDetail) -> &'static str
+    ensures { result.now ≡ pattern_help detail }
+{
+    match detail.kind {
+        PatternKind::Unclosed => UNCLOSED,
+        PatternKind::Unopened => "remove it, or write `\\)` for the character",
+        PatternKind::NothingToRepeat => NOTHING_TO_REPEAT,
+        PatternKind::CountSyntax => COUNT_SYNTAX,
+        PatternKind::CountOrder => "write the smaller count first",
+        PatternKind::CountTooLarge => "write a count below 4,294,967,296",
+        PatternKind::FlagUnsupported => FLAG_UNSUPPORTED,
+        PatternKind::FlagSyntax => help_for_flag(detail.front),
+        PatternKind::GroupSyntax => help_for_group(detail.front),
+        PatternKind::EscapeUnknown => help_for_escape(detail.front),
+        PatternKind::UnicodeWordBoundary => help_for_boundary(detail.at),
+        PatternKind::HexSyntax => HEX_SYNTAX,
+        PatternKind::HexNotScalar => HEX_NOT_SCALAR,
+        PatternKind::ClassRange => CLASS_RANGE,
+        PatternKind::UnknownProperty => UNKNOWN_PROPERTY,
+        PatternKind::PropertyForm => PROPERTY_FORM,
+        PatternKind::NotInBytes => "put it in `(?u:..)`, as in `(?u:\\pL)`",
+        PatternKind::WordBoundaryForm => WORD_BOUNDARY_FORM,
+    }
+}
+
+const NOTHING_TO_REPEAT: &str =
+    "write something in front of it, or a backslash for the character, as in `\\*`";
+
+const COUNT_SYNTAX: &str =
+    "write `{2}`, `{2,}` or `{0,3}` without blanks, or `\\{` for the character";
+
+const FLAG_UNSUPPORTED: &str =
+    "drop the flag `x`, and write the pattern without blanks and comments";
+
+const HEX_SYNTAX: &str = "write two digits, as in `\\x0A`, or put them in braces, as in `\\x{A}`";
+
+const HEX_NOT_SCALAR: &str = "write a number up to `10FFFF`, but none from `D800` to `DFFF`";
+
+const CLASS_RANGE: &str =
+    "write the smaller end first, and `\\-` for the character next to a class";
+
+const UNKNOWN_PROPERTY: &str =
+    "write a general category, a script or a binary property, as in `\\p{Lu}`";
+
+const PROPERTY_FORM: &str = "write `\\p{Greek}` for a script, and `\\P{..}` for the complement";
+
+const WORD_BOUNDARY_FORM: &str = "write `(?-u:\\b)`, with the next character after it";
+
+const UNCLOSED: &str = "close it, or write `\\(`, `\\[` or `\\{` for the character";
+
+/// Returns whether a text begins with `(?` and this byte.
+fn opens_with(front: PatternFront, third: u8) -> bool
+    ensures { result ≡ opens_with front third }
+{
+    (front.first == b'(') & (front.second == b'?') & (front.third == third)
+}
+
+/// Returns whether a text begins with a backslash and this byte.
+fn escapes(front: PatternFront, second: u8) -> bool
+    ensures { result ≡ escapes front second }
+{
+    (front.first == b'\\') & (front.second == second)
+}
+
+/// Returns the help for a group that does not begin with a flag, chosen by its first bytes.
+fn help_for_flag(front: PatternFront) -> &'static str
+    ensures { result.now ≡ flag_help front }
+{
+    if opens_with(front, b'P') & (front.fourth == b'=') {
+        REFERENCE
+    } else if opens_with(front, b'#') {
+        "leave the comment out"
+    } else {
+        "write one of `i m s U u R`, as in `(?i)`, or `(?:..)` for a group"
+    }
+}
+
+const REFERENCE: &str = "write again what may stand there: nothing refers back";
+
+/// Returns the help for an escape that does not exist, chosen by its first bytes.
+fn help_for_escape(front: PatternFront) -> &'static str
+    ensures { result.now ≡ escape_help front }
+{
+    if escapes(front, b'k') | refers_back(front) {
+        REFERENCE
+    } else if escapes(front, b'h') {
+        "write `[ \\t]` for a blank"
+    } else if escapes(front, b'R') {
+        "write `\\r?\\n` for a line end"
+    } else if escapes(front, b'Z') {
+        "write `\\z` for the end of the input"
+    } else if escapes(front, b'Q') {
+        "write a backslash in front of each special character"
+    } else {
+        "write the character alone or by its number, as in `\\x1B`"
+    }
+}
+
+/// Returns whether an escape has one or two digits, like one that refers back to a group. Three or
+/// more are the number of a character.
+fn refers_back(front: PatternFront) -> bool
+    ensures { result ≡ refers_back front }
+{
+    let is_number = is_digit(front.second) & (front.second != b'0');
+    (front.first == b'\\') & is_number & !(is_digit(front.third) & is_digit(front.fourth))
+}
+
+/// Returns whether a byte is a digit.
+fn is_digit(byte: u8) -> bool
+    ensures { result ≡ is_digit byte }
+{
+    (b'/' < byte) & (byte < b':')
+}
+
+/// Returns the help for a word boundary at this byte. At the start of a pattern it is not needed.
+fn help_for_boundary(at: usize) -> &'static str
+    ensures { result.now ≡ boundary_help at }
+{
+    if at == 0 {
+        "leave it out: a match begins where the one before it ended"
+    } else {
+        "write `(?-u:\\b)`, the boundary of ASCII words"
+    }
+}
+
+/// Returns the help for a group that is neither plain nor named, chosen by its first bytes.
+fn help_for_group(front: PatternFront) -> &'static str
+    ensures { result.now ≡ group_help front }
+{
+    if looks_ahead(front) | looks_back(front) {
+        "write a longer pattern and a priority in place of look-around"
+    } else {
+        "write a name once, as in `(?<name>..)`, or `(?:..)` without one"
+    }
+}
+
+/// Returns whether a group is `(?=..)` or `(?!..)`.
+fn looks_ahead(front: PatternFront) -> bool
+    ensures { result ≡ looks_ahead front }
+{
+    opens_with(front, b'=') | opens_with(front, b'!')
+}
+
+/// Returns whether a group is `(?<=..)` or `(?<!..)`.
+fn looks_back(front: PatternFront) -> bool
+    ensures { result ≡ looks_back front }
+{
+    opens_with(front, b'<') & ((front.fourth == b'=') | (front.fourth == b'!'))
+}
+
+/// Returns the help for a greedy dot, chosen by the shape of the pattern. None of the patterns that
+/// it recommends has one.
+pub(crate) fn help_for_dot(sight: Sight<'_>) -> &'static str {
+    let pattern = between_quotes(sight.text);
+    if is_block_comment(pattern) {
+        "for a block comment write `/\\*([^*]|\\*+[^*/])*\\*+/` in a raw string"
+    } else if is_to_line_end(pattern) {
+        "for a comment to the end of its line add `allow_greedy = true`, as in `skip(\"..\", allow_greedy = true)`"
+    } else if is_delimited(pattern) {
+        "write a class without the delimiter in place of the dot, as in `\"[^\"\\n]*\"`"
+    } else {
+        "write a class without what ends it, as in `a[^b]*b`, or add `allow_greedy = true`"
+    }
+}
+
+/// Returns whether a pattern has the delimiters of a block comment.
+fn is_block_comment(pattern: &str) -> bool {
+    let begins = pattern.starts_with("/\\") | pattern.starts_with("/[*]");
+    begins & pattern.contains('*') & pattern.ends_with('/')
+}
+
+/// Returns whether a pattern has a text first, and then any characters up to the end of the line.
+fn is_to_line_end(pattern: &str) -> bool {
+    if pattern.contains("(?s") {
+        return false;
+    }
+    match without_dot(without_line_end(pattern)) {
+        Some(front) => !front.is_empty(),
+        None => false,
+    }
+}
+
+/// Returns a pattern without its trailing line end, if it has one.
+fn without_line_end(pattern: &str) -> &str {
+    let plain = pattern.strip_suffix("?").unwrap_or(pattern);
+    match plain.strip_suffix("\\n") {
+        Some(front) => front,
+        None => pattern,
+    }
+}
+
+/// Returns a pattern without its trailing greedy dot, if it has one.
+fn without_dot(pattern: &str) -> Option<&str> {
+    let Some(front) = pattern.strip_suffix("*") else {
+        return match pattern.strip_suffix("+") {
+            Some(front) => without_any(front),
+            None => None,
+        };
+    };
+    without_any(front)
+}
+
+/// Returns a pattern without its trailing class of any character, if it has one.
+fn without_any(pattern: &str) -> Option<&str> {
+    if let Some(front) = pattern.strip_suffix(".") {
+        return Some(front);
+    }
+    if let Some(front) = pattern.strip_suffix("[^\\n]") {
+        return Some(front);
+    }
+    pattern.strip_suffix("[^\\\\n]")
+}
+
+/// Returns whether a pattern ends with a character that closes a text.
+fn is_delimited(pattern: &str) -> bool {
+    match pattern.chars().last() {
+        Some(last) => "\"'`>)]}%/$".contains(last),
+        None => false,
+    }
+}

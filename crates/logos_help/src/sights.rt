@@ -1,0 +1,111 @@
+//! The help for a fault, chosen by the text at its span. `docs/FAULTS.md` has the same words, and
+//! `tests/lints/faults.py` compares them. Used by `codes`.
+
+use crate::sight::{Sight, between_quotes};
+
+/// Returns the help for a part of `logos(..)` that is not an option.
+pub(crate) fn help_for_nested(sight: Sight<'_>) -> &'static str {
+    let text = sight.text;
+    if text.is_empty() | text.starts_with(',') {
+        "remove it: one comma between options is enough"
+    } else if text.contains('>') {
+        "write an alias for a type with a comma in it: a comma cuts, also between `<` and `>`"
+    } else if has_colon(text) {
+        "write `=` for the `:`"
+    } else if text == "skip" {
+        "write the pattern after it, as in `skip \"..\"`"
+    } else if text.ends_with('"') & !text.contains('=') {
+        "write `skip \"..\"` for what gives no token"
+    } else if text.starts_with('-') {
+        "write the name with ASCII letters, digits and `_` alone"
+    } else {
+        "write an option with its value, as in `utf8 = false`"
+    }
+}
+
+/// Returns whether a part of `logos(..)` other than a skip has a colon where `=` belongs.
+fn has_colon(text: &str) -> bool {
+    text.contains(':') & !text.contains("::") & !text.starts_with("skip")
+}
+
+/// Returns the help for tokens that are not a literal.
+pub(crate) fn help_for_literal(sight: Sight<'_>) -> &'static str {
+    if sight.text.contains("\" | ") {
+        "write an attribute for each of them"
+    } else {
+        "write a string or a byte string, as `\"..\"`, `r\"..\"` or `b\"..\"`"
+    }
+}
+
+/// Returns the help for an unknown argument of a pattern, chosen by the character after its name.
+pub(crate) fn help_for_name(sight: Sight<'_>) -> &'static str {
+    if sight.after.starts_with('(') {
+        "name a function without calling it, as in `callback = parse`"
+    } else {
+        "the arguments are `priority`, `callback`, `ignore` and `allow_greedy`"
+    }
+}
+
+/// Returns the help for an unknown option, chosen by its name.
+pub(crate) fn help_for_unknown(sight: Sight<'_>) -> &'static str {
+    if is_argument(sight.text) {
+        "write it in the parentheses of `skip(\"..\", ..)`"
+    } else {
+        "the options are `crate`, `error`, `export_dir`, `extras`, `skip`, `subpattern`, `type` and `utf8`"
+    }
+}
+
+/// Returns whether a name is that of an argument of a pattern.
+fn is_argument(name: &str) -> bool {
+    let is_value = (name == "priority") | (name == "callback") | (name == "allow_greedy");
+    is_value | (name == "ignore")
+}
+
+/// Returns the help for an argument without a name.
+pub(crate) fn help_for_named(sight: Sight<'_>) -> &'static str {
+    let text = sight.text;
+    if text.contains('>') {
+        "put the body of the closure in braces: a comma cuts it, also between `<` and `>`"
+    } else if text.contains('|') {
+        "write a closure with one parameter, as `|lex| ..`"
+    } else {
+        "name it, as in `callback = ..` or `priority = 3`"
+    }
+}
+
+/// Returns the help for a callback that is not a closure with one parameter.
+pub(crate) fn help_for_closure(sight: Sight<'_>) -> &'static str {
+    let Some(rest) = sight.text.strip_prefix("|") else {
+        return "write the name of a function, or a closure with one parameter, as `|lex| ..`";
+    };
+    if rest.contains('|') {
+        "write the parameter as a bare name, without a type and without `mut`, as `|lex| ..`"
+    } else {
+        "write a closure with one parameter, as `|lex| ..`"
+    }
+}
+
+/// Returns the help for a closure without a body.
+pub(crate) fn help_for_body(sight: Sight<'_>) -> &'static str {
+    if sight.text.ends_with('|') {
+        "write the body, as in `|lex| lex.slice().len()`"
+    } else {
+        "write one parameter alone: a comma ends the callback"
+    }
+}
+
+/// Returns the help for a pattern that matches the empty text.
+pub(crate) fn help_for_empty(sight: Sight<'_>) -> &'static str {
+    let pattern = between_quotes(sight.text);
+    if pattern.is_empty() {
+        "write the text that it matches"
+    } else if pattern.ends_with('*') {
+        "write `+` for `*`"
+    } else if pattern.ends_with('?') {
+        "take the last `?` away, so that it matches one byte at least"
+    } else if pattern.contains("{0") | pattern.contains("{,") {
+        "write a count of 1 at least"
+    } else {
+        "let each of its alternatives match one byte at least"
+    }
+}

@@ -1,0 +1,266 @@
+//! Builders of trees that simplify as they build. The simplifier and `logos_syntax` call them for
+//! each node.
+
+ghost use Rattle.std.specs.Prelude.{◌≡◌, false, map, ◌++◌, Option, Some, IfOk, OnOk};
+ghost use Rattle.logos_hir.specs.Views.{look, capture, tree_of, set_of, literal_of, one_char_of, one_byte_of, is_byteless, is_most, cut, times, repetition_of, parts_of, in_a_row, part_text, add_text, add_part, add_parts, is_literal_tree, are_apart};
+
+pub(crate) mod branches;
+
+use crate::hir::{Class, Hir, Look};
+use crate::sets::RangeSet;
+pub use branches::alternation;
+use std::alloc::{AllocError, Global};
+
+/// Makes the tree that matches these bytes in order. No bytes make `Empty`.
+pub fn literal(bytes: Vec<u8>) -> Hir
+    ensures { tree_of result ≡ literal_of bytes.items }
+{
+    if bytes.is_empty() {
+        return Hir::Empty;
+    }
+    Hir::Literal(bytes)
+}
+
+/// Makes the tree of a look-around assertion.
+pub fn look(kind: Look) -> Hir
+    ensures { tree_of result ≡ look kind }
+{
+    Hir::Look(kind)
+}
+
+/// Makes a capture group.
+///
+/// # Errors
+///
+/// Returns `AllocError` if memory runs out.
+pub fn capture(alloc: Global, body: Hir) -> Result<Hir, AllocError>
+    ensures { IfOk result (λ hir. tree_of hir ≡ capture (tree_of body)) }
+{
+    Ok(Hir::Capture(Box::new(alloc, body)?))
+}
+
+/// Makes the class of the characters of the set. A set of one character makes a literal.
+///
+/// # Errors
+///
+/// Returns `AllocError` if memory runs out.
+pub fn char_class(alloc: Global, set: RangeSet) -> Result<Hir, AllocError>
+    ensures { IfOk result (λ hir. tree_of hir ≡ one_char_of (set_of set)) }
+{
+    match set.sole_member() {
+        Some(c) => {
+            let mut buffer = [0; 4];
+            let bytes = c.encode_utf8(&mut buffer).as_bytes();
+            Ok(Hir::Literal(Vec::from_slice(alloc, bytes)?))
+        }
+        None => Ok(Hir::Class(Class::Characters(set.into_ranges()))),
+    }
+}
+
+/// Makes the class of the bytes of the set, without members above U+00FF. A set of one byte makes a
+/// literal.
+///
+/// # Errors
+///
+/// Returns `AllocError` if memory runs out.
+pub fn byte_class(alloc: Global, set: RangeSet) -> Result<Hir, AllocError>
+    ensures { IfOk result (λ hir. tree_of hir ≡ one_byte_of (set_of set)) }
+{
+    let bytes = set.bytes()?;
+    match bytes.sole_member() {
+        Some(c) => Ok(Hir::Literal(Vec::from_slice(alloc, &[c as u8])?)),
+        None => Ok(Hir::Class(Class::Bytes(bytes.into_ranges()))),
+    }
+}
+
+/// Returns whether the tree matches no byte in any context.
+pub fn is_byteless(hir: &Hir) -> bool
+    ensures { result ≡ is_byteless (tree_of hir.now) }
+{
+    match hir {
+        Hir::Empty | Hir::Look(_) => true,
+        Hir::Literal(_) | Hir::Class(_) => false,
+        Hir::Repetition { sub, .. } | Hir::Capture(sub) => is_byteless(sub),
+        Hir::Concat(parts) | Hir::Alternation(parts) => {
+            for part in parts {
+                if !is_byteless(part) {
+                    return false;
+                }
+            }
+            true
+        }
+    }
+}
+
+/// Returns whether the greatest count is `n`.
+fn is_most(n: u32, max: Option<u32>) -> bool
+    ensures { result ≡ is_most n max }
+{
+    max == Some(n)
+}
+
+/// Returns the greatest count, cut to at most 1.
+fn cut(max: Option<u32>) -> u32
+    ensures { Some result ≡ cut max }
+{
+    match max {
+        Some(max) => max.min(1),
+        None => 1,
+    }
+}
+
+/// Makes a repetition. A repetition of exactly one time is the body itself.
+fn times(
+    alloc: Global,
+    min: u32,
+    max: Option<u32>,
+    greedy: bool,
+    body: Hir,
+) -> Result<Hir, AllocError>
+    ensures { IfOk result (λ hir. tree_of hir ≡ times min max greedy (tree_of body)) }
+{
+    if min == 1 && is_most(1, max) {
+        return Ok(body);
+    }
+    Ok(Hir::Repetition {
+        min,
+        max,
+        greedy,
+        sub: Box::new(alloc, body)?,
+    })
+}
+
+/// Makes a repetition in its simplest form. A repetition of zero times is `Empty`. If the body
+/// matches no byte, both counts are cut to at most 1. A repetition of exactly one time is the body
+/// itself.
+///
+/// # Errors
+///
+/// Returns `AllocError` if memory runs out.
+pub fn repetition(
+    alloc: Global,
+    min: u32,
+    max: Option<u32>,
+    greedy: bool,
+    body: Hir,
+) -> Result<Hir, AllocError>
+    ensures { IfOk result (λ hir. tree_of hir ≡ repetition_of min max greedy (tree_of body)) }
+{
+    if is_most(0, max) {
+        return Ok(Hir::Empty);
+    }
+    if is_byteless(&body) {
+        return times(alloc, min.min(1), Some(cut(max)), greedy, body);
+    }
+    times(alloc, min, max, greedy, body)
+}
+
+/// Appends a part, and bytes after it. If the part is a literal, the bytes are added to it.
+fn push_after(parts: &mut Vec<Hir>, last: Hir, bytes: Vec<u8>) -> Result<(), AllocError>
+    ensures { OnOk result (map tree_of parts.new.items ≡
+        map tree_of parts.old.items ++ part_text (tree_of last) bytes.items) }
+{
+    match last {
+        Hir::Literal(mut before) => {
+            before.extend_from_slice(&bytes)?;
+            Ok(parts.push(Hir::Literal(before))?)
+        }
+        other => {
+            parts.push(other)?;
+            Ok(parts.push(Hir::Literal(bytes))?)
+        }
+    }
+}
+
+/// Appends bytes after all parts.
+fn push_literal(parts: &mut Vec<Hir>, bytes: Vec<u8>) -> Result<(), AllocError>
+    ensures { OnOk result (map tree_of parts.new.items ≡
+        add_text (map tree_of parts.old.items) bytes.items) }
+{
+    match parts.pop() {
+        Some(last) => push_after(parts, last, bytes),
+        None => Ok(parts.push(Hir::Literal(bytes))?),
+    }
+}
+
+/// Appends a part after the others. Neighboring literals become one.
+fn push_part(parts: &mut Vec<Hir>, part: Hir) -> Result<(), AllocError>
+    ensures { OnOk result (map tree_of parts.new.items ≡
+        add_part (map tree_of parts.old.items) (tree_of part)) }
+{
+    match part {
+        Hir::Literal(bytes) => push_literal(parts, bytes),
+        other => Ok(parts.push(other)?),
+    }
+}
+
+/// Appends parts one by one after the others.
+fn push_parts(parts: &mut Vec<Hir>, inner: Vec<Hir>) -> Result<(), AllocError>
+    ensures { OnOk result (map tree_of parts.new.items ≡
+        add_parts (map tree_of parts.old.items) (map tree_of inner.items)) }
+{
+    for part in inner {
+        push_part(parts, part)?;
+    }
+    Ok(())
+}
+
+/// Returns whether the tree is a literal.
+fn is_literal(hir: &Hir) -> bool
+    ensures { result ≡ is_literal_tree (tree_of hir.now) }
+{
+    matches!(hir, Hir::Literal(_))
+}
+
+/// Returns whether no two literals are adjacent.
+fn are_apart(parts: &[Hir]) -> bool
+    ensures { result ≡ are_apart false (map tree_of parts.now) }
+{
+    let mut before = false;
+    for part in parts {
+        let here = is_literal(part);
+        if before && here {
+            return false;
+        }
+        before = here;
+    }
+    true
+}
+
+/// Appends the parts of `inner`. If `parts` is empty and no two literals of `inner` are adjacent,
+/// `inner` is reused without a copy.
+fn push_all(parts: &mut Vec<Hir>, inner: Vec<Hir>) -> Result<(), AllocError>
+    ensures { OnOk result (map tree_of parts.new.items ≡
+        add_parts (map tree_of parts.old.items) (map tree_of inner.items)) }
+{
+    if parts.is_empty() && are_apart(&inner) {
+        *parts = inner;
+        return Ok(());
+    }
+    push_parts(parts, inner)
+}
+
+/// Appends the parts that a tree adds to a concatenation.
+pub(crate) fn push_flat(parts: &mut Vec<Hir>, part: Hir) -> Result<(), AllocError>
+    ensures { OnOk result (map tree_of parts.new.items ≡
+        add_parts (map tree_of parts.old.items) (parts_of (tree_of part))) }
+{
+    match part {
+        Hir::Empty => Ok(()),
+        Hir::Concat(inner) => push_all(parts, inner),
+        other => push_part(parts, other),
+    }
+}
+
+/// Makes a concatenation of the parts, unchanged. One part is itself, and no part is `Empty`.
+pub(crate) fn in_a_row(mut parts: Vec<Hir>) -> Hir
+    ensures { tree_of result ≡ in_a_row (map tree_of parts.items) }
+{
+    if parts.len() > 1 {
+        return Hir::Concat(parts);
+    }
+    match parts.pop() {
+        Some(only) => only,
+        None => Hir::Empty,
+    }
+}

@@ -1,0 +1,197 @@
+//! Measures of trees. None of them allocates. `logos_pattern` calls them once a pattern is read.
+//! The default priority of a leaf is one of them.
+
+ghost use Rattle.std.specs.Prelude.{◌≡◌, ℕ, ◌+◌, ◌*◌, min, nat_lt, length, map};
+ghost use Rattle.logos_hir.specs.Views.{list_all, chars, is_utf8, pointwise, trees, pairs, tree_of, class_tree, value, sum_of_values, least_value, text_size, fitted, is_same, is_text, all_text, is_all, is_dot, has_greedy_dot, some_greedy_dot};
+
+use crate::hir::{Class, Hir, Range};
+use crate::sets::LAST_CHAR;
+
+/// The characters below this one are ASCII.
+const ASCII: u32 = 128;
+
+/// Returns the number of characters of a text.
+fn char_count(text: &str) -> usize
+    ensures { result ≡ length (chars text.now) }
+{
+    text.chars().count()
+}
+
+/// Returns the number of characters if the bytes are UTF-8, otherwise the number of bytes.
+fn text_size(bytes: &[u8]) -> usize
+    ensures { result ≡ text_size bytes.now }
+{
+    match str::from_utf8(bytes) {
+        Ok(text) => char_count(text),
+        Err(_) => bytes.len(),
+    }
+}
+
+// In the following functions `None` is a number that does not fit `usize`.
+
+/// Returns the value times the count.
+fn times(count: u32, value: Option<usize>) -> Option<usize>
+    ensures { (n : ℕ) → value ≡ fitted n → result ≡ fitted (count * n) }
+{
+    if count == 0 {
+        return Some(0);
+    }
+    (count as usize).checked_mul(value?)
+}
+
+/// Returns the sum of two values.
+fn plus(a: Option<usize>, b: Option<usize>) -> Option<usize>
+    ensures { (m n : ℕ) → a ≡ fitted m → b ≡ fitted n → result ≡ fitted (m + n) }
+{
+    a?.checked_add(b?)
+}
+
+/// Returns the lesser of two values.
+fn least(a: Option<usize>, b: Option<usize>) -> Option<usize>
+    ensures { (m n : ℕ) → a ≡ fitted m → b ≡ fitted n → result ≡ fitted (min m n) }
+{
+    match (a, b) {
+        (Some(a), Some(b)) => Some(a.min(b)),
+        (None, b) => b,
+        (a, None) => a,
+    }
+}
+
+/// Returns the default priority of a tree, or `None` if it does not fit `usize`.
+#[cycle(priority)]
+pub fn priority(hir: &Hir) -> Option<usize>
+    ensures { result ≡ fitted (value (tree_of hir.now)) }
+{
+    match hir {
+        Hir::Empty | Hir::Look(_) => Some(0),
+        Hir::Literal(bytes) => 2usize.checked_mul(text_size(bytes)),
+        Hir::Class(_) => Some(2),
+        Hir::Repetition { min, sub, .. } => times(*min, priority(sub)),
+        Hir::Capture(sub) => priority(sub),
+        Hir::Concat(parts) => sum_of_priorities(parts),
+        Hir::Alternation(branches) => least_priority(branches),
+    }
+}
+
+/// Returns the priority of a concatenation: the sum of the priorities of its parts.
+#[cycle(priority)]
+fn sum_of_priorities(parts: &[Hir]) -> Option<usize>
+    ensures { result ≡ fitted (sum_of_values (trees (map tree_of parts.now))) }
+{
+    let mut sum = Some(0);
+    for part in parts {
+        sum = plus(sum, priority(part));
+    }
+    sum
+}
+
+/// Returns the priority of an alternation: the least priority of its branches.
+#[cycle(priority)]
+fn least_priority(branches: &[Hir]) -> Option<usize>
+    ensures { result ≡ fitted (least_value (trees (map tree_of branches.now))) }
+{
+    let Some((first, others)) = branches.split_first() else {
+        return Some(0);
+    };
+    let mut best = priority(first);
+    for other in others {
+        best = least(best, priority(other));
+    }
+    best
+}
+
+/// Returns whether each literal is UTF-8 and each class of bytes contains only ASCII.
+pub fn is_utf8(hir: &Hir) -> bool
+    ensures { result ≡ is_text (tree_of hir.now) }
+{
+    match hir {
+        Hir::Empty | Hir::Look(_) | Hir::Class(Class::Characters(_)) => true,
+        Hir::Literal(bytes) => are_utf8(bytes),
+        Hir::Class(Class::Bytes(ranges)) => are_ascii(ranges),
+        Hir::Repetition { sub, .. } | Hir::Capture(sub) => is_utf8(sub),
+        Hir::Concat(parts) | Hir::Alternation(parts) => {
+            for part in parts {
+                if !is_utf8(part) {
+                    return false;
+                }
+            }
+            true
+        }
+    }
+}
+
+/// Returns whether the bytes are UTF-8.
+fn are_utf8(bytes: &[u8]) -> bool
+    ensures { result ≡ is_utf8 bytes.now }
+{
+    match str::from_utf8(bytes) {
+        Ok(_) => true,
+        Err(_) => false,
+    }
+}
+
+/// Returns whether all numbers in the ranges are ASCII.
+fn are_ascii(ranges: &[Range]) -> bool
+    ensures { result ≡ list_all (λ r. nat_lt r.1 ASCII) (pairs ranges.now) }
+{
+    for range in ranges {
+        if range.last >= ASCII {
+            return false;
+        }
+    }
+    true
+}
+
+/// Returns whether the ranges are equal.
+fn same(a: &[Range], b: &[Range]) -> bool
+    ensures { result ≡ pointwise is_same (pairs a.now) (pairs b.now) }
+{
+    a == b
+}
+
+/// Returns whether the ranges contain all numbers up to `last`, all but LF, or all but CR and LF.
+fn is_all(last: u32, ranges: &[Range]) -> bool
+    ensures { result ≡ is_all last (pairs ranges.now) }
+{
+    let all = [Range::new(0, last)];
+    let but_lf = [Range::new(0, 9), Range::new(11, last)];
+    let but_line_ends = [Range::new(0, 9), Range::new(11, 12), Range::new(14, last)];
+    same(ranges, &all) | same(ranges, &but_lf) | same(ranges, &but_line_ends)
+}
+
+/// Returns whether the tree is a class that a dot can denote.
+fn is_dot(hir: &Hir) -> bool
+    ensures { result ≡ is_dot (tree_of hir.now) }
+{
+    match hir {
+        Hir::Class(Class::Characters(ranges)) => is_all(LAST_CHAR, ranges),
+        Hir::Class(Class::Bytes(ranges)) => is_all(255, ranges),
+        _ => false,
+    }
+}
+
+/// Returns whether a greedy repetition without an upper bound repeats a dot: a class of all
+/// characters or of all bytes, of all but LF, or of all but CR and LF. Searches captures,
+/// concatenations and alternations, but not the body of a repetition.
+pub fn check_for_greedy_all(hir: &Hir) -> bool
+    ensures { result ≡ has_greedy_dot (tree_of hir.now) }
+{
+    match hir {
+        Hir::Empty | Hir::Look(_) | Hir::Literal(_) | Hir::Class(_) => false,
+        Hir::Repetition {
+            max,
+            greedy,
+            sub,
+            ..
+        } => max.is_none() && *greedy && is_dot(sub),
+        Hir::Capture(sub) => check_for_greedy_all(sub),
+        Hir::Concat(parts) | Hir::Alternation(parts) => {
+            for part in parts {
+                if check_for_greedy_all(part) {
+                    return true;
+                }
+            }
+            false
+        }
+    }
+}

@@ -1,4 +1,0 @@
--- Definitions that clauses cite: of lower crates, and those of this one that name no type of it.
-pub use Rattle.std.specs.Io.KnownBytes.{Appends}
-pub use Rattle.logos_host.specs.Paths.{file_name}
-pub use Rattle.logos_host.specs.Writers.{AppendsFront}

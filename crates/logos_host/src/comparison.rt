@@ -1,0 +1,51 @@
+//! Comparison of files with bytes, and with each other. Called for `--check` and `--version`.
+
+ghost use Rattle.std.specs.Prelude.{◌≡◌, ℕ, List, Bool, ⊤, IfOk};
+ghost use Rattle.logos_host.specs.declared.comparison.Occurrence.{Occurrence as OccurrenceValue};
+
+use crate::files::Files;
+use std::alloc::AllocError;
+
+/// How a file compares with some bytes.
+#[derive(Clone, Copy, Debug, PartialEq, Eq)]
+pub enum Occurrence {
+    /// The file has exactly these bytes.
+    Same,
+    /// The file has other bytes, cannot be read, or is a folder, a device or a pipe.
+    Differs,
+    /// There is no file.
+    Missing,
+}
+
+/// Files that can be compared.
+pub trait ComparableFiles: Files {
+    // Holds of the files before a comparison, the path, the bytes, how the file compares with them,
+    // and the files after it.
+    ghost compare_finds: { Self → List ℕ → List ℕ → OccurrenceValue → Self → Type 0 } = { λ _ _ _ _ _. ⊤ };
+
+    // Holds of files, two paths, and whether these lead to one file.
+    ghost same_finds: { Self → List ℕ → List ℕ → Bool → Type 0 } = { λ _ _ _ _. ⊤ };
+
+    /// Compares the file at a path with some bytes. Only a regular file is read.
+    ///
+    /// # Errors
+    ///
+    /// Returns `AllocError` if memory runs out.
+    fn compare(&mut self, path: &str, bytes: &[u8]) -> Result<Occurrence, AllocError>
+        ensures finds { IfOk result (λ occurrence.
+            Self.compare_finds self.old path.now bytes.now occurrence self.new) }
+        ensures same { IfOk result (λ occurrence. occurrence ≡ Occurrence.Same →
+            Self.read_yields self.old path.now bytes.now self.new) };
+
+    /// Returns the bytes of the file at a path, for a message. There are none if it is not a
+    /// regular file, cannot be read, or has more than 67,108,864 bytes.
+    ///
+    /// # Errors
+    ///
+    /// Returns `AllocError` if memory runs out.
+    fn found_bytes(&self, path: &str) -> Result<Vec<u8>, AllocError>;
+
+    /// Returns whether two paths lead to one regular file, directly or through links.
+    fn is_same_file(&self, one: &str, other: &str) -> bool
+        ensures { Self.same_finds self.now one.now other.now result };
+}

@@ -1,0 +1,4 @@
+pub mod EscapeLemmas
+pub mod FlowLemmas
+pub mod FindLemmas
+pub mod SpanLemmas

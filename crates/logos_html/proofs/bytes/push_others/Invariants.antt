@@ -1,0 +1,9 @@
+use Rattle.std.proofs.Common.{drop}
+use Rattle.std.specs.List.{flat_map}
+use Rattle.logos_page.specs.Pages.{PageValue, Gains}
+use Rattle.logos_html.specs.Flows.{flowing_byte}
+use Rattle.logos_html.proofs.bytes.push_others.Given as goal
+
+-- with the bytes that are left the page gains all of them
+abbrev pub invariant-loop-byte : goal.invariant-loop-byte
+invariant-loop-byte l = (new : PageValue) → Gains (flat_map flowing_byte (drop l.byte-index l.bytes)) l.html new → Gains (flat_map flowing_byte l.bytes) l.initial.html new

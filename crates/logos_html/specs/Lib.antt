@@ -1,0 +1,6 @@
+pub mod Escapes
+pub mod Flows
+pub mod Finds
+pub mod Spans
+pub mod Imports
+pub mod Views

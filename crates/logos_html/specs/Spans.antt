@@ -1,0 +1,87 @@
+-- The text of an input in a page, with a marked span for each of its items.
+use Rattle.std.specs.Prelude.{ℕ, ◌%◌, List, [], ◌∷◌, ◌++◌, Option, codes, decimal, length, max, min, slice_get}
+use Rattle.std.specs.Option.{option_map_or}
+use Rattle.logos_answers.specs.Matches.{bytes_between}
+use Rattle.logos_answers.specs.Names.{name_at}
+use Rattle.logos_code.specs.Items.{Item, token, error}
+use Rattle.logos_lines.specs.Locations.{location_at}
+use Rattle.logos_lines.specs.declared.location.Location.{Location}
+use Rattle.logos_pattern.specs.declared.leaf.Leaf.{Leaf}
+use Rattle.logos_html.specs.Escapes.{escaped_text}
+use Rattle.logos_html.specs.Flows.{flowing_bytes}
+
+-- The offsets of a span.
+abbrev pub range_text : ℕ → ℕ → List ℕ
+range_text from to = decimal from ++ (codes ".." ++ decimal to)
+
+-- The line and the column of an item, and its span, in its label.
+abbrev pub location_label : Location → List ℕ
+location_label location = codes ", line " ++ (decimal location.line ++ (codes ", column " ++ decimal location.column))
+
+abbrev pub extent_label : ℕ → ℕ → List ℕ
+extent_label from to = codes ", bytes " ++ range_text from to
+
+-- The end of a label, and the span for programs.
+abbrev pub span_data : ℕ → ℕ → List ℕ
+span_data from to = codes "\" data-span=\"" ++ (range_text from to ++ codes "\">")
+
+abbrev pub label_end : ℕ → ℕ → Location → List ℕ
+label_end from to location = location_label location ++ (extent_label from to ++ span_data from to)
+
+-- The beginning of the span of a token, with the number of one of eight colors.
+abbrev pub class_text : ℕ → List ℕ
+class_text leaf = codes "<span tabindex=\"0\" role=\"group\" class=\"k c" ++ (decimal (leaf % 8) ++ (codes "\" data-leaf=\"" ++ decimal leaf))
+
+-- The name and the number of a leaf in a label.
+abbrev pub name_label : List Leaf → ℕ → List ℕ
+name_label leaves leaf = codes "\" aria-label=\"" ++ (escaped_text (name_at leaves leaf) ++ (codes ", leaf " ++ decimal leaf))
+
+-- The priority of the leaf with a number.
+abbrev pub priority_at : List Leaf → ℕ → ℕ
+priority_at leaves leaf = option_map_or (λ (it : Leaf). it.priority) (slice_get leaves leaf) 0
+
+abbrev pub priority_label : List Leaf → ℕ → List ℕ
+priority_label leaves leaf = codes ", priority " ++ decimal (priority_at leaves leaf)
+
+abbrev pub token_head : List Leaf → ℕ → List ℕ
+token_head leaves leaf = class_text leaf ++ (name_label leaves leaf ++ priority_label leaves leaf)
+
+abbrev pub error_head : List ℕ
+error_head = codes "<span tabindex=\"0\" role=\"group\" class=\"e\" aria-label=\"error"
+
+-- The offsets at which an item begins and ends.
+abbrev pub start_of : Item → ℕ
+start_of (token leaf from to slice) = from
+start_of (error leaf from to slice) = from
+
+abbrev pub end_of : Item → ℕ
+end_of (token leaf from to slice) = to
+end_of (error leaf from to slice) = to
+
+-- The shown bytes of an input between two offsets. Its front up to `end` is shown.
+abbrev pub part_of : List ℕ → ℕ → ℕ → ℕ → List ℕ
+part_of bytes end from to = bytes_between bytes from (min to end)
+
+-- The shown bytes of an item, and the end of its span.
+abbrev pub slice_text : List ℕ → ℕ → ℕ → ℕ → List ℕ
+slice_text bytes end from to = flowing_bytes (part_of bytes end from to) ++ codes "</span>"
+
+-- The offset of a cursor in a text that moves forward to another offset.
+abbrev pub moved : List ℕ → ℕ → ℕ → ℕ
+moved bytes at offset = max at (min offset (length bytes))
+
+-- An input, with the leaves of its lexer, whose front up to `end` is shown.
+module _ (leaves : List Leaf) (bytes : List ℕ) (end : ℕ) where
+  -- The span of an item at a location.
+  abbrev pub item_markup : Location → Item → List ℕ
+  item_markup location (token leaf from to slice) = token_head leaves leaf ++ (label_end from to location ++ slice_text bytes end from to)
+  item_markup location (error leaf from to slice) = error_head ++ (label_end from to location ++ slice_text bytes end from to)
+
+  -- An item, with the bytes before it from an offset on.
+  abbrev pub next_text : ℕ → ℕ → Item → List ℕ
+  next_text at cursor item = flowing_bytes (part_of bytes end at (start_of item)) ++ item_markup (location_at bytes (moved bytes cursor (start_of item))) item
+
+  -- The shown text from an offset on, with these items.
+  abbrev pub items_text : ℕ → ℕ → List Item → List ℕ
+  items_text at cursor [] = flowing_bytes (part_of bytes end at end)
+  items_text at cursor (item ∷ rest) = next_text at cursor item ++ items_text (end_of item) (moved bytes cursor (start_of item)) rest

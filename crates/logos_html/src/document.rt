@@ -1,0 +1,201 @@
+//! The page as a whole: its head, its sections and its end. Called by `logos_show`.
+
+ghost use Rattle.std.specs.Prelude.{IfErr};
+ghost use Rattle.logos_html.specs.Imports.{IsNoMisuse};
+
+use crate::drawing::push_drawing;
+use crate::finds::first_items;
+use crate::html::Html;
+use crate::leaves::push_leaves;
+use crate::spans::{ShownInput, push_items};
+use crate::states::push_states;
+use crate::style::STYLE;
+use logos_code::code::Code;
+use logos_graph::graph::{Graph, StateData};
+use logos_host::Failure;
+use logos_inspect::LeafRow;
+use std::alloc::{AllocError, Global};
+
+/// The maximum number of bytes of an input that are shown.
+const SHOWN: usize = 65_536;
+
+/// A lexer of which a page is made.
+#[derive(Clone, Copy)]
+pub struct LexerPage<'p, 's> {
+    /// The name of the enum.
+    pub name: &'p str,
+    /// The path of the file with the enum.
+    pub path: &'p str,
+    /// The line of the name in the file, counted from 1.
+    pub line: usize,
+    /// The rows of the leaves.
+    pub rows: &'p [LeafRow<'p>],
+    pub graph: &'p Graph<'s>,
+    pub code: &'p Code<'s>,
+}
+
+/// An input that is shown on a page.
+#[derive(Clone, Copy)]
+pub struct PageInput<'p> {
+    /// The path of the input.
+    pub path: &'p str,
+    pub bytes: &'p [u8],
+}
+
+/// Returns the page of a lexer, and of an input if one is given. Of a long input the first 65,536
+/// bytes are shown, and the page states that.
+///
+/// # Errors
+///
+/// Returns `NotUtf8` if the lexer reads UTF-8 and the input is not UTF-8, and `Memory` if memory
+/// runs out.
+pub fn page_of(
+    alloc: Global,
+    page: LexerPage<'_, '_>,
+    input: Option<PageInput<'_>>,
+) -> Result<String, Failure<'static>>
+    ensures { IfErr result IsNoMisuse }
+{
+    let mut html = Html::new(alloc);
+    push_head(&mut html, page, input.is_some());
+    push_leaves(alloc, &mut html, page.graph, page.rows)?;
+    if let Some(input) = input {
+        push_input(alloc, &mut html, page, input)?;
+    }
+    push_rest(alloc, &mut html, page.graph)?;
+    Ok(html.finish()?)
+}
+
+/// Appends the head of the page, and the beginning of its body.
+fn push_head(html: &mut Html, page: LexerPage<'_, '_>, has_input: bool) {
+    html.push_markup(
+        "<!DOCTYPE html>
+<html lang=\"en\">
+<head>
+<meta charset=\"utf-8\">
+<meta name=\"viewport\" content=\"width=device-width, initial-scale=1\">
+<title>Lexer ",
+    );
+    html.push_text(page.name);
+    html.push_markup("</title>\n<style>\n");
+    html.push_markup(STYLE);
+    html.push_markup("</style>\n</head>\n<body>\n<header>\n<h1>Lexer <code>");
+    html.push_text(page.name);
+    html.push_markup("</code></h1>\n<p>Line ");
+    html.push_number(page.line);
+    html.push_markup(" of <code>");
+    html.push_text(page.path);
+    html.push_markup("</code>.</p>\n");
+    push_navigation(html, has_input);
+    html.push_markup("</header>\n<main>\n");
+}
+
+/// Appends the links to the sections.
+fn push_navigation(html: &mut Html, has_input: bool) {
+    html.push_markup(
+        "<nav aria-label=\"Sections\">\n<ul>\n<li><a href=\"#leaves\">Leaves</a></li>\n",
+    );
+    if has_input {
+        html.push_markup("<li><a href=\"#text\">Text</a></li>\n");
+    }
+    html.push_markup(
+        "<li><a href=\"#states\">States</a></li>
+<li><a href=\"#drawing\">Drawing</a></li>
+</ul>
+</nav>
+",
+    );
+}
+
+/// Appends the section of an input.
+fn push_input(
+    alloc: Global,
+    html: &mut Html,
+    page: LexerPage<'_, '_>,
+    input: PageInput<'_>,
+) -> Result<(), Failure<'static>>
+    ensures { IfErr result IsNoMisuse }
+{
+    let items = first_items(alloc, page.code, input.bytes, SHOWN)?;
+    let shown = ShownInput {
+        leaves: page.graph.leaves(),
+        bytes: input.bytes,
+        end: end_of(input.bytes),
+    };
+    push_input_head(html, input, shown.end);
+    push_items(html, shown, &items);
+    html.push_markup("</pre>\n</div>\n</section>\n");
+    Ok(())
+}
+
+/// Returns the end of the shown front of an input. It is between characters, if the input is UTF-8.
+fn end_of(bytes: &[u8]) -> usize {
+    if bytes.len() <= SHOWN {
+        return bytes.len();
+    }
+    let mut end = SHOWN;
+    for _ in 0..3 {
+        end = before_continuation(bytes, end);
+    }
+    end
+}
+
+/// Returns the offset before another one at which a character continues, or that one.
+fn before_continuation(bytes: &[u8], at: usize) -> usize {
+    match bytes.get(at) {
+        Some(byte) if (128 <= *byte) & (*byte < 192) => at.saturating_sub(1),
+        _ => at,
+    }
+}
+
+/// Appends the beginning of the section of an input.
+fn push_input_head(html: &mut Html, input: PageInput<'_>, end: usize) {
+    html.push_markup(
+        "<section id=\"text\" aria-labelledby=\"text-title\">
+<h2 id=\"text-title\">Text</h2>
+<p>The text of <code>",
+    );
+    html.push_text(input.path);
+    html.push_markup(
+        "</code> in the colors of the leaves. Bytes that no leaf matches are red, underlined and
+marked by a sign. An item shows its leaf, its priority and its span while it has the focus or the
+pointer. Skipped bytes have no color. <a class=\"skip\" href=\"#states\">Skip the text</a></p>
+",
+    );
+    push_cut(html, input.bytes.len(), end);
+    html.push_markup(
+        "<div class=\"box\" role=\"region\" aria-label=\"Text with its items\">
+<pre>",
+    );
+}
+
+/// Appends how many bytes are shown, if not all are.
+fn push_cut(html: &mut Html, length: usize, end: usize) {
+    if end < length {
+        html.push_markup("<p class=\"cut\">The first ");
+        html.push_number(end);
+        html.push_markup(" of ");
+        html.push_number(length);
+        html.push_markup(" bytes are shown.</p>\n");
+    }
+}
+
+/// Appends the states, the drawing, and the end of the page.
+fn push_rest(alloc: Global, html: &mut Html, graph: &Graph<'_>) -> Result<(), AllocError> {
+    let states = states_of(alloc, graph)?;
+    push_states(html, graph, &states);
+    push_drawing(alloc, html, graph, &states)?;
+    html.push_markup(
+        "</main>\n<footer>Made by <code>logos_show --html</code>.</footer>\n</body>\n</html>\n",
+    );
+    Ok(())
+}
+
+/// Returns the states of a graph.
+fn states_of<'g>(alloc: Global, graph: &'g Graph<'_>) -> Result<Vec<&'g StateData>, AllocError> {
+    let mut states = Vec::new(alloc);
+    for state in graph.iter_states() {
+        states.push(graph.get_state(state))?;
+    }
+    Ok(states)
+}

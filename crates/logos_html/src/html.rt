@@ -1,0 +1,94 @@
+//! HTML that is appended to. Markup comes from constants, and everything else passes through
+//! `push_char`. All other modules write with it.
+
+ghost use Rattle.std.specs.Prelude.{◌≡◌, ◌↔◌, [], true, false, IfOk, IsOk, IsTrue, decimal, string_bytes};
+ghost use Rattle.logos_html.specs.Views.{Gains, escaped_char, escaped_text, line_end};
+
+use logos_page::Page;
+use std::alloc::{AllocError, Global};
+use std::marker::Model;
+
+/// HTML that is appended to. It records whether memory ran out, so only `finish` can fail.
+#[derive(Drop)]
+pub struct Html {
+    page: Page,
+}
+
+impl Model for Html {
+    ghost use Rattle.logos_page.specs.Pages.{PageValue};
+
+    ghost Value = { PageValue };
+
+    ghost view = { λ html. html.page };
+}
+
+impl Html {
+    /// Returns an empty text.
+    pub fn new(alloc: Global) -> Html
+        ensures { result ≡ record { text = []; is_colored = false; is_whole = true } }
+    {
+        Html {
+            page: Page::new(alloc, false),
+        }
+    }
+
+    /// Appends markup. It is a constant of the program, so no text of a file is markup.
+    pub fn push_markup(&mut self, markup: &'static str)
+        ensures { Gains markup.now self.old self.new }
+    {
+        self.page.push(markup);
+    }
+
+    /// Appends a character as text: a reference for one that would be markup, and the shown form of
+    /// any other one.
+    pub fn push_char(&mut self, character: char)
+        ensures { Gains (escaped_char character) self.old self.new }
+    {
+        match character {
+            '&' => self.page.push("&amp;"),
+            '<' => self.page.push("&lt;"),
+            '>' => self.page.push("&gt;"),
+            '"' => self.page.push("&quot;"),
+            '\'' => self.page.push("&#39;"),
+            _ => self.page.push_shown_char(character),
+        }
+    }
+
+    /// Appends a text. It has no markup, also in the value of an attribute.
+    pub fn push_text(&mut self, text: &str)
+        ensures { Gains (escaped_text text.now) self.old self.new }
+    {
+        for character in text.chars() {
+            self.push_char(character);
+        }
+    }
+
+    /// Appends the line end after a character, if the character is LF. In preformatted text it ends
+    /// a line of the page.
+    pub fn push_line_end(&mut self, character: char)
+        ensures { Gains (line_end character) self.old self.new }
+    {
+        if character == '\n' {
+            self.page.push("\n");
+        }
+    }
+
+    /// Appends a number.
+    pub fn push_number(&mut self, number: usize)
+        ensures { Gains (decimal number) self.old self.new }
+    {
+        self.page.push_number(number);
+    }
+
+    /// Returns the whole text.
+    ///
+    /// # Errors
+    ///
+    /// Returns `AllocError` if memory ran out at any call.
+    pub fn finish(self) -> Result<String, AllocError>
+        ensures whole { IsOk result ↔ IsTrue self.is_whole }
+        ensures text { IfOk result (λ text. string_bytes text ≡ self.text) }
+    {
+        self.page.finish()
+    }
+}

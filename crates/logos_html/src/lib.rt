@@ -1,0 +1,21 @@
+//! The page of a lexer: an HTML file with its leaves, an input in which its items are marked, its
+//! states, and a drawing of them. In it the texts of sources and inputs are text, never markup.
+//! Called by `logos_show` for `--html`.
+
+#![tactic(auto)]
+
+mod bytes;
+mod classes;
+mod document;
+mod drawing;
+mod finds;
+mod html;
+pub mod laws;
+mod layers;
+mod leaves;
+mod spans;
+mod states;
+mod style;
+
+pub use document::{LexerPage, PageInput, page_of};
+pub use html::Html;

@@ -1,6 +1,0 @@
--- Definitions that clauses cite: of lower crates, and those of this one that name no type of it.
-pub use Rattle.logos_graph.specs.GraphView.{leaf_number, state_type_of}
-pub use Rattle.logos_lines.specs.Places.{place_at}
-pub use Rattle.logos_token.specs.Held.{held}
-pub use Rattle.logos_inspect.specs.Marks.{AreMarks, IsSet, Marks}
-pub use Rattle.logos_inspect.specs.inside.Steps.{AddsMark}

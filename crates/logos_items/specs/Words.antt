@@ -1,5 +1,0 @@
--- Definitions of lower crates that clauses cite.
-pub use Rattle.logos_answers.specs.Counts.{totals_text}
-pub use Rattle.logos_questions.specs.Orders.{IsNoMisuse}
-pub use Rattle.logos_stream.specs.Views.{KeepsCode, unread_length}
-pub use Rattle.std.specs.Io.KnownBytes.{Appends}

@@ -1,0 +1,13 @@
+mod PieceTurns
+mod Rests
+mod TypeTokens
+mod StripAttributes
+mod StripItems
+mod StripVariants
+mod StripSound
+mod StripEnums
+mod OccurAlike
+mod BuilderLaws
+mod BranchLaws
+mod ShortReports
+mod VariantSums

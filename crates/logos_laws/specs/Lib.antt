@@ -1,0 +1,2 @@
+pub mod readings
+pub mod spans

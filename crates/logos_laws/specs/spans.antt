@@ -1,0 +1,2 @@
+pub mod LeafSpans
+pub mod Imports

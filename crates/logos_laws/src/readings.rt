@@ -1,0 +1,77 @@
+//! Laws that restate definitions of the crates below in another form, which is easier to check by
+//! reading: the pieces of an attribute one after another, and the result of stripping, part by
+//! part.
+//!
+//! No code calls these functions: the contract of each is a proved law.
+
+ghost use Rattle.std.specs.Prelude.{◌≡◌, ◌<◌, ◌≤◌, ◌↔◌, ℕ, suc, ◌+◌, ◌-◌, ◌^◌, ◌++◌, min, Bool, List, Ok, Option, IfSome};
+ghost use Rattle.logos_laws.specs.readings.Imports.{EnumValue, Piece, Reads, TokenList, pieces, stripped, in_file, moved, OccurInReport, OccurInText, ArePieces, EnumStays, IsBytes, Matches, MatchesInOrder, SomeMatches, Tree, repetition, trees, alternation_of, concat_of, repetition_of};
+ghost use Rattle.logos_laws.specs.readings.Imports.{AreFew, AreOfVariant, CodeLeaf, HaveNoSets, Refused, SourceValue, all_faults, all_lines, code_variant, lines_from, refused_texts, variant_line};
+
+/// The pieces of an argument are its first piece, and then the pieces of the tokens after that
+/// piece and its comma.
+pub fn pieces_in_turn()
+    ensures are { (run : TokenList) → ArePieces run (pieces run) }
+    ensures only { (run : TokenList) (list : List Piece) → ArePieces run list →
+        list ≡ pieces run }
+{}
+
+/// The result of stripping an enum is exactly this: its attributes, those of its variants and those
+/// of their fields without the helper attributes, the lists of the enum's `derive`s without the
+/// entries that name the macro, and all other tokens.
+pub fn strips_by_parts()
+    ensures are { (tokens : TokenList) (value : EnumValue) → Reads tokens (Ok value) →
+        EnumStays value tokens (stripped tokens) }
+    ensures only { (tokens remaining : TokenList) (value : EnumValue) →
+        EnumStays value tokens remaining → remaining ≡ stripped tokens }
+{}
+
+/// An offset of a part of a file, counted from the beginning of the file, is a sum, as long as that
+/// is a number of 64 bits.
+pub fn offsets_are_sums()
+    ensures report { (begin offset : ℕ) → offset + begin < 2 ^ 64 →
+        in_file begin offset ≡ offset + begin }
+    ensures rows { (begin offset : ℕ) → offset + begin < 2 ^ 64 →
+        moved begin offset ≡ begin + offset }
+{}
+
+/// Texts occur in a report exactly if they occur in the generated code of a lexer.
+pub fn texts_occur_alike()
+    ensures { (texts : List (List ℕ)) (whole : List ℕ) →
+        OccurInReport texts whole ↔ OccurInText texts whole }
+{}
+
+/// A tree that is built from parts, from branches or from a repetition, in its simplest form, has
+/// exactly the matches of the parts one after another, of one of the branches, or of the
+/// repetition.
+pub fn builders_change_no_match()
+    ensures parts { (parts : List Tree) (bytes : List ℕ) (from to : ℕ) →
+        Matches (concat_of parts) bytes from to ↔ MatchesInOrder (trees parts) bytes from to }
+    ensures branches { (branches : List Tree) (bytes : List ℕ) → IsBytes bytes →
+        (from to : ℕ) →
+        Matches (alternation_of branches) bytes from to
+        ↔ SomeMatches (trees branches) bytes from to }
+    ensures counts { (least : ℕ) (most : Option ℕ) (greedy : Bool) (body : Tree)
+        (bytes : List ℕ) (from to : ℕ) → IfSome most (λ m. least ≤ m) →
+        Matches (repetition_of least most greedy body) bytes from to
+        ↔ Matches (repetition least most greedy body) bytes from to }
+{}
+
+/// A report in which at most 50 faults have the same code, and in which no set of ambiguous leaves
+/// has a clue, has the lines of each fault, in order, and no others.
+pub fn short_reports_are_whole()
+    ensures { (is_colored : Bool) (source : SourceValue) (parts : List Refused) →
+        HaveNoSets parts → AreFew (all_faults parts) →
+        refused_texts is_colored source parts ≡ all_lines is_colored source parts }
+{}
+
+/// If some leaves in turn are all those of a variant from the first of them on, the next line of
+/// the totals has the sum of their numbers of items, if that is not zero and fits into 64 bits.
+/// The lines after it are those of the leaves after them.
+pub fn totals_are_sums()
+    ensures { (leaves : List CodeLeaf) (counts : List ℕ) (from size last total left : ℕ) →
+        AreOfVariant leaves counts from size last total →
+        lines_from leaves counts from 0 (size + left)
+        ≡ variant_line (code_variant leaves last) (min total (2 ^ 64 - 1))
+        ++ lines_from leaves counts (suc last) 0 left }
+{}

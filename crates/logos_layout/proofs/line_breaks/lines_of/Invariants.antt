@@ -1,0 +1,5 @@
+use Rattle.std.proofs.Common.{length}
+use Rattle.logos_layout.proofs.line_breaks.lines_of.Given as goal
+
+abbrev pub decreases-loop-first : goal.decreases-loop-first
+decreases-loop-first l = length l.left

@@ -1,8 +1,0 @@
--- Definitions that clauses cite.
-pub use Rattle.logos_layout.specs.Conditions.{attribute_text, condition_text, conditions_text, text_if}
-pub use Rattle.logos_layout.specs.Inner.{AreInner, IsInnerText, IsPlainly, IsWithoutInner, after_brackets, after_inner, after_mark, is_inner}
-pub use Rattle.logos_layout.specs.Layout.{ArePrinted, IsLaidOut, IsWrittenAs, SpellsSame}
-pub use Rattle.logos_token.specs.First.{after_word}
-pub use Rattle.logos_token.specs.Spelling.{Spells}
-pub use Rattle.logos_token.specs.Tokens.{count_of, none}
-pub use Rattle.logos_token.specs.Views.{tokens_of, tree_of}

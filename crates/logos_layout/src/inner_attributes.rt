@@ -1,0 +1,174 @@
+//! The documentation and the attributes of a file itself, at its beginning. Called by
+//! `logos_expand`.
+
+ghost use Rattle.std.specs.Prelude.{◌≡◌, ◌<◌, IfOk, IfSome, IsTrue, MatchOption, None, Some, string_bytes};
+ghost use Rattle.logos_layout.specs.Imports.{FollowsInner, IsInnerText, IsPlainly, Spells, after_brackets, after_inner, after_mark, count_of, is_inner, none, tokens_of};
+
+use crate::comparison::prints_as;
+use crate::plain_comments::plain_text;
+use logos_token::error::Memory;
+use logos_token::token::{Delimiter, TokenError, TokenTree, Tokens, print, tokenize};
+use std::alloc::Global;
+
+/// Returns whether inner documentation or inner attributes come first in a Rust file with these
+/// tokens.
+pub fn has_inner(tokens: Tokens<'_, '_>) -> bool {
+    read_inner(tokens).0 > 0
+}
+
+/// Returns a Rust file with plain comments for the inner documentation and the inner attributes
+/// that come first in it: `//!` is `//`, `/*!` is `/*`, and `#![..]` is put into `/* */`. So
+/// another file can include it. It has the tokens that come after them.
+///
+/// `None` if the file cannot be read into tokens, if nothing of this kind comes first, or if the
+/// attributes would end these comments.
+///
+/// # Errors
+///
+/// Returns `Memory` if memory runs out.
+pub fn without_inner(alloc: Global, file: &str) -> Result<Option<String>, Memory>
+    ensures { IfOk result (λ found. IfSome found
+        (λ made. IsPlainly file.now (string_bytes made))) }
+{
+    match tokenize(alloc, file) {
+        Ok(stream) => without_front(alloc, file, stream.run()),
+        Err(TokenError::Memory) => Err(Memory),
+        Err(_) => Ok(None),
+    }
+}
+
+/// Returns a file that has these tokens with plain comments for those that are about the file
+/// itself, like `without_inner`.
+fn without_front(
+    alloc: Global,
+    file: &str,
+    tokens: Tokens<'_, '_>,
+) -> Result<Option<String>, Memory>
+    requires { Spells file.now (tokens_of tokens) }
+    ensures { IfOk result (λ found. IfSome found
+        (λ made. IsPlainly file.now (string_bytes made))) }
+{
+    let (to, after) = read_inner(tokens);
+    let Some((front, rest)) = file.split_at_checked(to) else {
+        return Ok(None);
+    };
+    let Some(plain) = plain_comments(alloc, front)? else {
+        return Ok(None);
+    };
+    let mut made = plain;
+    made.push_str(rest)?;
+    let printed = print(alloc, after)?;
+    if prints_as(alloc, made.as_str(), printed.as_str())? {
+        return Ok(Some(made));
+    }
+    Ok(None)
+}
+
+/// Returns the plain comments that replace a text of inner documentation comments and attributes.
+/// `None` if the text spells anything else, or if the comments would spell anything.
+fn plain_comments(alloc: Global, front: &str) -> Result<Option<String>, Memory>
+    ensures { IfOk result (λ found. IfSome found
+        (λ plain. IsInnerText front.now × Spells (string_bytes plain) none)) }
+{
+    if front.is_empty() || !is_inner_text(alloc, front)? {
+        return Ok(None);
+    }
+    let plain = plain_text(alloc, front)?;
+    if is_bare(alloc, plain.as_str())? {
+        return Ok(Some(plain));
+    }
+    Ok(None)
+}
+
+/// Returns whether a text spells only inner documentation comments and attributes.
+fn is_inner_text(alloc: Global, text: &str) -> Result<bool, Memory>
+    ensures { IfOk result (λ is. IsTrue is → IsInnerText text.now) }
+{
+    match tokenize(alloc, text) {
+        Ok(stream) => Ok(is_all_inner(stream.run())),
+        Err(TokenError::Memory) => Err(Memory),
+        Err(_) => Ok(false),
+    }
+}
+
+/// Returns whether a text spells no tokens.
+fn is_bare(alloc: Global, text: &str) -> Result<bool, Memory>
+    ensures { IfOk result (λ is. IsTrue is → Spells text.now none) }
+{
+    match tokenize(alloc, text) {
+        Ok(stream) => Ok(stream.run().is_empty()),
+        Err(TokenError::Memory) => Err(Memory),
+        Err(_) => Ok(false),
+    }
+}
+
+/// Returns whether a run has only inner documentation comments and attributes.
+fn is_all_inner(run: Tokens<'_, '_>) -> bool
+    ensures { IsTrue result → FollowsInner (tokens_of run.entry) none }
+{
+    read_inner(run).1.is_empty()
+}
+
+/// Returns the byte offset at which the leading inner documentation comments and attributes of a
+/// run end, or 0 if there are none, and the tokens after them.
+fn read_inner<'t, 's>(run: Tokens<'t, 's>) -> (usize, Tokens<'t, 's>)
+    ensures { FollowsInner (tokens_of run.entry) (tokens_of result.1) }
+{
+    let mut rest = run;
+    let mut end = 0;
+    while let Some((to, next)) = inner_at(rest) {
+        end = to;
+        rest = next;
+    }
+    (end, rest)
+}
+
+/// Returns the byte offset at which the first inner documentation comment or attribute ends, and
+/// the tokens after it; `None` if the run does not begin with one.
+fn inner_at<'t, 's>(tokens: Tokens<'t, 's>) -> Option<(usize, Tokens<'t, 's>)>
+    ensures { MatchOption result (after_inner (tokens_of tokens.entry) ≡ None)
+        (λ read. (after_inner (tokens_of tokens.entry) ≡ Some (tokens_of read.1))
+        × (count_of (tokens_of read.1) < count_of (tokens_of tokens.entry))) }
+{
+    match tokens.first() {
+        Some(TokenTree::Doc(doc)) if is_inner(doc.text) => Some((doc.span.to, tokens.rest())),
+        Some(TokenTree::Punct(punct)) if punct.character == '#' => marked(tokens.rest()),
+        _ => None,
+    }
+}
+
+/// Returns the byte offset at which the brackets after `!` end, and the tokens after them.
+fn marked<'t, 's>(tokens: Tokens<'t, 's>) -> Option<(usize, Tokens<'t, 's>)>
+    ensures { MatchOption result (after_mark (tokens_of tokens.entry) ≡ None)
+        (λ read. (after_mark (tokens_of tokens.entry) ≡ Some (tokens_of read.1))
+        × (count_of (tokens_of read.1) < count_of (tokens_of tokens.entry))) }
+{
+    match tokens.first() {
+        Some(TokenTree::Punct(punct)) if punct.character == '!' => bracketed(tokens.rest()),
+        _ => None,
+    }
+}
+
+/// Returns the byte offset at which leading brackets end, and the tokens after them.
+fn bracketed<'t, 's>(tokens: Tokens<'t, 's>) -> Option<(usize, Tokens<'t, 's>)>
+    ensures { MatchOption result (after_brackets (tokens_of tokens.entry) ≡ None)
+        (λ read. (after_brackets (tokens_of tokens.entry) ≡ Some (tokens_of read.1))
+        × (count_of (tokens_of read.1) < count_of (tokens_of tokens.entry))) }
+{
+    match tokens.first() {
+        Some(TokenTree::Group(group)) if group.delimiter == Delimiter::Bracket => {
+            Some((group.span.to, tokens.rest()))
+        }
+        _ => None,
+    }
+}
+
+/// Returns whether a documentation comment documents the item around it.
+fn is_inner(comment: &str) -> bool
+    ensures { result ≡ is_inner comment.now }
+{
+    match comment.as_bytes() {
+        [_, _, mark, ..] => *mark == b'!',
+        _ => false,
+    }
+}

@@ -1,0 +1,63 @@
+//! The layout of a text. Called by `logos_expand`.
+
+ghost use Rattle.std.specs.Prelude.{IfOk, string_bytes};
+ghost use Rattle.logos_layout.specs.Imports.{IsLaidOut};
+
+use crate::comparison::spell_same;
+use crate::ends::is_closed;
+use crate::line_breaks::lines_of;
+use logos_token::error::Memory;
+use std::alloc::Global;
+
+/// A comment that names a line of another text.
+#[derive(Clone, Copy)]
+pub struct Note {
+    /// The byte offset in the text before which the comment is inserted.
+    pub offset: usize,
+    /// The number of the line, from 1 on.
+    pub line: usize,
+}
+
+/// The settings of a layout.
+#[derive(Clone, Copy)]
+pub struct Setting<'n> {
+    /// The blanks before each line: spaces and tabs.
+    pub margin: &'n str,
+    /// The comments that are inserted, in the order of their offsets.
+    pub notes: &'n [Note],
+}
+
+/// Returns a Rust text laid out in lines. Its tokens and comments do not change, except that the
+/// comments of the setting are inserted. Each line begins with the margin and four blanks for each
+/// level of braces, and has at most 100 bytes if it can be broken at a blank. Lines end after `;`,
+/// after the braces of blocks, after commas between braces, after attributes and comments, and
+/// where the text has a line end. Short braces stay on one line.
+///
+/// The lines end with the last token, a group in braces. A text that ends otherwise, that cannot be
+/// read into tokens, or that is longer than 16,777,216 bytes in lines, is returned unchanged, with
+/// LF after it.
+///
+/// # Errors
+///
+/// Returns `Memory` if memory runs out.
+pub fn lay_out(alloc: Global, text: &str, setting: Setting<'_>) -> Result<String, Memory>
+    ensures { IfOk result (λ laid. IsLaidOut text.now (string_bytes laid)) }
+{
+    let laid = lines_of(alloc, text, setting)?;
+    if !spell_same(alloc, text, laid.as_str())? {
+        return unchanged(alloc, text);
+    }
+    if is_closed(alloc, laid.as_str())? {
+        return Ok(laid);
+    }
+    unchanged(alloc, text)
+}
+
+/// Returns a text unchanged, with LF after it.
+fn unchanged(alloc: Global, text: &str) -> Result<String, Memory>
+    ensures { IfOk result (λ laid. IsLaidOut text.now (string_bytes laid)) }
+{
+    let mut laid = String::from_str(alloc, text)?;
+    laid.push_str("\n")?;
+    Ok(laid)
+}

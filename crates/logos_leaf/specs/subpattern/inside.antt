@@ -1,0 +1,4 @@
+pub mod Errors
+pub mod Parts
+pub mod Slots
+pub mod Tests

@@ -1,0 +1,382 @@
+//! Subpatterns: patterns with names, which other patterns use as `(?&name)`.
+//!
+//! Those of a lexer are made once, with their texts, after all attributes of the enum are read.
+
+ghost use Rattle.std.specs.Prelude.{◌≡◌, ◌++◌, ◌∷◌, [], ◌<◌, IfOk, IfSome, OnOk, string_bytes, ℕ, List, map, option_map, OnErr, chars, vec_len, None};
+ghost use Rattle.logos_leaf.specs.subpattern.Imports.{list_all, previous, ident_slice, literal_view, named_literal_view, AddsFault, is_word, is_name, flags_of, pattern_text, wrapped, subpattern_name, subpattern_twice, utf8_subpattern, utf8_text, Bor, IsReport, text_of, subst_report, stored_report, tested_report, IsAdded, AreAdded, IsTested, put_stored, stored_at, slot_in, FindSlots};
+ghost use Rattle.logos_leaf.specs.subpattern.StoredViews.{stored_of};
+
+pub mod fault;
+mod origin;
+mod substitution;
+
+use crate::subpattern::fault::{ReadingMode, read_pattern};
+use crate::subpattern::origin::{Making, WrittenPattern};
+use crate::subpattern::substitution::substituted;
+use logos_attribute::reports::report_named;
+use logos_pattern::pattern::Literal;
+use logos_token::error::{Errors, FaultCode, Memory};
+use logos_token::token::{Ident, Span};
+use logos_type_params::reports::report_previous;
+use std::alloc::Global;
+use std::collections::HashMap;
+use std::mem;
+
+/// A pattern with a name, by which other patterns use it.
+#[derive(Drop)]
+pub struct Subpattern<'s> {
+    name: Ident<'s>,
+    /// The text of the pattern in a group that sets its flags, with each name of an earlier
+    /// subpattern replaced by the text of that subpattern.
+    pattern: String,
+}
+
+/// The subpatterns of a lexer.
+#[derive(Drop)]
+pub struct Subpatterns<'s> {
+    /// The subpatterns, in the order in which their names first occur.
+    list: Vec<Subpattern<'s>>,
+    /// For each name, its index in the list.
+    slots: HashMap<&'s str, usize>,
+    ghost found: { FindSlots (map stored_of list.items) slots.entries },
+}
+
+/// The flags with which the text of a subpattern is tested. The text sets its own flags.
+const TEST_MODE: ReadingMode = ReadingMode {
+    is_literal: false,
+    unicode: true,
+    ignore_case: false,
+};
+
+/// Returns whether a name can contain a byte.
+fn is_word(byte: u8) -> bool
+    ensures { result ≡ is_word byte }
+{
+    ((b'/' < byte) & (byte < b':'))
+        | ((b'@' < byte) & (byte < b'['))
+        | (((b'`' < byte) & (byte < b'{')) | (byte == b'_'))
+}
+
+/// Returns whether a name can contain all these bytes.
+fn are_words(bytes: &[u8]) -> bool
+    ensures { result ≡ list_all is_word bytes.now }
+{
+    for byte in bytes {
+        if !is_word(*byte) {
+            return false;
+        }
+    }
+    true
+}
+
+/// Returns whether a text is a name: one or more digits, ASCII letters and `_`.
+fn is_name(text: &str) -> bool
+    ensures { result ≡ is_name text.now }
+{
+    let bytes = text.as_bytes();
+    if bytes.is_empty() {
+        return false;
+    }
+    are_words(bytes)
+}
+
+/// Returns the text that opens the group of a subpattern, and sets its flags.
+pub(crate) fn flags_of(literal: &Literal<'_>) -> &'static str
+    ensures { result.now ≡ flags_of (literal_view literal.now).held }
+{
+    match literal {
+        Literal::Utf8(_) => "(?u:",
+        Literal::Bytes(_) => "(?-u:",
+    }
+}
+
+/// Returns the pattern text that a literal's value spells.
+///
+/// # Errors
+///
+/// Returns `Memory` if memory runs out.
+pub fn pattern_text(alloc: Global, literal: &Literal<'_>) -> Result<String, Memory>
+    ensures { IfOk result (λ text. string_bytes text ≡ pattern_text (literal_view literal.now).held) }
+{
+    match literal {
+        Literal::Utf8(_) => literal.escape(alloc, false),
+        Literal::Bytes(_) => literal.escape(alloc, false),
+    }
+}
+
+/// Returns the pattern text of a literal in a group that sets its flags, as other patterns contain
+/// it.
+pub(crate) fn wrapped(alloc: Global, literal: &Literal<'_>) -> Result<String, Memory>
+    ensures { IfOk result (λ text. string_bytes text ≡ wrapped (literal_view literal.now).held) }
+{
+    let regex = pattern_text(alloc, literal)?;
+    let mut text = String::from_str(alloc, flags_of(literal))?;
+    text.push_str(regex.as_str())?;
+    text.push_str(")")?;
+    Ok(text)
+}
+
+/// Reports a name that no subpattern can have.
+fn report_name(name: Ident<'_>, errors: &mut Errors) -> Result<(), Memory>
+    ensures { OnOk result
+        (AddsFault (subpattern_name (ident_slice name.entry)) errors.old errors.new) }
+{
+    report_named(
+        errors,
+        FaultCode::SubpatternName,
+        "Invalid subpattern name: `",
+        name,
+        "`",
+    )
+}
+
+/// Reports a second subpattern with the same name.
+fn report_second(name: Ident<'_>, errors: &mut Errors) -> Result<(), Memory>
+    ensures { OnOk result
+        (AddsFault (subpattern_twice (ident_slice name.entry)) errors.old errors.new) }
+{
+    report_named(
+        errors,
+        FaultCode::SubpatternTwice,
+        "Subpattern `",
+        name,
+        "` already exists",
+    )
+}
+
+/// Reports a second subpattern with the same name, and the span of the first one.
+fn report_twice(name: Ident<'_>, former: Span, errors: &mut Errors) -> Result<(), Memory>
+    ensures { OnOk result (errors.new ≡ errors.old
+        ++ (subpattern_twice (ident_slice name.entry) ∷ previous former ∷ [])) }
+{
+    report_second(name, errors)?;
+    report_previous(errors, former)?;
+    Ok(())
+}
+
+/// Returns the message for a subpattern that can match invalid UTF-8.
+fn utf8_text(alloc: Global, named: &(Ident<'_>, Literal<'_>)) -> Result<String, Memory>
+    ensures { IfOk result (λ text. string_bytes text ≡ utf8_text (named_literal_view named.now)) }
+{
+    let name = named.0.text;
+    let source = named.1.token().text;
+    let text = format!(in alloc;
+        "UTF-8 mode is requested, but the subpattern {name} = {source} can match invalid utf8.\nYou can disable UTF-8 mode with #[logos(utf8 = false)]"
+    )?;
+    Ok(text)
+}
+
+/// Reports that a subpattern can match invalid UTF-8.
+fn report_utf8(named: &(Ident<'_>, Literal<'_>), errors: &mut Errors) -> Result<(), Memory>
+    ensures { OnOk result
+        (AddsFault (utf8_subpattern (named_literal_view named.now)) errors.old errors.new) }
+{
+    let text = utf8_text(errors.alloc(), named)?;
+    errors.err(FaultCode::Utf8Subpattern, text.as_str(), named.1.span())
+}
+
+impl<'s> Subpatterns<'s> {
+    ghost use Rattle.logos_leaf.specs.subpattern.SubpatternViews.{names_of};
+
+    /// Returns the index of the subpattern with this name, if there is one.
+    fn slot(&self, name: &str) -> Option<usize>
+        ensures slot { result ≡ slot_in (names_of self.now) name.now }
+        ensures within { IfSome result (λ slot. slot < vec_len self.now.list) }
+    {
+        let slot = self.slots.get(name)?;
+        Some(*slot)
+    }
+
+    /// Returns the text of the subpattern with this name, if there is one.
+    pub(crate) fn find(&self, name: &str) -> Option<&str>
+        ensures { option_map (λ (text : Bor (List ℕ)). text.now) result
+            ≡ text_of (names_of self.now) name.now }
+    {
+        let slot = self.slot(name)?;
+        Some(self.list[slot].pattern.as_str())
+    }
+
+    /// Returns the length of the text of the subpattern with this name, and the span of the name at
+    /// its definition, if there is one.
+    pub(crate) fn stored(&self, name: &str) -> Option<(usize, Span)> {
+        let slot = self.slot(name)?;
+        let subpattern = &self.list[slot];
+        Some((subpattern.pattern.len(), subpattern.name.span))
+    }
+
+    /// Appends a subpattern with a new name. After an error the subpatterns are unchanged.
+    fn push(&mut self, subpattern: Subpattern<'s>) -> Result<(), Memory>
+        requires { slot_in (names_of self.old) subpattern.name.text.now ≡ None }
+        ensures ok { OnOk result
+            (names_of self.new ≡ names_of self.old ++ stored_of subpattern.entry ∷ []) }
+        ensures err { OnErr result (names_of self.new ≡ names_of self.old) }
+    {
+        self.list.reserve(1)?;
+        self.slots.insert(subpattern.name.text, self.list.len())?;
+        self.list.push(subpattern)?;
+        Ok(())
+    }
+
+    /// Replaces the subpattern with the same name, and returns the former one. Appends the
+    /// subpattern if there is no such one. After an error the subpatterns are unchanged.
+    fn put(&mut self, subpattern: Subpattern<'s>) -> Result<Option<Subpattern<'s>>, Memory>
+        ensures former { IfOk result (λ former. option_map stored_of former
+            ≡ stored_at (names_of self.old) subpattern.entry.name.text.now) }
+        ensures put { OnOk result
+            (names_of self.new ≡ put_stored (stored_of subpattern.entry) (names_of self.old)) }
+        ensures err { OnErr result (names_of self.new ≡ names_of self.old) }
+    {
+        let Some(slot) = self.slot(subpattern.name.text) else {
+            self.push(subpattern)?;
+            return Ok(None);
+        };
+        Ok(Some(mem::replace(&mut self.list[slot], subpattern)))
+    }
+
+    /// Stores a subpattern. Replaces and reports a former one with the same name.
+    fn store(&mut self, name: Ident<'s>, pattern: String, errors: &mut Errors) -> Result<(), Memory>
+        ensures { OnOk result (IsReport
+            (stored_report (ident_slice name.entry) (string_bytes pattern) (names_of self.old))
+            (names_of self.new) errors.old errors.new) }
+    {
+        let subpattern = Subpattern { name, pattern };
+        if let Some(former) = self.put(subpattern)? {
+            report_twice(name, former.name.span, errors)?;
+        }
+        Ok(())
+    }
+
+    /// Stores a subpattern, unless the UTF-8 mode does not allow it; in that case reports it.
+    fn store_tested(
+        &mut self,
+        refused: bool,
+        named: &(Ident<'s>, Literal<'s>),
+        pattern: String,
+        errors: &mut Errors,
+    ) -> Result<(), Memory>
+        ensures { OnOk result (IsReport
+            (tested_report refused (named_literal_view named.now) (string_bytes pattern)
+            (names_of self.old))
+            (names_of self.new) errors.old errors.new) }
+    {
+        if refused {
+            return report_utf8(named, errors);
+        }
+        self.store(named.0, pattern, errors)
+    }
+
+    /// Tests the text of a subpattern, and stores it if it is a pattern that the UTF-8 mode allows.
+    fn test(
+        &mut self,
+        utf8_mode: bool,
+        named: &(Ident<'s>, Literal<'s>),
+        text: String,
+        errors: &mut Errors,
+    ) -> Result<(), Memory>
+        ensures { OnOk result
+            (IsTested utf8_mode (named_literal_view named.now) (string_bytes text)
+            (names_of self.old) (names_of self.new) errors.old errors.new) }
+    {
+        let literal = &named.1;
+        let making = Making::Grouped(self);
+        let written = WrittenPattern { literal, making };
+        let read = read_pattern(text.as_str(), written, TEST_MODE, errors)?;
+        let Some(pattern) = read else {
+            return Ok(());
+        };
+        let refused = utf8_mode & !pattern.is_utf8();
+        self.store_tested(refused, named, text, errors)
+    }
+
+    /// Adds a subpattern after the earlier ones, and reports its faults.
+    fn add(
+        &mut self,
+        utf8_mode: bool,
+        named: &(Ident<'s>, Literal<'s>),
+        errors: &mut Errors,
+    ) -> Result<(), Memory>
+        ensures { OnOk result
+            (IsAdded utf8_mode (named_literal_view named.now)
+            (names_of self.old) (names_of self.new) errors.old errors.new) }
+    {
+        if !is_name(named.0.text) {
+            return report_name(named.0, errors);
+        }
+        let text = wrapped(errors.alloc(), &named.1)?;
+        let whole = substituted(self, text.as_str(), named.1.span(), errors)?;
+        let Some(whole) = whole else {
+            return Ok(());
+        };
+        self.test(utf8_mode, named, whole, errors)
+    }
+
+    /// Returns the subpatterns with these names and literals, and reports their faults. After an
+    /// error some of these may be in the list.
+    fn add_all(
+        list: &[(Ident<'s>, Literal<'s>)],
+        utf8_mode: bool,
+        errors: &mut Errors,
+    ) -> Result<Subpatterns<'s>, Memory>
+        ensures { IfOk result (λ subpatterns.
+            AreAdded utf8_mode (map named_literal_view list.now) [] (names_of subpatterns)
+            errors.old errors.new) }
+    {
+        let mut subpatterns = Subpatterns {
+            list: Vec::new(errors.alloc()),
+            slots: HashMap::new(errors.alloc()),
+        };
+        for named in list {
+            subpatterns.add(utf8_mode, named, errors)?;
+        }
+        Ok(subpatterns)
+    }
+
+    /// Returns the subpatterns with these names and literals, in order. Each may use the ones
+    /// before it. A later one replaces an earlier one with the same name. Reports the faults, and
+    /// leaves out subpatterns with faults.
+    ///
+    /// # Errors
+    ///
+    /// Returns `Memory` if memory runs out. The faults are then unchanged.
+    pub fn new(
+        alloc: Global,
+        list: &[(Ident<'s>, Literal<'s>)],
+        utf8_mode: bool,
+        errors: &mut Errors,
+    ) -> Result<Subpatterns<'s>, Memory>
+        ensures ok { IfOk result (λ subpatterns.
+            AreAdded utf8_mode (map named_literal_view list.now) [] (names_of subpatterns)
+            errors.old errors.new) }
+        ensures unreported { OnErr result (errors.new ≡ errors.old) }
+    {
+        let mut found = Errors::new(alloc);
+        let subpatterns = Subpatterns::add_all(list, utf8_mode, &mut found)?;
+        errors.append(found)?;
+        Ok(subpatterns)
+    }
+
+    /// Returns the text with each `(?&name)`, from the left, replaced by the text of that
+    /// subpattern. The substituted texts are not searched for names. Returns `None` if a name has
+    /// no subpattern, and reports that at `span`, once for each use.
+    ///
+    /// # Errors
+    ///
+    /// Returns `Memory` if memory runs out. The faults are then unchanged.
+    pub fn subst_subpatterns(
+        &self,
+        alloc: Global,
+        pattern: &str,
+        span: Span,
+        errors: &mut Errors,
+    ) -> Result<Option<String>, Memory>
+        ensures ok { IfOk result (λ text.
+            IsReport (subst_report (names_of self.now) span (chars pattern.now))
+            (option_map string_bytes text) errors.old errors.new) }
+        ensures unreported { OnErr result (errors.new ≡ errors.old) }
+    {
+        let mut missing = Errors::new(alloc);
+        let text = substituted(self, pattern, span, &mut missing)?;
+        errors.append(missing)?;
+        Ok(text)
+    }
+}

@@ -1,0 +1,202 @@
+//! Finds where the bytes of a pattern's text are written: in its own literal, or in a subpattern
+//! that was substituted. `fault` looks up the byte of each fault here.
+
+use crate::subpattern::substitution::{TextPart, characters, encoded, part_at};
+use crate::subpattern::{Subpatterns, flags_of, pattern_text, wrapped};
+use logos_pattern::pattern::Literal;
+use logos_token::error::{ByteOrigin, Memory};
+use logos_token::token::Span;
+use std::alloc::Global;
+
+/// The literal of a pattern, and how the text of the pattern was made from it.
+#[derive(Clone, Copy)]
+pub struct WrittenPattern<'l, 'p, 's> {
+    pub literal: &'l Literal<'s>,
+    pub making: Making<'p, 's>,
+}
+
+/// The ways in which the text of a pattern is made from its literal.
+#[derive(Clone, Copy)]
+pub enum Making<'p, 's> {
+    /// As the text of a pattern that matches exactly the value of the literal.
+    Escaped,
+    /// By substituting subpatterns in the text that the literal spells.
+    PutIn(&'p Subpatterns<'s>),
+    /// By substituting subpatterns in that text, in a group that sets its flags.
+    Grouped(&'p Subpatterns<'s>),
+}
+
+/// The extent of a part of a pattern's own text after the substitution.
+#[derive(Clone, Copy)]
+struct Extent {
+    /// The number of bytes of the part in the text with all subpatterns substituted.
+    whole: usize,
+    /// The number of bytes of the part in the pattern's own text.
+    own: usize,
+    /// The span of the name of the subpattern that is substituted, at its definition, if there is
+    /// one.
+    put_in: Option<Span>,
+}
+
+/// A search for a byte of a pattern's text, after some of its parts.
+#[derive(Clone, Copy)]
+struct OriginSearch {
+    /// The number of bytes from the end of these parts to the byte, with all subpatterns
+    /// substituted.
+    left: usize,
+    /// The number of bytes of these parts in the pattern's own text.
+    own: usize,
+    /// The span of the name of the first subpattern that is substituted, at its definition.
+    put_in: Option<Span>,
+}
+
+impl OriginSearch {
+    /// Returns whether the byte belongs to the next part.
+    fn ends_in(self, extent: Extent) -> bool {
+        self.left < extent.whole
+    }
+
+    /// Returns the search after one more part.
+    fn moved_past(self, extent: Extent) -> OriginSearch {
+        OriginSearch {
+            left: self.left.saturating_sub(extent.whole),
+            own: self.own.saturating_add(extent.own),
+            put_in: self.put_in.or(extent.put_in),
+        }
+    }
+
+    /// Returns the origin of the byte, which belongs to the next part.
+    fn origin_in(self, extent: Extent) -> ByteOrigin {
+        let own = match extent.put_in {
+            Some(_) => None,
+            None => Some(self.own),
+        };
+        ByteOrigin {
+            own,
+            put_in: self.put_in.or(extent.put_in),
+        }
+    }
+}
+
+/// Returns the extent of a part.
+fn extent_of(
+    alloc: Global,
+    subpatterns: &Subpatterns<'_>,
+    part: TextPart<'_>,
+) -> Result<Extent, Memory> {
+    match part {
+        TextPart::Itself(character) => {
+            let length = character.len_utf8();
+            Ok(Extent {
+                whole: length,
+                own: length,
+                put_in: None,
+            })
+        }
+        TextPart::Used(name) => used_extent(alloc, subpatterns, name),
+    }
+}
+
+/// Returns the extent of the use of a subpattern.
+fn used_extent(
+    alloc: Global,
+    subpatterns: &Subpatterns<'_>,
+    name: &[char],
+) -> Result<Extent, Memory> {
+    let own = name.len().saturating_add(4);
+    let name = encoded(alloc, name)?;
+    match subpatterns.stored(name.as_str()) {
+        Some((whole, span)) => Ok(Extent {
+            whole,
+            own,
+            put_in: Some(span),
+        }),
+        None => Ok(Extent {
+            whole: 0,
+            own,
+            put_in: None,
+        }),
+    }
+}
+
+/// Returns the origin of the byte at `at` of a text with all subpatterns substituted. `characters`
+/// are the characters of the text before the substitution.
+fn origin_in(
+    alloc: Global,
+    subpatterns: &Subpatterns<'_>,
+    characters: &[char],
+    at: usize,
+) -> Result<ByteOrigin, Memory> {
+    let mut search = OriginSearch {
+        left: at,
+        own: 0,
+        put_in: None,
+    };
+    let mut rest = characters;
+    while let Some((part, after)) = part_at(rest) {
+        let extent = extent_of(alloc, subpatterns, part)?;
+        if search.ends_in(extent) {
+            return Ok(search.origin_in(extent));
+        }
+        search = search.moved_past(extent);
+        rest = after;
+    }
+    Ok(ByteOrigin {
+        own: Some(search.own),
+        put_in: search.put_in,
+    })
+}
+
+/// Returns the origin of the byte at `at` of the text that a literal spells with all subpatterns
+/// substituted.
+fn put_in_origin(
+    alloc: Global,
+    literal: &Literal<'_>,
+    subpatterns: &Subpatterns<'_>,
+    at: usize,
+) -> Result<ByteOrigin, Memory> {
+    let text = pattern_text(alloc, literal)?;
+    let characters = characters(alloc, text.as_str())?;
+    origin_in(alloc, subpatterns, &characters, at)
+}
+
+/// Returns the origin of the byte at `at` of the text that a literal spells with all subpatterns
+/// substituted, in a group that sets its flags.
+fn grouped_origin(
+    alloc: Global,
+    literal: &Literal<'_>,
+    subpatterns: &Subpatterns<'_>,
+    at: usize,
+) -> Result<ByteOrigin, Memory> {
+    let text = wrapped(alloc, literal)?;
+    let characters = characters(alloc, text.as_str())?;
+    let origin = origin_in(alloc, subpatterns, &characters, at)?;
+    Ok(without_group(literal, origin))
+}
+
+/// Returns the origin in the text inside a group, given an origin in the group.
+fn without_group(literal: &Literal<'_>, origin: ByteOrigin) -> ByteOrigin {
+    let length = flags_of(literal).len();
+    let own = match origin.own {
+        Some(own) => own.checked_sub(length),
+        None => None,
+    };
+    ByteOrigin { own, ..origin }
+}
+
+/// Returns the origin of the byte at `at` of the text of a pattern.
+pub(crate) fn origin_of(
+    alloc: Global,
+    written: WrittenPattern<'_, '_, '_>,
+    at: usize,
+) -> Result<ByteOrigin, Memory> {
+    let literal = written.literal;
+    match written.making {
+        Making::Escaped => Ok(ByteOrigin {
+            own: None,
+            put_in: None,
+        }),
+        Making::PutIn(subpatterns) => put_in_origin(alloc, literal, subpatterns, at),
+        Making::Grouped(subpatterns) => grouped_origin(alloc, literal, subpatterns, at),
+    }
+}

@@ -1,0 +1,229 @@
+//! Substitutes subpatterns in the text of a pattern. It runs for each subpattern and for each leaf.
+
+ghost use Rattle.std.specs.Prelude.{◌≡◌, ℕ, List, ◌+◌, ◌<◌, ◌++◌, ◌∷◌, [], length, drop, option_map, chars, OnOk, IfOk, MatchOption, string_bytes};
+ghost use Rattle.logos_leaf.specs.subpattern.Views.{IsReport, AddsFault, is_word, word_front, word_rest, closed, reference, parts, encoded, subpattern_missing, subst_report, part_report, name_report, text_of, names_of, part_of, text_view};
+
+use crate::subpattern::Subpatterns;
+use logos_attribute::reports::report_named;
+use logos_token::error::{Errors, FaultCode, Memory};
+use logos_token::token::{Ident, Span};
+use std::alloc::{AllocError, Global};
+
+/// A part of a pattern's text.
+#[derive(Clone, Copy)]
+pub(crate) enum TextPart<'a> {
+    /// A character that represents itself.
+    Itself(char),
+    /// The name of a subpattern that is used.
+    Used(&'a [char]),
+}
+
+/// The subpatterns, and the span at which missing ones are reported.
+#[derive(Clone, Copy)]
+struct Lookup<'p, 's> {
+    subpatterns: &'p Subpatterns<'s>,
+    span: Span,
+}
+
+/// The text so far, with its subpatterns substituted.
+#[derive(Drop)]
+struct Text {
+    text: String,
+    /// Whether each name that was read was found.
+    complete: bool,
+}
+
+/// Returns whether a name can contain a character.
+fn is_word(c: char) -> bool
+    ensures { result ≡ is_word c }
+{
+    ((('/' < c) & (c < ':')) | (('@' < c) & (c < '['))) | ((('`' < c) & (c < '{')) | (c == '_'))
+}
+
+/// Returns the longest word at the start of a text, and the rest.
+fn word_in(text: &[char]) -> (&[char], &[char])
+    ensures front { result.0.now ≡ word_front text.now }
+    ensures rest { result.1.now ≡ word_rest text.now }
+{
+    let mut end = 0;
+    while end < text.len() && is_word(text[end]) {
+        end += 1;
+    }
+    (&text[..end], &text[end..])
+}
+
+/// Returns the rest of the text after `(?&`, if the text begins with it.
+fn after_opening(text: &[char]) -> Option<&[char]>
+    ensures { MatchOption result
+        (reference text.now ≡ None)
+        (λ rest. text.now ≡ 40 ∷ 63 ∷ 38 ∷ rest.now) }
+{
+    match text {
+        [a, b, c, rest @ ..] if (*a == '(') & ((*b == '?') & (*c == '&')) => Some(rest),
+        _ => None,
+    }
+}
+
+/// Returns the rest of the text after `)`, if the text begins with it.
+fn after_closing(text: &[char]) -> Option<&[char]>
+    ensures { MatchOption result
+        ((name : List ℕ) → closed name text.now ≡ None)
+        (λ rest. text.now ≡ 41 ∷ rest.now) }
+{
+    let (first, rest) = text.split_first()?;
+    if *first == ')' { Some(rest) } else { None }
+}
+
+/// Returns the name in `(?&name)` and the rest of the text after it, if the text begins with that
+/// form.
+fn reference_at(text: &[char]) -> Option<(&[char], &[char])>
+    ensures { MatchOption result
+        (reference text.now ≡ None)
+        (λ read. (reference text.now ≡ Some read.0.now)
+        × (read.1.now ≡ drop (4 + length read.0.now) text.now)) }
+{
+    let rest = after_opening(text)?;
+    let (name, after) = word_in(rest);
+    if name.is_empty() {
+        return None;
+    }
+    let Some(rest) = after_closing(after) else {
+        return None;
+    };
+    Some((name, rest))
+}
+
+/// Returns the first part of a text, and the rest.
+pub(crate) fn part_at(text: &[char]) -> Option<(TextPart<'_>, &[char])>
+    ensures { MatchOption result
+        (parts 0 text.now ≡ [])
+        (λ read. (parts 0 text.now ≡ part_of read.0 ∷ parts 0 read.1.now)
+        × (length read.1.now < length text.now)) }
+{
+    let (first, rest) = text.split_first()?;
+    if let Some((name, after)) = reference_at(text) {
+        return Some((TextPart::Used(name), after));
+    }
+    Some((TextPart::Itself(*first), rest))
+}
+
+/// Returns the UTF-8 text of these characters.
+pub(crate) fn encoded(alloc: Global, characters: &[char]) -> Result<String, AllocError>
+    ensures { IfOk result (λ text. string_bytes text ≡ encoded characters.now) }
+{
+    let mut text = String::new(alloc);
+    for character in characters {
+        text.push(*character)?;
+    }
+    Ok(text)
+}
+
+/// Reports a name without a subpattern.
+fn report_missing(name: &str, span: Span, errors: &mut Errors) -> Result<(), Memory>
+    ensures { OnOk result (AddsFault (subpattern_missing span name.now) errors.old errors.new) }
+{
+    let missing = Ident { text: name, span };
+    report_named(
+        errors,
+        FaultCode::SubpatternMissing,
+        "Subpattern `",
+        missing,
+        "` not found",
+    )
+}
+
+impl Text {
+    /// Adds the text of the subpattern with this name, or reports that there is none.
+    fn add_name(
+        &mut self,
+        lookup: Lookup<'_, '_>,
+        name: &str,
+        errors: &mut Errors,
+    ) -> Result<(), Memory>
+        ensures { OnOk result (IsReport
+            (name_report lookup.entry.span name.now (text_view self.old)
+            (text_of (names_of lookup.entry.subpatterns.now) name.now))
+            (text_view self.new) errors.old errors.new) }
+    {
+        match lookup.subpatterns.find(name) {
+            Some(text) => self.text.push_str(text)?,
+            None => {
+                report_missing(name, lookup.span, errors)?;
+                self.complete = false;
+            }
+        }
+        Ok(())
+    }
+
+    /// Adds a part.
+    fn add(
+        &mut self,
+        lookup: Lookup<'_, '_>,
+        part: TextPart<'_>,
+        errors: &mut Errors,
+    ) -> Result<(), Memory>
+        ensures { OnOk result (IsReport
+            (part_report (names_of lookup.entry.subpatterns.now) lookup.entry.span
+            (part_of part.entry) (text_view self.old))
+            (text_view self.new) errors.old errors.new) }
+    {
+        match part {
+            TextPart::Itself(character) => self.text.push(character)?,
+            TextPart::Used(name) => {
+                let name = encoded(errors.alloc(), name)?;
+                self.add_name(lookup, name.as_str(), errors)?;
+            }
+        }
+        Ok(())
+    }
+}
+
+/// Returns the characters of a text.
+pub(crate) fn characters(alloc: Global, text: &str) -> Result<Vec<char>, AllocError>
+    ensures { IfOk result (λ v. v.items ≡ chars text.now) }
+{
+    text.chars().collect(alloc)
+}
+
+/// Returns the text of these characters with each subpattern substituted. Returns `None` if a
+/// subpattern is missing, and reports that.
+fn put_together(
+    lookup: Lookup<'_, '_>,
+    characters: &[char],
+    errors: &mut Errors,
+) -> Result<Option<String>, Memory>
+    ensures { IfOk result (λ text.
+        IsReport
+        (subst_report (names_of lookup.entry.subpatterns.now) lookup.entry.span characters.now)
+        (option_map string_bytes text) errors.old errors.new) }
+{
+    let mut text = Text {
+        text: String::new(errors.alloc()),
+        complete: true,
+    };
+    let mut rest = characters;
+    while let Some((part, after)) = part_at(rest) {
+        text.add(lookup, part, errors)?;
+        rest = after;
+    }
+    if text.complete {
+        return Ok(Some(text.text));
+    }
+    Ok(None)
+}
+
+/// Returns the text with each subpattern substituted. Returns `None` if a subpattern is missing,
+/// and reports that at `span`.
+pub(crate) fn substituted(
+    subpatterns: &Subpatterns<'_>,
+    text: &str,
+    span: Span,
+    errors: &mut Errors,
+) -> Result<Option<String>, Memory>
+    ensures { IfOk result (λ whole.
+        IsReport (subst_report (names_of subpatterns.now) span (chars text.now))
+        (option_map string_bytes whole) errors.old errors.new) }
+{
+    let characters = characters(errors.alloc(), text)?;
+    put_together(Lookup { subpatterns, span }, &characters, errors)
+}

@@ -1,5 +1,0 @@
--- Definitions that clauses cite: of lower crates, and those of this one that name no type of it.
-pub use Rattle.std.specs.Char.{digit_value, is_ascii_digit}
-pub use Rattle.std.specs.Str.{IsCharBoundary}
-pub use Rattle.logos_lexeme.specs.LexemeCharacters.{character, is_continuing, is_mark, is_space, is_start, past}
-pub use Rattle.logos_lexeme.specs.LexemeRuns.{IsFirst, Passes, Run, Steps}

@@ -1,5 +1,0 @@
-use Rattle.logos_messages.proofs.LineLemmas.{one_line}
-use Rattle.logos_messages.proofs.marked.push_line.Goals as goal
-
-pub returns-in-Some : goal.returns-in-Some
-returns-in-Some c = one_line c.args.number _ _ c.in-Some.ensures c.push_marked.ensures

@@ -1,0 +1,183 @@
+//! Reads the arguments of a command line one after another. Called by `arguments` and `paths`.
+
+ghost use Rattle.std.specs.Prelude.{◌≡◌, IfErr, IfOk, None, Some, option_map};
+ghost use Rattle.logos_options.specs.Imports.{status_of, option_named, begins_option, split_at_equals, step, step_value, with_assigned, with_option, with_written};
+
+use crate::options::OptionName;
+use logos_host::Failure;
+
+/// A given option with its value.
+#[derive(Clone, Copy)]
+pub struct GivenOption<'w> {
+    pub option: OptionName,
+    /// The value, which is empty if the option takes none.
+    pub value: &'w str,
+}
+
+/// The meaning of an argument, or of two.
+#[derive(Clone, Copy)]
+pub enum Use<'w> {
+    /// A path.
+    Path(&'w str),
+    /// An option.
+    Given(GivenOption<'w>),
+}
+
+/// The state of reading after some arguments.
+#[derive(Clone, Copy)]
+pub struct ArgumentProgress {
+    /// The option whose value the next argument is.
+    pub pending: Option<OptionName>,
+    /// Whether `--` was read, after which all arguments are paths.
+    pub is_over: bool,
+}
+
+/// The result of reading one more argument.
+#[derive(Clone, Copy)]
+pub struct ArgumentStep<'w> {
+    pub progress: ArgumentProgress,
+    pub found: Option<Use<'w>>,
+}
+
+/// Reads one more argument.
+///
+/// # Errors
+///
+/// Returns `UnknownOption` for an argument that begins with `-` and is not an option, and `Misuse`
+/// if an option that takes no value has one.
+pub fn next_step<'w>(
+    progress: ArgumentProgress,
+    word: &'w str,
+) -> Result<ArgumentStep<'w>, Failure<'w>>
+    ensures step { IfOk result (λ next. step progress word.now ≡ Some (step_value next)) }
+    ensures misuse { IfErr result (λ failure.
+        (step progress word.now ≡ None) × (status_of failure ≡ 2)) }
+{
+    if let Some(option) = progress.pending {
+        let progress = ArgumentProgress {
+            pending: None,
+            is_over: progress.is_over,
+        };
+        return Ok(found(
+            progress,
+            Use::Given(GivenOption {
+                option,
+                value: word,
+            }),
+        ));
+    }
+    if progress.is_over {
+        return Ok(found(progress, Use::Path(word)));
+    }
+    step_written(progress, word)
+}
+
+/// Returns a step with a path or an option.
+fn found<'w>(progress: ArgumentProgress, one: Use<'w>) -> ArgumentStep<'w>
+    ensures { result ≡ record { progress = progress; found = Some one.entry } }
+{
+    ArgumentStep {
+        progress,
+        found: Some(one),
+    }
+}
+
+/// Reads an argument that is not the value of an option, up to and including `--`.
+fn step_written<'w>(
+    progress: ArgumentProgress,
+    word: &'w str,
+) -> Result<ArgumentStep<'w>, Failure<'w>>
+    ensures step { IfOk result (λ next.
+        with_written progress word.now ≡ Some (step_value next)) }
+    ensures misuse { IfErr result (λ failure.
+        (with_written progress word.now ≡ None) × (status_of failure ≡ 2)) }
+{
+    if word == "--" {
+        let progress = ArgumentProgress {
+            pending: None,
+            is_over: true,
+        };
+        return Ok(ArgumentStep {
+            progress,
+            found: None,
+        });
+    }
+    step_option(progress, word)
+}
+
+/// Reads an argument that may be an option.
+fn step_option<'w>(
+    progress: ArgumentProgress,
+    word: &'w str,
+) -> Result<ArgumentStep<'w>, Failure<'w>>
+    ensures step { IfOk result (λ next. with_option progress (option_named word.now) word.now
+        ≡ Some (step_value next)) }
+    ensures misuse { IfErr result (λ failure.
+        (with_option progress (option_named word.now) word.now ≡ None)
+        × (status_of failure ≡ 2)) }
+{
+    match OptionName::by_word(word) {
+        Some(option) if option.takes_value() => Ok(ArgumentStep {
+            progress: ArgumentProgress {
+                pending: Some(option),
+                is_over: false,
+            },
+            found: None,
+        }),
+        Some(option) => Ok(found(progress, Use::Given(GivenOption { option, value: "" }))),
+        None if is_option(word) => step_assigned(progress, word),
+        None => Ok(found(progress, Use::Path(word))),
+    }
+}
+
+/// Reads an argument that begins with `-` and is not an option: an option with its value after `=`.
+fn step_assigned<'w>(
+    progress: ArgumentProgress,
+    word: &'w str,
+) -> Result<ArgumentStep<'w>, Failure<'w>>
+    ensures step { IfOk result (λ next.
+        with_assigned progress word.now ≡ Some (step_value next)) }
+    ensures misuse { IfErr result (λ failure.
+        (with_assigned progress word.now ≡ None) × (status_of failure ≡ 2)) }
+{
+    let Some((name, value)) = split_at_equals(word) else {
+        return Err(unknown(word));
+    };
+    match OptionName::by_word(name) {
+        Some(option) if option.takes_value() => {
+            Ok(found(progress, Use::Given(GivenOption { option, value })))
+        }
+        Some(option) => Err(Failure::Misuse {
+            what: "there is no value for",
+            word: option.word(),
+        }),
+        None => Err(unknown(name)),
+    }
+}
+
+/// Returns the parts before and after the first `=` of an argument, if it has one.
+fn split_at_equals(word: &str) -> Option<(&str, &str)>
+    ensures { option_map (λ parts. (parts.0.now, parts.1.now)) result ≡ split_at_equals word.now }
+{
+    match word.split_once('=') {
+        Some((name, value)) => Some((name, value)),
+        None => None,
+    }
+}
+
+/// Returns the error of an argument that is not an option.
+fn unknown<'w>(word: &'w str) -> Failure<'w>
+    ensures { status_of result ≡ 2 }
+{
+    Failure::UnknownOption { word, nearest: "" }
+}
+
+/// Returns whether an argument begins with `-` and is longer.
+fn is_option(word: &str) -> bool
+    ensures { result ≡ begins_option word.now }
+{
+    match word.as_bytes() {
+        [first, _, ..] => *first == b'-',
+        _ => false,
+    }
+}

@@ -1,0 +1,54 @@
+//! The help of a program, with each option that the program takes. Called for `--help`.
+
+ghost use Rattle.std.specs.Prelude.{◌≡◌, IfErr};
+ghost use Rattle.logos_options.specs.Imports.{IsNoMisuse, IsOutputFailure, status_of};
+
+use crate::options::{OptionRow, ROWS};
+use crate::program::Program;
+use logos_host::Failure;
+use std::io;
+use std::io::Write;
+
+/// The help of a program: the texts before and after the lines of its options.
+#[derive(Clone, Copy)]
+pub struct HelpText {
+    pub front: &'static str,
+    pub end: &'static str,
+}
+
+/// Writes the help of a program, and flushes the writer.
+///
+/// # Errors
+///
+/// Returns `Output` if writing fails, or `Closed` if the reader has closed the output. Then a part
+/// of the help may be written.
+pub fn print_help<'w, O: Write>(
+    program: Program,
+    help: HelpText,
+    out: &mut O,
+) -> Result<(), Failure<'w>>
+    ensures failed { IfErr result IsOutputFailure }
+    ensures status { IfErr result (λ failure. status_of failure ≡ 3) }
+    ensures no_misuse { IfErr result IsNoMisuse }
+{
+    match write_help(program, help, out) {
+        Ok(()) => Ok(()),
+        Err(error) => Err(Failure::of_output(&error)),
+    }
+}
+
+/// Writes the help of a program, and flushes the writer.
+fn write_help<O: Write>(program: Program, help: HelpText, out: &mut O) -> io::Result<()> {
+    out.write_all(help.front.as_bytes())?;
+    write_rows(program, &ROWS, out)?;
+    out.write_all(help.end.as_bytes())?;
+    out.flush()
+}
+
+/// Writes the lines of `rows`.
+fn write_rows<O: Write>(program: Program, rows: &[OptionRow], out: &mut O) -> io::Result<()> {
+    for row in rows {
+        out.write_all(program.help_of(row).as_bytes())?;
+    }
+    Ok(())
+}

@@ -1,0 +1,91 @@
+//! The version of a program, and the line that names its commit. Used by `logos_cli` and
+//! `logos_show`.
+
+ghost use Rattle.std.specs.Prelude.{◌≡◌, ◌-◌, IfErr, drop, length};
+ghost use Rattle.logos_options.specs.Imports.{IsNoMisuse, commit_line, is_commit_line, is_hex_digit, list_all, status_of};
+
+use logos_host::{ComparableFiles, Failure, print_bytes};
+use std::alloc::AllocError;
+use std::io::Write;
+
+/// The path of the program that runs.
+const PROGRAM: &str = "/proc/self/exe";
+
+/// The length of the line in bytes: `commit: `, forty digits and a line end.
+const LENGTH: usize = 49;
+
+/// Writes the version of a program, and the line that names its commit, if the program has one.
+///
+/// # Errors
+///
+/// Returns `Output` if writing fails, or `Closed` if the reader has closed the output, and `Memory`
+/// if memory runs out. Then a part of the text may be written.
+pub fn print_version<'w, F: ComparableFiles, O: Write>(
+    version: &str,
+    files: &F,
+    out: &mut O,
+) -> Result<(), Failure<'w>>
+    ensures status { IfErr result (λ failure. status_of failure ≡ 3) }
+    ensures no_misuse { IfErr result IsNoMisuse }
+{
+    let program = match files.found_bytes(PROGRAM) {
+        Ok(program) => program,
+        Err(AllocError) => return Err(Failure::Memory),
+    };
+    match print_bytes(version.as_bytes(), out) {
+        Ok(()) => print_bytes(commit_line(&program), out),
+        Err(failure) => Err(failure),
+    }
+}
+
+/// Returns the last line of a program, with its end, if it is `commit: ` and forty lower-case
+/// hexadecimal digits; otherwise no bytes. `tools/release.sh` and `tools/install.sh` append it to
+/// the programs.
+fn commit_line(program: &[u8]) -> &[u8]
+    ensures { result.now ≡ commit_line program.now }
+{
+    let line = last_bytes(program);
+    if is_commit_line(line) {
+        return line;
+    }
+    &[]
+}
+
+/// Returns the last 49 bytes of a program, or all if there are fewer.
+fn last_bytes(program: &[u8]) -> &[u8]
+    ensures { result.now ≡ drop (length program.now - 49) program.now }
+{
+    match program.get(program.len().saturating_sub(LENGTH)..) {
+        Some(line) => line,
+        None => &[],
+    }
+}
+
+/// Returns whether `line` names a commit.
+fn is_commit_line(line: &[u8]) -> bool
+    ensures { result ≡ is_commit_line line.now }
+{
+    if line.len() != LENGTH {
+        return false;
+    }
+    line.starts_with(b"commit: ") & (line[48] == b'\n') & are_digits(&line[8..48])
+}
+
+/// Returns whether all bytes are lower-case hexadecimal digits.
+fn are_digits(bytes: &[u8]) -> bool
+    ensures { result ≡ list_all is_hex_digit bytes.now }
+{
+    for byte in bytes {
+        if !is_hex_digit(*byte) {
+            return false;
+        }
+    }
+    true
+}
+
+/// Returns whether a byte is a lower-case hexadecimal digit.
+fn is_hex_digit(byte: u8) -> bool
+    ensures { result ≡ is_hex_digit byte }
+{
+    ((b'0' <= byte) & (byte <= b'9')) | ((b'a' <= byte) & (byte <= b'f'))
+}

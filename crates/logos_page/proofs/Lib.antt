@@ -1,0 +1,3 @@
+pub mod PageLemmas
+pub mod ShownLemmas
+pub mod DigitLemmas

@@ -1,0 +1,4 @@
+pub mod Pages
+pub mod Shown
+pub mod Imports
+pub mod Views

@@ -1,0 +1,10 @@
+//! A text with optional colors, and the characters that are safe to show on a terminal. Reports and
+//! answers are written with it.
+
+#![tactic(auto)]
+
+mod page;
+mod shown;
+
+pub use page::{Page, Style, digits};
+pub use shown::columns_of;

@@ -1,2 +1,0 @@
-pub mod PartsValue
-pub mod Words

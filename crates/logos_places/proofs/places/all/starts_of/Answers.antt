@@ -1,5 +1,0 @@
-use Rattle.logos_places.proofs.steps.SeveralLemmas.{next_measured}
-use Rattle.logos_places.proofs.places.all.starts_of.Goals as goal
-
-pub width-base-requires-clause-measured : goal.width-base-requires-clause-measured
-width-base-requires-clause-measured c = next_measured c.args.nodes.now c.loop-number.number c.index-nodes-number.result c.loop-number-test.true c.index-nodes-number.is c.requires.measured

@@ -1,7 +1,0 @@
--- Definitions that clauses cite: those of `Words`, and those that name types of this crate.
-pub use Rattle.logos_places.specs.Words.{AreCoresOf, AreNear, Core, Exits, Has, HasBetween, IsCoreOf, IsEither, IsFirstFrom, IsJoined, IsOrdered, IsPair, IsReaderOf, IsRising, IsSet, Look, MatchOption, Owes, Stepped, after_byte, at_least, byte_in, class_tree, count_of, in_front, is_byte, is_char_in, is_in, is_within, lead, literal, of_none, pair_up, pairs, repeated, repetition, scalar, size, sizes, spelled, tree_of, trees, up_to, width_of}
-pub use Rattle.logos_places.specs.Kinds.{is_word_byte, kind_of_byte, side_before, test_at}
-pub use Rattle.logos_places.specs.Node.{AreMeasured, core_of, is_measured}
-pub use Rattle.logos_places.specs.Several.{AreStarts, IsStepOf, LeftBy, ReadBy}
-pub use Rattle.logos_places.specs.Table.{reader_of}
-pub use Rattle.logos_places.specs.inside.Ranges.{AreParts, ClipsTo, from_floor, in_range, in_ranges}

@@ -1,8 +1,0 @@
-//! From trees to sets of places, and the places to which a byte leads.
-
-#![tactic(auto)]
-
-pub mod characters;
-pub mod node;
-pub mod places;
-pub mod prepare;

@@ -1,8 +1,0 @@
-//! Steps from the places of a set to those that read the next byte.
-
-pub mod all;
-pub(crate) mod exits;
-pub mod look;
-pub mod set;
-pub mod step;
-pub mod tree;

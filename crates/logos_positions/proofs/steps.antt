@@ -1,0 +1,13 @@
+pub mod AlikeLemmas
+pub mod BranchLemmas
+pub mod CharStepLemmas
+pub mod JumpLemmas
+pub mod LiteralLemmas
+pub mod LookLemmas
+pub mod MarkLemmas
+pub mod OweLemmas
+pub mod PositionLemmas
+pub mod SeveralLemmas
+pub mod StepLemmas
+pub mod SteppedLemmas
+pub mod TreeLemmas

@@ -1,0 +1,14 @@
+pub mod Core
+pub mod IsCore
+pub mod Kinds
+pub mod Marks
+pub mod Node
+pub mod Positions
+pub mod Repeat
+pub mod Run
+pub mod Several
+pub mod Size
+pub mod Table
+pub mod inside
+pub mod Imports
+pub mod Views

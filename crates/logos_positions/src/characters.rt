@@ -1,0 +1,6 @@
+//! Classes of characters, read byte by byte. `preparation` builds their tables, and
+//! `positions::step` reads them.
+
+pub(crate) mod builder;
+pub(crate) mod ranges;
+pub mod reader;

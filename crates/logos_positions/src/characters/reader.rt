@@ -1,0 +1,47 @@
+//! A table that reads a character of a class, byte by byte. Steps on a class of characters look up
+//! the next position in it.
+
+ghost use Rattle.std.specs.Prelude.{◌<◌, ◌^◌};
+
+/// A class of characters as an automaton over the bytes of UTF-8. At row 0 a whole character has
+/// been read; at each other row a prefix of a character has been read.
+#[derive(Drop)]
+pub struct CharacterTable {
+    /// The number of rows.
+    pub rows: usize,
+    /// The row after each first byte, indexed by the byte.
+    pub first: Vec<Option<usize>>,
+    /// The row after each continuation byte: 64 entries for each row.
+    pub follow: Vec<Option<usize>>,
+    ghost some: { 0 < rows },
+    ghost few: { rows < 2 ^ 16 },
+}
+
+impl CharacterTable {
+    ghost use Rattle.std.specs.Prelude.{◌≡◌, ◌<◌};
+    ghost use Rattle.logos_positions.specs.Table as table;
+
+    /// Returns the row after a first byte, if there is one.
+    pub fn first(&self, byte: u8) -> Option<usize>
+        ensures { result ≡ (table.reader_of self.now).first byte }
+    {
+        match self.first.get(byte as usize) {
+            None => None,
+            Some(to) => *to,
+        }
+    }
+
+    /// Returns the row after `row` and `byte`, if there is one.
+    pub fn follow(&self, row: usize, byte: u8) -> Option<usize>
+        requires { row < self.now.rows }
+        ensures { result ≡ (table.reader_of self.now).follow row byte }
+    {
+        if !(0x80 <= byte && byte < 0xC0) {
+            return None;
+        }
+        match self.follow.get(row * 64 + (byte - 0x80) as usize) {
+            None => None,
+            Some(to) => *to,
+        }
+    }
+}

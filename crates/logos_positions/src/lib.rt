@@ -1,0 +1,9 @@
+//! Steps of trees: from the set of positions that read one byte to the positions that read the next
+//! byte. `logos_automaton` builds its states with it.
+
+#![tactic(auto)]
+
+pub mod characters;
+pub mod node;
+pub mod positions;
+pub mod preparation;

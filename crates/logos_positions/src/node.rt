@@ -1,0 +1,173 @@
+//! Trees, prepared for the automaton. `prepare` makes them, and steps read them. A tree is entered
+//! where a match of it begins, and can be left where a match of it ends.
+
+ghost use Rattle.std.specs.Prelude.{◌≡◌, ◌+◌, ◌*◌, ◌^◌, ◌<◌, ◌≤◌, ◌-◌, IsTrue, false};
+ghost use Rattle.logos_positions.specs.Views.{count_of, core_of, is_measured};
+ghost use Rattle.logos_positions.specs.Core as core;
+
+use crate::characters::reader::CharacterTable;
+use logos_hir::hir::{Look, Range};
+
+/// A tree whose parts and branches are in pairs, with the numbers of their positions.
+#[derive(Drop)]
+pub enum Node {
+    /// Matches nothing.
+    Void,
+    /// Matches the empty string.
+    Empty,
+    /// These bytes, in order.
+    Literal(Vec<u8>),
+    /// One byte of these ranges.
+    Bytes(Vec<Range>),
+    /// One character of a class.
+    Characters(CharacterTable),
+    /// A look-around assertion: a condition on a point of the input.
+    Look(Look),
+    /// One tree after the other.
+    Cat {
+        /// The number of positions of both trees.
+        width: usize,
+        first: Box<Node>,
+        second: Box<Node>,
+    },
+    /// One of two trees.
+    Alt {
+        /// The number of positions of both trees.
+        width: usize,
+        first: Box<Node>,
+        second: Box<Node>,
+    },
+    /// The body, at least `least` times, and at most `most` times if `most` is not `None`.
+    Repeat {
+        least: usize,
+        most: Option<usize>,
+        /// The number of positions of the body.
+        each: usize,
+        body: Box<Node>,
+    },
+}
+
+/// Returns the number of copies of the body of a repetition that have their own positions.
+pub fn copy_count(least: usize, most: Option<usize>) -> usize
+    ensures { result ≡ count_of least most }
+{
+    match most {
+        None => least.max(1),
+        Some(most) => most,
+    }
+}
+
+/// Returns the number of positions of a tree.
+pub fn width(node: &Node) -> usize
+    requires fits { core.width (core_of node.now) < 2 ^ 64 }
+    requires measured { IsTrue (is_measured node.now) }
+    ensures { result ≡ core.width (core_of node.now) }
+{
+    match node {
+        Node::Void | Node::Empty | Node::Look(_) => 0,
+        Node::Literal(text) => text.len(),
+        Node::Bytes(_) => 1,
+        Node::Characters(table) => table.rows,
+        Node::Cat { width, .. } => *width,
+        Node::Alt { width, .. } => *width,
+        Node::Repeat {
+            least,
+            most,
+            each,
+            ..
+        } => *each * copy_count(*least, *most),
+    }
+}
+
+/// A tree in a step: its first position, and whether it is entered.
+#[derive(Clone, Copy)]
+pub struct TreeSpot {
+    /// The first position of the tree.
+    pub base: usize,
+    /// Whether a match of the tree begins at the point of the step.
+    pub entered: bool,
+}
+
+impl TreeSpot {
+    /// Returns the spot of a tree that is not entered and whose positions begin at `base`.
+    pub fn unentered(base: usize) -> TreeSpot
+        ensures base { result.base ≡ base }
+        ensures entered { result.entered ≡ false }
+    {
+        TreeSpot {
+            base,
+            entered: false,
+        }
+    }
+
+    /// Returns the spot after the next `width` positions.
+    pub fn after(self, width: usize, entered: bool) -> TreeSpot
+        requires { self.base + width < 2 ^ 64 }
+        ensures base { result.base ≡ self.base + width }
+        ensures entered { result.entered ≡ entered }
+    {
+        TreeSpot {
+            base: self.base + width,
+            entered,
+        }
+    }
+}
+
+/// Copies of the body of a repetition, one after another.
+#[derive(Clone, Copy)]
+pub struct Copies {
+    /// The first position of the first copy.
+    pub base: usize,
+    /// The number of positions of each copy.
+    pub each: usize,
+    /// The number of copies.
+    pub count: usize,
+    /// Whether the first copy is entered.
+    pub entered: bool,
+}
+
+impl Copies {
+    /// Returns `count` copies of a body with `each` positions, the first of which is at `spot`.
+    pub fn new(spot: TreeSpot, each: usize, count: usize) -> Copies
+        ensures base { result.base ≡ spot.base }
+        ensures entered { result.entered ≡ spot.entered }
+        ensures each { result.each ≡ each }
+        ensures count { result.count ≡ count }
+    {
+        Copies {
+            base: spot.base,
+            each,
+            count,
+            entered: spot.entered,
+        }
+    }
+
+    /// Returns the copies from `number` on. `entered` is whether the first of them is entered.
+    pub fn from(self, number: usize, entered: bool) -> Copies
+        requires fits { self.base + self.each * number < 2 ^ 64 }
+        requires within { number ≤ self.count }
+        ensures base { result.base ≡ self.base + self.each * number }
+        ensures each { result.each ≡ self.each }
+        ensures count { result.count ≡ self.count - number }
+        ensures entered { result.entered ≡ entered }
+    {
+        Copies {
+            base: self.base + self.each * number,
+            each: self.each,
+            count: self.count - number,
+            entered,
+        }
+    }
+
+    /// Returns the spot of the copy with this number.
+    pub fn at(self, number: usize, entered: bool) -> TreeSpot
+        requires { self.base + self.each * number < 2 ^ 64 }
+        ensures base { result.base ≡ self.base + self.each * number }
+        ensures entered { result.entered ≡ entered }
+    {
+        TreeSpot {
+            base: self.base + self.each * number,
+            entered,
+        }
+    }
+}

@@ -1,0 +1,110 @@
+//! Classes of bytes as ranges, and the union of two classes. `prepare` calls it where it makes the
+//! choice of two trees.
+
+ghost use Rattle.std.specs.Prelude.{◌≡◌, ◌+◌, ◌<◌, ◌≤◌, ◌||◌, ℕ, IsTrue, IfOk, IfSome, OnOk, length, max, min, slice_get};
+ghost use Rattle.logos_positions.specs.Views.{is_in, pairs, byte_in, AreNear, IsEither, is_within, core_of};
+
+use crate::node::Node;
+use logos_hir::hir::Range;
+use std::alloc::{AllocError, Global};
+
+/// Returns whether no byte is between the ranges.
+fn are_near(one: Range, other: Range) -> bool
+    ensures { IsTrue result → AreNear one other }
+{
+    one.first <= other.last.saturating_add(1) && other.first <= one.last.saturating_add(1)
+}
+
+/// Returns the smallest range that contains both.
+fn hull(one: Range, other: Range) -> Range
+    ensures first { result.first ≡ min one.first other.first }
+    ensures last { result.last ≡ max one.last other.last }
+{
+    Range {
+        first: one.first.min(other.first),
+        last: one.last.max(other.last),
+    }
+}
+
+/// Returns the index of the first of the ranges that is near this one, or the number of ranges if
+/// none is.
+fn near_range(ranges: &[Range], range: Range) -> usize
+    ensures within { result ≤ length ranges.now }
+    ensures near { IfSome (slice_get ranges.now result) (λ found. AreNear found range) }
+{
+    let mut i = 0;
+    while i < ranges.len() {
+        if are_near(ranges[i], range) {
+            return i;
+        }
+        i += 1;
+    }
+    i
+}
+
+/// Adds a range to a class, and merges it with the ranges near it.
+///
+/// # Errors
+///
+/// Returns `AllocError` if memory runs out.
+fn add_range(ranges: &mut Vec<Range>, range: Range) -> Result<(), AllocError>
+    ensures { OnOk result ((x : ℕ) → is_in (pairs ranges.new.items) x ≡
+        (is_in (pairs ranges.old.items) x || is_within range x)) }
+{
+    let i = near_range(ranges, range);
+    if i < ranges.len() {
+        ranges[i] = hull(ranges[i], range);
+        return Ok(());
+    }
+    ranges.push(range)?;
+    Ok(())
+}
+
+/// Returns the ranges of the union of two classes.
+///
+/// # Errors
+///
+/// Returns `AllocError` if memory runs out.
+fn union(alloc: Global, one: &[Range], other: &[Range]) -> Result<Vec<Range>, AllocError>
+    ensures { IfOk result (λ ranges. (x : ℕ) → is_in (pairs ranges.items) x ≡
+        (is_in (pairs one.now) x || is_in (pairs other.now) x)) }
+{
+    let mut ranges = Vec::from_slice(alloc, one)?;
+    for range in other {
+        add_range(&mut ranges, *range)?;
+    }
+    Ok(ranges)
+}
+
+/// Returns the ranges of a class of bytes, or `None` for another tree.
+fn ranges_of(node: &Node) -> Option<&[Range]>
+    ensures { IfSome result (λ ranges. core_of node.now ≡ byte_in (is_in (pairs ranges.now))) }
+{
+    match node {
+        Node::Bytes(ranges) => Some(ranges),
+        _ => None,
+    }
+}
+
+/// Returns the ranges of the union of both trees, or `None` if one of them is not a class of bytes.
+///
+/// # Errors
+///
+/// Returns `AllocError` if memory runs out.
+pub(crate) fn joined_class(
+    alloc: Global,
+    first: &Node,
+    second: &Node,
+) -> Result<Option<Vec<Range>>, AllocError>
+    ensures { IfOk result (λ joined. IfSome joined (λ ranges.
+        IsEither (core_of first.now) (core_of second.now) (is_in (pairs ranges.items)))) }
+{
+    let Some(first) = ranges_of(first) else {
+        return Ok(None);
+    };
+    let Some(second) = ranges_of(second) else {
+        return Ok(None);
+    };
+    let ranges = union(alloc, first, second)?;
+    Ok(Some(ranges))
+}

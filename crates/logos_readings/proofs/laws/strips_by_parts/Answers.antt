@@ -1,8 +1,0 @@
-use Rattle.logos_readings.proofs.StripEnums.{enum_stays, enum_sound}
-use Rattle.logos_readings.proofs.laws.strips_by_parts.Goals as goal
-
-pub returns-clause-are : goal.returns-clause-are
-returns-clause-are c tokens value h = enum_stays tokens value h
-
-pub returns-clause-only : goal.returns-clause-only
-returns-clause-only c tokens remaining value h = enum_sound tokens remaining value h

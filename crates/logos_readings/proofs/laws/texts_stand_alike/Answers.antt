@@ -1,5 +1,0 @@
-use Rattle.logos_readings.proofs.StandAlike.{in_text, in_report}
-use Rattle.logos_readings.proofs.laws.texts_stand_alike.Goals as goal
-
-pub returns : goal.returns
-returns c texts whole = (in_text texts whole, in_report texts whole)

@@ -1,4 +1,0 @@
-pub mod PiecesInTurn
-pub mod Stays
-pub mod StrippedParts
-pub mod Words

@@ -1,3 +1,0 @@
--- Definitions that clauses cite: of lower crates.
-pub use Rattle.logos_code.specs.Runs.{Runs}
-pub use Rattle.logos_machine.specs.LexerValue.{answers_of}

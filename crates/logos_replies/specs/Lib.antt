@@ -1,0 +1,4 @@
+pub mod Answers
+pub mod Verdicts
+pub mod Imports
+pub mod Views

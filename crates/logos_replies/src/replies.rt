@@ -1,0 +1,205 @@
+//! Answers to questions about lexers. Used by `inputs`, `matches` and `program`.
+
+ghost use Rattle.std.specs.Prelude.{◌≡◌, IfErr, IfOk, OnOk};
+ghost use Rattle.logos_replies.specs.Views.{AllStart, Gains, IsBytes, IsGraphOf, rules_of, IsNoMisuse, PrintsAgreement, PrintsInputRecords, PrintsInputs, PrintsMatchRecords, PrintsMatches, location_line};
+
+use logos_answers::{offset_of, push_agreement, push_inputs, push_matches};
+use logos_codegen::graph::Graph;
+use logos_host::{Failure, print_bytes};
+use logos_lines::Location;
+use logos_page::Page;
+use logos_records::{input_records, match_records};
+use std::alloc::{AllocError, Global};
+use std::io::Write;
+
+/// The outcome of a comparison.
+#[derive(Clone, Copy)]
+pub enum Agreement {
+    Same,
+    Different,
+}
+
+/// A point of an input: the path and the bytes of the input, and the point.
+#[derive(Clone, Copy)]
+pub struct InputPoint<'w, 'i> {
+    pub path: &'w str,
+    pub bytes: &'i [u8],
+    pub location: Location,
+}
+
+/// Writes the matches from a point of an input, as lines of text.
+///
+/// # Errors
+///
+/// Returns `Refused` if the input does not have the point, `Output` if writing fails, and `Memory`
+/// if memory runs out.
+pub fn write_matches<O: Write>(
+    alloc: Global,
+    graph: &Graph<'_>,
+    point: InputPoint<'_, '_>,
+    out: &mut O,
+) -> Result<(), Failure<'static>>
+    ensures failed { IfErr result IsNoMisuse }
+    ensures printed { OnOk result (IsGraphOf graph.now.leaves graph.now.utf8 graph.now →
+        AllStart (rules_of graph.now.leaves) → IsBytes point.entry.bytes.now →
+        PrintsMatches graph.now.leaves point.entry.bytes.now point.entry.location
+        (O.contents out.old) (O.contents out.new)) }
+{
+    let Some(from) = offset_of(point.bytes, point.location) else {
+        return Err(no_location(alloc, point.path, point.location));
+    };
+    let mut page = Page::new(alloc, false);
+    push_location(&mut page, point.location);
+    push_matches(alloc, &mut page, graph, point.bytes, from)?;
+    let text = page.finish()?;
+    print_bytes(text.as_str().as_bytes(), out)
+}
+
+/// Writes the matches from a point of an input, as lines of JSON.
+///
+/// # Errors
+///
+/// Returns `Refused` if the input does not have the point, `Output` if writing fails, and `Memory`
+/// if memory runs out.
+pub fn write_match_records<O: Write>(
+    alloc: Global,
+    graph: &Graph<'_>,
+    point: InputPoint<'_, '_>,
+    out: &mut O,
+) -> Result<(), Failure<'static>>
+    ensures failed { IfErr result IsNoMisuse }
+    ensures printed { OnOk result (IsGraphOf graph.now.leaves graph.now.utf8 graph.now →
+        AllStart (rules_of graph.now.leaves) → IsBytes point.entry.bytes.now →
+        PrintsMatchRecords graph.now.leaves point.entry.bytes.now point.entry.location
+        (O.contents out.old) (O.contents out.new)) }
+{
+    let Some(from) = offset_of(point.bytes, point.location) else {
+        return Err(no_location(alloc, point.path, point.location));
+    };
+    let bytes = match_records(alloc, graph, point.bytes, from)?;
+    print_bytes(&bytes, out)
+}
+
+/// Appends the line with a point.
+fn push_location(page: &mut Page, location: Location)
+    ensures { Gains (location_line location) page.old page.new }
+{
+    page.push("from ");
+    page.push_number(location.line);
+    page.push(":");
+    page.push_number(location.column);
+    page.push("\n");
+}
+
+/// Returns the refusal of an input that does not have a point.
+fn no_location(alloc: Global, path: &str, location: Location) -> Failure<'static>
+    ensures { IsNoMisuse result }
+{
+    let mut page = Page::new(alloc, false);
+    page.push("error: ");
+    page.push_shown(path);
+    page.push(" has no column ");
+    page.push_number(location.column);
+    page.push(" in line ");
+    page.push_number(location.line);
+    page.push("\n");
+    refusal_of(page.finish())
+}
+
+/// Writes at most `most` inputs that together take all edges of a graph, as Rust literals. Returns
+/// a note with the number of those that were left out, which is empty if none was.
+///
+/// # Errors
+///
+/// Returns `Output` if writing fails, and `Memory` if memory runs out.
+pub fn write_inputs<O: Write>(
+    alloc: Global,
+    graph: &Graph<'_>,
+    most: usize,
+    out: &mut O,
+) -> Result<String, Failure<'static>>
+    ensures failed { IfErr result IsNoMisuse }
+    ensures printed { OnOk result (PrintsInputs graph.now.states graph.now.utf8 most
+        (O.contents out.old) (O.contents out.new)) }
+{
+    let mut page = Page::new(alloc, false);
+    let count = push_inputs(alloc, &mut page, graph, most)?;
+    // The note is made first, so that nothing is printed if memory runs out.
+    let note = note_of_cut(alloc, most, count)?;
+    let text = page.finish()?;
+    print_bytes(text.as_str().as_bytes(), out)?;
+    Ok(note)
+}
+
+/// Writes at most `most` inputs that together take all edges of a graph, as lines of JSON. Returns
+/// a note with the number of those that were left out, which is empty if none was.
+///
+/// # Errors
+///
+/// Returns `Output` if writing fails, and `Memory` if memory runs out.
+pub fn write_input_records<O: Write>(
+    alloc: Global,
+    graph: &Graph<'_>,
+    most: usize,
+    out: &mut O,
+) -> Result<String, Failure<'static>>
+    ensures failed { IfErr result IsNoMisuse }
+    ensures printed { OnOk result (PrintsInputRecords graph.now.states graph.now.utf8 most
+        (O.contents out.old) (O.contents out.new)) }
+{
+    let made = input_records(alloc, graph, most)?;
+    let note = note_of_cut(alloc, most, made.count)?;
+    print_bytes(&made.bytes, out)?;
+    Ok(note)
+}
+
+/// Returns the note with the number of the `count` inputs that were left out, which is empty if
+/// none was.
+fn note_of_cut(alloc: Global, most: usize, count: usize) -> Result<String, AllocError> {
+    let mut page = Page::new(alloc, false);
+    if most < count {
+        page.push("note: ");
+        page.push_number(most);
+        page.push(" of ");
+        page.push_number(count);
+        page.push(" inputs: some edges that inputs pass may be passed by none of these\n");
+    }
+    page.finish()
+}
+
+/// Writes whether an answer equals the stored one at a path, and returns that. If not, writes the
+/// first difference.
+///
+/// # Errors
+///
+/// Returns `Output` if writing fails, and `Memory` if memory runs out.
+pub fn write_agreement<O: Write>(
+    alloc: Global,
+    path: &str,
+    stored: &[u8],
+    made: &[u8],
+    out: &mut O,
+) -> Result<Agreement, Failure<'static>>
+    ensures failed { IfErr result IsNoMisuse }
+    ensures printed { IfOk result (λ agreement. PrintsAgreement path.now stored.now made.now agreement
+        (O.contents out.old) (O.contents out.new)) }
+{
+    let mut page = Page::new(alloc, false);
+    let is_same = push_agreement(&mut page, path, stored, made);
+    let text = page.finish()?;
+    print_bytes(text.as_str().as_bytes(), out)?;
+    if is_same {
+        return Ok(Agreement::Same);
+    }
+    Ok(Agreement::Different)
+}
+
+/// Returns the refusal with a text, or `Memory` if memory ran out for it.
+pub fn refusal_of<E: Drop>(text: Result<String, E>) -> Failure<'static>
+    ensures { IsNoMisuse result }
+{
+    match text {
+        Ok(text) => Failure::Refused(text),
+        Err(_) => Failure::Memory,
+    }
+}

@@ -1,9 +1,0 @@
--- Definitions that clauses cite: of lower crates, and those of this one that name no type of it.
-pub use Rattle.logos_lines.specs.Places.{place_at}
-pub use Rattle.logos_lines.specs.Starts.{IsLineOf}
-pub use Rattle.logos_token.specs.FaultNames.{name_of}
-pub use Rattle.logos_token.specs.FaultView.{fault_of, faults_of}
-pub use Rattle.std.specs.Int.{is_in_range}
-pub use Rattle.std.specs.List.{count_by}
-pub use Rattle.logos_report.specs.Codes.{is_ambiguity, is_error}
-pub use Rattle.logos_report.specs.Shown.{is_unsafe, shown_char, shown_text, stand_in}

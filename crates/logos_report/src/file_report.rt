@@ -1,0 +1,106 @@
+//! The faults of a whole file, part by part. The parts share the count of shown faults. Used by
+//! `logos_derive`, `logos_expand` and `logos_messages`.
+
+ghost use Rattle.std.specs.Prelude.{◌≡◌, ◌++◌, ◌+◌, ◌<◌, ◌^◌, ◌-◌, length, min};
+ghost use Rattle.logos_page.specs.Pages.{PageValue};
+ghost use Rattle.logos_report.specs.Views.{Shows, all_faults, count_by, faults_of, has_name, listed_faults, name_of, refused_texts, seen_of, texts_from};
+
+use crate::clues::{Clues, first_faults};
+use crate::faults::{MOST, count_code, push_all, seen_of};
+use crate::source::{Part, Source};
+use logos_page::Page;
+use logos_token::error::{Errors, FaultCode, SpannedError};
+
+/// The faults of a part of a file: of an enum, or of a file that cannot be read.
+#[derive(Drop)]
+pub struct Refused {
+    /// The byte offset of the part in the file.
+    pub offset: usize,
+    /// Its faults.
+    pub errors: Errors,
+    /// The clues about the faults of its graph.
+    pub clues: Clues,
+}
+
+/// The faults of a part of a file, and the parts around it.
+#[derive(Clone, Copy)]
+pub struct FaultListing<'f> {
+    /// The parts before it.
+    pub earlier: &'f [Refused],
+    /// Its faults.
+    pub faults: &'f [SpannedError],
+    /// The parts after it.
+    pub later: &'f [Refused],
+}
+
+/// Appends the faults of these parts of a file, in order, like `push_faults`. At most 50 faults of
+/// one code in all parts are shown.
+pub fn push_refused(page: &mut Page, source: &Source<'_>, refused: &[Refused])
+    ensures { Shows (refused_texts page.old.is_colored source.now refused.now) page.old page.new }
+{
+    for number in 0..refused.len() {
+        push_part(page, source, refused, number);
+    }
+}
+
+/// Appends the faults of the part with a number.
+fn push_part(page: &mut Page, source: &Source<'_>, refused: &[Refused], number: usize)
+    requires { number < length refused.now }
+    ensures colored { page.new.is_colored ≡ page.old.is_colored }
+    ensures shown { (new : PageValue) → Shows (texts_from page.old.is_colored source.now refused.now
+        (number + 1)) page.new new
+        → Shows (texts_from page.old.is_colored source.now refused.now number) page.old new }
+{
+    let one = &refused[number];
+    let offset = one.offset;
+    let listing = FaultListing {
+        earlier: &refused[..number],
+        faults: one.errors.list(),
+        later: &refused[number + 1..],
+    };
+    push_all(
+        page,
+        Part { source, offset },
+        listing,
+        first_faults(&one.clues),
+    );
+}
+
+/// Returns the number of faults of these parts, and of `front`, that have this code, but at most
+/// one more than the number that is shown. The search begins at the last fault.
+pub fn seen_in(earlier: &[Refused], front: &[SpannedError], code: FaultCode) -> usize
+    ensures { result ≡ seen_of code (all_faults earlier.now ++ faults_of front.now) }
+{
+    let mut left = earlier.len();
+    let mut count = seen_of(front, code);
+    while left > 0 {
+        if count > MOST {
+            return count;
+        }
+        left -= 1;
+        count = (count + seen_of(earlier[left].errors.list(), code)).min(MOST + 1);
+    }
+    count
+}
+
+/// Returns the number of faults of a part and of those around it that have this code, saturating at
+/// the greatest number.
+pub fn count_in(listing: FaultListing<'_>, code: FaultCode) -> usize
+    ensures { result ≡ min (count_by (has_name (name_of code)) (listed_faults listing.entry))
+        (2 ^ 64 - 1) }
+{
+    count_parts(listing.earlier, code)
+        .saturating_add(count_code(listing.faults, code))
+        .saturating_add(count_parts(listing.later, code))
+}
+
+/// Returns how many faults of these parts have this code, saturating at the greatest number.
+fn count_parts(parts: &[Refused], code: FaultCode) -> usize
+    ensures { result ≡ min (count_by (has_name (name_of code)) (all_faults parts.now)) (2 ^ 64 - 1) }
+{
+    let mut count: usize = 0;
+    for part in parts {
+        count = count.saturating_add(count_code(part.errors.list(), code));
+    }
+    count
+}

@@ -1,0 +1,136 @@
+//! The enums of a file. `logos_cli` and `logos_show` call `read_file` or `enums_in` once for each
+//! file.
+
+ghost use Rattle.std.specs.Prelude.{◌≡◌, ◌∷◌, [], All, IfOk, IfErr, OnOk, length, map};
+ghost use Rattle.logos_rust_file.specs.Views.{Fault, Spells, stream_tokens, tokens_of, EndsReading, Refuses, AreEnumsOf, Describes, Finds, AreInOrder, IsFoundCut, found_span, AddsItem, AddsRun};
+
+use crate::derives::derives;
+use crate::fronts::{ItemKind, kind_of, name_of};
+use crate::names::derives_by_name;
+use logos_parser::ending_faults::unreadable;
+use logos_parser::refusal::Refusal;
+use logos_token::error::Memory;
+use logos_token::token::{Span, TokenStream, Tokens, tokenize};
+use std::alloc::Global;
+
+/// An enum of a file.
+#[derive(Clone, Copy, Debug)]
+pub struct FoundEnum {
+    /// Its span in the file, in bytes: from its first attribute, its visibility or `enum` to the
+    /// end of its braces.
+    pub span: Span,
+    /// The span of its name in the file, in bytes: of the identifier after `enum`, if there is one.
+    pub name: Option<Span>,
+    /// Whether one of its `derive` attributes lists `Logos`, `logos::Logos` or `::logos::Logos`.
+    pub derives: bool,
+    /// Whether one of these entries is `Logos` without a path, which the file then imports.
+    pub by_name: bool,
+}
+
+/// A Rust file that was read.
+#[derive(Drop)]
+pub struct ReadFile<'s> {
+    /// Its tokens.
+    pub stream: TokenStream<'s>,
+    /// Its enums, in order.
+    pub found: Vec<FoundEnum>,
+}
+
+/// Returns the enums of a Rust file, in order: those at its top level and those in the bodies of
+/// modules, at any depth. Bodies of functions and arguments of macros are not searched.
+///
+/// # Errors
+///
+/// Returns `Errors` with the one fault of a file that cannot be read into tokens: `LimitSource`,
+/// `Lexical` or `LimitTokenNesting`. Returns `Memory` if memory runs out.
+pub fn enums_in(alloc: Global, text: &str) -> Result<Vec<FoundEnum>, Refusal>
+    ensures found { IfOk result (λ found. AreEnumsOf text.now found.items) }
+    ensures in_order { IfOk result (λ found.
+        AreInOrder 0 (map found_span found.items) (length text.now)) }
+    ensures cut { IfOk result (λ found. All (IsFoundCut text.now) found.items) }
+    ensures unreadable { IfErr result (Refuses (λ faults. (ending : Fault)
+        × EndsReading text.now ending × (faults ≡ ending ∷ []))) }
+{
+    match read_file(alloc, text) {
+        Ok(file) => Ok(file.found),
+        Err(refusal) => Err(refusal),
+    }
+}
+
+/// Returns the enums that `enums_in` returns, with the tokens of the file.
+///
+/// # Errors
+///
+/// Returns the same errors.
+pub fn read_file<'s>(alloc: Global, text: &'s str) -> Result<ReadFile<'s>, Refusal>
+    ensures spelled { IfOk result (λ file. Spells text.now (stream_tokens file.stream)) }
+    ensures found { IfOk result (λ file. AreEnumsOf text.now file.found.items) }
+    ensures in_order { IfOk result (λ file.
+        AreInOrder 0 (map found_span file.found.items) (length text.now)) }
+    ensures cut { IfOk result (λ file. All (IsFoundCut text.now) file.found.items) }
+    ensures unreadable { IfErr result (Refuses (λ faults. (ending : Fault)
+        × EndsReading text.now ending × (faults ≡ ending ∷ []))) }
+{
+    match tokenize(alloc, text) {
+        Ok(stream) => match enums_of(alloc, stream.run()) {
+            Ok(found) => Ok(ReadFile { stream, found }),
+            Err(Memory) => Err(Refusal::Memory),
+        },
+        Err(error) => Err(unreadable(alloc, text, error)),
+    }
+}
+
+/// Returns the enums of all these items.
+fn enums_of(alloc: Global, tokens: Tokens<'_, '_>) -> Result<Vec<FoundEnum>, Memory>
+    ensures { IfOk result (λ found. Finds (tokens_of tokens.entry) found.items) }
+{
+    let mut found = Vec::new(alloc);
+    add_all(tokens, &mut found)?;
+    Ok(found)
+}
+
+/// Appends the enums of all these items.
+#[cycle(find)]
+fn add_all(run: Tokens<'_, '_>, found: &mut Vec<FoundEnum>) -> Result<(), Memory>
+    ensures { OnOk result (AddsRun (tokens_of run.entry) found.old.items found.new.items) }
+{
+    let mut tokens = run;
+    while let Some(rest) = add_first(tokens, found)? {
+        tokens = rest;
+    }
+    Ok(())
+}
+
+/// Appends the enums of the first item. Returns the tokens after it, or `None` if there is no item.
+#[cycle(find)]
+fn add_first<'t, 's>(
+    tokens: Tokens<'t, 's>,
+    found: &mut Vec<FoundEnum>,
+) -> Result<Option<Tokens<'t, 's>>, Memory>
+    ensures { IfOk result (AddsItem (tokens_of tokens.entry) found.old.items found.new.items) }
+{
+    match kind_of(tokens) {
+        ItemKind::End => Ok(None),
+        ItemKind::Enum { rest } => {
+            found.push(describe(tokens.before(rest)))?;
+            Ok(Some(rest))
+        }
+        ItemKind::Module { inside, rest } => {
+            add_all(inside, found)?;
+            Ok(Some(rest))
+        }
+        ItemKind::Other { rest } => Ok(Some(rest)),
+    }
+}
+
+/// Returns the enum with these tokens.
+fn describe(item: Tokens<'_, '_>) -> FoundEnum
+    ensures { Describes (tokens_of item.entry) result }
+{
+    FoundEnum {
+        span: item.span(),
+        name: name_of(item),
+        derives: derives(item),
+        by_name: derives_by_name(item),
+    }
+}

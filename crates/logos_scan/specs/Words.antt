@@ -1,6 +1,0 @@
--- Definitions that clauses cite, and that name no type of this crate.
-pub use Rattle.logos_code.specs.Runs.{Runs}
-pub use Rattle.logos_hir.specs.Text.{IsBytes}
-pub use Rattle.logos_machine.specs.LexerValue.{answers_of, item_of}
-pub use Rattle.logos_scan.specs.Tries.{SkipsTo, StandsIn}
-pub use Rattle.logos_walk.specs.Walk.{IsPlace}

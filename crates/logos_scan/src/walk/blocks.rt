@@ -1,0 +1,108 @@
+//! Steps over the blocks of a chunk in parallel. The scan of `logos_scan` calls `walk_chunk` for
+//! each chunk.
+
+ghost use Rattle.std.specs.Prelude.{◌≡◌, ◌<◌, ◌+◌, List, ℕ, length, slice_index};
+ghost use Rattle.logos_scan.specs.walk.Views.{IsClosed, IsRowStart, IsSameBeside, Walked, AreRowStarts, AreWalked, HoldsStretch};
+
+use crate::walk::guess::guess_row_starts;
+use crate::walk::repair::{Stretch, repair};
+use crate::walk::step;
+
+/// The number of blocks of a chunk. They are walked in parallel: each step depends on the one
+/// before it, so that a single walk would leave a processor idle.
+pub const BLOCKS: usize = 6;
+
+/// The number of bytes of a block.
+pub const BLOCK: usize = 768;
+
+/// The number of bytes of a chunk.
+pub const CHUNK: usize = 4608;
+
+/// Steps over one byte of each block, from its row on. `at` is the index of the byte in the first
+/// block.
+#[inline(always)]
+fn column(rows: &[u32], text: &[u8], row_starts: &mut [usize; 6], trace: &mut [u32], at: usize)
+    requires closed { IsClosed rows.now }
+    requires row_starts { AreRowStarts rows.now row_starts.old }
+    requires text { length text.now ≡ CHUNK }
+    requires trace { length trace.old ≡ CHUNK }
+    requires at { at < BLOCK }
+    // Walks of the blocks become walks that are one byte longer.
+    ensures walked { (origin : List ℕ)
+        → AreWalked rows.now text.now origin trace.old at row_starts.old
+        → AreWalked rows.now text.now origin trace.new (at + 1) row_starts.new }
+    ensures row_starts { AreRowStarts rows.now row_starts.new }
+{
+    for block in 0..BLOCKS {
+        row_starts[block] = step(rows, text, row_starts[block], trace, at + BLOCK * block);
+    }
+}
+
+/// Steps over the blocks in turns, each from its own row on, and stores the rows after them. It is
+/// called out of line, so that all registers are available to it.
+#[inline(never)]
+fn walk_blocks(rows: &[u32], text: &[u8], row_starts: &mut [usize; 6], trace: &mut [u32])
+    requires closed { IsClosed rows.now }
+    requires row_starts { AreRowStarts rows.now row_starts.old }
+    requires text { length text.now ≡ CHUNK }
+    requires trace { length trace.old ≡ CHUNK }
+    ensures walked { AreWalked rows.now text.now row_starts.old trace.new BLOCK row_starts.new }
+    ensures row_starts { AreRowStarts rows.now row_starts.new }
+{
+    let mut now = *row_starts;
+    for at in 0..BLOCK {
+        column(rows, text, &mut now, trace, at);
+    }
+    *row_starts = now;
+}
+
+/// Steps over a chunk from a row on, and returns the row after it. All blocks but the first begin
+/// in guessed rows. A block whose guess was wrong is repaired.
+pub fn walk_chunk(
+    rows: &[u32],
+    text: &[u8],
+    root: usize,
+    row_start: usize,
+    trace: &mut [u32],
+) -> usize
+    requires closed { IsClosed rows.now }
+    requires root { IsRowStart rows.now root }
+    requires row_start { IsRowStart rows.now row_start }
+    requires text { length text.now ≡ CHUNK }
+    requires trace { length trace.old ≡ CHUNK }
+    ensures walked { Walked rows.now text.now row_start trace.new 0 CHUNK result }
+    ensures stays { IsRowStart rows.now result }
+{
+    let mut from = guess_row_starts(rows, text, root);
+    from[0] = row_start;
+    let mut ends = from;
+    walk_blocks(rows, text, &mut ends, trace);
+    let mut now = ends[0];
+    for block in 1..BLOCKS {
+        let stretch = Stretch {
+            from: BLOCK * block,
+            to: BLOCK * block + BLOCK,
+            begin: from[block],
+            end: ends[block],
+        };
+        now = mended(rows, text, now, trace, stretch);
+    }
+    now
+}
+
+/// Steps again over a block that began in a guessed row, if the guess was wrong. Returns the row
+/// after the block.
+#[inline(always)]
+fn mended(rows: &[u32], text: &[u8], row_start: usize, trace: &mut [u32], stretch: Stretch) -> usize
+    requires closed { IsClosed rows.now }
+    requires row_start { IsRowStart rows.now row_start }
+    requires holds { HoldsStretch rows.now text.now trace.old stretch }
+    ensures walked { Walked rows.now text.now row_start trace.new stretch.from stretch.to result }
+    ensures stays { IsRowStart rows.now result }
+    ensures beside { IsSameBeside stretch.from stretch.to trace.old trace.new }
+{
+    if row_start == stretch.begin {
+        return stretch.end;
+    }
+    repair(rows, text, row_start, trace, stretch).row_start
+}

@@ -1,0 +1,57 @@
+//! Steps again over bytes where a walk began in another row. `blocks` and the scan of `logos_scan`
+//! call it.
+
+ghost use Rattle.std.specs.Prelude.{◌≡◌, ◌<◌, ◌≤◌, length};
+ghost use Rattle.logos_scan.specs.walk.Views.{IsClosed, IsRowStart, IsSameBeside, Walked, HoldsStretch, IsRepaired};
+
+use crate::walk::{PLACE, step};
+
+/// A walk that is stored in a trace: over the bytes from `from` up to `to`, from the row `begin` to
+/// the row `end`.
+#[derive(Clone, Copy, Drop)]
+pub struct Stretch {
+    pub from: usize,
+    pub to: usize,
+    pub begin: usize,
+    pub end: usize,
+}
+
+/// The result of a repair.
+#[derive(Clone, Copy, Drop)]
+pub struct Repaired {
+    /// The row after the last byte of the stretch.
+    pub row_start: usize,
+    /// The first byte whose entry need not be written again.
+    pub stop: usize,
+}
+
+/// Steps again over the bytes of a stretch from another row on, until a byte leads to the same row
+/// as in the trace.
+pub fn repair(
+    rows: &[u32],
+    text: &[u8],
+    row_start: usize,
+    trace: &mut [u32],
+    stretch: Stretch,
+) -> Repaired
+    requires closed { IsClosed rows.now }
+    requires row_start { IsRowStart rows.now row_start }
+    requires holds { HoldsStretch rows.now text.now trace.old stretch }
+    ensures { IsRepaired rows.now text.now row_start stretch trace.old trace.new result }
+{
+    let mut now = row_start;
+    for at in stretch.from..stretch.to {
+        let before = (trace[at] & PLACE) as usize;
+        now = step(rows, text, now, trace, at);
+        if before == now {
+            return Repaired {
+                row_start: stretch.end,
+                stop: at + 1,
+            };
+        }
+    }
+    Repaired {
+        row_start: now,
+        stop: stretch.to,
+    }
+}

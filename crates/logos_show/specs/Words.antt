@@ -1,4 +1,0 @@
--- Definitions that clauses cite: of lower crates, and those of this one that name no type of it.
-pub use Rattle.logos_answers.specs.Words.{AllStart, Gains, IsBytes, IsGraphOf, rules_of}
-pub use Rattle.logos_host.specs.Failures.{status_of}
-pub use Rattle.logos_show.specs.Orders.{IsNoMisuse, asked}

@@ -1,0 +1,98 @@
+//! The items of an input. Called for a second path without an option.
+
+ghost use Rattle.std.specs.Prelude.{IfErr};
+ghost use Rattle.logos_show.specs.Imports.{IsNoMisuse};
+
+use crate::choice::lexer_in;
+use crate::lexers::{SHAPE, part_of};
+use crate::program::{Task, is_json};
+use crate::refusals::{refused, text_of, write_note};
+use logos_codegen::{Generated, generate};
+use logos_host::{Failure, Files, read_bytes};
+use logos_items::{ItemOrder, write_item_records, write_items};
+use logos_questions::Question;
+use logos_report::Source;
+use std::io::Write;
+use std::time::Clock;
+
+/// Writes the items of an input, found with the requested lexer of a file.
+pub(crate) fn lex<'w, F: Files, C: Clock, O: Write, E: Write>(
+    task: Task<'w>,
+    source: &Source<'_>,
+    files: &mut F,
+    clock: &C,
+    err: &mut E,
+    out: &mut O,
+) -> Result<(), Failure<'w>>
+    ensures { IfErr result IsNoMisuse }
+{
+    let bytes = read_bytes(input_of(task.order.question), files)?;
+    lex_by_file(task, source, &bytes, clock, err, out)
+}
+
+/// Returns the path of the input of a question, or no path.
+fn input_of<'w>(question: Question<'w>) -> &'w str {
+    match question {
+        Question::Items(input) => input,
+        _ => "",
+    }
+}
+
+/// Writes the items of these bytes, found with the requested lexer of a file.
+fn lex_by_file<'w, C: Clock, O: Write, E: Write>(
+    task: Task<'w>,
+    source: &Source<'_>,
+    bytes: &[u8],
+    clock: &C,
+    err: &mut E,
+    out: &mut O,
+) -> Result<(), Failure<'w>>
+    ensures { IfErr result IsNoMisuse }
+{
+    let alloc = task.showing.alloc;
+    let one = lexer_in(alloc, task, source, err)?;
+    let part = part_of(source, one);
+    let lexed = match generate(alloc, text_of(source, one), SHAPE) {
+        Ok(made) => items_by_lexer(task, &made, bytes, clock, out),
+        Err(refusal) => Err(refused(alloc, part, task.showing, refusal)),
+    };
+    print_note(lexed, err)
+}
+
+/// Writes the items of an input, and returns the note about them.
+fn items_by_lexer<C: Clock, O: Write>(
+    task: Task<'_>,
+    made: &Generated<'_>,
+    bytes: &[u8],
+    clock: &C,
+    out: &mut O,
+) -> Result<String, Failure<'static>>
+    ensures { IfErr result IsNoMisuse }
+{
+    let alloc = task.showing.alloc;
+    if is_json(task.order) {
+        return write_item_records(alloc, &made.code, bytes, out);
+    }
+    let order = ItemOrder {
+        alloc,
+        settings: task.order.settings,
+    };
+    write_items(order, made, bytes, clock, out)
+}
+
+/// Writes the note about the items of an input, if they were written.
+pub(crate) fn print_note<'w, E: Write>(
+    lexed: Result<String, Failure<'w>>,
+    err: &mut E,
+) -> Result<(), Failure<'w>>
+    requires { IfErr lexed IsNoMisuse }
+    ensures { IfErr result IsNoMisuse }
+{
+    match lexed {
+        Ok(note) => {
+            write_note(err, note.as_bytes());
+            Ok(())
+        }
+        Err(failure) => Err(failure),
+    }
+}

@@ -1,0 +1,95 @@
+//! The matches from a point of an input. Called for `--at`.
+
+ghost use Rattle.std.specs.Prelude.{◌≡◌, IfErr, IfOk, OnOk};
+ghost use Rattle.logos_show.specs.Views.{AllStart, IsBytes, IsGraphOf, IsNoMisuse, PrintsMatchesAs, Reads, ShowsMatchesOf, order_value, rules_of};
+
+use crate::choice::lexer_in;
+use crate::lexers::{SHAPE, part_of};
+use crate::program::{Task, is_json};
+use crate::refusals::{refused, text_of};
+use logos_codegen::generate;
+use logos_codegen::graph::Graph;
+use logos_host::{Failure, Files, read_bytes};
+use logos_lines::Location;
+use logos_replies::{Agreement, InputPoint, write_match_records, write_matches};
+use logos_report::Source;
+use std::alloc::Global;
+use std::io::Write;
+
+/// A point of the file at a path.
+#[derive(Clone, Copy)]
+pub(crate) struct FilePoint<'w> {
+    pub(crate) path: &'w str,
+    pub(crate) location: Location,
+}
+
+/// Writes the matches from a point of an input, found with the requested lexer of a file. Returns
+/// `Same`, since nothing is compared.
+pub(crate) fn show_matches<'w, F: Files, O: Write, E: Write>(
+    task: Task<'w>,
+    source: &Source<'_>,
+    point: FilePoint<'w>,
+    files: &mut F,
+    err: &mut E,
+    out: &mut O,
+) -> Result<Agreement, Failure<'w>>
+    ensures failed { IfErr result IsNoMisuse }
+    ensures printed { IfOk result (λ agreement. (agreement ≡ Agreement.Same) × Reads F.read_yields
+        files.old point.entry.path.now (λ bytes read. (files.new ≡ read) × ShowsMatchesOf
+        (order_value task.entry.order) source.now.text bytes point.entry.location
+        (O.contents out.old) (O.contents out.new))) }
+{
+    let bytes = read_bytes(point.path, files)?;
+    matches_by_file(task, source, point, &bytes, err, out)?;
+    Ok(Agreement::Same)
+}
+
+/// Writes the matches from a point of an input, found with the requested lexer of a file.
+fn matches_by_file<'w, O: Write, E: Write>(
+    task: Task<'w>,
+    source: &Source<'_>,
+    point: FilePoint<'w>,
+    bytes: &[u8],
+    err: &mut E,
+    out: &mut O,
+) -> Result<(), Failure<'w>>
+    ensures failed { IfErr result IsNoMisuse }
+    ensures printed { OnOk result (ShowsMatchesOf (order_value task.entry.order) source.now.text
+        bytes.now point.entry.location (O.contents out.old) (O.contents out.new)) }
+{
+    let alloc = task.showing.alloc;
+    let one = lexer_in(alloc, task, source, err)?;
+    let part = part_of(source, one);
+    match generate(alloc, text_of(source, one), SHAPE) {
+        Ok(made) => {
+            let input = InputPoint {
+                path: point.path,
+                bytes,
+                location: point.location,
+            };
+            matches_by_graph(alloc, &made.graph, input, is_json(task.order), out)
+        }
+        Err(refusal) => Err(refused(alloc, part, task.showing, refusal)),
+    }
+}
+
+/// Writes the matches from a point of an input, found with the lexer of a graph.
+fn matches_by_graph<O: Write>(
+    alloc: Global,
+    graph: &Graph<'_>,
+    point: InputPoint<'_, '_>,
+    is_json: bool,
+    out: &mut O,
+) -> Result<(), Failure<'static>>
+    ensures failed { IfErr result IsNoMisuse }
+    ensures printed { OnOk result (IsGraphOf graph.now.leaves graph.now.utf8 graph.now →
+        AllStart (rules_of graph.now.leaves) → IsBytes point.entry.bytes.now →
+        PrintsMatchesAs is_json graph.now point.entry.bytes.now point.entry.location
+        (O.contents out.old) (O.contents out.new)) }
+{
+    if is_json {
+        write_match_records(alloc, graph, point, out)
+    } else {
+        write_matches(alloc, graph, point, out)
+    }
+}

@@ -1,0 +1,102 @@
+//! The page of a lexer, written to a file or to standard output. Called for `--html`.
+
+ghost use Rattle.std.specs.Prelude.{IfErr};
+ghost use Rattle.logos_show.specs.Imports.{IsNoMisuse};
+
+use crate::choice::lexer_in;
+use crate::lexers::{SHAPE, part_of};
+use crate::pages::{EnumInFile, rows_of};
+use crate::program::Task;
+use crate::refusals::{refused, text_of};
+use logos_codegen::{Generated, generate};
+use logos_host::{Failure, Files, print_bytes, read_bytes, write_file};
+use logos_html::{LexerPage, PageInput, page_of};
+use logos_lines::LineIndex;
+use logos_report::Source;
+use logos_rust_file::FoundEnum;
+use std::io::Write;
+
+/// The argument that names the page, and the one that names its input, if one is given.
+#[derive(Clone, Copy)]
+pub(crate) struct PageOrder<'w> {
+    pub(crate) to: &'w str,
+    pub(crate) input: Option<&'w str>,
+}
+
+/// Writes the page of the requested lexer of a file. The file of the page is written whole or not
+/// at all.
+pub(crate) fn write_page<'w, F: Files, O: Write, E: Write>(
+    task: Task<'w>,
+    source: &Source<'_>,
+    order: PageOrder<'w>,
+    files: &mut F,
+    err: &mut E,
+    out: &mut O,
+) -> Result<(), Failure<'w>>
+    ensures { IfErr result IsNoMisuse }
+{
+    let page = match order.input {
+        Some(path) => {
+            let bytes = read_bytes(path, files)?;
+            let input = PageInput {
+                path,
+                bytes: &bytes,
+            };
+            page_by_file(task, source, Some(input), err)?
+        }
+        None => page_by_file(task, source, None, err)?,
+    };
+    if order.to == "-" {
+        return print_bytes(page.as_str().as_bytes(), out);
+    }
+    write_file(order.to, page.as_str().as_bytes(), files)
+}
+
+/// Returns the page of the requested lexer of a file.
+fn page_by_file<'w, E: Write>(
+    task: Task<'w>,
+    source: &Source<'_>,
+    input: Option<PageInput<'_>>,
+    err: &mut E,
+) -> Result<String, Failure<'w>>
+    ensures { IfErr result IsNoMisuse }
+{
+    let alloc = task.showing.alloc;
+    let one = lexer_in(alloc, task, source, err)?;
+    let part = part_of(source, one);
+    match generate(alloc, text_of(source, one), SHAPE) {
+        Ok(made) => page_by_lexer(task, source, one, &made, input),
+        Err(refusal) => Err(refused(alloc, part, task.showing, refusal)),
+    }
+}
+
+/// Returns the page of the lexer of an enum.
+fn page_by_lexer(
+    task: Task<'_>,
+    source: &Source<'_>,
+    one: FoundEnum,
+    made: &Generated<'_>,
+    input: Option<PageInput<'_>>,
+) -> Result<String, Failure<'static>>
+    ensures { IfErr result IsNoMisuse }
+{
+    let alloc = task.showing.alloc;
+    let part = part_of(source, one);
+    let lines = LineIndex::new(alloc, source.text())?;
+    let found = EnumInFile {
+        part,
+        lines: &lines,
+        text: text_of(source, one),
+        found: one,
+    };
+    let rows = rows_of(alloc, found, made)?;
+    let page = LexerPage {
+        name: made.name.text,
+        path: source.path(),
+        line: part.location(made.name.span.from).line,
+        rows: &rows,
+        graph: &made.graph,
+        code: &made.code,
+    };
+    page_of(alloc, page, input)
+}

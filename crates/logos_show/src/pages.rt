@@ -1,0 +1,340 @@
+//! The lexers of a file, as tables. Used by `program`.
+
+ghost use Rattle.std.specs.Prelude.{IfErr};
+ghost use Rattle.logos_show.specs.Orders.{IsNoMisuse};
+
+use crate::choice::has_name;
+use crate::lexers::SHAPE;
+use crate::refusals::{refused, refused_with, text_of};
+use logos_answers::{push_costs, push_examples, push_rows};
+use logos_causes::{Explained, Lexer, explain_enum};
+use logos_codegen::error::Memory;
+use logos_codegen::token::{TokenStream, tokenize};
+use logos_codegen::{Generated, generate};
+use logos_file_warnings::{
+    Showing, add_accepted, add_missing, add_passed, add_text, add_warnings, denial_text, has_lexer,
+    warning_text,
+};
+use logos_host::Failure;
+use logos_inspect::{LeafRow, costs_of, row_of};
+use logos_lines::LineIndex;
+use logos_page::Page;
+use logos_records::{
+    JsonLines, NamedGraph, push_cost_record, push_example_records, push_leaf_records,
+};
+use logos_replies::refusal_of;
+use logos_report::{Part, Source, Warning};
+use logos_rust_file::{FoundEnum, read_file};
+use logos_warnings::Origin;
+use std::alloc::Global;
+use std::mem;
+
+/// The output for a file.
+#[derive(Drop)]
+pub(crate) struct Shown {
+    /// The tables of its lexers, or their examples.
+    pub(crate) tables: String,
+    /// The tables or examples as lines of JSON. Either this or `tables` is empty.
+    pub(crate) records: Vec<u8>,
+    /// The text of its warnings.
+    pub(crate) warnings: Vec<u8>,
+}
+
+/// The form in which the lexers of a file are shown.
+#[derive(Clone, Copy)]
+pub(crate) enum Form {
+    Tables,
+    Examples,
+    LeafRecords,
+    ExampleRecords,
+}
+
+/// The style in which a file is shown.
+#[derive(Clone, Copy)]
+pub(crate) struct PageStyle {
+    /// The settings for showing faults and warnings.
+    pub(crate) showing: Showing,
+    pub(crate) form: Form,
+}
+
+/// The pages of the output for a file.
+#[derive(Drop)]
+struct Pages {
+    tables: Page,
+    records: JsonLines,
+    warned: Vec<Warning>,
+    style: PageStyle,
+}
+
+/// An enum of a file: its offset there, the lines of the file, and its own text.
+#[derive(Clone, Copy)]
+pub(crate) struct EnumInFile<'f, 's> {
+    pub(crate) part: Part<'f, 's>,
+    pub(crate) lines: &'f LineIndex<'s>,
+    pub(crate) text: &'s str,
+    pub(crate) found: FoundEnum,
+}
+
+/// Returns the output for a file, or for the enums in it with a given name.
+///
+/// # Errors
+///
+/// Returns `Refused` with the faults of the file, or of the first enum that has some. Returns
+/// `Memory` if memory runs out.
+pub(crate) fn shown_of(
+    alloc: Global,
+    source: &Source<'_>,
+    style: PageStyle,
+    name: Option<&str>,
+) -> Result<Shown, Failure<'static>>
+    ensures { IfErr result IsNoMisuse }
+{
+    let whole = Part { source, offset: 0 };
+    let file = match read_file(alloc, source.text()) {
+        Ok(file) => file,
+        Err(refusal) => return Err(refused(alloc, whole, style.showing, refusal)),
+    };
+    let lines = LineIndex::new(alloc, source.text())?;
+    let mut pages = pages_of(&*source, &lines, &file.found, style, name)?;
+    add_passed(file.stream.run(), &file.found, &mut pages.warned)?;
+    add_missing(style.showing, &file.found, &mut pages.warned)?;
+    shown_by(source, pages, !has_lexer(&file.found))
+}
+
+/// Returns the pages of the enums of a file, or of those with a given name.
+fn pages_of<'f, 's>(
+    source: &'f Source<'s>,
+    lines: &'f LineIndex<'s>,
+    found: &[FoundEnum],
+    style: PageStyle,
+    name: Option<&str>,
+) -> Result<Pages, Failure<'static>>
+    ensures { IfErr result IsNoMisuse }
+{
+    let alloc = style.showing.alloc;
+    let mut pages = Pages {
+        tables: Page::new(alloc, false),
+        records: JsonLines::new(alloc, Vec::new(alloc)),
+        warned: Vec::new(alloc),
+        style,
+    };
+    for one in found {
+        push_named(&mut pages, enum_in(source, lines, *one), name)?;
+    }
+    Ok(pages)
+}
+
+/// Returns the output for a file with these pages. `is_missing` is whether none of its enums
+/// derives `Logos`.
+fn shown_by(source: &Source<'_>, pages: Pages, is_missing: bool) -> Result<Shown, Failure<'static>>
+    ensures { IfErr result IsNoMisuse }
+{
+    let showing = pages.style.showing;
+    if showing.denies && !pages.warned.is_empty() {
+        return Err(denied(source, showing, &pages.warned));
+    }
+    Ok(Shown {
+        warnings: warning_text(source, showing, &pages.warned, is_missing)?,
+        tables: pages.tables.finish()?,
+        records: pages.records.finish()?,
+    })
+}
+
+/// Returns the refusal of a file whose warnings are denied.
+fn denied(source: &Source<'_>, showing: Showing, warned: &[Warning]) -> Failure<'static>
+    ensures { IsNoMisuse result }
+{
+    refusal_of(denial_text(source, showing, warned))
+}
+
+/// Returns an enum with its location in a file.
+fn enum_in<'f, 's>(
+    source: &'f Source<'s>,
+    lines: &'f LineIndex<'s>,
+    found: FoundEnum,
+) -> EnumInFile<'f, 's> {
+    EnumInFile {
+        part: Part {
+            source,
+            offset: found.span.from,
+        },
+        lines,
+        text: text_of(source, found),
+        found,
+    }
+}
+
+/// Appends the output for an enum, if it has the given name, or none is given.
+fn push_named(
+    pages: &mut Pages,
+    one: EnumInFile<'_, '_>,
+    name: Option<&str>,
+) -> Result<(), Failure<'static>>
+    ensures { IfErr result IsNoMisuse }
+{
+    let alloc = pages.style.showing.alloc;
+    if has_name(alloc, one.part.source, one.found, name)? {
+        push_enum(alloc, pages, one)?;
+    }
+    Ok(())
+}
+
+/// Appends the output for an enum.
+fn push_enum(
+    alloc: Global,
+    pages: &mut Pages,
+    one: EnumInFile<'_, '_>,
+) -> Result<(), Failure<'static>>
+    ensures { IfErr result IsNoMisuse }
+{
+    if one.found.derives {
+        return push_lexer(alloc, pages, one);
+    }
+    add_text(one.text, one.part.offset, false, &mut pages.warned)?;
+    Ok(())
+}
+
+/// Appends the output for an enum that derives `Logos`.
+fn push_lexer(
+    alloc: Global,
+    pages: &mut Pages,
+    one: EnumInFile<'_, '_>,
+) -> Result<(), Failure<'static>>
+    ensures { IfErr result IsNoMisuse }
+{
+    match generate(alloc, one.text, SHAPE) {
+        Ok(made) => push_made(alloc, pages, one, &made),
+        Err(refusal) => {
+            let known = known_after(alloc, pages, one)?;
+            Err(refused_with(one.part, pages.style.showing, refusal, known))
+        }
+    }
+}
+
+/// Returns the explanation of a refused enum, with the warnings so far and all of its own.
+fn known_after(
+    alloc: Global,
+    pages: &mut Pages,
+    one: EnumInFile<'_, '_>,
+) -> Result<Explained, Memory> {
+    let Explained { clues, warnings } = explain_enum(alloc, one.text, Origin::File)?;
+    let mut warned = mem::replace(&mut pages.warned, Vec::new(alloc));
+    add_warnings(one.part.offset, warnings, &mut warned)?;
+    Ok(Explained {
+        clues,
+        warnings: warned,
+    })
+}
+
+/// Appends the leaves of a lexer or its examples, and the warnings of its enum and of its leaves.
+fn push_made(
+    alloc: Global,
+    pages: &mut Pages,
+    one: EnumInFile<'_, '_>,
+    made: &Generated<'_>,
+) -> Result<(), Failure<'static>>
+    ensures { IfErr result IsNoMisuse }
+{
+    push_form(alloc, pages, one, made)?;
+    let stream = tokens_of(alloc, one.text)?;
+    let lexer = Lexer {
+        graph: &made.graph,
+        error: made.code.error_callback(),
+    };
+    add_accepted(stream.run(), one.part.offset, lexer, &mut pages.warned)?;
+    Ok(())
+}
+
+/// Returns the tokens of an enum that has a lexer: there are some.
+fn tokens_of<'s>(alloc: Global, text: &'s str) -> Result<TokenStream<'s>, Memory> {
+    match tokenize(alloc, text) {
+        Ok(stream) => Ok(stream),
+        Err(_) => Err(Memory),
+    }
+}
+
+/// Appends the leaves of a lexer or its examples, in the requested form.
+fn push_form(
+    alloc: Global,
+    pages: &mut Pages,
+    one: EnumInFile<'_, '_>,
+    made: &Generated<'_>,
+) -> Result<(), Memory> {
+    let named = NamedGraph {
+        name: made.name.text,
+        graph: &made.graph,
+    };
+    match pages.style.form {
+        Form::Tables => push_table(alloc, &mut pages.tables, one, made),
+        Form::Examples => push_example_lines(alloc, &mut pages.tables, one.part, made),
+        Form::LeafRecords => push_leaves(alloc, &mut pages.records, one, made),
+        Form::ExampleRecords => match push_example_records(alloc, &mut pages.records, named) {
+            Ok(()) => Ok(()),
+            Err(_) => Err(Memory),
+        },
+    }
+}
+
+/// Appends the leaves of the lexer of an enum, and the cost of the lexer.
+fn push_table(
+    alloc: Global,
+    page: &mut Page,
+    one: EnumInFile<'_, '_>,
+    made: &Generated<'_>,
+) -> Result<(), Memory> {
+    let rows = rows_of(alloc, one, made)?;
+    push_title(page, one.part, made);
+    push_rows(page, &rows);
+    push_costs(page, costs_of(&made.code));
+    Ok(())
+}
+
+/// Appends the examples of the leaves of a lexer.
+fn push_example_lines(
+    alloc: Global,
+    page: &mut Page,
+    part: Part<'_, '_>,
+    made: &Generated<'_>,
+) -> Result<(), Memory> {
+    push_title(page, part, made);
+    push_examples(alloc, page, &made.graph)?;
+    page.push("\n");
+    Ok(())
+}
+
+/// Appends the leaves of the lexer of an enum and its cost, as lines of JSON.
+fn push_leaves(
+    alloc: Global,
+    lines: &mut JsonLines,
+    one: EnumInFile<'_, '_>,
+    made: &Generated<'_>,
+) -> Result<(), Memory> {
+    let rows = rows_of(alloc, one, made)?;
+    push_leaf_records(lines, made.name.text, &rows);
+    push_cost_record(lines, made.name.text, costs_of(&made.code));
+    Ok(())
+}
+
+/// Returns the rows of the leaves of an enum.
+pub(crate) fn rows_of<'l>(
+    alloc: Global,
+    one: EnumInFile<'_, 'l>,
+    made: &'l Generated<'_>,
+) -> Result<Vec<LeafRow<'l>>, Memory> {
+    let mut rows = Vec::new(alloc);
+    for leaf in made.graph.leaves() {
+        rows.push(row_of(alloc, one.lines, one.part.offset, one.text, leaf)?)?;
+    }
+    Ok(rows)
+}
+
+/// Appends the name of the enum and its location.
+fn push_title(page: &mut Page, part: Part<'_, '_>, made: &Generated<'_>) {
+    page.push("enum ");
+    page.push(made.name.text);
+    page.push(" (");
+    page.push_shown(part.source.path());
+    page.push(":");
+    page.push_number(part.location(made.name.span.from).line);
+    page.push(")\n\n");
+}

@@ -1,0 +1,337 @@
+//! The program, from its arguments to its exit status. `run_logos_show` calls it.
+
+ghost use Rattle.std.specs.Prelude.{◌≡◌, ◌≤◌, ◌↔◌, ◌⊎◌, None, IfErr, IfOk, IfSome, map, string_bytes};
+ghost use Rattle.logos_show.specs.Views.{Answers, AnswersAbout, AnswersOrExpects, Expects, IsFulfilled, IsNoMisuse, expected_in, is_json, order_value, question_value, request_value, requested, status_of};
+
+use crate::choice::found_in;
+use crate::comparison::compare;
+use crate::inputs::yield_inputs;
+use crate::items::lex;
+use crate::matches::{FilePoint, show_matches};
+use crate::page_files::{PageOrder, write_page};
+use crate::pages::{Form, PageStyle, Shown, shown_of};
+use crate::refusals::write_note;
+use crate::stream::lex_stream;
+use logos_file_warnings::Showing;
+use logos_host::{ComparableFiles, Failure, Files, print_bytes, read_bytes, read_text, report};
+use logos_options::{
+    HelpText, OptionName, Program, STANDARD_INPUT, path_by_word, print_help, print_version,
+    with_nearest,
+};
+use logos_questions::{Question, RequestKind, ShowOrder, ShowRequest, request_of};
+use logos_replies::{Agreement, write_agreement};
+use logos_report::Source;
+use std::alloc::{AllocError, Global};
+use std::io::{Input as StandardInput, IsTerminal, Write};
+use std::time::Clock;
+
+pub(crate) const USAGE: &str = "\
+usage: logos_show FILE [INPUT] [--enum NAME] [--color always|never|auto]
+       logos_show FILE INPUT --at LINE:COLUMN
+       logos_show FILE --examples
+       logos_show FILE --inputs N
+       logos_show OLD NEW --compare
+       logos_show FILE [INPUT] --html PAGE
+";
+
+const HELP: HelpText = HelpText {
+    front: "\
+logos_show: the lexers of a Rust file, and the items of an input
+
+usage: logos_show FILE [INPUT] [OPTIONS]
+
+Without INPUT, prints the leaves of each enum in FILE that derives `Logos`, and
+what its lexer costs, and warns about probable mistakes. With INPUT, prints a
+line for each item of INPUT that the first of these enums finds, and at the end
+how many items there were. Either may be `-`, which is standard input.
+
+options:
+",
+    end: "      --            what follows are FILE and INPUT, even if they begin with `-`
+",
+};
+
+const VERSION: &str = "logos_show 0.1.0 (for logos 0.16)\n";
+
+/// Runs the program with its arguments, and returns the exit status of `run`. If the arguments
+/// cannot be read, the status is that of the failure.
+pub(crate) fn run_with<
+    F: ComparableFiles,
+    C: Clock + StandardInput,
+    O: Write,
+    E: Write + IsTerminal,
+>(
+    alloc: Global,
+    arguments: Result<Vec<String>, Failure<'static>>,
+    files: &mut F,
+    clock: &C,
+    err: &mut E,
+    out: &mut O,
+) -> u8
+    requires { IfErr arguments (λ failure. (status_of failure ≡ 2) ⊎ (status_of failure ≡ 3)) }
+    ensures usage { IfOk arguments.entry (λ passed.
+        (result ≡ 2) ↔ (requested (map string_bytes passed.items) ≡ None)) }
+    ensures fulfilled { IfOk arguments.entry (λ passed. result ≡ 0 →
+        IfSome (requested (map string_bytes passed.items)) (λ request. IsFulfilled F.read_yields
+        request files.old files.new Agreement.Same (O.contents out.old) (O.contents out.new))) }
+    ensures unread { IfErr arguments.entry (λ failure. result ≡ status_of failure) }
+    ensures known { result ≤ 3 }
+{
+    match arguments {
+        Ok(passed) => run(alloc, passed.as_slice(), files, clock, err, out),
+        Err(failure) => failed(&failure, err),
+    }
+}
+
+/// Runs the program, and returns the exit status: 0 if the request is fulfilled, 1 if it is refused
+/// or two lexers differ, 2 if the arguments are invalid, and 3 if a file, an output or memory
+/// fails. The messages of failures and the warnings are written to standard error.
+pub(crate) fn run<F: ComparableFiles, C: Clock + StandardInput, O: Write, E: Write + IsTerminal>(
+    alloc: Global,
+    arguments: &[String],
+    files: &mut F,
+    clock: &C,
+    err: &mut E,
+    out: &mut O,
+) -> u8
+    ensures usage { (result ≡ 2) ↔ (requested (map string_bytes arguments.now) ≡ None) }
+    // At exit status 0 the question was answered as requested. Two lexers that are compared find
+    // the same on all inputs, and an answer is the stored one.
+    ensures fulfilled { result ≡ 0 → IfSome (requested (map string_bytes arguments.now))
+        (λ request. IsFulfilled F.read_yields request files.old files.new Agreement.Same
+        (O.contents out.old) (O.contents out.new)) }
+    ensures known { result ≤ 3 }
+{
+    let request = match request_of(arguments) {
+        Ok(request) => request,
+        Err(failure) => return failed(&with_nearest(failure, Program::Show), err),
+    };
+    match carry_out(alloc, request, files, clock, err, out) {
+        Ok(Agreement::Same) => 0,
+        Ok(Agreement::Different) => 1,
+        Err(failure) => failed(&failure, err),
+    }
+}
+
+/// Writes the message of a failure, and returns the exit status.
+fn failed<E: Write>(failure: &Failure<'_>, err: &mut E) -> u8
+    ensures { result ≡ status_of failure.now }
+{
+    let _ = report(failure, USAGE, err);
+    failure.status()
+}
+
+/// An order that is being carried out.
+#[derive(Clone, Copy)]
+pub(crate) struct Task<'w> {
+    pub(crate) order: ShowOrder<'w>,
+    /// The settings for showing messages.
+    pub(crate) showing: Showing,
+}
+
+/// Carries out the request, and returns the outcome of its comparison, if it has one.
+fn carry_out<'w, F: ComparableFiles, C: Clock + StandardInput, O: Write, E: Write + IsTerminal>(
+    alloc: Global,
+    request: ShowRequest<'w>,
+    files: &mut F,
+    clock: &C,
+    err: &mut E,
+    out: &mut O,
+) -> Result<Agreement, Failure<'w>>
+    ensures failed { IfErr result IsNoMisuse }
+    ensures fulfilled { IfOk result (λ agreement. IsFulfilled F.read_yields
+        (request_value request.entry) files.old files.new agreement (O.contents out.old)
+        (O.contents out.new)) }
+{
+    match request.kind {
+        RequestKind::Help => as_same(print_help(Program::Show, HELP, out)),
+        RequestKind::Version => as_same(print_version(VERSION, files, out)),
+        RequestKind::Show(asked) => {
+            let order = ShowOrder {
+                file: asked.file,
+                question: asked.question,
+                settings: request.settings,
+                style: asked.style,
+            };
+            let showing = Showing {
+                alloc,
+                format: order.style.format,
+                is_colored: order.style.color.is_on(err.is_terminal()),
+                denies: order.settings.has(OptionName::DenyWarnings),
+            };
+            answer_or_compare(Task { order, showing }, files, clock, err, out)
+        }
+    }
+}
+
+/// Returns `Same` for a request without a comparison, if nothing failed.
+fn as_same<'w>(done: Result<(), Failure<'w>>) -> Result<Agreement, Failure<'w>>
+    requires { IfErr done IsNoMisuse }
+    ensures failed { IfErr result IsNoMisuse }
+    ensures same { IfOk result (λ agreement. agreement ≡ Agreement.Same) }
+{
+    match done {
+        Ok(()) => Ok(Agreement::Same),
+        Err(failure) => Err(failure),
+    }
+}
+
+/// Answers the question about the lexers of a file, or compares the answer with a stored one.
+/// Returns the outcome of the comparison, if there is one.
+fn answer_or_compare<'w, F: Files, C: Clock + StandardInput, O: Write, E: Write>(
+    task: Task<'w>,
+    files: &mut F,
+    clock: &C,
+    err: &mut E,
+    out: &mut O,
+) -> Result<Agreement, Failure<'w>>
+    ensures failed { IfErr result IsNoMisuse }
+    ensures answered { IfOk result (λ agreement. AnswersOrExpects F.read_yields
+        (expected_in (order_value task.entry.order)) (order_value task.entry.order) files.old files.new
+        agreement (O.contents out.old) (O.contents out.new)) }
+{
+    match task.order.settings.value(OptionName::Expect) {
+        Some(word) => expect(task, path_by_word(word), files, clock, err, out),
+        None => answer(task, files, clock, err, out),
+    }
+}
+
+/// Compares the answer to the question about the lexers of a file with the stored one at a path.
+fn expect<'w, F: Files, C: Clock + StandardInput, O: Write, E: Write>(
+    task: Task<'w>,
+    path: &'w str,
+    files: &mut F,
+    clock: &C,
+    err: &mut E,
+    out: &mut O,
+) -> Result<Agreement, Failure<'w>>
+    ensures failed { IfErr result IsNoMisuse }
+    ensures expected { IfOk result (λ agreement. Expects F.read_yields (order_value task.entry.order)
+        path.now files.old files.new agreement (O.contents out.old) (O.contents out.new)) }
+{
+    let alloc = task.showing.alloc;
+    let stored = read_bytes(path, files)?;
+    let mut made = Vec::new(alloc);
+    let _ = answer(task, files, clock, err, &mut made)?;
+    write_agreement(alloc, path, &stored, &made, out)
+}
+
+/// Answers the question about the lexers of a file, and returns the outcome of its comparison, if
+/// it has one.
+fn answer<'w, F: Files, C: Clock + StandardInput, O: Write, E: Write>(
+    task: Task<'w>,
+    files: &mut F,
+    clock: &C,
+    err: &mut E,
+    out: &mut O,
+) -> Result<Agreement, Failure<'w>>
+    ensures failed { IfErr result IsNoMisuse }
+    ensures answered { IfOk result (λ agreement. Answers F.read_yields (order_value task.entry.order)
+        files.old files.new agreement (O.contents out.old) (O.contents out.new)) }
+{
+    let path = task.order.file;
+    let text = match read_text(path, files) {
+        Ok(text) => text,
+        Err(failure) => return Err(failure),
+    };
+    let source = match Source::new(task.showing.alloc, path, text.as_str()) {
+        Ok(source) => source,
+        Err(AllocError) => return Err(Failure::Memory),
+    };
+    answer_about(task, &source, files, clock, err, out)
+}
+
+/// Answers the question about the lexers of this file, and returns the outcome of its comparison,
+/// if it has one.
+fn answer_about<'w, F: Files, C: Clock + StandardInput, O: Write, E: Write>(
+    task: Task<'w>,
+    source: &Source<'_>,
+    files: &mut F,
+    clock: &C,
+    err: &mut E,
+    out: &mut O,
+) -> Result<Agreement, Failure<'w>>
+    ensures failed { IfErr result IsNoMisuse }
+    ensures answered { IfOk result (λ agreement. AnswersAbout F.read_yields
+        (order_value task.entry.order) (question_value task.entry.order.question) source.now files.old
+        files.new agreement (O.contents out.old) (O.contents out.new)) }
+{
+    match task.order.question {
+        Question::Comparison(other) => compare(task, source, other, files, err, out),
+        Question::Matches(path, location) => {
+            let point = FilePoint { path, location };
+            show_matches(task, source, point, files, err, out)
+        }
+        Question::Inputs(most) => yield_inputs(task, source, most, err, out),
+        Question::Page(to, input) => {
+            as_same(write_page(task, source, PageOrder { to, input }, files, err, out))
+        }
+        Question::Items(_) => as_same(lex_any(task, source, files, clock, err, out)),
+        Question::Leaves | Question::Examples => as_same(show(task, source, err, out)),
+    }
+}
+
+/// Writes the items of an input. Those of standard input are written as they are found, unless as
+/// JSON.
+fn lex_any<'w, F: Files, C: Clock + StandardInput, O: Write, E: Write>(
+    task: Task<'w>,
+    source: &Source<'_>,
+    files: &mut F,
+    clock: &C,
+    err: &mut E,
+    out: &mut O,
+) -> Result<(), Failure<'w>>
+    ensures { IfErr result IsNoMisuse }
+{
+    match task.order.question {
+        Question::Items(STANDARD_INPUT) if !is_json(task.order) => lex_stream(
+            task, source, clock, err, out,
+        ),
+        _ => lex(task, source, files, clock, err, out),
+    }
+}
+
+/// Writes the tables of a file or examples, and its warnings.
+fn show<'w, O: Write, E: Write>(
+    task: Task<'w>,
+    source: &Source<'_>,
+    err: &mut E,
+    out: &mut O,
+) -> Result<(), Failure<'w>>
+    ensures { IfErr result IsNoMisuse }
+{
+    let alloc = task.showing.alloc;
+    let name = task.order.settings.value(OptionName::Enum);
+    if name.is_some() {
+        let _ = found_in(alloc, task, source)?;
+    }
+    let style = PageStyle {
+        showing: task.showing,
+        form: form_of(task.order),
+    };
+    let Shown {
+        tables,
+        records,
+        warnings,
+    } = shown_of(alloc, source, style, name)?;
+    write_note(err, &warnings);
+    print_bytes(tables.as_str().as_bytes(), out)?;
+    print_bytes(&records, out)
+}
+
+/// Returns whether the answer is JSON.
+pub(crate) fn is_json(order: ShowOrder<'_>) -> bool
+    ensures { result ≡ is_json (order_value order.entry) }
+{
+    order.settings.has(OptionName::Json)
+}
+
+/// Returns the form in which the lexers of a file are shown.
+fn form_of(order: ShowOrder<'_>) -> Form {
+    match (order.question, is_json(order)) {
+        (Question::Examples, false) => Form::Examples,
+        (Question::Examples, true) => Form::ExampleRecords,
+        (_, false) => Form::Tables,
+        (_, true) => Form::LeafRecords,
+    }
+}

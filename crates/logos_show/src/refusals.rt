@@ -1,0 +1,128 @@
+//! The texts of enums, and the refusals of files.
+
+ghost use Rattle.std.specs.Prelude.{IfErr};
+ghost use Rattle.logos_show.specs.Imports.{IsNoMisuse, IsPartAt};
+
+use logos_causes::{Explained, explain};
+use logos_codegen::Refusal;
+use logos_codegen::error::{Errors, Memory};
+use logos_codegen::token::Span;
+use logos_file_warnings::{
+    Showing, add_warnings, push_warned, text_of as text_of_lines, warning_lines,
+};
+use logos_help::add_helps;
+use logos_host::{Failure, MessageFormat};
+use logos_messages::push_messages;
+use logos_page::Page;
+use logos_replies::refusal_of;
+use logos_report::{Part, Source, count_errors, push_faults, push_summary};
+use logos_rust_file::{FoundEnum, enums_in};
+use std::alloc::Global;
+use std::io::Write;
+
+/// Returns the text at a span, or an empty one if the text has no such span.
+fn slice(text: &str, span: Span) -> &str
+    ensures { IsPartAt text.now span result.now }
+{
+    match text.get(span.from..span.to) {
+        Some(slice) => slice,
+        None => "",
+    }
+}
+
+/// Returns the text of an enum of a file.
+pub(crate) fn text_of<'t>(source: &Source<'t>, found: FoundEnum) -> &'t str
+    ensures { IsPartAt source.now.text found.span result.now }
+{
+    slice(source.text(), found.span)
+}
+
+/// Returns the refusal of a part of a file, with its faults, and with the clues about them if the
+/// part is an enum.
+pub(crate) fn refused(
+    alloc: Global,
+    part: Part<'_, '_>,
+    showing: Showing,
+    refusal: Refusal,
+) -> Failure<'static>
+    ensures { IsNoMisuse result }
+{
+    match known_of(alloc, part) {
+        Ok(known) => refused_with(part, showing, refusal, known),
+        Err(Memory) => Failure::Memory,
+    }
+}
+
+/// Returns the explanation of the enum at the beginning of a part of a file, if there is one.
+fn known_of(alloc: Global, part: Part<'_, '_>) -> Result<Explained, Memory> {
+    let Explained { clues, warnings } = explain(alloc, enum_at(alloc, part)?)?;
+    let mut warned = Vec::new(alloc);
+    add_warnings(part.offset, warnings, &mut warned)?;
+    Ok(Explained {
+        clues,
+        warnings: warned,
+    })
+}
+
+/// Returns the refusal of a part of a file, with its faults and the clues about them. The spans of
+/// the warnings are relative to the beginning of the file.
+pub(crate) fn refused_with(
+    part: Part<'_, '_>,
+    showing: Showing,
+    refusal: Refusal,
+    known: Explained,
+) -> Failure<'static>
+    ensures { IsNoMisuse result }
+{
+    let Refusal::Errors(errors) = refusal else {
+        return Failure::Memory;
+    };
+    refusal_of(refusal_text(part, showing, &errors, known))
+}
+
+/// Writes a note to standard error. If that fails, the note is lost.
+pub(crate) fn write_note<E: Write>(err: &mut E, note: &[u8]) {
+    let _ = err.write_all(note);
+    let _ = err.flush();
+}
+
+/// Returns the text of faults, after the warnings.
+fn refusal_text(
+    part: Part<'_, '_>,
+    showing: Showing,
+    errors: &Errors,
+    mut known: Explained,
+) -> Result<String, Memory> {
+    let alloc = showing.alloc;
+    add_helps(part, errors, &mut known.clues)?;
+    let clues = &known.clues;
+    match showing.format {
+        MessageFormat::Human => {
+            let mut page = Page::new(alloc, showing.is_colored);
+            push_warned(&mut page, part.source, &known.warnings);
+            push_faults(&mut page, part, errors, clues);
+            push_summary(&mut page, count_errors(errors, clues));
+            Ok(page.finish()?)
+        }
+        MessageFormat::Json => {
+            let mut lines = warning_lines(alloc, part.source, &known.warnings)?;
+            push_messages(alloc, &mut lines, part, errors, clues)?;
+            text_of_lines(lines)
+        }
+    }
+}
+
+/// Returns the text of the enum at the beginning of a part of a file, or an empty one.
+fn enum_at<'t>(alloc: Global, part: Part<'_, 't>) -> Result<&'t str, Memory> {
+    let found = match enums_in(alloc, part.source.text()) {
+        Ok(found) => found,
+        Err(Refusal::Memory) => return Err(Memory),
+        Err(_) => return Ok(""),
+    };
+    for one in &found {
+        if one.span.from == part.offset {
+            return Ok(text_of(part.source, *one));
+        }
+    }
+    Ok("")
+}

@@ -1,0 +1,40 @@
+//! The items of standard input, one line for each, written as they are found. Used by `program`.
+
+ghost use Rattle.std.specs.Prelude.{IfErr};
+ghost use Rattle.logos_show.specs.Imports.{IsNoMisuse};
+
+use crate::choice::lexer_in;
+use crate::items::print_note;
+use crate::lexers::{SHAPE, part_of};
+use crate::program::Task;
+use crate::refusals::{refused, text_of};
+use logos_codegen::generate;
+use logos_host::Failure;
+use logos_items::{ItemOrder, write_streamed};
+use logos_report::Source;
+use std::io::{Input, Write};
+use std::time::Clock;
+
+/// Writes the items of standard input as they are found.
+pub(crate) fn lex_stream<'w, C: Clock + Input, O: Write, E: Write>(
+    task: Task<'w>,
+    source: &Source<'_>,
+    clock: &C,
+    err: &mut E,
+    out: &mut O,
+) -> Result<(), Failure<'w>>
+    ensures { IfErr result IsNoMisuse }
+{
+    let alloc = task.showing.alloc;
+    let order = ItemOrder {
+        alloc,
+        settings: task.order.settings,
+    };
+    let one = lexer_in(alloc, task, source, err)?;
+    let part = part_of(source, one);
+    let lexed = match generate(alloc, text_of(source, one), SHAPE) {
+        Ok(made) => write_streamed(order, &made, clock, out),
+        Err(refusal) => Err(refused(alloc, part, task.showing, refusal)),
+    };
+    print_note(lexed, err)
+}

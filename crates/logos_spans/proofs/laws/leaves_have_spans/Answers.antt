@@ -1,8 +1,0 @@
-use Rattle.logos_spans.proofs.LeafParts.{leaves_have_spans, leaves_stand}
-use Rattle.logos_spans.proofs.laws.leaves_have_spans.Goals as goal
-
-pub returns-clause-tokens : goal.returns-clause-tokens
-returns-clause-tokens c tokens enum reading leaves options faults read = leaves_stand tokens enum leaves options faults reading read
-
-pub returns-clause-spans : goal.returns-clause-spans
-returns-clause-spans c source utf8 tokens spelled enum reading leaves options faults read = leaves_have_spans tokens enum leaves options faults reading read source utf8 spelled

@@ -1,2 +1,0 @@
-pub mod LeafSpans
-pub mod Words

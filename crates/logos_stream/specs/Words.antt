@@ -1,5 +1,0 @@
--- Definitions that clauses cite: of lower crates.
-pub use Rattle.logos_machine.specs.LexerValue.{answers_of, begun, item_of}
-pub use Rattle.logos_machine.specs.Streams.{item_later}
-pub use Rattle.std.specs.Coded.{codes}
-pub use mir.Syntax.{named}

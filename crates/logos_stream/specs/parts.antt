@@ -1,0 +1,2 @@
+pub mod PartsValue
+pub mod Imports

@@ -1,5 +1,0 @@
-use Rattle.std.proofs.Common.{append_assoc}
-use Rattle.logos_subpattern.proofs.subpattern.utf8_text.Goals as goal
-
-pub returns : goal.returns
-returns c = simp append_assoc (rw c.token.ensures at c.in_ok-text.ensures.ok)

@@ -1,5 +1,0 @@
-use Rattle.logos_subpattern.proofs.SubstitutionLemmas.{part_used, used_shorter}
-use Rattle.logos_subpattern.proofs.substitution.part_at.Goals as goal
-
-pub returns-in-Some : goal.returns-in-Some
-returns-in-Some c = (part_used _ _ _ _ _ c.in_ok-first.ensures.cases.0 c.in-Some.ensures.0 c.in-Some.ensures.1, used_shorter _ _ _ _ _ c.in_ok-first.ensures.cases.0 c.in-Some.ensures.1)

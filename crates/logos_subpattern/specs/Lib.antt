@@ -1,8 +1,0 @@
-pub mod PatternFaults
-pub mod StoredViews
-pub mod SubpatternViews
-pub mod Subpatterns
-pub mod Substitution
-pub mod inside
-pub mod Words
-pub mod Views

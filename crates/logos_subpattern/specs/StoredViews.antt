@@ -1,8 +1,0 @@
--- What contracts see of a subpattern.
-use Rattle.std.specs.Prelude.{string_bytes}
-use Rattle.logos_subpattern.specs.declared.subpattern.Subpattern.{Subpattern}
-use Rattle.logos_subpattern.specs.Substitution.{Stored}
-
--- A subpattern as it is stored under its name.
-abbrev pub stored_of : Subpattern → Stored
-stored_of s = record { name = s.name.text.now; span = s.name.span; text = string_bytes s.pattern }

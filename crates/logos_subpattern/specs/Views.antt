@@ -1,4 +1,0 @@
--- Definitions that clauses cite: those of `Words`, and those that name types of this crate.
-pub use Rattle.logos_subpattern.specs.Words.{AddsFault, IsReport, closed, encoded, is_word, name_report, part_report, parts, reference, subpattern_missing, subst_report, text_of, word_front, word_rest}
-pub use Rattle.logos_subpattern.specs.SubpatternViews.{names_of}
-pub use Rattle.logos_subpattern.specs.inside.Parts.{part_of, text_view}

@@ -1,4 +1,0 @@
-pub mod Errors
-pub mod Parts
-pub mod Places
-pub mod Tests

@@ -1,7 +1,0 @@
-//! Subpatterns: patterns with names, which other patterns use as `(?&name)`.
-
-#![tactic(auto)]
-
-pub mod fault;
-pub mod subpattern;
-mod substitution;

@@ -1,0 +1,160 @@
+//! Turns atoms into trees. The stack of groups calls it for each atom.
+
+ghost use Rattle.std.specs.Prelude.{◌≡◌, ◌==◌, IfOk, encode_utf8, if◌then◌else◌};
+ghost use Rattle.logos_syntax.specs.Imports.{literal, tree_of, only_chars, set_of, set_or_complement, case_closure, one_of, same_as, character_tree, byte_tree, dot_set, start_look, end_look, atom_tree, atom_fits};
+
+use crate::bracket::translation::{case_closure, number_set, set_or_complement};
+use logos_hir::builder;
+use logos_hir::hir::{Hir, Look, Range};
+use logos_hir::property::{perl_set, property_set};
+use logos_hir::sets::RangeSet;
+use logos_pattern_tokens::token::{Atom, Flags};
+use std::alloc::{AllocError, Global};
+
+/// Returns the tree of one character, or of one byte, of the set.
+pub(crate) fn one_of(alloc: Global, flags: Flags, set: RangeSet) -> Result<Hir, AllocError>
+    ensures { IfOk result (λ hir. tree_of hir ≡ one_of flags (set_of set)) }
+{
+    if flags.unicode {
+        return builder::char_class(alloc, set);
+    }
+    builder::byte_class(alloc, set)
+}
+
+/// Returns the set that contains only the number. If `i` is on, it also contains the numbers that
+/// differ from it only in case.
+fn same_as(alloc: Global, flags: Flags, code: u32) -> Result<RangeSet, AllocError>
+    ensures { IfOk result (λ set. set_of set ≡ same_as flags code) }
+{
+    let only = number_set(alloc, code)?;
+    case_closure(alloc, flags, only)
+}
+
+/// Returns the tree of a character's bytes.
+fn encoding(alloc: Global, c: char) -> Result<Hir, AllocError>
+    ensures { IfOk result (λ hir. tree_of hir ≡ literal (encode_utf8 c)) }
+{
+    let mut buffer = [0; 4];
+    let bytes = c.encode_utf8(&mut buffer).as_bytes();
+    Ok(Hir::Literal(Vec::from_slice(alloc, bytes)?))
+}
+
+/// Returns the tree of a character, in each case if `i` is on.
+fn character(alloc: Global, flags: Flags, c: char) -> Result<Hir, AllocError>
+    ensures { IfOk result (λ hir. tree_of hir ≡ character_tree flags c) }
+{
+    if flags.ignore_case && (flags.unicode || c.is_ascii()) {
+        return one_of(alloc, flags, same_as(alloc, flags, c as u32)?);
+    }
+    encoding(alloc, c)
+}
+
+/// Returns the tree of a byte, or of the character with its number if the pattern matches
+/// characters.
+fn byte(alloc: Global, flags: Flags, b: u8) -> Result<Hir, AllocError>
+    ensures { IfOk result (λ hir. tree_of hir ≡ byte_tree flags b) }
+{
+    if flags.unicode {
+        return character(alloc, flags, b as char);
+    }
+    if flags.ignore_case {
+        return builder::byte_class(alloc, same_as(alloc, flags, b as u32)?);
+    }
+    Ok(Hir::Literal(Vec::from_slice(alloc, &[b])?))
+}
+
+/// Returns the set of a dot: all characters but line ends, or all characters if `s` is on.
+fn dot_set(alloc: Global, flags: Flags) -> Result<RangeSet, AllocError>
+    ensures { IfOk result (λ set. set_of set ≡ dot_set flags) }
+{
+    let last = 0x10_FFFF;
+    if flags.dot_all {
+        return RangeSet::from_ranges(alloc, &[Range::new(0, last)]);
+    }
+    if flags.crlf {
+        let ends = [Range::new(0, 9), Range::new(11, 12), Range::new(14, last)];
+        return RangeSet::from_ranges(alloc, &ends);
+    }
+    RangeSet::from_ranges(alloc, &[Range::new(0, 9), Range::new(11, last)])
+}
+
+/// Returns the look-around assertion of `^`.
+fn start_look(flags: Flags) -> Look
+    ensures { result ≡ start_look flags }
+{
+    match (flags.multi_line, flags.crlf) {
+        (false, _) => Look::Start,
+        (true, false) => Look::StartLF,
+        (true, true) => Look::StartCRLF,
+    }
+}
+
+/// Returns the look-around assertion of `$`.
+fn end_look(flags: Flags) -> Look
+    ensures { result ≡ end_look flags }
+{
+    match (flags.multi_line, flags.crlf) {
+        (false, _) => Look::End,
+        (true, false) => Look::EndLF,
+        (true, true) => Look::EndCRLF,
+    }
+}
+
+/// Returns the look-around assertion of a word boundary, or of its negation.
+fn boundary(negated: bool) -> Look
+    ensures { result ≡ (if negated then Look.WordAsciiNegate else Look.WordAscii) }
+{
+    if negated {
+        Look::WordAsciiNegate
+    } else {
+        Look::WordAscii
+    }
+}
+
+/// Returns the tree of one member of a class, or of its complement.
+fn class(alloc: Global, flags: Flags, negated: bool, set: RangeSet) -> Result<Hir, AllocError>
+    ensures { IfOk result (λ hir. tree_of hir ≡
+        one_of flags (set_or_complement flags negated (case_closure flags (set_of set)))) }
+{
+    let same_letters = case_closure(alloc, flags, set)?;
+    one_of(
+        alloc,
+        flags,
+        set_or_complement(flags, negated, same_letters)?,
+    )
+}
+
+/// Returns the tree of an atom with these flags.
+pub(crate) fn atom_tree(alloc: Global, flags: Flags, atom: Atom) -> Result<Hir, AllocError>
+    ensures { IfOk result (λ hir. tree_of hir ≡ atom_tree flags atom) }
+{
+    match atom {
+        Atom::Character(c) => character(alloc, flags, c),
+        Atom::Byte(b) => byte(alloc, flags, b),
+        Atom::Dot => one_of(alloc, flags, dot_set(alloc, flags)?),
+        Atom::Caret => Ok(builder::look(start_look(flags))),
+        Atom::Dollar => Ok(builder::look(end_look(flags))),
+        Atom::TextStart => Ok(builder::look(Look::Start)),
+        Atom::TextEnd => Ok(builder::look(Look::End)),
+        Atom::Boundary(negated) => Ok(builder::look(boundary(negated))),
+        Atom::Perl(kind, negated) => class(
+            alloc,
+            flags,
+            negated,
+            perl_set(alloc, kind, flags.unicode)?,
+        ),
+        Atom::Property(set, negated) => class(alloc, flags, negated, property_set(alloc, set)?),
+    }
+}
+
+/// Returns whether the flags allow the atom. A word boundary is allowed if the pattern matches
+/// bytes, and a property if it matches characters.
+pub(crate) fn atom_fits(flags: Flags, atom: Atom) -> bool
+    ensures { result ≡ atom_fits flags atom }
+{
+    match atom {
+        Atom::Boundary(_) => !flags.unicode,
+        Atom::Property(_, _) => flags.unicode,
+        _ => true,
+    }
+}

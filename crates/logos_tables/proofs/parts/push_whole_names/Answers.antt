@@ -1,5 +1,0 @@
-use Rattle.std.proofs.Common.{append_assoc}
-use Rattle.logos_tables.proofs.parts.push_whole_names.Goals as goal
-
-pub returns : goal.returns
-returns c = rw (c.in_ok-push_str.ensures, c.in_ok-push_each_name.ensures, c.in_ok-write.ensures.bytes) (simp append_assoc)

@@ -1,6 +1,0 @@
-use Rattle.std.proofs.Common.{string_bytes}
-use Rattle.logos_text.specs.Standing.{Grows}
-use Rattle.logos_tables.proofs.rest.push_plain_leaves.Given as goal
-
-abbrev pub invariant-loop-n : goal.invariant-loop-n
-invariant-loop-n l = Grows (string_bytes l.initial.text) (string_bytes l.text)

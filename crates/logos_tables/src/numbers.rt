@@ -1,0 +1,74 @@
+//! The numbers of entries that the runtime makes from the tables. `lexer` prints these numbers, and
+//! the compiler rejects wrong ones.
+
+use crate::made::PrintedTables;
+use crate::steps::Steps;
+
+/// The maximum number of states for which the rows of the runtime have an entry for each byte.
+const FEW: usize = 300;
+
+/// The columns of such rows.
+const BYTES: usize = 272;
+
+/// The maximum number of entries, and of leaves, of folded tables with rows.
+const MOST_ENTRIES: usize = 1048575;
+
+const MOST_LEAVES: usize = 1023;
+
+/// The number of entries of folded tables before and after their rows.
+const BESIDE: usize = 1024;
+
+/// Returns the number of columns of a row. A row by classes has `more` columns beside those of the
+/// classes.
+fn columns(tables: &PrintedTables, more: usize) -> usize {
+    if tables.rows.slots.len() <= FEW {
+        BYTES
+    } else {
+        tables.classes.symbols.len().saturating_add(more)
+    }
+}
+
+/// Returns the number of entries of all rows.
+fn row_entries(tables: &PrintedTables, more: usize) -> usize {
+    tables
+        .rows
+        .slots
+        .len()
+        .saturating_mul(columns(tables, more))
+}
+
+/// Returns the number of entries that the loop of the runtime reads.
+pub(crate) fn entry_count(tables: &PrintedTables) -> usize {
+    row_entries(tables, 0).saturating_add(256)
+}
+
+/// Returns the number of entries that `scan` reads, for a number of leaves.
+pub(crate) fn folded_count(tables: &PrintedTables, leaves: usize) -> usize {
+    let entries = row_entries(tables, 1);
+    if (entries > MOST_ENTRIES) | (leaves > MOST_LEAVES) {
+        return BESIDE + 1;
+    }
+    power_of_two(entries).saturating_add(BESIDE)
+}
+
+/// Returns the number of masks: the least power of two that is at least the number of rows in which
+/// a byte stays.
+pub(crate) fn mask_count(tables: &PrintedTables) -> usize {
+    power_of_two(loop_count(tables.rows.distinct.as_slice()))
+}
+
+/// Returns the number of rows in which a byte stays.
+fn loop_count(rows: &[Steps]) -> usize {
+    let mut count: usize = 0;
+    for row in rows {
+        if row.contains(&1) {
+            count = count.saturating_add(1);
+        }
+    }
+    count
+}
+
+/// Returns the least power of two that is at least `number`.
+fn power_of_two(number: usize) -> usize {
+    number.checked_next_power_of_two().unwrap_or(usize::MAX)
+}

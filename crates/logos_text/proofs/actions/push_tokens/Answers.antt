@@ -1,0 +1,6 @@
+use Rattle.std.proofs.Common.{refl}
+use Rattle.logos_text.proofs.PieceLemmas.{notes_both, notes_text}
+use Rattle.logos_text.proofs.actions.push_tokens.Goals as goal
+
+pub returns : goal.returns
+returns c = notes_both (notes_text _ c.in_ok-write.ensures.bytes refl) c.in_ok-push_token_arms.ensures

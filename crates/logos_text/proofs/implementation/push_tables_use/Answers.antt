@@ -1,0 +1,5 @@
+use Rattle.logos_text.proofs.PieceLemmas.{prints_both, prints_last}
+use Rattle.logos_text.proofs.implementation.push_tables_use.Goals as goal
+
+pub returns : goal.returns
+returns c = prints_last (prints_both c.in_ok-push.ensures c.in_ok-push_library.ensures) c.in_ok-push-2.ensures

@@ -1,5 +1,0 @@
-use Rattle.std.proofs.Common.{append_assoc}
-use Rattle.logos_text.proofs.leaves.push_leaf_head.Goals as goal
-
-pub returns : goal.returns
-returns c = rw c.in_ok-write.ensures.bytes (simp append_assoc)

@@ -1,0 +1,117 @@
+//! The output of printers: a text, and the spans of the source's tokens in it. `code` makes it, and
+//! all printers of a user's tokens write into it.
+
+ghost use Rattle.std.specs.Prelude.{[], OnOk};
+ghost use Rattle.logos_text.specs.Views.{IsEmptySink, Prints, PrintsPiece, name_runs, noted_runs, printed, run_after, tokens_of};
+
+use crate::gaps::gap_after;
+use logos_pattern::leaf::Callback;
+use logos_token::error::Memory;
+use logos_token::token::{Ident, Span, Tokens, print};
+use std::alloc::Global;
+
+/// Tokens of a source that a text repeats: bytes `from..to` of the text are the printed tokens at
+/// `span` of the source.
+#[derive(Clone, Copy, Debug, PartialEq, Eq)]
+pub struct Piece {
+    pub from: usize,
+    pub to: usize,
+    /// In bytes of the source.
+    pub span: Span,
+}
+
+/// A statement of a text that calls a callback.
+#[derive(Clone, Copy, Debug, PartialEq, Eq)]
+pub struct Call {
+    /// Where the statement begins in the text, in bytes.
+    pub offset: usize,
+    /// Where the callback begins in the source, in bytes.
+    pub from: usize,
+}
+
+/// A text of printed tokens, with the pieces of the source in it.
+#[derive(Debug, Drop)]
+pub struct Sink {
+    /// The text.
+    pub text: String,
+    /// The pieces, in the order of the text. No two overlap.
+    pub pieces: Vec<Piece>,
+    /// The statements with callbacks, in the order of the text. No contract is about them.
+    pub calls: Vec<Call>,
+}
+
+impl Sink {
+    /// Returns a sink without a text.
+    pub(crate) fn new(alloc: Global) -> Sink
+        ensures { IsEmptySink result }
+    {
+        Sink {
+            text: String::new(alloc),
+            pieces: Vec::new(alloc),
+            calls: Vec::new(alloc),
+        }
+    }
+
+    /// Appends a text that is not the user's.
+    pub(crate) fn push(&mut self, part: &str) -> Result<(), Memory>
+        ensures { OnOk result (Prints part.now [] self.old self.new) }
+    {
+        self.text.push_str(part)?;
+        Ok(())
+    }
+
+    /// Appends a name of the source.
+    pub(crate) fn push_name(&mut self, name: Ident<'_>) -> Result<(), Memory>
+        ensures { OnOk result (Prints name.entry.text.now (name_runs name.entry) self.old self.new) }
+    {
+        self.push_piece(name.text, name.span)?;
+        Ok(())
+    }
+
+    /// Appends tokens of the source, without the gap after them.
+    fn push_tokens(&mut self, alloc: Global, tokens: Tokens<'_, '_>) -> Result<(), Memory>
+        ensures { OnOk result (Prints (printed (tokens_of tokens.entry))
+            (noted_runs (tokens_of tokens.entry)) self.old self.new) }
+    {
+        if tokens.is_empty() {
+            return Ok(());
+        }
+        let text = print(alloc, tokens)?;
+        self.push_piece(text.as_str(), tokens.span())?;
+        Ok(())
+    }
+
+    /// Appends tokens of the source, and the gap after them.
+    pub(crate) fn push_run(&mut self, alloc: Global, tokens: Tokens<'_, '_>) -> Result<(), Memory>
+        ensures { OnOk result (Prints (run_after (tokens_of tokens.entry))
+            (noted_runs (tokens_of tokens.entry)) self.old self.new) }
+    {
+        self.push_tokens(alloc, tokens)?;
+        self.push(gap_after(tokens))?;
+        Ok(())
+    }
+
+    /// Appends the printed text of tokens, which have this span in the source.
+    fn push_piece(&mut self, text: &str, span: Span) -> Result<(), Memory>
+        ensures { OnOk result (PrintsPiece text.now span self.old self.new) }
+    {
+        let from = self.text.len();
+        self.text.push_str(text)?;
+        let to = self.text.len();
+        self.pieces.push(Piece { from, to, span })?;
+        Ok(())
+    }
+
+    /// Notes that a statement with a callback comes next.
+    pub(crate) fn note_call(&mut self, callback: &Callback<'_>) -> Result<(), Memory>
+        ensures { OnOk result (Prints [] [] self.old self.new) }
+    {
+        let from = match callback {
+            Callback::Label(label) => label.run().span().from,
+            Callback::Inline(inline) => inline.arg.span.from,
+        };
+        let offset = self.text.len();
+        self.calls.push(Call { offset, from })?;
+        Ok(())
+    }
+}

@@ -1,0 +1,97 @@
+//! Details of a fault, recorded where it is found by the crates that read a source. Reports, helps
+//! and messages match on them, so that none of them parses the text of a fault.
+
+use crate::token::Span;
+use logos_lexeme::lexeme::LexicalKind;
+
+/// A detail of a fault, in addition to its code, its text and its spans.
+#[derive(Clone, Copy, Debug)]
+pub enum Detail {
+    /// No detail.
+    Plain,
+    /// Why a source cannot be cut into tokens.
+    Lexical(LexicalKind),
+    /// Why a text is not a pattern, and where.
+    Pattern(PatternDetail),
+    /// The unknown argument belongs to the option `error`, not to a pattern.
+    ErrorArgument,
+    /// A leaf of an ambiguous set. The faults of a set are neighbors, in the order of its leaves.
+    Ambiguous {
+        /// The number of the leaf.
+        leaf: usize,
+        /// The number of the first leaf of the set.
+        first: usize,
+    },
+}
+
+/// The fault of a text that is not a pattern, and its location.
+#[derive(Clone, Copy, Debug)]
+pub struct PatternDetail {
+    pub kind: PatternKind,
+    /// The byte offset of the fault in the text of the pattern, with all subpatterns substituted.
+    pub at: usize,
+    /// The bytes of that text from `at` on.
+    pub front: PatternFront,
+    pub origin: ByteOrigin,
+}
+
+/// The first bytes of a text from an offset on. Each byte after the end of the text is 0.
+#[derive(Clone, Copy, Debug)]
+pub struct PatternFront {
+    pub first: u8,
+    pub second: u8,
+    pub third: u8,
+    pub fourth: u8,
+}
+
+/// The location at which a byte of a pattern's text is written.
+#[derive(Clone, Copy, Debug)]
+pub struct ByteOrigin {
+    /// Its byte offset in the text that the pattern's own literal spells; `None` if it belongs to a
+    /// subpattern that was put in, or to the group around the text of a subpattern.
+    pub own: Option<usize>,
+    /// The span in the source of the name of the first subpattern that was put in before the byte,
+    /// at its definition; `None` if there is none.
+    pub put_in: Option<Span>,
+}
+
+/// The kinds of faults in a pattern, as `logos_pattern` names them.
+#[derive(Clone, Copy, Debug)]
+pub enum PatternKind {
+    /// A group, a bracket or a brace is still open at the end.
+    Unclosed,
+    /// A parenthesis closes, and no group is open.
+    Unopened,
+    /// An operator has nothing before it that it could repeat.
+    NothingToRepeat,
+    /// Braces do not hold counts.
+    CountSyntax,
+    /// The least count is greater than the greatest count.
+    CountOrder,
+    /// A count is 2^32 or more.
+    CountTooLarge,
+    /// The flag `x` is not supported.
+    FlagUnsupported,
+    /// The characters after `(?` are not a flag setting.
+    FlagSyntax,
+    /// Look-around, or a group whose name is malformed or occurs earlier.
+    GroupSyntax,
+    /// A backslash comes before a character that it cannot escape.
+    EscapeUnknown,
+    /// An escape by number has no digits, too few, or characters that are not digits.
+    HexSyntax,
+    /// The number of an escape is not the number of a Unicode scalar value.
+    HexNotScalar,
+    /// A range begins after its end, or a class is one of its ends.
+    ClassRange,
+    /// No set of characters has this property's name.
+    UnknownProperty,
+    /// A property has a value, or is negated by `^`.
+    PropertyForm,
+    /// A property, or a character outside ASCII in a bracket, in a pattern that matches bytes.
+    NotInBytes,
+    /// A word boundary in a pattern that matches characters.
+    UnicodeWordBoundary,
+    /// A word boundary is written as `\b{..}`, `\<` or `\>`.
+    WordBoundaryForm,
+}

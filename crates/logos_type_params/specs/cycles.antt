@@ -1,0 +1,4 @@
+pub mod Cycles
+pub mod inside
+pub mod Imports
+pub mod Views

@@ -1,0 +1,36 @@
+//! Finds the nodes of a directed graph that lie on a cycle. `logos_type_params` calls it for
+//! parameters whose types contain one another.
+
+ghost use Rattle.std.specs.Prelude.{true, false, ◌≡◌, ℕ, ◌<◌, ◌↔◌, List, IfOk, IsTrue, length, map, vec_len, slice_index_or};
+ghost use Rattle.logos_type_params.specs.cycles.Imports.{Leads};
+
+mod check;
+mod evidence;
+mod reference;
+
+use std::alloc::{AllocError, Global};
+
+/// Returns for each node whether it lies on a cycle. `lists` contains, for each node at the index
+/// of its number, the numbers of the nodes to which its edges lead. Numbers for which there is no
+/// node are ignored.
+///
+/// Two traversals find the components of the graph, and the components are checked before the
+/// answer is read from them. This takes time linear in the numbers of nodes and edges. The check
+/// has never been observed to fail. If it fails, a traversal from each node computes the same
+/// answer, in time that grows with the product of the two numbers.
+///
+/// # Errors
+///
+/// Returns `AllocError` if memory runs out.
+pub fn on_cycles(alloc: Global, lists: &[Vec<usize>]) -> Result<Vec<bool>, AllocError>
+    ensures length { IfOk result (λ marks. vec_len marks ≡ length lists.now) }
+    ensures marks { IfOk result (λ marks. (node : ℕ) → node < length lists.now →
+        IsTrue (slice_index_or marks.items node false) ↔
+        Leads (map (λ list. list.items) lists.now) node node) }
+{
+    let memberships = evidence::memberships(alloc, lists)?;
+    if check::is_evidence(lists, &memberships) {
+        return check::marks(alloc, lists, &memberships);
+    }
+    reference::marks(alloc, lists)
+}

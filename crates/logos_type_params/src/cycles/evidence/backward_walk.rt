@@ -1,0 +1,141 @@
+//! Traverses a graph against its edges, once for each component. `evidence` calls it after the
+//! forward traversal.
+
+use crate::cycles::evidence::{Membership, meets};
+use std::alloc::{AllocError, Global};
+
+/// An edge, seen from the node to which it leads.
+#[derive(Clone, Copy)]
+struct Arrow {
+    from: usize,
+    /// The index of the edge among the edges of `from`.
+    edge: usize,
+}
+
+/// The state of the traversals against the edges.
+#[derive(Drop)]
+pub(crate) struct Backward {
+    /// The memberships of the nodes. The nodes that were visited have their components.
+    pub(crate) memberships: Vec<Membership>,
+    /// The edges that lead to each node.
+    arrows: Vec<Vec<Arrow>>,
+    /// For each node, whether it was visited.
+    met: Vec<bool>,
+    /// The nodes that were visited, in the order of the visits.
+    order: Vec<usize>,
+}
+
+/// Adds the edges of a node to the lists of the nodes to which they lead.
+fn note_edges(arrows: &mut [Vec<Arrow>], from: usize, list: &[usize]) -> Result<(), AllocError> {
+    for (edge, to) in list.iter().enumerate() {
+        if let Some(row) = arrows.get_mut(*to) {
+            row.push(Arrow { from, edge })?;
+        }
+    }
+    Ok(())
+}
+
+/// Returns `len` empty lists.
+fn no_arrows(alloc: Global, len: usize) -> Result<Vec<Vec<Arrow>>, AllocError> {
+    let mut arrows = Vec::new(alloc);
+    for _ in 0..len {
+        arrows.push(Vec::new(alloc))?;
+    }
+    Ok(arrows)
+}
+
+impl Backward {
+    /// Returns the state before the first traversal.
+    ///
+    /// # Errors
+    ///
+    /// Returns `AllocError` if memory runs out.
+    pub(crate) fn new(
+        alloc: Global,
+        lists: &[Vec<usize>],
+        memberships: Vec<Membership>,
+    ) -> Result<Backward, AllocError> {
+        let mut arrows = no_arrows(alloc, lists.len())?;
+        for (from, list) in lists.iter().enumerate() {
+            note_edges(&mut arrows, from, list)?;
+        }
+        let met = vec![in alloc; false; lists.len()]?;
+        Ok(Backward {
+            memberships,
+            arrows,
+            met,
+            order: Vec::new(alloc),
+        })
+    }
+
+    /// Adds `node` to the component of `root`, unless it was visited before. `edge` is the index of
+    /// its edge that leads nearer to the root.
+    fn membership(
+        &mut self,
+        node: usize,
+        root: usize,
+        start: usize,
+        edge: usize,
+    ) -> Result<(), AllocError> {
+        if !meets(&mut self.met, node) {
+            return Ok(());
+        }
+        let to_rank = self.order.len();
+        if let Some(membership) = self.memberships.get_mut(node) {
+            membership.root = root;
+            membership.order = start;
+            membership.toward = edge;
+            membership.to_rank = to_rank;
+        }
+        self.order.push(node)?;
+        Ok(())
+    }
+
+    /// Returns the number of edges that lead to a node.
+    fn arrow_count(&self, node: usize) -> usize {
+        match self.arrows.get(node) {
+            Some(row) => row.len(),
+            None => 0,
+        }
+    }
+
+    /// Returns one of the edges that lead to a node.
+    fn arrow(&self, node: usize, at: usize) -> Option<Arrow> {
+        self.arrows.get(node)?.get(at).copied()
+    }
+
+    /// Adds the nodes that lead to `node` to its component.
+    fn spread(&mut self, node: usize, root: usize, start: usize) -> Result<(), AllocError> {
+        for at in 0..self.arrow_count(node) {
+            if let Some(arrow) = self.arrow(node, at) {
+                self.membership(arrow.from, root, start, arrow.edge)?;
+            }
+        }
+        Ok(())
+    }
+
+    /// Visits the nodes at the index `start` and after it in the order, and adds those that lead to
+    /// them to the component.
+    fn finish(&mut self, root: usize, start: usize) -> Result<(), AllocError> {
+        let mut at = start;
+        while let Some(node) = self.order.get(at).copied() {
+            at += 1;
+            self.spread(node, root, start)?;
+        }
+        Ok(())
+    }
+
+    /// Traverses the graph from each of these nodes, the last one first.
+    ///
+    /// # Errors
+    ///
+    /// Returns `AllocError` if memory runs out.
+    pub(crate) fn walk(&mut self, nodes: &[usize]) -> Result<(), AllocError> {
+        for root in nodes.iter().rev() {
+            let start = self.order.len();
+            self.membership(*root, *root, start, 0)?;
+            self.finish(*root, start)?;
+        }
+        Ok(())
+    }
+}

@@ -1,0 +1,121 @@
+//! Traverses a graph along its edges, and finishes a node after all nodes to which it leads.
+//! `evidence` calls it first.
+
+use crate::cycles::evidence::{Membership, meets};
+use std::alloc::{AllocError, Global};
+
+/// A node on the path, some of whose edges have not been followed yet.
+#[derive(Clone, Copy)]
+struct PathNode {
+    node: usize,
+    /// The index of the next edge to follow.
+    next: usize,
+}
+
+/// The state of the traversal along the edges.
+#[derive(Drop)]
+pub(crate) struct Forward {
+    /// For each node the edge through which it was visited, and the length of the path at that
+    /// time.
+    pub(crate) memberships: Vec<Membership>,
+    /// The nodes that are finished, in the order in which they were finished.
+    pub(crate) left: Vec<usize>,
+    /// For each node, whether it was visited.
+    met: Vec<bool>,
+    /// The path from the start to the current node. Each node on it was visited through an edge of
+    /// the one before.
+    path: Vec<PathNode>,
+}
+
+/// Returns the greatest number of steps of a traversal: one for each edge, and one to finish each
+/// node.
+fn steps_along(lists: &[Vec<usize>]) -> usize {
+    let mut steps = lists.len();
+    for list in lists {
+        steps = steps.saturating_add(list.len());
+    }
+    steps
+}
+
+impl Forward {
+    /// Returns the state before the traversal of `len` nodes.
+    ///
+    /// # Errors
+    ///
+    /// Returns `AllocError` if memory runs out.
+    pub(crate) fn new(alloc: Global, len: usize) -> Result<Forward, AllocError> {
+        let nowhere = Membership {
+            root: len,
+            order: 0,
+            toward: 0,
+            to_rank: 0,
+            from: len,
+            edge: 0,
+            from_rank: 0,
+        };
+        let memberships = vec![in alloc; nowhere; len]?;
+        let met = vec![in alloc; false; len]?;
+        Ok(Forward {
+            memberships,
+            left: Vec::new(alloc),
+            met,
+            path: Vec::new(alloc),
+        })
+    }
+
+    /// Follows an edge. Adds the node to which it leads to the path, unless it was visited before.
+    fn follow(&mut self, from: usize, edge: usize, to: usize) -> Result<(), AllocError> {
+        if !meets(&mut self.met, to) {
+            return Ok(());
+        }
+        let from_rank = self.path.len();
+        if let Some(membership) = self.memberships.get_mut(to) {
+            membership.from = from;
+            membership.edge = edge;
+            membership.from_rank = from_rank;
+        }
+        self.path.push(PathNode { node: to, next: 0 })?;
+        Ok(())
+    }
+
+    /// Follows the next edge of the last node on the path, or finishes the node.
+    fn step(&mut self, lists: &[Vec<usize>], frame: PathNode) -> Result<(), AllocError> {
+        let Some(list) = lists.get(frame.node) else {
+            return Ok(());
+        };
+        let Some(to) = list.get(frame.next) else {
+            self.left.push(frame.node)?;
+            return Ok(());
+        };
+        self.path.push(PathNode {
+            node: frame.node,
+            next: frame.next + 1,
+        })?;
+        self.follow(frame.node, frame.next, *to)
+    }
+
+    /// Continues until the path is empty, for at most `steps` steps.
+    fn finish(&mut self, lists: &[Vec<usize>], steps: usize) -> Result<(), AllocError> {
+        for _ in 0..steps {
+            let Some(frame) = self.path.pop() else {
+                return Ok(());
+            };
+            self.step(lists, frame)?;
+        }
+        Ok(())
+    }
+
+    /// Traverses the graph from each node that was not visited.
+    ///
+    /// # Errors
+    ///
+    /// Returns `AllocError` if memory runs out.
+    pub(crate) fn walk(&mut self, lists: &[Vec<usize>]) -> Result<(), AllocError> {
+        let steps = steps_along(lists);
+        for node in 0..lists.len() {
+            self.follow(node, 0, node)?;
+            self.finish(lists, steps)?;
+        }
+        Ok(())
+    }
+}

@@ -1,0 +1,270 @@
+//! The stages inside a type, and the steps that can follow at each. All modules of `table` and the
+//! reader of types use them.
+
+use logos_token::token::{Delimiter, Spacing, Span, Tokens};
+use logos_type::TypeToken;
+
+/// The kinds of paths.
+#[derive(Clone, Copy)]
+pub(crate) enum PathKind {
+    /// A type that has had no arguments yet, so that it can still be the name of a macro.
+    Plain,
+    /// A type, or the trait after `as`.
+    OfType,
+    /// A bound of a `dyn` type.
+    OfBound,
+}
+
+/// The kinds of positions at which a bound is expected.
+#[derive(Clone, Copy)]
+pub(crate) enum BoundKind {
+    /// In a list. `+` can join another bound if the flag is `true`.
+    Listed(bool),
+    /// In the parentheses of a bound in such a list.
+    Enclosed(bool),
+}
+
+/// The constructs before which `for<..>` is allowed.
+#[derive(Clone, Copy)]
+pub(crate) enum Binder {
+    OfFunction,
+    OfTrait(BoundKind),
+}
+
+/// A stage of reading a type: the construct before the spot.
+#[derive(Clone, Copy)]
+pub(crate) enum Stage {
+    /// After the last token.
+    End,
+    /// After a name of a path.
+    Named(PathKind),
+    /// After the arguments of a name.
+    Segments(PathKind),
+    /// After `::`. Arguments can follow if the flag is `true`.
+    Colons(PathKind, bool),
+    /// After `<`, or `,` among arguments.
+    Arguments(PathKind),
+    /// Between a name and `=`.
+    Equals(PathKind),
+    /// After that `=`.
+    Value(PathKind),
+    /// Between a name and `:` among arguments.
+    Constrained(PathKind),
+    /// In the braces that are an argument.
+    Braced(PathKind),
+    /// After an argument.
+    ArgumentEnd(PathKind),
+    /// After the `!` of a macro.
+    Macro,
+    /// After `(`, or `,`, in the parentheses of a path.
+    Inputs,
+    /// After a type in the parentheses of a path.
+    InputEnd,
+    /// After the parentheses of a path or of a function.
+    Output,
+    /// After the `<` at the start of a type.
+    SelfType,
+    /// After the type that follows the `<` at the start of a type.
+    SelfEnd,
+    /// After `as`.
+    SelfTrait,
+    /// After the path that follows `as`.
+    SelfTraitEnd,
+    /// After the `>` that ends `<T as P>`.
+    SelfClosed,
+    /// After `&` and its lifetime.
+    Referent,
+    /// After `*`.
+    Pointer,
+    /// After `mut`, `const` or `->`.
+    Target,
+    /// After `(`, or `,` in parentheses.
+    List,
+    /// After a type in parentheses.
+    ListEnd,
+    /// After `[`.
+    Element,
+    /// After a type in brackets.
+    ElementEnd,
+    /// After the `;` of an array.
+    Length,
+    /// After the tokens of an array's length.
+    LengthEnd,
+    /// Where a bound is expected.
+    Bound(bool),
+    /// After the `(` of a bound.
+    Question(bool),
+    /// Where the path of a bound is expected, with an optional `for<..>` before it.
+    Trait(BoundKind),
+    /// After the `for<..>` of a bound.
+    TraitPath(BoundKind),
+    /// After a bound.
+    BoundEnd(bool),
+    /// After the `+` that follows a bound.
+    Further,
+    /// After a path in the parentheses of a bound.
+    EnclosedEnd(bool),
+    /// After `for`.
+    For(Binder),
+    /// After the `<` that follows `for`, or after `,`.
+    ForList(Binder),
+    /// After a lifetime in `for<..>`.
+    ForEnd(Binder),
+    /// After the `for<..>` of a function.
+    Qualified,
+    /// After `unsafe`.
+    Unsafe,
+    /// After `extern`.
+    Extern,
+    /// After the literal that follows `extern`.
+    Linked,
+    /// After `fn`.
+    Function,
+    /// After `(`, or `,`, among the parameters of a function.
+    Taken,
+    /// Between a name and `:`.
+    Typed,
+    /// After that `:`.
+    TypedValue,
+    /// After one parameter of a function.
+    OneTaken,
+    /// After `...`.
+    Variadic,
+    /// After the `,` that follows `...`.
+    VariadicEnd,
+}
+
+/// The tokens after the open group, if a group is open.
+pub(crate) type Outside<'t, 's> = Option<Tokens<'t, 's>>;
+
+/// A spot inside a type: its stage, the tokens after it, and, if these are inside a group, the
+/// tokens after the group.
+#[derive(Clone, Copy)]
+pub(crate) struct Spot<'t, 's> {
+    pub stage: Stage,
+    pub run: Tokens<'t, 's>,
+    pub outside: Outside<'t, 's>,
+}
+
+/// The next step at a spot.
+#[derive(Clone, Copy)]
+pub(crate) enum TypeStep<'t, 's> {
+    /// Ends the construct that was begun.
+    End,
+    /// Takes this token.
+    Take(TypeToken<'s>, Spot<'t, 's>),
+    /// Takes this token, which occurs only in unsupported types.
+    Bar(TypeToken<'s>, Spot<'t, 's>),
+    /// Reads a type and continues at this stage. `+` can join bounds if the flag is `true`.
+    Need(bool, Stage),
+    /// Reads a type that is never replaced and continues at this stage.
+    KeepType(Stage),
+    /// Takes these tokens without reading types in them.
+    Keep(Tokens<'t, 's>, Spot<'t, 's>),
+    /// Takes this token, with which a path or bounds begin, reads the path or bounds from the spot
+    /// on, and continues at the stage.
+    Nest(TypeToken<'s>, Spot<'t, 's>, Stage),
+}
+
+/// The first token of a run.
+#[derive(Clone, Copy)]
+pub(crate) enum FrontToken {
+    /// None: the run has no tokens.
+    Nothing,
+    /// A name.
+    Word,
+    /// This character of punctuation, and its spacing.
+    Mark(char, Spacing),
+    /// A literal.
+    Literal,
+    /// A documentation comment.
+    Doc,
+    /// A group with these delimiters.
+    Group(Delimiter),
+}
+
+/// The tokens that a step takes from the front of a run.
+#[derive(Clone, Copy)]
+pub(crate) enum Prefix {
+    /// The name.
+    Word,
+    /// This character of punctuation.
+    Mark(char),
+    /// The literal.
+    Literal,
+    /// `::`
+    Colons,
+    /// `->`
+    Arrow,
+    /// `...`
+    Dots,
+    /// `&`
+    Reference,
+    /// `&` and a lifetime.
+    ReferenceLifetime,
+    /// `'` and a name, among the angle arguments of a path that is a type.
+    Lifetime,
+    /// `'` and a name elsewhere.
+    OtherLifetime,
+    /// The delimiters of the group.
+    Group(Delimiter),
+}
+
+/// The next action. It refers to no tokens, so it is equal for all runs that begin alike.
+#[derive(Clone, Copy)]
+pub(crate) enum TableEntry {
+    /// End the construct that was begun.
+    End,
+    /// Take these tokens and continue after them at this stage.
+    Take(Prefix, Stage),
+    /// Take these tokens, which occur only in unsupported types, and continue after them at this
+    /// stage.
+    Bar(Prefix, Stage),
+    /// Read a type and continue after it at this stage. `+` can join bounds if the flag is `true`.
+    Need(bool, Stage),
+    /// Read a type that is never replaced and continue after it at this stage.
+    KeepType(Stage),
+    /// Take all tokens without reading types in them and continue at this stage.
+    Keep(Stage),
+    /// Take these tokens, read the construct that begins with them from the first stage on, and
+    /// continue after it at the second stage.
+    Nest(Prefix, Stage, Stage),
+    /// Open the group and continue inside it at this stage.
+    Open(Stage),
+    /// Close the group and continue after it at this stage.
+    Close(Delimiter, Stage),
+}
+
+/// The beginning of a type: its first token, whether that token occurs only in unsupported types,
+/// and the spot after it.
+#[derive(Clone, Copy)]
+pub(crate) struct Beginning<'t, 's> {
+    pub barred: bool,
+    pub leaf: TypeToken<'s>,
+    pub spot: Spot<'t, 's>,
+}
+
+/// The beginning of a type, without its tokens.
+#[derive(Clone, Copy)]
+pub(crate) enum FirstEntry {
+    /// Begins with these tokens and continues at this stage. The flag is whether they occur only in
+    /// unsupported types.
+    Lead(bool, Prefix, Stage),
+    /// Begins with a group and continues inside it at this stage.
+    Open(Stage),
+}
+
+/// The reasons why no step fits.
+#[derive(Clone, Copy)]
+pub(crate) enum StepFault {
+    /// An unsupported type is at this span.
+    Unsupported(Span),
+    /// A token that does not fit is at this span.
+    Mismatch(Span),
+}
+
+/// The action at a spot, or the reason why none fits.
+pub(crate) type Next = Result<TableEntry, StepFault>;
+
+/// The beginning of a type, or the reason why no type begins.
+pub(crate) type First = Result<FirstEntry, StepFault>;

@@ -1,9 +1,0 @@
-use Rattle.std.proofs.Common.{◌≡◌}
-use Rattle.logos_walk.specs.Cursors.{IsMarkedBeside}
-use Rattle.logos_walk.proofs.masks.ChunkEntries.mark.Given as goal
-
-abbrev pub invariant-loop-word : goal.invariant-loop-word
-invariant-loop-word l = record {
-  marked : IsMarkedBeside l.word l.to l.self;
-  entries : l.self.entries ≡ l.initial.self.entries;
-}

@@ -1,0 +1,4 @@
+-- Definitions that contracts cite: those of lower crates.
+pub use Rattle.logos_enum.specs.AttributeValues.{attribute_value}
+pub use Rattle.logos_enum.specs.EnumValues.{enum_value, variant_value}
+pub use Rattle.logos_token.specs.Views.{tokens_of}

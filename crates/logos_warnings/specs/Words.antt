@@ -1,4 +1,0 @@
--- Definitions that clauses cite: of lower crates.
-pub use Rattle.logos_enum.specs.AttributeValues.{attribute_value}
-pub use Rattle.logos_enum.specs.EnumValues.{enum_value, variant_value}
-pub use Rattle.logos_token.specs.Views.{tokens_of}

@@ -1,0 +1,136 @@
+//! Entries of `derive` that name the derive macro and are ignored, since the enum is not found or
+//! the entry is unknown. Used by `logos_file_warnings`.
+
+use crate::warning_list::fixed_warning;
+use logos_report::Warning;
+use logos_token::error::Memory;
+use logos_token::token::{Delimiter, Span, TokenTree, Tokens};
+use logos_token::util::{after_word, begins_with};
+use std::alloc::{AllocError, Global};
+
+const MESSAGE: &str = "this derive of `Logos` is passed over";
+
+const HELP: &str =
+    "write `derive(Logos)` or `derive(logos::Logos)` on an enum outside of functions and macros";
+
+/// Returns a warning for each `derive` among the tokens of a file that lists the derive macro, by
+/// any path, and that is in none of these spans: those of the enums that are found to derive it, in
+/// order.
+///
+/// # Errors
+///
+/// Returns `Memory` if memory runs out.
+pub fn passed_over(
+    alloc: Global,
+    tokens: Tokens<'_, '_>,
+    found: &[Span],
+) -> Result<Vec<Warning>, Memory> {
+    let mut derives = Vec::new(alloc);
+    search_run(tokens, &mut derives)?;
+    Ok(warnings_of(alloc, &derives, found)?)
+}
+
+/// Returns the warnings for the spans that are outside of the spans `found`. Both are in order.
+fn warnings_of(
+    alloc: Global,
+    derives: &[Span],
+    found: &[Span],
+) -> Result<Vec<Warning>, AllocError> {
+    let mut warnings = Vec::new(alloc);
+    let mut left = found;
+    for span in derives {
+        left = from_offset(left, span.from);
+        if !begins_before(left, span.from) {
+            warnings.push(fixed_warning(alloc, MESSAGE, *span, Some(HELP))?)?;
+        }
+    }
+    Ok(warnings)
+}
+
+/// Returns the spans without the leading ones that end at or before an offset.
+fn from_offset(found: &[Span], offset: usize) -> &[Span] {
+    let mut left = found;
+    while let [first, rest @ ..] = left {
+        if first.to > offset {
+            return left;
+        }
+        left = rest;
+    }
+    left
+}
+
+/// Returns whether the first of these spans begins at or before an offset.
+fn begins_before(found: &[Span], offset: usize) -> bool {
+    match found.first() {
+        Some(span) => span.from <= offset,
+        None => false,
+    }
+}
+
+/// Appends the spans of all lists of `derive` in a run that contain the derive macro.
+#[cycle(search)]
+fn search_run(run: Tokens<'_, '_>, found: &mut Vec<Span>) -> Result<(), AllocError> {
+    let mut rest = run;
+    while !rest.is_empty() {
+        search_first(rest, found)?;
+        rest = rest.rest();
+    }
+    Ok(())
+}
+
+/// Appends the span of such a list at the beginning of a run, and the spans in a group there.
+#[cycle(search)]
+fn search_first(run: Tokens<'_, '_>, found: &mut Vec<Span>) -> Result<(), AllocError> {
+    add_derive(run, found)?;
+    match run.first() {
+        Some(TokenTree::Group(group)) => search_run(group.run(), found),
+        _ => Ok(()),
+    }
+}
+
+/// Appends the span of a list of `derive` at the beginning of a run, if it contains the derive
+/// macro.
+fn add_derive(run: Tokens<'_, '_>, found: &mut Vec<Span>) -> Result<(), AllocError> {
+    let Some(rest) = after_word("derive", run) else {
+        return Ok(());
+    };
+    match rest.first() {
+        Some(tree) if is_list(tree) => {
+            found.push(Span {
+                from: run.span().from,
+                to: tree.span().to,
+            })?;
+            Ok(())
+        }
+        _ => Ok(()),
+    }
+}
+
+/// Returns whether a token is a list in parentheses that contains the derive macro.
+fn is_list(tree: TokenTree<'_, '_>) -> bool {
+    match tree {
+        TokenTree::Group(group) => (group.delimiter == Delimiter::Parenthesis)
+            & lists_macro(group.run()),
+        _ => false,
+    }
+}
+
+/// Returns whether an entry of a list ends with `Logos`.
+fn lists_macro(list: Tokens<'_, '_>) -> bool {
+    let mut rest = list;
+    while !rest.is_empty() {
+        if ends_with_macro(rest) {
+            return true;
+        }
+        rest = rest.rest();
+    }
+    false
+}
+
+/// Returns whether a run begins with `Logos` and the end of an entry.
+fn ends_with_macro(run: Tokens<'_, '_>) -> bool {
+    match after_word("Logos", run) {
+        Some(rest) => rest.is_empty() | begins_with(',', rest),
+        None => false,
+    }
+}

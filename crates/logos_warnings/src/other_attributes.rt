@@ -1,0 +1,102 @@
+//! Attributes of an enum and of its variants that a lexer ignores for reasons other than their
+//! names: those of older lexers, and those under a condition. Used by `messages`.
+
+use crate::attributes::name_of;
+use crate::helper::is_helper_name;
+use crate::warning_list::fixed_warning;
+use logos_enum::{Attribute, ItemEnum, split_attribute};
+use logos_report::Warning;
+use logos_token::token::{Span, TokenTree, Tokens};
+use std::alloc::AllocError;
+
+const END: &str = "`end` has no effect: at the end of its input a lexer gives `None`";
+
+const END_HELP: &str = "remove the attribute, and the variant if it has no pattern";
+
+const CONDITION: &str = "the attribute in this `cfg_attr` is passed over";
+
+const CONDITION_HELP: &str = "write it alone, or derive the lexer in place";
+
+/// Adds the warnings for attributes that the lexer of an enum ignores, in source order.
+pub(crate) fn add_others(
+    item: &ItemEnum<'_, '_>,
+    warnings: &mut Vec<Warning>,
+) -> Result<(), AllocError> {
+    add_run(item.attributes, false, warnings)?;
+    for variant in &item.variants {
+        add_run(variant.attributes, true, warnings)?;
+    }
+    Ok(())
+}
+
+/// Adds the warnings for the attributes of a run, which is on the enum or on a variant.
+fn add_run(
+    run: Tokens<'_, '_>,
+    is_variant: bool,
+    warnings: &mut Vec<Warning>,
+) -> Result<(), AllocError> {
+    let mut rest = run;
+    while let Some((attribute, next)) = split_attribute(rest) {
+        add_attribute(attribute, is_variant, warnings)?;
+        rest = next;
+    }
+    Ok(())
+}
+
+/// Adds the warning for an attribute, if it has one.
+fn add_attribute(
+    attribute: Attribute<'_, '_>,
+    is_variant: bool,
+    warnings: &mut Vec<Warning>,
+) -> Result<(), AllocError> {
+    match name_of(attribute) {
+        Some("end") if is_variant => add(END, END_HELP, attribute.span, warnings),
+        Some("cfg_attr") if hides_helper(attribute) => {
+            add(CONDITION, CONDITION_HELP, attribute.span, warnings)
+        }
+        _ => Ok(()),
+    }
+}
+
+/// Adds a warning.
+fn add(
+    message: &str,
+    help: &'static str,
+    span: Span,
+    warnings: &mut Vec<Warning>,
+) -> Result<(), AllocError> {
+    let alloc = *warnings.allocator();
+    warnings.push(fixed_warning(alloc, message, span, Some(help))?)?;
+    Ok(())
+}
+
+/// Returns whether the list of an attribute contains a helper attribute.
+fn hides_helper(attribute: Attribute<'_, '_>) -> bool {
+    match attribute.inside {
+        Some(tokens) => match tokens.rest().first() {
+            Some(TokenTree::Group(group)) => has_helper_call(group.run()),
+            _ => false,
+        },
+        None => false,
+    }
+}
+
+/// Returns whether a run contains the name of a helper attribute, followed by a group.
+fn has_helper_call(run: Tokens<'_, '_>) -> bool {
+    let mut rest = run;
+    while !rest.is_empty() {
+        if begins_helper_call(rest) {
+            return true;
+        }
+        rest = rest.rest();
+    }
+    false
+}
+
+/// Returns whether a run begins with the name of a helper attribute and a group.
+fn begins_helper_call(run: Tokens<'_, '_>) -> bool {
+    match (run.first(), run.rest().first()) {
+        (Some(TokenTree::Ident(name)), Some(TokenTree::Group(_))) => is_helper_name(name.text),
+        _ => false,
+    }
+}

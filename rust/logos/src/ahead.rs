@@ -1,0 +1,204 @@
+//! The items that a lexer has found ahead of its own offset: tokens of a part of a chunk, or none.
+//!
+//! The loop of `run` takes these tokens. The functions that it calls in this module take and return
+//! the whole state by value, so that a loop over tokens can keep its lexer in registers.
+
+use crate::folded::Folded;
+use crate::internal::Tables;
+use crate::walk::{new_room, Room};
+use crate::{Span, Way};
+
+/// The number of bytes that are lexed without looking ahead after a lexer is made. A lexer, or a
+/// clone of one, from which only a few tokens are taken walks over no chunk.
+const HESITATES: usize = 512;
+/// The number of remaining bytes from which on a lexer begins to look ahead.
+const BEGINS: usize = 7168;
+/// The number of remaining bytes from which on a lexer that looks ahead continues to do so.
+const FEWEST: usize = 2048;
+
+/// The items that a lexer has found ahead of its own offset. The value is small, so that it can be
+/// kept in registers.
+pub(crate) struct Ahead {
+    /// The tokens of the room's word that are left: a bit for each byte before which one ends.
+    tokens: u64,
+    /// Up to this byte offset, match attempts find the items.
+    plain_to: usize,
+    room: Option<Room>,
+}
+
+/// The next step of a lexer whose word has no more tokens.
+pub(crate) enum Next {
+    /// By the word.
+    Word,
+    /// By match attempts, from a byte offset on.
+    Attempts(usize),
+    /// By a match of the leaf with this number, or an error if no leaf has it.
+    Match(usize, Span),
+    /// There is no further item of a part after this byte offset.
+    End(usize),
+}
+
+impl Ahead {
+    /// No item is found ahead, and none will be.
+    pub(crate) const NONE: Ahead = Ahead {
+        tokens: 0,
+        plain_to: usize::MAX,
+        room: None,
+    };
+
+    /// Returns the state at a byte offset of an input that has `len` bytes.
+    #[inline(always)]
+    pub(crate) fn new(from: usize, len: usize) -> Ahead {
+        let is_short = len.wrapping_sub(from) < BEGINS + HESITATES;
+        let plain_to = if is_short {
+            usize::MAX
+        } else {
+            from + HESITATES
+        };
+        Ahead {
+            plain_to,
+            ..Ahead::NONE
+        }
+    }
+
+    /// Returns the state at a byte offset of an input that has `len` bytes, for a lexer that looks
+    /// ahead in the same way as this one.
+    #[inline(always)]
+    pub(crate) fn anew(&self, from: usize, len: usize) -> Ahead {
+        match &self.room {
+            Some(room) if room.way != Way::ByRule => Ahead::by_way(room.way),
+            None if self.plain_to == usize::MAX => Ahead::NONE,
+            _ => Ahead::new(from, len),
+        }
+    }
+
+    /// Returns the state of a lexer that looks ahead in another way than the default one.
+    #[cold]
+    pub(crate) fn by_way(way: Way) -> Ahead {
+        Ahead {
+            plain_to: 0,
+            room: Some(new_room(way)),
+            ..Ahead::NONE
+        }
+    }
+
+    /// Forgets the word, since the lexer was moved.
+    pub(crate) fn forget(&mut self) {
+        self.tokens = 0;
+        if let Some(room) = &mut self.room {
+            room.is_moved = true;
+        }
+    }
+
+    /// Returns whether the item after a byte offset is found by a match attempt.
+    #[inline(always)]
+    pub(crate) fn is_plain(&self, end: usize) -> bool {
+        end < self.plain_to
+    }
+
+    /// Returns the leaf and the span of the next token of the word.
+    #[inline(always)]
+    pub(crate) fn token(&self) -> Option<(usize, Span)> {
+        if self.tokens == 0 {
+            return None;
+        }
+        self.room.as_ref()?.token(self.tokens)
+    }
+
+    /// Skips the next token of the word.
+    #[inline(always)]
+    pub(crate) fn pass(&mut self) {
+        self.tokens &= self.tokens.wrapping_sub(1);
+    }
+
+    /// Moves to the next word of the chunk, if there is one.
+    #[inline(always)]
+    pub(crate) fn next_word(&mut self) -> bool {
+        let next = self.room.as_mut().and_then(|room| room.next_word());
+        self.tokens = next.unwrap_or(0);
+        next.is_some()
+    }
+
+    /// Takes the state out, and leaves `NONE`.
+    #[inline(always)]
+    pub(crate) fn take(&mut self) -> Ahead {
+        core::mem::replace(self, Ahead::NONE)
+    }
+
+    #[inline(always)]
+    fn next<'s, T: Tables<'s>>(&mut self, bytes: &[u8], end: usize) -> Next {
+        let was_plain = core::mem::replace(&mut self.plain_to, 0) != 0;
+        let room = match &mut self.room {
+            Some(room) => room,
+            // The lexer has not looked ahead yet.
+            room if bytes.len().saturating_sub(end) >= BEGINS && T::HAS_ROWS => {
+                room.insert(new_room(Way::ByRule))
+            }
+            _ => return self.attempts(end, usize::MAX),
+        };
+        if was_plain {
+            room.begin_anew(end, T::ROOT);
+        } else if room.is_moved {
+            self.tokens = room.begin_at::<T>(bytes, end);
+            if !room.is_empty() {
+                return Next::Word;
+            }
+        } else if let Some(cut) = room.cut() {
+            // The match may have moved the lexer: the walk begins at its offset after that.
+            let start = room.word.last_end();
+            let (leaf, end) = room.found_at::<T>(bytes, cut, start);
+            room.is_moved = true;
+            return Next::Match(leaf, start..end);
+        }
+        T::refill(self, bytes)
+    }
+
+    /// Walks over the next chunk, if that saves time.
+    #[inline(always)]
+    fn refill<'s, T: Tables<'s>>(&mut self, bytes: &[u8]) -> Next {
+        let Some(room) = &mut self.room else {
+            return Next::End(0);
+        };
+        let (start, way) = (room.word.last_end(), room.way);
+        let least = if way == Way::ByRule { FEWEST } else { 1 };
+        if bytes.len().saturating_sub(room.end()) < least || !T::HAS_ROWS {
+            if way == Way::Part {
+                room.begin_anew(start, T::ROOT);
+                return Next::End(start);
+            }
+            return self.attempts(start, usize::MAX);
+        }
+        self.tokens = room.walk::<T>(bytes, start);
+        match room.plain_to() {
+            Some(to) if way == Way::ByRule => self.attempts(start, to),
+            _ => Next::Word,
+        }
+    }
+
+    /// Lets match attempts find the items from one byte offset to another.
+    fn attempts(&mut self, from: usize, to: usize) -> Next {
+        self.forget();
+        self.plain_to = to;
+        Next::Attempts(from)
+    }
+}
+
+/// The functions that are called out of line. They are functions of the enum, so that the compiler
+/// places them next to its `lex`, and each table once in a program.
+pub(crate) trait Looks<'source>: Tables<'source> {
+    /// Determines how a lexer continues after the last item, which ended at a byte offset.
+    #[inline(never)]
+    fn go_on(mut ahead: Ahead, bytes: &[u8], end: usize) -> (Ahead, Next) {
+        let next = ahead.next::<Self>(bytes, end);
+        (ahead, next)
+    }
+
+    /// See [`Ahead::refill`].
+    #[cold]
+    #[inline(never)]
+    fn refill(ahead: &mut Ahead, bytes: &[u8]) -> Next {
+        ahead.refill::<Self>(bytes)
+    }
+}
+
+impl<'source, T: Tables<'source>> Looks<'source> for T {}

@@ -1,0 +1,27 @@
+//! The items that a lexer has found ahead of its own offset, for builds without memory to look
+//! ahead: none.
+
+use crate::Way;
+
+/// The setting when the lexer looks ahead, which has no effect here.
+pub(crate) struct Ahead {
+    pub(crate) way: Way,
+}
+
+impl Ahead {
+    pub(crate) fn new(_from: usize, _len: usize) -> Ahead {
+        Ahead::by_way(Way::ByRule)
+    }
+
+    pub(crate) fn anew(&self, _from: usize, _len: usize) -> Ahead {
+        Ahead { way: self.way }
+    }
+
+    pub(crate) const NONE: Ahead = Ahead { way: Way::Never };
+
+    pub(crate) fn by_way(way: Way) -> Ahead {
+        Ahead { way }
+    }
+
+    pub(crate) fn forget(&mut self) {}
+}

@@ -1,0 +1,328 @@
+//! The tables of a lexer in the form of generated code, and their unpacked form.
+
+use crate::internal::Tables;
+use crate::loops::Mask;
+
+/// The symbols: each byte, and the end of the input.
+pub(crate) const SYMBOLS: usize = 257;
+/// The symbol for the end of the input.
+pub(crate) const END: usize = 256;
+/// The maximum number of states for which a row has an entry for each byte.
+const FEW: usize = 300;
+/// The number of columns of such a row. At a distance of a power of two, the entries of a byte in
+/// all rows would share a few cache lines.
+const BYTES: usize = 272;
+
+/// Numbers: the size of each in bytes, and all of them one after another, with the lowest byte
+/// first.
+pub type Numbers = (usize, &'static [u8]);
+
+/// The tables of a lexer in the form of generated code.
+///
+/// A symbol is a byte, or the end of the input. Symbols of one class have the same step in each
+/// state. A state has a row with a step for each class. A step is 0 if it leads to no state, 1 if
+/// the byte stays in the state, otherwise 2 plus the next state.
+#[derive(Clone, Copy)]
+pub struct Data {
+    /// The state in which each match attempt begins.
+    pub root: usize,
+    /// The number of classes.
+    pub width: usize,
+    /// The number of symbols in each run of symbols of one class.
+    pub class_lengths: Numbers,
+    /// The class of each such run.
+    pub classes: Numbers,
+    /// The number of equal steps in each run of the concatenated rows.
+    pub lengths: Numbers,
+    /// The step of each run.
+    pub steps: Numbers,
+    /// The row of each state.
+    pub rows: Numbers,
+    /// The mark of each state: 0 if it has none, otherwise 2 plus twice the leaf of a match that
+    /// ends there, plus 1 if the match ends one byte before.
+    pub marks: Numbers,
+    /// For each leaf 1 if its matches are skipped without a callback, otherwise 0.
+    pub skips: Numbers,
+}
+
+/// Consecutive equal steps.
+#[derive(Clone, Copy)]
+pub(crate) struct Run {
+    pub(crate) length: usize,
+    pub(crate) step: usize,
+}
+
+/// A row of steps.
+#[derive(Clone, Copy)]
+pub(crate) struct Row {
+    /// The run that has the first step, and the number of steps of that run that belong to earlier
+    /// rows.
+    pub(crate) run: usize,
+    pub(crate) passed: usize,
+    /// Whether a step leads to a state.
+    pub(crate) leads: bool,
+    /// The number of bytes that stay.
+    pub(crate) staying: u16,
+    /// The number of earlier rows in which a byte stays.
+    pub(crate) number: usize,
+}
+
+/// The tables of a lexer, unpacked. They exist only at compile time.
+pub struct Unpacked<const STATES: usize, const RUNS: usize> {
+    pub(crate) data: Data,
+    /// The class of each symbol.
+    pub(crate) classes: [u16; SYMBOLS],
+    pub(crate) runs: [Run; RUNS],
+    /// The row of each state.
+    pub(crate) rows: [Row; STATES],
+    /// The mark of each state.
+    pub(crate) marks: [u32; STATES],
+    /// The number of distinct rows in which a byte stays.
+    pub(crate) loops: usize,
+}
+
+/// The values of the constants of a lexer. Each is made from the enum, and not from another
+/// constant: when rustc checks a package it evaluates the constants that a constant names, but it
+/// evaluates these only in builds.
+///
+/// # Panics
+///
+/// Each function panics if a number is not that of the tables.
+impl<const STATES: usize, const RUNS: usize> Unpacked<STATES, RUNS> {
+    /// Returns the tables of a lexer, unpacked.
+    pub const fn new<'source, T: Tables<'source>>() -> Self {
+        T::DATA.unpacked()
+    }
+
+    /// Returns the rows of a lexer: an entry for each state and each of its columns, and 256 more
+    /// entries.
+    pub const fn rows<'source, T, const N: usize>() -> [u32; N]
+    where
+        T: Tables<'source, Unpacked = Self>,
+    {
+        T::UNPACKED.all_rows()
+    }
+
+    /// Returns the last match in each state of a lexer.
+    pub const fn lasts<'source, T>() -> [u32; STATES]
+    where
+        T: Tables<'source, Unpacked = Self>,
+    {
+        T::UNPACKED.all_lasts()
+    }
+
+    /// Returns the masks of the loops of a lexer. Their number is a power of two.
+    pub const fn masks<'source, T, const LOOPS: usize>() -> [Mask; LOOPS]
+    where
+        T: Tables<'source, Unpacked = Self>,
+    {
+        T::UNPACKED.all_masks()
+    }
+
+    /// Returns the folded tables of a lexer.
+    pub const fn folded<'source, T, const N: usize>() -> [u32; N]
+    where
+        T: Tables<'source, Unpacked = Self>,
+    {
+        T::UNPACKED.all_folded(T::LASTS)
+    }
+}
+
+/// Returns the number of numbers.
+const fn count(numbers: &Numbers) -> usize {
+    numbers.1.len() / numbers.0
+}
+
+/// Returns a number.
+const fn number(numbers: &Numbers, n: usize) -> usize {
+    let (size, bytes) = *numbers;
+    let (mut number, mut at) = (0, size * (n + 1));
+    while at > size * n {
+        at -= 1;
+        number = number << 8 | bytes[at] as usize;
+    }
+    number
+}
+
+impl Data {
+    /// The tables of a refused enum. No constant can be made from them.
+    pub const NOTHING: Data = Data {
+        root: 0,
+        width: 0,
+        class_lengths: (1, &[]),
+        classes: (1, &[]),
+        lengths: (1, &[]),
+        steps: (1, &[]),
+        rows: (1, &[]),
+        marks: (1, &[]),
+        skips: (1, &[]),
+    };
+
+    /// Returns the number of states.
+    pub(crate) const fn states(&self) -> usize {
+        count(&self.rows)
+    }
+
+    /// Returns the number of leaves.
+    pub(crate) const fn leaves(&self) -> usize {
+        count(&self.skips)
+    }
+
+    /// Returns whether a row has an entry for each byte instead of for each class.
+    pub(crate) const fn by_bytes(&self) -> bool {
+        self.states() <= FEW
+    }
+
+    /// Returns the number of columns of a row: one for each byte, or one for each class and `more`
+    /// others.
+    pub(crate) const fn columns(&self, more: usize) -> usize {
+        if self.by_bytes() {
+            BYTES
+        } else {
+            self.width + more
+        }
+    }
+
+    /// Returns the mark of a state.
+    pub(crate) const fn mark(&self, state: usize) -> usize {
+        number(&self.marks, state)
+    }
+
+    /// Returns whether the matches of a leaf are skipped without a callback.
+    pub(crate) const fn skips(&self, leaf: usize) -> bool {
+        number(&self.skips, leaf) == 1
+    }
+
+    /// Returns the class of each symbol.
+    pub(crate) const fn classes(&self) -> [u16; SYMBOLS] {
+        let (mut classes, mut symbol, mut run) = ([0; SYMBOLS], 0, 0);
+        assert!(count(&self.class_lengths) == count(&self.classes));
+        while run < count(&self.classes) {
+            let end = symbol + number(&self.class_lengths, run);
+            let class = number(&self.classes, run);
+            assert!(class < self.width, "a class is one of a row");
+            while symbol < end {
+                classes[symbol] = class as u16;
+                symbol += 1;
+            }
+            run += 1;
+        }
+        assert!(symbol == SYMBOLS, "each symbol has a class");
+        classes
+    }
+
+    /// Returns the tables unpacked.
+    ///
+    /// # Panics
+    ///
+    /// Panics if these are not the numbers of the states and of the runs, or if the tables name a
+    /// class, a row, a state or a leaf that does not exist.
+    const fn unpacked<const STATES: usize, const RUNS: usize>(&self) -> Unpacked<STATES, RUNS> {
+        assert!(STATES == self.states() && STATES == count(&self.marks));
+        let (classes, runs) = (self.classes(), self.runs());
+        let (distinct, height, loops) = self.distinct(&runs, &bytes_before(&classes));
+        let (mut rows, mut marks, mut state) = (distinct, [0; STATES], 0);
+        while state < STATES {
+            let (row, mark) = (number(&self.rows, state), self.mark(state));
+            assert!(row < height, "the row of a state is there");
+            assert!(mark / 2 <= self.leaves(), "the leaf of a mark is there");
+            rows[state] = distinct[row];
+            marks[state] = mark as u32;
+            state += 1;
+        }
+        assert!(self.root < STATES, "the first state is there");
+        Unpacked {
+            data: *self,
+            classes,
+            runs,
+            rows,
+            marks,
+            loops,
+        }
+    }
+
+    const fn runs<const RUNS: usize>(&self) -> [Run; RUNS] {
+        assert!(RUNS == count(&self.lengths) && RUNS == count(&self.steps));
+        let (mut runs, mut n) = ([Run { length: 0, step: 0 }; RUNS], 0);
+        let ((long, lengths), (size, steps)) = (self.lengths, self.steps);
+        let (mut at, past) = (0, self.states() + 2);
+        // There are many runs, and the compiler takes long for each call. Therefore short numbers
+        // are read here.
+        while n < RUNS {
+            let length = match long {
+                1 => lengths[n] as usize,
+                _ => number(&self.lengths, n),
+            };
+            let step = match size {
+                1 => steps[at] as usize,
+                2 => steps[at] as usize | (steps[at + 1] as usize) << 8,
+                _ => number(&self.steps, n),
+            };
+            if step >= past {
+                panic!("the next state is there");
+            }
+            runs[n] = Run { length, step };
+            (n, at) = (n + 1, at + size);
+        }
+        runs
+    }
+
+    /// Returns the distinct rows, their number, and the number of those in which a byte stays.
+    const fn distinct<const STATES: usize>(
+        &self,
+        runs: &[Run],
+        before: &[u16; SYMBOLS + 1],
+    ) -> ([Row; STATES], usize, usize) {
+        let (mut run, mut passed, mut height, mut number) = (0, 0, 0, 0);
+        let width = self.width;
+        let mut rows = [Row {
+            run,
+            passed,
+            leads: false,
+            staying: 0,
+            number,
+        }; STATES];
+        while run < runs.len() {
+            let (mut leads, mut staying, mut class) = (false, 0, 0);
+            let first = (run, passed);
+            while class < width {
+                let Run { length, step } = runs[run];
+                let (mut end, next) = (class + length - passed, run + 1);
+                if end > width {
+                    (end, passed) = (width, passed + width - class);
+                } else {
+                    (run, passed) = (next, 0);
+                }
+                leads |= step != 0;
+                if step == 1 {
+                    staying += before[end] - before[class];
+                }
+                class = end;
+            }
+            rows[height] = Row {
+                run: first.0,
+                passed: first.1,
+                leads,
+                staying,
+                number,
+            };
+            number += (staying > 0) as usize;
+            height += 1;
+        }
+        (rows, height, number)
+    }
+}
+
+/// Returns the number of bytes in the classes before each one.
+const fn bytes_before(classes: &[u16; SYMBOLS]) -> [u16; SYMBOLS + 1] {
+    let (mut before, mut byte, mut class) = ([0; SYMBOLS + 1], 0, 0);
+    while byte < END {
+        before[classes[byte] as usize + 1] += 1;
+        byte += 1;
+    }
+    while class < SYMBOLS {
+        before[class + 1] += before[class];
+        class += 1;
+    }
+    before
+}

@@ -1,0 +1,287 @@
+//! The loops over bytes that stay in a state: their tables, and the search for the end of the
+//! bytes.
+
+use crate::data::{Unpacked, END, SYMBOLS};
+use crate::internal::Tables;
+
+/// For each byte 0 if it stays. Otherwise entry `k` has only bit `k`, so that eight bytes add up to
+/// the set of those that do not stay.
+pub type Mask = [[u8; 8]; 256];
+
+#[derive(Clone, Copy)]
+#[repr(align(16))]
+struct Bytes([u8; 16]);
+
+/// The ranges of the bytes that stay: their lowest bytes, and the distances of the highest ones
+/// from these, each sixteen times.
+#[derive(Clone, Copy)]
+struct Range {
+    lowest: Bytes,
+    length: Bytes,
+}
+/// The maximum number of ranges that a search by ranges compares with.
+const MOST_RANGES: usize = 4;
+
+/// The ranges of the bytes that stay, and their number. If there are fewer than [`MOST_RANGES`],
+/// the first one is repeated.
+pub struct Ranges([Range; MOST_RANGES], usize);
+
+impl<const STATES: usize, const RUNS: usize> Unpacked<STATES, RUNS> {
+    /// Returns the masks of all loops. Their number is a power of two, and there is at least one.
+    ///
+    /// # Panics
+    ///
+    /// Panics if this is not the number of masks for all loops.
+    pub(crate) const fn all_masks<const LOOPS: usize>(&self) -> [Mask; LOOPS] {
+        assert!(LOOPS >= self.loops && LOOPS.is_power_of_two());
+        let (mut masks, mut done, mut state) = ([[EACH; 256]; LOOPS], 0, 0);
+        while state < STATES {
+            let row = &self.rows[state];
+            if row.staying > 0 && row.number == done {
+                masks[done] = self.mask(row.run, row.passed);
+                done += 1;
+            }
+            state += 1;
+        }
+        assert!(done == self.loops, "each row is that of a state");
+        masks
+    }
+
+    /// Returns the mask of a row.
+    const fn mask(&self, run: usize, passed: usize) -> Mask {
+        let (mut stays, mut class, mut run, mut passed) = ([false; SYMBOLS], 0, run, passed);
+        while class < self.data.width {
+            let end = class + self.runs[run].length - passed;
+            while class < end && class < self.data.width {
+                stays[class] = self.runs[run].step == 1;
+                class += 1;
+            }
+            (run, passed) = (run + 1, 0);
+        }
+        let (mut mask, mut byte) = ([EACH; 256], 0);
+        while byte < END {
+            if stays[self.classes[byte] as usize] {
+                mask[byte] = [0; 8];
+            }
+            byte += 1;
+        }
+        mask
+    }
+}
+
+/// The masks with one bit.
+const EACH: [u8; 8] = [1, 2, 4, 8, 16, 32, 64, 128];
+
+impl Ranges {
+    /// Returns the ranges of all masks of a lexer.
+    ///
+    /// # Panics
+    ///
+    /// Panics if this is not the number of the masks.
+    pub const fn of<'source, T: Tables<'source>, const LOOPS: usize>() -> [Ranges; LOOPS] {
+        let masks = T::MASKS;
+        assert!(LOOPS == masks.len());
+        let (mut ranges, mut n) = ([NONE; LOOPS], 0);
+        while n < LOOPS {
+            ranges[n] = Ranges::in_mask(&masks[n]);
+            n += 1;
+        }
+        ranges
+    }
+
+    const fn in_mask(mask: &Mask) -> Ranges {
+        let (mut lowest, mut length, mut count, mut byte) = ([0; 129], [0; 129], 0, 0);
+        while byte < 256 {
+            if mask[byte][0] == 0 {
+                if byte == 0 || mask[byte - 1][0] != 0 {
+                    lowest[count] = byte as u8;
+                    count += 1;
+                }
+                length[count - 1] = byte as u8 - lowest[count - 1];
+            }
+            byte += 1;
+        }
+        let (mut ranges, mut n) = (NONE, 0);
+        ranges.1 = count;
+        while n < MOST_RANGES {
+            let of = if n < count { n } else { 0 };
+            ranges.0[n] = Range {
+                lowest: Bytes([lowest[of]; 16]),
+                length: Bytes([length[of]; 16]),
+            };
+            n += 1;
+        }
+        ranges
+    }
+
+    /// Returns the maximum number of ranges of a loop that a search by ranges compares with.
+    pub(crate) const fn most(all: &[Ranges]) -> usize {
+        let (mut most, mut n) = (1, 0);
+        while n < all.len() {
+            if all[n].1 > most && all[n].1 <= MOST_RANGES {
+                most = all[n].1;
+            }
+            n += 1;
+        }
+        most
+    }
+}
+
+const NONE: Ranges = {
+    let none = Bytes([0; 16]);
+    let range = Range {
+        lowest: none,
+        length: none,
+    };
+    Ranges([range; MOST_RANGES], 0)
+};
+
+/// Returns the bits of a block. The sum of distinct bits is their union, and keeps the compiler
+/// from making one long chain of all eight.
+#[inline(always)]
+fn bits(mask: &Mask, block: &[u8; 8]) -> u8 {
+    let low = mask[block[0] as usize][0] | mask[block[1] as usize][1];
+    let low = low.wrapping_add(mask[block[2] as usize][2] | mask[block[3] as usize][3]);
+    let high = mask[block[4] as usize][4] | mask[block[5] as usize][5];
+    let high = high.wrapping_add(mask[block[6] as usize][6] | mask[block[7] as usize][7]);
+    low | high
+}
+
+/// Returns for each byte of a block its distance from the end of the nearest of `most` ranges
+/// before it, and 0 if it stays. Compilers vectorize these loops.
+#[inline(always)]
+fn past(ranges: &Ranges, most: usize, block: &[u8; 16]) -> u128 {
+    let (mut past, mut k) = ([0u8; 16], 0);
+    while k < 16 {
+        let (mut least, mut n) = (255u8, 0);
+        while n < most {
+            let Range { lowest, length } = &ranges.0[n];
+            let far = block[k]
+                .wrapping_sub(lowest.0[k])
+                .saturating_sub(length.0[k]);
+            least = if far < least { far } else { least };
+            n += 1;
+        }
+        past[k] = least;
+        k += 1;
+    }
+    u128::from_le_bytes(past)
+}
+
+/// Searches for the end of the bytes that stay. These are functions of the enum, so that the
+/// compiler puts them beside its loop.
+pub(crate) trait Loops<'source>: Tables<'source> {
+    /// The maximum number of ranges that a search by ranges compares with.
+    const MOST: usize = Ranges::most(Self::RANGES);
+    /// The bit mask for the number of a loop.
+    const LOOP: usize = Self::MASKS.len() - 1;
+    /// Whether the compiler vectorizes loops over 16 bytes.
+    const VECTORS: bool = option_env!("LOGOS_VECTORS").is_some()
+        && cfg!(any(target_feature = "sse2", target_feature = "neon"));
+
+    /// Returns whether a byte stays, according to the loop with this number.
+    #[inline(always)]
+    fn stays(number: usize, byte: u8) -> bool {
+        Self::MASKS[number & Self::LOOP][byte as usize][0] == 0
+    }
+
+    /// Returns the position from `from` on of the first byte that does not stay, according to the
+    /// loop with this number, or the end of the input. The part after the first bytes is out of
+    /// line, so that the loop over match attempts has all registers.
+    #[inline(always)]
+    fn stop(number: usize, bytes: &[u8], from: usize) -> usize {
+        let Some(rest) = bytes.get(from..) else {
+            return from;
+        };
+        let mask = &Self::MASKS[number & Self::LOOP];
+        let Some(block) = rest.first_chunk::<8>() else {
+            return Self::stop_late(number, bytes, from);
+        };
+        let bits = bits(mask, block);
+        if bits == 0 {
+            return Self::stop_far(number, bytes, from + 8);
+        }
+        from + bits.trailing_zeros() as usize
+    }
+
+    /// Like [`Loops::stop`], for bytes after the first ones. Each of the first four loops has its
+    /// own function, chosen by a branch, so that the search does not wait for a table load.
+    #[inline(never)]
+    fn stop_far(number: usize, bytes: &[u8], from: usize) -> usize {
+        match number {
+            0 => Self::stop_by::<0>(bytes, from),
+            1 => Self::stop_by::<1>(bytes, from),
+            2 => Self::stop_by::<2>(bytes, from),
+            3 => Self::stop_by::<3>(bytes, from),
+            _ => Self::stop_by_loop(number, bytes, from),
+        }
+    }
+
+    #[inline(never)]
+    fn stop_by<const NUMBER: usize>(bytes: &[u8], from: usize) -> usize {
+        Self::stop_by_loop(NUMBER, bytes, from)
+    }
+
+    #[inline(always)]
+    fn stop_by_loop(number: usize, bytes: &[u8], from: usize) -> usize {
+        let Some(mut rest) = bytes.get(from..) else {
+            return from;
+        };
+        let ranges = &Self::RANGES[number & Self::LOOP];
+        if !Self::VECTORS || ranges.1 > Self::MOST {
+            return Self::stop_by_masks(number, bytes, from);
+        }
+        while let Some((blocks, tail)) = rest.split_first_chunk::<32>() {
+            let (Some(first), Some(last)) = (blocks.first_chunk(), blocks.last_chunk()) else {
+                break;
+            };
+            let first = past(ranges, Self::MOST, first);
+            let last = past(ranges, Self::MOST, last);
+            let at = bytes.len() - rest.len();
+            if first | last != 0 {
+                return match first {
+                    0 => at + 16 + last.trailing_zeros() as usize / 8,
+                    _ => at + first.trailing_zeros() as usize / 8,
+                };
+            }
+            rest = tail;
+        }
+        while let Some((block, tail)) = rest.split_first_chunk::<16>() {
+            let past = past(ranges, Self::MOST, block);
+            if past != 0 {
+                return bytes.len() - rest.len() + past.trailing_zeros() as usize / 8;
+            }
+            rest = tail;
+        }
+        Self::stop_late(number, bytes, bytes.len() - rest.len())
+    }
+
+    #[inline(never)]
+    fn stop_by_masks(number: usize, bytes: &[u8], from: usize) -> usize {
+        let Some(mut rest) = bytes.get(from..) else {
+            return from;
+        };
+        let mask = &Self::MASKS[number & Self::LOOP];
+        while let Some((block, tail)) = rest.split_first_chunk::<8>() {
+            let bits = bits(mask, block);
+            if bits != 0 {
+                return bytes.len() - rest.len() + bits.trailing_zeros() as usize;
+            }
+            rest = tail;
+        }
+        Self::stop_late(number, bytes, bytes.len() - rest.len())
+    }
+
+    /// Like [`Loops::stop`], byte by byte.
+    #[cold]
+    #[inline(never)]
+    fn stop_late(number: usize, bytes: &[u8], from: usize) -> usize {
+        let mut at = from;
+        while at < bytes.len() && Self::stays(number, bytes[at]) {
+            at += 1;
+        }
+        at
+    }
+}
+
+impl<'source, T: Tables<'source>> Loops<'source> for T {}

@@ -1,0 +1,215 @@
+//! The rows that the loop over match attempts reads.
+//!
+//! A row has an entry for each byte and for the end of the input, or for each class. An entry below
+//! [`STAYS`] leads to a state: it is the row offset of that state. Otherwise its upper bits are its
+//! kind, and its lower bits are the number of a leaf or of a loop.
+
+use crate::data::{Unpacked, SYMBOLS};
+
+const KIND_BIT: u32 = 29;
+const ONE_KIND: u32 = 1 << KIND_BIT;
+/// The bits of a number.
+pub(crate) const NUMBERS: u32 = ONE_KIND - 1;
+/// The byte stays in the state, in the loop with this number. [`SINGLY`] is added if each of the
+/// next bytes has its own branch.
+pub(crate) const STAYS: u32 = ONE_KIND;
+pub(crate) const SINGLY: u32 = ONE_KIND / 2;
+/// A match of the leaf ends before the byte. In the next kind the leaf is skipped without a
+/// callback.
+pub(crate) const ENDS: u32 = 2 * ONE_KIND;
+/// A match of the leaf ends after the byte, and no byte continues it. In the next kind the leaf is
+/// skipped without a callback.
+pub(crate) const CLOSES: u32 = 4 * ONE_KIND;
+/// The byte leads to no state, and no match ends before it.
+pub(crate) const NOWHERE: u32 = 6 * ONE_KIND;
+/// The end of the input leads to a state. Another attempt finds the last match.
+pub(crate) const AGAIN: u32 = 7 * ONE_KIND;
+
+/// There is no last match, or it depends on the bytes.
+pub(crate) const NEVER: u32 = 1;
+pub(crate) const VARIES: u32 = 2;
+/// It ended this many bytes after the start.
+pub(crate) const FORTH: u32 = 128;
+const FARTHEST: u32 = 30;
+
+impl<const STATES: usize, const RUNS: usize> Unpacked<STATES, RUNS> {
+    /// Returns the rows of all states. There are `N` entries, so that the offset of each row plus a
+    /// byte or a class is the index of an entry.
+    ///
+    /// # Panics
+    ///
+    /// Panics if this is not the number of the entries.
+    pub(crate) const fn all_rows<const N: usize>(&self) -> [u32; N] {
+        let columns = self.data.columns(0);
+        assert!(N == STATES * columns + 256, "the number of the entries");
+        assert!(STATES * columns < STAYS as usize, "too many entries");
+        assert!(self.data.leaves() <= NUMBERS as usize, "too many leaves");
+        let (mut rows, mut state) = ([NOWHERE; N], 0);
+        let (by_bytes, width, runs) = (self.data.by_bytes(), self.data.width, &self.runs);
+        while state < STATES {
+            let (row, at, mut class) = (&self.rows[state], state * columns, 0);
+            let (mut run, mut past, mut by_classes) = (row.run, 0, [NOWHERE; SYMBOLS]);
+            while class < width {
+                past += runs[run].length;
+                let entry = self.entry(state, runs[run].step);
+                let end = past - row.passed;
+                let to = if end > width { width } else { end };
+                if entry == NOWHERE {
+                    class = to;
+                }
+                while class < to {
+                    if by_bytes {
+                        by_classes[class] = entry;
+                    } else {
+                        rows[at + class] = entry;
+                    }
+                    class += 1;
+                }
+                run += 1;
+            }
+            let mut symbol = 0;
+            while by_bytes && symbol < SYMBOLS {
+                rows[at + symbol] = by_classes[self.classes[symbol] as usize];
+                symbol += 1;
+            }
+            state += 1;
+        }
+        rows
+    }
+
+    /// Returns the entry of a step in a state.
+    const fn entry(&self, state: usize, step: usize) -> u32 {
+        match step {
+            0 if self.marks[state] % 2 == 0 => self.ended(self.marks[state], ENDS),
+            0 => NOWHERE,
+            1 => {
+                // Inside of matches, and for small sets of bytes such as blanks, mostly as many
+                // bytes stay as before.
+                let row = &self.rows[state];
+                let singly = self.marks[state] == 0 || row.staying <= 4;
+                STAYS + singly as u32 * SINGLY + row.number as u32
+            }
+            _ => {
+                let (next, mark) = (step - 2, self.marks[step - 2]);
+                if mark == 0 || self.rows[next].leads {
+                    return (next * self.data.columns(0)) as u32;
+                }
+                self.ended(mark, if mark % 2 == 0 { CLOSES } else { ENDS })
+            }
+        }
+    }
+
+    /// Returns the entry of a kind for a mark.
+    const fn ended(&self, mark: u32, kind: u32) -> u32 {
+        if mark == 0 {
+            return NOWHERE;
+        }
+        let leaf = mark / 2 - 1;
+        kind + self.data.skips(leaf as usize) as u32 * ONE_KIND + leaf
+    }
+
+    /// Returns for each state the last match of an attempt that ends there with a byte that leads
+    /// to no state: [`NEVER`], [`VARIES`], or otherwise 256 times 1 plus the leaf, plus the
+    /// distance of its end: a number of bytes before, or [`FORTH`] plus a number of bytes after the
+    /// start.
+    pub(crate) const fn all_lasts(&self) -> [u32; STATES] {
+        let (mut before, mut is_new) = ([[0; 3]; STATES], [false; STATES]);
+        let (mut lasts, mut changed, runs) = ([0; STATES], true, &self.runs);
+        before[self.data.root] = [NEVER, NEVER, FORTH];
+        is_new[self.data.root] = true;
+        while changed {
+            changed = false;
+            let mut state = 0;
+            while state < STATES {
+                if !is_new[state] {
+                    state += 1;
+                    continue;
+                }
+                is_new[state] = false;
+                let row = &self.rows[state];
+                let (last, after) = last_in(self.marks[state], row.staying > 0, before[state]);
+                lasts[state] = last;
+                let (mut run, mut left) = (row.run, self.data.width + row.passed);
+                while left > 0 {
+                    if runs[run].step >= 2 {
+                        let next = runs[run].step - 2;
+                        let [back, forth, since] = before[next];
+                        if back != after[0] || forth != after[1] || since != after[2] {
+                            let [one, two, three] = met(before[next], after);
+                            if one != back || two != forth || three != since {
+                                before[next] = [one, two, three];
+                                (is_new[next], changed) = (true, true);
+                            }
+                        }
+                    }
+                    left = left.saturating_sub(runs[run].length);
+                    run += 1;
+                }
+                state += 1;
+            }
+        }
+        lasts
+    }
+}
+
+/// The last match before a state, without the match of the state itself: as bytes before, as bytes
+/// after the start, and as [`FORTH`] plus the bytes since the start. All are 0 for a state to which
+/// no bytes are known to lead.
+type Before = [u32; 3];
+
+/// Returns the last match in a state, and the last match before the states after it.
+const fn last_in(mark: u32, loops: bool, before: Before) -> (u32, Before) {
+    let (leaf, late) = ((mark / 2) << 8, mark % 2);
+    let [mut back, mut forth, mut since] = before;
+    if loops {
+        since = VARIES;
+    }
+    if mark == 0 {
+        back = if loops && back > VARIES { VARIES } else { back };
+    } else {
+        back = if loops && late == 1 {
+            VARIES
+        } else {
+            leaf | late
+        };
+        forth = if since < FORTH + late {
+            VARIES
+        } else {
+            (leaf | since) - late
+        };
+    }
+    let last = if back == VARIES { forth } else { back };
+    if back > VARIES {
+        back = if back & 255 < FARTHEST {
+            back + 1
+        } else {
+            VARIES
+        };
+    }
+    if since != VARIES {
+        since = if since < FORTH + FARTHEST {
+            since + 1
+        } else {
+            VARIES
+        };
+    }
+    (last, [back, forth, since])
+}
+
+/// Returns the last match before a state that is reached in two ways, given that of each.
+const fn met(before: Before, after: Before) -> Before {
+    let [back, forth, since] = before;
+    [
+        join(back, after[0]),
+        join(forth, after[1]),
+        join(since, after[2]),
+    ]
+}
+
+const fn join(before: u32, after: u32) -> u32 {
+    if before == 0 || before == after {
+        after
+    } else {
+        VARIES
+    }
+}

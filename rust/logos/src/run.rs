@@ -1,0 +1,407 @@
+//! The loop over match attempts, with the tables of a lexer. Called by `Logos::lex` of generated
+//! code.
+
+#[cfg(feature = "std")]
+use crate::ahead::{Looks, Next};
+use crate::data::END;
+use crate::internal::{CallbackResult, Tables};
+use crate::loops::Loops;
+use crate::rows::{AGAIN, CLOSES, ENDS, FORTH, NEVER, NOWHERE, NUMBERS, SINGLY, STAYS, VARIES};
+#[cfg(not(feature = "std"))]
+use crate::Way;
+use crate::{Lexer, Logos, Source};
+use core::ops::ControlFlow::{self, Break, Continue};
+
+/// The next item, or nothing at the end of the input; or otherwise how a lexer continues.
+type Step<'source, Token, Next> =
+    ControlFlow<Option<Result<Token, <Token as Logos<'source>>::Error>>, Next>;
+
+/// Hints to the compiler that match attempts should have the registers.
+#[cfg(feature = "std")]
+#[cold]
+fn away() {}
+
+/// The loop and its steps. These are functions of the enum, so that the compiler puts them next to
+/// its `lex` and can inline that into its caller.
+pub(crate) trait Run<'source>: Loops<'source> {
+    /// Whether a row has an entry for each byte instead of for each class.
+    const BY_BYTES: bool = Self::DATA.by_bytes();
+    /// The columns of a row, and the column of the end of the input.
+    const COLUMNS: usize = Self::DATA.columns(0);
+    const END_COLUMN: usize = if Self::BY_BYTES {
+        END
+    } else {
+        Self::DATA.classes()[END] as usize
+    };
+    /// The bound below which entries lead to a state, and the entry that leads to the first state.
+    const LEADS: u32 = (Self::DATA.states() * Self::COLUMNS) as u32;
+    const START: u32 = (Self::DATA.root * Self::COLUMNS) as u32;
+    /// The number of leaves.
+    const LEAVES: usize = Self::DATA.leaves();
+    /// The class of each byte, and the entries of the first state, by bytes.
+    const CLASSES: &'static [u8; 256] = &classes(&Self::DATA.classes());
+    const FIRST: &'static [u32; 256] =
+        &first(Self::ROWS, Self::START as usize, &Self::DATA.classes());
+
+    /// Returns the entry of the first byte of an attempt.
+    #[inline(always)]
+    fn first_step(byte: u8) -> u32 {
+        if Self::BY_BYTES {
+            Self::ROWS[Self::START as usize + byte as usize]
+        } else {
+            Self::FIRST[byte as usize]
+        }
+    }
+
+    /// Returns the entry of a byte in a state. The column is added to the address of the table
+    /// first, because the state is known last, from the step before.
+    #[inline(always)]
+    fn step(state: u32, byte: u8) -> u32 {
+        let column = if Self::BY_BYTES {
+            byte
+        } else {
+            Self::CLASSES[byte as usize]
+        };
+        Self::ROWS[column as usize..][state as usize]
+    }
+
+    /// Returns whether the entry is of this kind, which has a leaf. The leaf is not extracted here,
+    /// which would cost a register more.
+    #[inline(always)]
+    fn has_leaf(entry: u32, kind: u32) -> bool {
+        entry.wrapping_sub(kind) < Self::LEAVES as u32
+    }
+
+    /// Returns the entry of the end of the input. If it leads to a state, another attempt finds the
+    /// match.
+    #[cold]
+    #[inline(never)]
+    fn end_entry(state: u32) -> u32 {
+        let entry = Self::ROWS[state as usize + Self::END_COLUMN];
+        if entry < ENDS {
+            AGAIN
+        } else {
+            entry
+        }
+    }
+
+    /// Repeats an attempt, byte by byte, with the marks on its way. Returns the last leaf and the
+    /// end of its match; or a number that no leaf has, and the offset at which the attempt ended.
+    #[cold]
+    #[inline(never)]
+    fn try_again(bytes: &[u8], start: usize) -> (usize, usize) {
+        let (mut state, mut at) = (Self::START, start);
+        let (mut leaf, mut end) = (Self::LEAVES, start);
+        loop {
+            let next = match bytes.get(at) {
+                Some(byte) => Self::step(state, *byte),
+                None => Self::ROWS[state as usize + Self::END_COLUMN],
+            };
+            if (STAYS..ENDS).contains(&next) {
+                at += 1;
+                continue;
+            }
+            let mark = Self::DATA.mark(state as usize / Self::COLUMNS);
+            if mark != 0 {
+                (leaf, end) = (mark / 2 - 1, at - mark % 2);
+            }
+            if next >= NOWHERE {
+                return (leaf, if leaf < Self::LEAVES { end } else { at });
+            }
+            if next >= ENDS {
+                return ((next & NUMBERS) as usize, at + (next >= CLOSES) as usize);
+            }
+            state = next;
+            at += 1;
+        }
+    }
+
+    /// Returns the match of an attempt that ends before a byte with this entry, where no match
+    /// ends: its leaf and its end; or a number that no leaf has, and the offset at which the
+    /// attempt ended.
+    #[inline(always)]
+    fn match_before(
+        bytes: &[u8],
+        start: usize,
+        state: u32,
+        entry: u32,
+        at: usize,
+    ) -> (usize, usize) {
+        let last = Self::LASTS[state as usize / Self::COLUMNS];
+        if entry != NOWHERE || last == VARIES {
+            return Self::try_again(bytes, start);
+        }
+        if last == NEVER {
+            return (Self::LEAVES, at);
+        }
+        let far = (last % FORTH) as usize;
+        let end = if last & FORTH == 0 {
+            at - far
+        } else {
+            start + far
+        };
+        ((last >> 8) as usize - 1, end)
+    }
+
+    /// Returns the first entry of an attempt that leads to no state, the position after its byte,
+    /// and its state, if the first byte leads to a state.
+    #[inline(always)]
+    fn walk(bytes: &[u8], from: usize, first: u32) -> (u32, usize, u32) {
+        let (mut state, mut at) = (first, from);
+        'walk: loop {
+            let Some(byte) = bytes.get(at) else {
+                return (Self::end_entry(state), at + 1, state);
+            };
+            let mut next = Self::step(state, *byte);
+            at += 1;
+            if next >= Self::LEADS {
+                if next >= ENDS {
+                    return (next, at, state);
+                }
+                let number = next as usize & Self::LOOP;
+                let block = bytes.get(at..).and_then(|rest| rest.first_chunk::<14>());
+                if next & SINGLY == 0 {
+                    at = Self::stop(number, bytes, at);
+                } else if let Some(block) = block {
+                    // The code that follows does not wait for the number of these that stay. Which
+                    // number is the fastest depends on the text.
+                    for (n, byte) in block.iter().enumerate() {
+                        if !Self::stays(number, *byte) {
+                            next = Self::step(state, *byte);
+                            at += n + 1;
+                            if next >= Self::LEADS {
+                                return (next, at, state);
+                            }
+                            state = next;
+                            continue 'walk;
+                        }
+                    }
+                    at = Self::stop_far(number, bytes, at + 14);
+                } else {
+                    at = Self::stop_late(number, bytes, at);
+                }
+                let Some(byte) = bytes.get(at) else {
+                    return (Self::end_entry(state), at + 1, state);
+                };
+                next = Self::step(state, *byte);
+                at += 1;
+                if next >= Self::LEADS {
+                    return (next, at, state);
+                }
+            }
+            state = next;
+        }
+    }
+
+    /// Finds the next token, or the error instead of it.
+    #[inline(always)]
+    fn lex_on(lex: &mut Lexer<'source, Self>) -> Option<Result<Self, Self::Error>> {
+        loop {
+            #[cfg(feature = "std")]
+            if !lex.ahead.is_plain(lex.end()) {
+                away();
+                match Self::look(lex) {
+                    Break(item) => return item,
+                    Continue(None) => continue,
+                    Continue(Some(leaf)) => match Self::act_on(lex, leaf) {
+                        Break(item) => return item,
+                        Continue(()) => continue,
+                    },
+                }
+            }
+            match Self::attempt(lex) {
+                Break(item) => return item,
+                Continue(leaf) => {
+                    if let Break(item) = Self::act_on(lex, leaf) {
+                        return item;
+                    }
+                }
+            }
+        }
+    }
+
+    /// Completes a match of a leaf that does not become a token directly.
+    #[inline(always)]
+    fn act_on(lex: &mut Lexer<'source, Self>, leaf: usize) -> Step<'source, Self, ()> {
+        let end = lex.end();
+        let result = Self::act(lex, leaf);
+        if lex.end() != end {
+            lex.ahead.forget();
+        }
+        Break(Some(match result {
+            CallbackResult::Emit(token) => Ok(token),
+            CallbackResult::Skip => {
+                lex.begin();
+                return Continue(());
+            }
+            CallbackResult::Error(error) => Err(error),
+            CallbackResult::DefaultError => Err(Self::error(lex)),
+        }))
+    }
+
+    /// Takes the items that the lexer has found ahead.
+    #[cfg(feature = "std")]
+    #[inline(always)]
+    fn look(lex: &mut Lexer<'source, Self>) -> Step<'source, Self, Option<usize>> {
+        if let Some((leaf, span)) = lex.ahead.token() {
+            let token = Self::plain(leaf);
+            lex.ahead.pass();
+            lex.set_span(span);
+            return match token {
+                Some(token) => Break(Some(Ok(token))),
+                None => Continue(Some(leaf)),
+            };
+        }
+        if lex.ahead.next_word() {
+            return Continue(None);
+        }
+        let bytes = Self::bytes(lex.source());
+        let (ahead, next) = Self::go_on(lex.ahead.take(), bytes, lex.end());
+        lex.ahead = ahead;
+        match next {
+            Next::Word => Continue(None),
+            Next::Attempts(start) => {
+                lex.set_span(start..start);
+                Continue(None)
+            }
+            Next::Match(leaf, span) => {
+                lex.set_span(span);
+                Self::found(lex, leaf)
+            }
+            Next::End(end) => {
+                lex.set_span(end..end);
+                Break(None)
+            }
+        }
+    }
+
+    /// Finds the match that the walk over the input leaves undecided.
+    #[cfg(feature = "std")]
+    #[inline(always)]
+    fn found(lex: &mut Lexer<'source, Self>, leaf: usize) -> Step<'source, Self, Option<usize>> {
+        if leaf >= Self::LEAVES {
+            return Break(Some(Err(Self::error_to(lex, lex.end()))));
+        }
+        match Self::plain_apart(leaf) {
+            Some(token) => Break(Some(Ok(token))),
+            None => Continue(Some(leaf)),
+        }
+    }
+
+    /// Calls [`Tables::plain`] out of line, where it is a look-up in a table instead of a jump.
+    #[cfg(feature = "std")]
+    #[inline(never)]
+    fn plain_apart(leaf: usize) -> Option<Self> {
+        Self::plain(leaf)
+    }
+
+    /// Makes the error of an attempt that is over at a position. It ends at the first boundary from
+    /// there on.
+    #[inline(always)]
+    fn error_to(lex: &mut Lexer<'source, Self>, over: usize) -> Self::Error {
+        let end = over.max(lex.start() + 1);
+        lex.set_end(lex.source().find_boundary(end));
+        Self::error(lex)
+    }
+
+    /// Returns whether the match that begins at a position does not depend on the bytes after the
+    /// input: whether a byte ends the attempt.
+    #[cfg(not(feature = "std"))]
+    #[cold]
+    fn is_sure(bytes: &[u8], start: usize) -> bool {
+        let (mut state, mut at) = (Self::START, start);
+        while let Some(byte) = bytes.get(at) {
+            let next = Self::step(state, *byte);
+            at += 1;
+            if (CLOSES..NOWHERE).contains(&next) {
+                return at < bytes.len();
+            }
+            if next >= ENDS {
+                return true;
+            }
+            if next < STAYS {
+                state = next;
+            }
+        }
+        false
+    }
+
+    /// Finds the next item by attempts, or a match of a leaf with which more is to be done.
+    #[inline(always)]
+    fn attempt(lex: &mut Lexer<'source, Self>) -> Step<'source, Self, usize> {
+        let bytes = Self::bytes(lex.source());
+        let mut start = lex.start();
+        'attempts: loop {
+            let Some(byte) = bytes.get(start) else {
+                return Break(None);
+            };
+            #[cfg(not(feature = "std"))]
+            if lex.ahead.way == Way::Part && !Self::is_sure(bytes, start) {
+                return Break(None);
+            }
+            let (mut entry, mut at, mut state) = (Self::first_step(*byte), start + 1, Self::START);
+            // The leaf and the end of its match. Each case is a branch, so that the next attempt
+            // does not wait for the entry to know its start.
+            let (leaf, end) = 'found: {
+                if Self::has_leaf(entry, CLOSES) {
+                    break 'found ((entry & NUMBERS) as usize, at);
+                }
+                if entry < Self::LEADS {
+                    (entry, at, state) = Self::walk(bytes, at, entry);
+                    if Self::has_leaf(entry, ENDS) {
+                        break 'found ((entry & NUMBERS) as usize, at - 1);
+                    }
+                    if entry < CLOSES {
+                        lex.set_end(at - 1);
+                        lex.begin();
+                        start = at - 1;
+                        continue 'attempts;
+                    }
+                    if Self::has_leaf(entry, CLOSES) {
+                        break 'found ((entry & NUMBERS) as usize, at);
+                    }
+                }
+                if (CLOSES..NOWHERE).contains(&entry) {
+                    lex.set_end(at);
+                    lex.begin();
+                    start = at;
+                    continue 'attempts;
+                }
+                let (leaf, end) = Self::match_before(bytes, start, state, entry, at - 1);
+                if leaf >= Self::LEAVES {
+                    return Break(Some(Err(Self::error_to(lex, end))));
+                }
+                (leaf, end)
+            };
+            lex.set_end(end);
+            return match Self::plain(leaf) {
+                Some(token) => Break(Some(Ok(token))),
+                None => Continue(leaf),
+            };
+        }
+    }
+}
+
+impl<'source, T: Tables<'source>> Run<'source> for T {}
+
+const fn classes(classes: &[u16; 257]) -> [u8; 256] {
+    let (mut all, mut byte) = ([0; 256], 0);
+    while byte < 256 {
+        assert!(
+            classes[byte] < 256,
+            "the class of a byte is one of the first"
+        );
+        all[byte] = classes[byte] as u8;
+        byte += 1;
+    }
+    all
+}
+
+const fn first(rows: &[u32], start: usize, classes: &[u16; 257]) -> [u32; 256] {
+    let (mut first, mut byte) = ([0; 256], 0);
+    while byte < 256 {
+        first[byte] = rows[start + classes[byte] as usize];
+        byte += 1;
+    }
+    first
+}

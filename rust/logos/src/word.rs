@@ -1,0 +1,50 @@
+//! A word of a chunk, with a bit for each byte before which a match ends.
+
+use crate::Span;
+
+/// A word of a chunk. The tokens that end before its bytes are stored separately, since they are
+/// taken one by one.
+#[derive(Clone, Copy)]
+pub(crate) struct Word {
+    /// A bit for each byte before which a match ends.
+    pub(crate) ends: u64,
+    /// The offset of the word, in the input and in the chunk.
+    pub(crate) here: usize,
+    pub(crate) at: usize,
+    /// The end of the last match that is not among `ends`.
+    pub(crate) start: usize,
+}
+
+impl Word {
+    /// Returns the word without ends, where the next match begins at a byte offset.
+    pub(crate) const fn empty(start: usize) -> Word {
+        Word {
+            ends: 0,
+            here: start,
+            at: 0,
+            start,
+        }
+    }
+
+    /// Returns the span of the first of some tokens, of which there is at least one.
+    #[inline(always)]
+    pub(crate) fn span_of(&self, tokens: u64) -> Span {
+        let end = self.here + tokens.trailing_zeros() as usize;
+        self.after(self.ends & !tokens & tokens.wrapping_sub(1))..end
+    }
+
+    /// Returns the end of the last match.
+    #[inline(always)]
+    pub(crate) fn last_end(&self) -> usize {
+        self.after(self.ends)
+    }
+
+    /// Returns the end of the last match, after some of the ends.
+    #[inline(always)]
+    fn after(&self, ends: u64) -> usize {
+        if ends == 0 {
+            return self.start;
+        }
+        self.here + (63 - ends.leading_zeros() as usize)
+    }
+}

@@ -1,0 +1,28 @@
+//! The enums of a source, from which the page selects one.
+
+use logos_build::logos_rust_file::{enums_in, path_of};
+use rattle_std::alloc::{AllocError, Global};
+use rattle_std::io::Write;
+use rattle_std::vec::Vec;
+
+/// Writes a line for each enum that derives `Logos`: its span in bytes, and its path.
+///
+/// A source that cannot be read has none. `logos_show` reports why.
+///
+/// # Errors
+///
+/// Returns `AllocError` if memory runs out. Then some lines may be written.
+pub fn print(source: &[u8], out: &mut Vec<u8>) -> Result<(), AllocError> {
+    let Ok(text) = str::from_utf8(source) else {
+        return Ok(());
+    };
+    let Ok(found) = enums_in(Global, text) else {
+        return Ok(());
+    };
+    for one in found.iter().filter(|one| one.derives) {
+        let path = path_of(Global, text, *one).map_err(|_| AllocError)?;
+        let line = writeln!(out, "{}..{} {}", one.span.from, one.span.to, path.as_str());
+        line.map_err(|_| AllocError)?;
+    }
+    Ok(())
+}

@@ -1,0 +1,81 @@
+//! The system on which the programs run in a page: two texts as files, no standard input, and no
+//! clock.
+
+use logos_build::logos_host::{ComparableFiles, FileError, Files, Occurrence, Reason};
+use rattle_std::alloc::{AllocError, Global};
+use rattle_std::io::{self, ErrorKind, Input, Read};
+use rattle_std::time::{Clock, Duration};
+use rattle_std::vec::Vec;
+
+/// The path of the source.
+const SOURCE: &str = "lexer.rs";
+
+/// The path of the input.
+const INPUT: &str = "text";
+
+/// The two texts as files, which cannot be written.
+pub struct Texts<'t> {
+    /// The bytes of the source.
+    pub source: &'t [u8],
+    /// The bytes of the input.
+    pub input: &'t [u8],
+}
+
+impl Files for Texts<'_> {
+    fn read(&mut self, path: &str) -> Result<Vec<u8>, FileError> {
+        let bytes = match path {
+            SOURCE => self.source,
+            INPUT => self.input,
+            _ => return Err(FileError::Failed(Reason::Missing)),
+        };
+        let mut read = Vec::new(Global);
+        match read.extend_from_slice(bytes) {
+            Ok(()) => Ok(read),
+            Err(AllocError) => Err(FileError::Memory),
+        }
+    }
+
+    fn write(&mut self, _path: &str, _bytes: &[u8]) -> Result<(), FileError> {
+        Err(FileError::Failed(Reason::ReadOnly))
+    }
+}
+
+impl ComparableFiles for Texts<'_> {
+    fn compare(&mut self, _path: &str, _bytes: &[u8]) -> Result<Occurrence, AllocError> {
+        Ok(Occurrence::Missing)
+    }
+
+    fn found_bytes(&self, _path: &str) -> Result<Vec<u8>, AllocError> {
+        Ok(Vec::new(Global))
+    }
+
+    fn is_same_file(&self, one: &str, other: &str) -> bool {
+        one == other
+    }
+}
+
+/// A system without a clock, whose standard input is empty.
+pub struct NoSystem;
+
+impl Clock for NoSystem {
+    fn monotonic(&self) -> io::Result<Duration> {
+        Err(io::Error::from(ErrorKind::Unsupported))
+    }
+}
+
+impl Input for NoSystem {
+    type Reader = Empty;
+
+    fn reader(&self) -> Empty {
+        Empty
+    }
+}
+
+/// A reader of nothing.
+pub struct Empty;
+
+impl Read for Empty {
+    fn read(&mut self, _buf: &mut [u8]) -> io::Result<usize> {
+        Ok(0)
+    }
+}

@@ -1,0 +1,442 @@
+#!/usr/bin/env python3
+"""Makes pages of lexers by `logos_show FILE [INPUT] --html PAGE`, parses them, and compares what
+stands in them with what the other answers about the same lexer and input say.
+
+  html_pages.py LOGOS LOGOS_SHOW
+
+The lexers are those of examples/lexers and four others, which have patterns, callbacks and names
+of files with markup, quotes and invisible characters. In each page are looked up its elements and
+their nesting, headings, names of parts, identifiers and links; each item of the input with its
+span, its leaf and its shown text; each leaf, and each state with its edges. Texts with markup must
+have the elements of harmless texts. Where `chromium` is found, its own parser has to find the same
+items. Each of these is one count. The last line is `html_pages: N passed, M failed`."""
+import glob
+import html.parser
+import json
+import os
+import re
+import shutil
+import subprocess
+import sys
+import tempfile
+import unicodedata
+
+ROOT = os.path.dirname(os.path.dirname(os.path.realpath(__file__)))
+# The elements and the attributes of a page. Nothing else may occur.
+ELEMENTS = {"html", "head", "meta", "title", "style", "body", "header", "h1", "h2", "p", "nav", "ul", "li", "a", "main", "section", "div", "table",
+            "thead", "tbody", "tr", "th", "td", "code", "pre", "span", "i", "strong", "footer", "svg", "defs", "marker", "path", "circle", "text"}
+ATTRIBUTES = {"lang", "charset", "name", "content", "id", "class", "href", "role", "tabindex", "scope", "aria-label", "aria-labelledby", "data-leaf",
+              "data-span", "width", "height", "viewbox", "refx", "refy", "markerwidth", "markerheight", "orient", "d", "marker-end", "x", "y", "cx",
+              "cy", "r"}
+ALONE = {"meta"}
+SHOWN = 65536
+DRAWN = 60
+LISTED = 1000
+# The characters that may not stand in a page, as in tests/terminal.py: controls, formats and
+# separators of lines, but for those that are seen, and LF, which ends lines of the page.
+SEEN = {*range(0x600, 0x606), 0x6DD, 0x70F, 0x890, 0x891, 0x8E2, 0x110BD, 0x110CD, *range(0x13430, 0x13440), *range(0x1BCA0, 0x1BCA4),
+        *range(0x1D173, 0x1D17B), 10}
+NASTY = "<script>alert(1)</script> ]]> --> <!-- &amp; &#60; \"'` </pre></span> \u202eevil\u2066 \ufeff\x00\x1b[31m\u200b é 𐍈\r\tend"
+HOSTILE = """use logos::Logos;
+
+#[derive(Logos)]
+#[logos(skip "[ \\n]")]
+enum Hostile {
+    #[token("%s", |lex| { "<script>&'\\u{202e}" })]
+    First,
+    #[regex("\\\\x00[<>&'\\"]+", priority = 3)]
+    Second,
+    #[regex("[\\u{202a}-\\u{202e}\\u{feff}\\u{0}-\\u{8}]+")]
+    Third,
+    #[token("]]>")]
+    Fourth,
+}
+"""
+WORDS = """#[derive(Logos)]
+#[logos(skip r"[ \\n]+")]
+enum Words {
+    #[token("fast")]
+    Fast,
+    #[regex(r"\\p{XID_Start}\\p{XID_Continue}*")]
+    Word,
+    #[regex("[0-9]+")]
+    Number,
+}
+
+#[derive(Logos)]
+enum Other {
+    #[token("x")]
+    X,
+}
+"""
+BYTES = """#[derive(Logos)]
+#[logos(utf8 = false)]
+enum Bytes {
+    #[regex(b"[a-z\\xC0-\\xFF]+")]
+    Word,
+    #[regex(b"[\\x00-\\x20]")]
+    Blank,
+}
+"""
+LINES = """#[derive(Logos)]
+enum Lines {
+    #[regex("[^\\n]+", allow_greedy = true)]
+    Line,
+    #[token("\\n")]
+    End,
+}
+"""
+# A token of the same length as the one with markup, without markup.
+MARKUP = "</code><script>x"
+HARMLESS = "abcdefghijklmnop"
+TEXTS = {
+    "hostile": (HOSTILE % MARKUP, [NASTY.encode(), (MARKUP + "]]>\ufeff\x00<<" + MARKUP).encode(), b""]),
+    "words": (WORDS, ["fast faster größe 12 <b> 日本 \u202e".encode(), b"fast" * 20000 + b" 1\n" + "é".encode() * 40000, b" \n"]),
+    "bytes": (BYTES, [b"ab\xff\xc3 \x00\x1b<\xe9>&", bytes(range(256)), b"\xf0\x9f\x98\x80 ok"]),
+    "lines": (LINES, [(NASTY + "\n" + NASTY + "\n").encode(), b"x" * 1000000 + b"\ny", ("é" * 40000 + "\n").encode()]),
+}
+counts = {True: 0, False: 0}
+
+
+def check(is_right, what):
+    """Counts, and prints what is wrong."""
+    counts[bool(is_right)] += 1
+    if not is_right:
+        print(f"html_pages: {what}")
+
+
+class Node:
+    """An element with its attributes and what stands in it."""
+
+    def __init__(self, tag, attributes):
+        self.tag, self.attributes, self.parts = tag, dict(attributes), []
+
+    def text(self):
+        return "".join(it if isinstance(it, str) else it.text() for it in self.parts)
+
+    def every(self, *tags):
+        """Yields the elements in it with one of these names, in their order."""
+        for it in self.parts:
+            if not isinstance(it, str):
+                if it.tag in tags or not tags:
+                    yield it
+                yield from it.every(*tags)
+
+
+class Reader(html.parser.HTMLParser):
+    """Reads a page, and notes what is not well formed."""
+
+    def __init__(self):
+        super().__init__(convert_charrefs=True)
+        self.open, self.wrong = [Node("", [])], []
+
+    def handle_starttag(self, tag, attributes):
+        node = Node(tag, attributes)
+        self.open[-1].parts.append(node)
+        if len(node.attributes) != len(attributes):
+            self.wrong.append(f"an attribute twice in {tag}")
+        if tag not in ALONE:
+            self.open.append(node)
+
+    def handle_startendtag(self, tag, attributes):
+        self.open[-1].parts.append(Node(tag, attributes))
+
+    def handle_endtag(self, tag):
+        if self.open[-1].tag == tag:
+            self.open.pop()
+        else:
+            self.wrong.append(f"</{tag}> in {self.open[-1].tag}")
+
+    def handle_data(self, data):
+        self.open[-1].parts.append(data)
+
+    def handle_comment(self, data):
+        self.wrong.append("a comment")
+
+    def handle_pi(self, data):
+        self.wrong.append("an instruction")
+
+    def unknown_decl(self, data):
+        self.wrong.append("a declaration")
+
+
+def parsed(text):
+    reader = Reader()
+    reader.feed(text)
+    reader.close()
+    if len(reader.open) != 1:
+        reader.wrong.append("not all elements end")
+    return reader.open[0], reader.wrong
+
+
+def shown_char(c):
+    """Returns a character as pages show it."""
+    code = ord(c)
+    if c == "\t":
+        return "    "
+    if code < 32:
+        return chr(0x2400 + code)
+    if code == 127:
+        return "\u2421"
+    return "\ufffd" if unicodedata.category(c) in ("Cc", "Cf", "Zl", "Zp") and code not in SEEN else c
+
+
+def shown(data):
+    """Returns bytes of an input as the page shows them."""
+    try:
+        text = data.decode()
+    except UnicodeDecodeError:
+        return "".join(shown_char(chr(it)) + "\n" * (it == 10) if it < 128 else f"\\x{it:02X}" for it in data)
+    return "".join(shown_char(c) + "\n" * (c == "\n") for c in text)
+
+
+def run(*words):
+    ran = subprocess.run(words, stdin=subprocess.DEVNULL, capture_output=True)
+    if ran.returncode:
+        raise RuntimeError(f"{words}: status {ran.returncode}, {ran.stderr.decode()}")
+    return ran.stdout
+
+
+def records(*words):
+    return [json.loads(line) for line in run(*words, "--json").decode().splitlines()]
+
+
+def slice_of(record):
+    """Returns the bytes of an item of the answer as JSON."""
+    value = record["text"]
+    return value.encode() if isinstance(value, str) else bytes(value)
+
+
+def look_at_form(page, raw, name):
+    """Looks at the elements, headings, identifiers, links and names of a page."""
+    nodes = list(page.every())
+    check({it.tag for it in nodes} <= ELEMENTS, f"{name}: elements {({it.tag for it in nodes}) - ELEMENTS}")
+    found = {key for it in nodes for key in it.attributes}
+    check(found <= ATTRIBUTES, f"{name}: attributes {found - ATTRIBUTES}")
+    ids = [it.attributes["id"] for it in nodes if "id" in it.attributes]
+    check(len(ids) == len(set(ids)), f"{name}: an identifier twice")
+    links = [it.attributes["href"] for it in nodes if "href" in it.attributes]
+    check(links and all(it.startswith("#") and it[1:] in ids for it in links), f"{name}: a link leads nowhere")
+    named = [it.attributes["aria-labelledby"] for it in nodes if "aria-labelledby" in it.attributes]
+    check(named and set(named) <= set(ids), f"{name}: a part has no name")
+    heads = [it.tag for it in nodes if re.fullmatch(r"h\d", it.tag)]
+    check(heads[0] == "h1" and heads.count("h1") == 1 and set(heads[1:]) == {"h2"}, f"{name}: headings {heads}")
+    body = [it for it in page.every("body")][0]
+    check([it.tag for it in body.parts if not isinstance(it, str)] == ["header", "main", "footer"], f"{name}: landmarks")
+    check(all(it.attributes.get("aria-label") for it in nodes if it.attributes.get("role") in ("region", "group")), f"{name}: a part without a label")
+    for table in page.every("table"):
+        check(all(it.attributes.get("scope") in ("col", "row") for it in table.every("th")), f"{name}: headings of a table")
+    values = [value or "" for it in nodes for value in it.attributes.values()] + [it.text() for it in page.every("style")]
+    check(not any(re.search(r"//|url\((?!#head\))|@import|javascript:", it) for it in values), f"{name}: something from elsewhere")
+    hidden = {c for c in raw if unicodedata.category(c) in ("Cc", "Cf", "Zl", "Zp") and ord(c) not in SEEN}
+    check(not hidden, f"{name}: characters {sorted(hidden)} stand in the page")
+    check("prefers-color-scheme: dark" in raw and "@media print" in raw and 'name="viewport"' in raw, f"{name}: the style")
+
+
+def items_of(page):
+    """Returns the span, the leaf and the text of each item of a page."""
+    found = []
+    for it in page.every("span"):
+        if "data-span" in it.attributes:
+            leaf = it.attributes.get("data-leaf")
+            found.append((it.attributes["data-span"], None if leaf is None else int(leaf), it.text()))
+    return found
+
+
+def look_at_items(page, data, source, text, name):
+    """Compares the items of a page with those of `logos_show FILE INPUT`."""
+    wanted, labels, front = [], [], data
+    if len(data) > SHOWN:
+        end = SHOWN
+        while data[end] & 0xC0 == 0x80 and SHOWN - end < 3:
+            end -= 1
+        front = data[:end]
+    for record in records(SHOW, source, text):
+        start, slice_ = record["from"], slice_of(record)
+        if start >= len(front):
+            break
+        end = start + len(slice_)
+        place = f"line {record['line']}, column {record['column']}, bytes {start}..{end}"
+        wanted.append((f"{start}..{end}", record["leaf"], shown(slice_[: len(front) - start])))
+        labels.append(place if record["leaf"] is not None else f"error, {place}")
+        if end >= SHOWN:
+            break
+    check(items_of(page) == wanted, f"{name}: the items differ")
+    spans = [it for it in page.every("span") if "data-span" in it.attributes]
+    check(all(it.attributes["aria-label"].endswith(label) for it, label in zip(spans, labels)), f"{name}: a label")
+    check(all(it.attributes.get("tabindex") == "0" and it.attributes.get("role") == "group" for it in spans), f"{name}: an item without focus")
+    check(all((it.attributes["class"] == "e") == ("data-leaf" not in it.attributes) for it in spans), f"{name}: an error without its mark")
+    whole, = page.every("pre")
+    check(re.sub("\n", "", whole.text()) == re.sub("\n", "", "".join(parts_shown(front, wanted))), f"{name}: the text differs")
+    cut = [it.text() for it in page.every("p") if it.attributes.get("class") == "cut" and "bytes" in it.text()]
+    said = [f"The first {len(front)} of {len(data)} bytes are shown."] if len(front) < len(data) else []
+    check(cut == said, f"{name}: it says {cut}")
+
+
+def parts_shown(front, items):
+    """Yields the front of an input in the parts that the page shows: gaps and items."""
+    at = 0
+    for span, _, _ in items:
+        start, end = (int(it) for it in span.split(".."))
+        yield shown(front[at:start])
+        yield shown(front[start:end])
+        at = end
+    yield shown(front[at:])
+
+
+def rows_of(page, part):
+    """Returns the rows of the table of a part: the row's identifier and its cells."""
+    section, = [it for it in page.every("section") if it.attributes["id"] == part]
+    body, = section.every("tbody")
+    return [(row.attributes["id"], [it for it in row.parts if not isinstance(it, str)]) for row in body.every("tr")]
+
+
+def look_at_tables(page, source, name):
+    """Compares the leaves and the states of a page with what `logos_show FILE` says."""
+    answers = [it for it in records(SHOW, source)]
+    first = answers[0]["enum"]
+    leaves = [it for it in answers if it["enum"] == first and "leaf" in it]
+    count, = [it["states"] for it in answers if it["enum"] == first and "states" in it]
+    examples = [it for it in records(SHOW, source, "--examples") if it["enum"] == first]
+    rows = rows_of(page, "leaves")
+    check([it[0] for it in rows] == [f"leaf-{it['leaf']}" for it in leaves], f"{name}: the leaves")
+    for (_, cells), leaf, example in zip(rows, leaves, examples):
+        texts = [it.text() for it in cells]
+        pattern = "".join(shown_char(c) for c in leaf["pattern"])
+        callback = "".join(shown_char(c) for c in leaf["callback"] or "")
+        lost = example["taker"] is None and texts[8] == "" or f"(leaf {example['taker']})" in texts[8]
+        found = texts[7] == "finds nothing" if example["finds"] is None else texts[7].startswith('"')
+        wanted = [str(leaf["leaf"]), leaf["variant"] or "skip", leaf["kind"].replace("skip", "regex")]
+        check(texts[:2] == wanted[:2] and texts[3].startswith(pattern) and texts[4].split()[0] == str(leaf["priority"]) and texts[5] == callback
+              and texts[6] == str(leaf["line"]) and found and lost, f"{name}: the row of leaf {leaf['leaf']}: {texts}")
+    states = rows_of(page, "states")
+    check(len(states) == min(count, LISTED), f"{name}: {len(states)} of {count} states are listed")
+    drawing, = [it for it in page.every("section") if it.attributes["id"] == "drawing"]
+    check(bool(list(drawing.every("svg"))) == (count <= DRAWN), f"{name}: the drawing")
+    return states
+
+
+def look_at_diagram(states, source, name):
+    """Compares the edges of the states with those of `logos mermaid`."""
+    chart = run(LOGOS, "mermaid", source).decode()
+    wanted = {(int(a), int(b)) for a, b in re.findall(r"^n(\d+)-->en\1n(\d+)$", chart, re.M)}
+    edges = {(number, int(link.attributes["href"].removeprefix("#state-"))) for number, (_, cells) in enumerate(states) for link in cells[2].every("a")}
+    check(edges == wanted, f"{name}: the edges differ from those of the diagram")
+
+
+def skeleton(page):
+    """Returns the elements of a page, in their order, with their attributes but labels."""
+    return [(it.tag, {key: value for key, value in it.attributes.items() if key not in ("aria-label", "data-span")}) for it in page.every()]
+
+
+def page_of(source, text, to):
+    """Makes a page, and returns it as it was read, and its bytes."""
+    run(SHOW, source, *([text] if text else []), "--html", to)
+    with open(to, encoding="utf-8", newline="") as it:
+        raw = it.read()
+    page, wrong = parsed(raw)
+    check(not wrong and raw.startswith("<!DOCTYPE html>\n"), f"{os.path.basename(source)}: {wrong}")
+    return page, raw
+
+
+def write(path, data):
+    with open(path, "wb") as out:
+        out.write(data if isinstance(data, bytes) else data.encode())
+    return path
+
+
+def look_at(source, text, data, room, is_first):
+    """Looks at the page of a lexer and a text, and at its tables if it is its first page."""
+    name = f"{os.path.basename(source)} with {os.path.basename(text)}" if text else os.path.basename(source)
+    page, raw = page_of(source, text, f"{room}/page.html")
+    look_at_form(page, raw, name)
+    if text:
+        look_at_items(page, data, source, text, name)
+    if not is_first:
+        return
+    states = look_at_tables(page, source, name)
+    if len(states) < LISTED and re.match(r"#\[", open(source, encoding="utf-8").read()) and "Other" not in open(source, encoding="utf-8").read():
+        look_at_diagram(states, source, name)
+
+
+def look_at_markup(room):
+    """Compares the elements of pages of texts with markup with those of harmless ones."""
+    lines = write(f"{room}/lines.rs", LINES)
+    harmless = "".join(c if c in "\n" else "a" for c in NASTY)
+    one, _ = page_of(lines, write(f"{room}/i", NASTY), f"{room}/page.html")
+    other, _ = page_of(lines, write(f"{room}/i", harmless), f"{room}/page.html")
+    check(skeleton(one) == skeleton(other), "markup in a text changes the elements")
+    one, _ = page_of(write(f"{room}/t.rs", HOSTILE % MARKUP), None, f"{room}/page.html")
+    plain = (HOSTILE % MARKUP).replace("<script>&'\\u{202e}", "a")
+    other, _ = page_of(write(f"{room}/t.rs", plain), None, f"{room}/page.html")
+    check(skeleton(one) == skeleton(other), "markup in a callback changes the elements")
+    simple = '#[derive(Logos)]\nenum E {\n    #[token("%s")]\n    A,\n}\n'
+    one, _ = page_of(write(f"{room}/t.rs", simple % MARKUP), None, f"{room}/page.html")
+    other, _ = page_of(write(f"{room}/t.rs", simple % HARMLESS), None, f"{room}/page.html")
+    tags = lambda page: [it[0] for it in skeleton(page)]
+    check(tags(one) == tags(other), "markup in a pattern changes the elements")
+    strange = f"{room}/<b>&\"' \u202e.rs"
+    _, raw = page_of(write(strange, simple % "a"), None, f"{room}/page.html")
+    check("<b>" not in raw and "&lt;b&gt;&amp;&quot;&#39; \ufffd.rs" in raw, "the path of a file")
+
+
+def look_at_files(room):
+    """Looks at how the page is written."""
+    source, text = write(f"{room}/t.rs", WORDS), write(f"{room}/i", "fast 1")
+    page_of(source, text, f"{room}/page.html")
+    with open(f"{room}/page.html", "rb") as it:
+        written = it.read()
+    check(run(SHOW, source, text, "--html", "-") == written, "`-` prints another page")
+    page_of(source, text, f"{room}/new/folder/page.html")
+    with open(f"{room}/new/folder/page.html", "rb") as it:
+        check(it.read() == written, "a page in a new folder")
+    write(f"{room}/page.html", "old")
+    for words, status in (([source, f"{room}/missing"], 3), ([source, write(f"{room}/bad", b"\xff")], 1), ([write(f"{room}/f.rs", "#[derive(Logos)] enum E { #[regex] A }"), text], 1)):
+        ran = subprocess.run([SHOW, *words, "--html", f"{room}/page.html"], stdin=subprocess.DEVNULL, capture_output=True)
+        with open(f"{room}/page.html", "rb") as it:
+            check(ran.returncode == status and ran.stderr and it.read() == b"old", f"{words}: status {ran.returncode}")
+    ran = subprocess.run([SHOW, source, text, "--html", f"{room}/t.rs/page.html"], stdin=subprocess.DEVNULL, capture_output=True)
+    check(ran.returncode == 3 and not os.path.exists(f"{room}/t.rs/page.html"), "a page that cannot be written")
+    ran = subprocess.run([SHOW, source, text, "--enum", "Other", "--html", "-"], stdin=subprocess.DEVNULL, capture_output=True)
+    check(ran.returncode == 0 and b"<title>Lexer Other</title>" in ran.stdout, "the page of an enum by its name")
+
+
+def look_by_browser(room):
+    """Compares the items that Chromium's parser finds."""
+    chromium = shutil.which("chromium")
+    if not chromium:
+        print("html_pages: skipped: chromium is not there, which parses pages in another way")
+        return
+    source, data = write(f"{room}/lines.rs", LINES), (NASTY + "\n" + NASTY + "\n").encode()
+    page, _ = page_of(source, write(f"{room}/i", data), f"{room}/page.html")
+    words = [chromium, "--headless=new", "--no-sandbox", "--disable-gpu", f"--user-data-dir={room}/profile", "--dump-dom", f"file://{room}/page.html"]
+    ran = subprocess.run(words, stdin=subprocess.DEVNULL, stdout=subprocess.PIPE, stderr=subprocess.DEVNULL, timeout=300)
+    dumped, wrong = parsed(ran.stdout.decode().replace("<!DOCTYPE html>", "<!DOCTYPE html>\n", 1))
+    check(not wrong and items_of(dumped) == items_of(page) and len(items_of(page)) == 4, f"chromium finds other items: {wrong}")
+    check([it for it in skeleton(dumped)] == [it for it in skeleton(page)], "chromium finds other elements")
+
+
+def main():
+    with tempfile.TemporaryDirectory(prefix="html-") as room:
+        room = os.path.realpath(room)
+        for source in sorted(glob.glob(f"{ROOT}/examples/lexers/*.rs")):
+            text = source.removesuffix(".rs") + ".input"
+            with open(text, "rb") as it:
+                look_at(source, text, it.read(), room, True)
+        for name, (source, texts) in TEXTS.items():
+            at = write(f"{room}/{name}.rs", source)
+            look_at(at, None, None, room, True)
+            for number, data in enumerate(texts):
+                look_at(at, write(f"{room}/{number}", data), data, room, False)
+        look_at_markup(room)
+        look_at_files(room)
+        look_by_browser(room)
+    print(f"html_pages: {counts[True]} passed, {counts[False]} failed")
+    sys.exit(counts[False] > 0)
+
+
+if __name__ == "__main__":
+    if len(sys.argv) != 3:
+        sys.exit(__doc__)
+    LOGOS, SHOW = (os.path.realpath(it) for it in sys.argv[1:])
+    main()
