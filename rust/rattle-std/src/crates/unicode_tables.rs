@@ -1160,7 +1160,8 @@ pub(super) static RANGES: &[u8] = b"\
 pub(super) const FOLD_COUNT: usize = 3134;
 
 /// The pairs of characters that simple case folding makes equal: by how much the first one is above
-/// that of the pair before, and twice the difference of the two, less 1 if the second one is below.
+/// that of the pair before, and twice the difference of the two, less 1 if the second one is
+/// below.
 pub(super) static FOLDS: &[u8] = b"\
     ^2]21]21]21]21]21]21]21]21]21]21]20{j@1]21]21]21]21]21]21]21]20uB1]21]21]21]21]21]21]27|11|11|1\
     1|11|11|11|11|11|11|11|10{h@1|11|11|11|11|11|11|11|10u@1|11|11|11|11|11|11|1x1kk10km1;]21]21]21\
