@@ -6,9 +6,9 @@ use logos_codegen::logos_derive as library;
 use logos_codegen::logos_help::FaultHelps;
 use logos_codegen::logos_tables::Shape;
 use logos_codegen::logos_token::token::Span;
-use rattle_std::alloc::{set_budget_of_program, Global};
+use rattle_std::alloc::{Global, set_budget_of_program};
 use std::ops::Range;
-use std::panic::{catch_unwind, AssertUnwindSafe};
+use std::panic::{AssertUnwindSafe, catch_unwind};
 
 /// The library's answer: the implementation, if the enum is accepted, and faults and warnings.
 pub struct Answer {

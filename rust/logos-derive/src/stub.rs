@@ -1,7 +1,7 @@
 //! The implementation for a refused enum. It finds nothing, and exists so that uses of the enum as
 //! a lexer are not errors in addition to the faults.
 
-use crate::generics::{read_generics, with_lifetime, Generics, Types};
+use crate::generics::{Generics, Types, read_generics, with_lifetime};
 use crate::type_syntax::{is_path, is_type};
 use proc_macro::{Delimiter, Group, TokenStream, TokenTree};
 use std::collections::HashMap;
