@@ -4,7 +4,7 @@
   run_parts.py gate [--anew]              all of them, with the proved programs and the erased ones
   run_parts.py quick [--rattle] [PART..]  those that are named, or all but those of the gate, with
                                           the erased programs; with --rattle also with those that
-                                          Rattle builds without proofs
+                                          Rattle builds without proofs. `lints` names all lints
 
 A part whose command names programs runs once with those of Rattle, under its name, and once with
 those of Cargo, as `NAME.erased`. Parts run side by side, as many as there are cores, except for the
@@ -221,6 +221,9 @@ def chosen(given):
     """Returns the parts that are asked for, and lines for those that are left out."""
     is_gate = given.how == "gate"
     all_parts = [it for it in listed() if is_gate or it.row not in OF_PROOFS]
+    if "lints" in given.parts:
+        lints = [it.row for it in all_parts if "tests/lints/" in it.command and not it.programs]
+        given.parts = [*(it for it in given.parts if it != "lints"), *lints]
     unknown = set(given.parts) - {it.row for it in all_parts}
     if unknown:
         fail(f"no part is named {sorted(unknown)[0]}: there are {', '.join(dict.fromkeys(it.row for it in all_parts))}")
