@@ -198,12 +198,12 @@ expansion_made shape around source shown graph code name export g o b = record {
 -- a source without faults spells an enum
 pub spells_enum : (source : List ℕ) (rules : List Rule) (utf8 : Bool) → IsAccepted source rules utf8 → IsWithinSizes source rules → SpellsEnum source
 spells_enum source rules utf8 a within = record {
-  tokens = a.says.tokens;
+  tokens = a.reads_as.tokens;
   enum = a.enum;
-  spelled = a.says.spelled;
-  reads = a.says.reads;
+  spelled = a.reads_as.spelled;
+  reads = a.reads_as.reads;
   short = within.short;
-  shallow = within.shallow a.says.tokens a.says.spelled;
+  shallow = within.shallow a.reads_as.tokens a.reads_as.spelled;
 }
 
 -- ---- refusals

@@ -264,7 +264,7 @@ module _ (utf8 : Bool) (part : List ℕ) (most : ℕ) (was : Bool) (before first
     lexed = lexed_now;
     text = tells.text;
     last = λ h. absurd (let f : false ≡ true = sym begun ∙ h in cc);
-    goes_on = λ h _. some h;
+    continues = λ h _. some h;
     over = λ h _. end h;
     ended = λ h. second tail.is_at_fault over h;
     wanted = same_wanted;
@@ -287,7 +287,7 @@ reads_nothing remaining window h = record {
   lexed = sym (append-nil window.lexed);
   text = λ _. IsUtf8-nil;
   last = λ _. (refl, h);
-  goes_on = λ _ f. absurd (let g : false ≡ true = sym f ∙ h in cc);
+  continues = λ _ f. absurd (let g : false ≡ true = sym f ∙ h in cc);
   over = λ _ f. absurd (let g : false ≡ true = sym f ∙ h in cc);
   ended = λ _. h;
   wanted = refl;

@@ -1,6 +1,6 @@
 //! The entries for a chunk of an input, computed with folded tables. Called by `walk`.
 
-use crate::folded::{leaf_of, Folded, ENDED, PLACE};
+use crate::folded::{leaf_of, Folded, ENDED, OFFSET_MASK};
 use crate::internal::Tables;
 use crate::Span;
 
@@ -62,7 +62,7 @@ impl Chunk {
 
     /// Returns the row position after a byte.
     pub(crate) fn place(&self, at: usize) -> u32 {
-        self.trace[at] & PLACE
+        self.trace[at] & OFFSET_MASK
     }
 
     /// Returns the bits of the word that begins at a byte: those of ends, and those of tokens.
@@ -168,7 +168,7 @@ impl Chunk {
         }
         for (entry, byte) in self.trace.iter_mut().zip(rest).skip(done) {
             *entry = step::<T>(*byte, walked.place);
-            walked.place = *entry & PLACE;
+            walked.place = *entry & OFFSET_MASK;
         }
         let end = rest.len().next_multiple_of(WORD).min(CHUNK);
         self.trace[rest.len().min(end)..end].fill(0);
@@ -188,8 +188,8 @@ impl Chunk {
         let mut place = place;
         for at in range.clone() {
             let entry = step::<T>(input[at], place);
-            place = entry & PLACE;
-            let same = self.trace[at] & PLACE == place;
+            place = entry & OFFSET_MASK;
+            let same = self.trace[at] & OFFSET_MASK == place;
             self.trace[at] = entry;
             if same {
                 return (at + 1, place);
@@ -224,7 +224,7 @@ impl Chunk {
 fn entered(trace: &[u32; WORD]) -> usize {
     let mut entered = 0;
     for at in 1..WORD {
-        let other = (trace[at - 1] ^ trace[at]) & PLACE | trace[at] & ENDED;
+        let other = (trace[at - 1] ^ trace[at]) & OFFSET_MASK | trace[at] & ENDED;
         entered += (other != 0) as u32;
     }
     entered as usize
@@ -256,7 +256,7 @@ trait Blocks<'source>: Tables<'source> {
                 }
             }
         }
-        places.map(|place| place & PLACE)
+        places.map(|place| place & OFFSET_MASK)
     }
 
     /// Walks over parts of `size` bytes at once, each from its place, and returns the places after
@@ -279,7 +279,7 @@ trait Blocks<'source>: Tables<'source> {
                 places[k] = entry;
             }
         }
-        places.map(|place| place & PLACE)
+        places.map(|place| place & OFFSET_MASK)
     }
 
     /// Guesses those places by more bytes: from the last line end on before each block.
@@ -344,7 +344,7 @@ fn guess_parts<'s, T: Tables<'s>>(rest: &[u8], size: usize, first: u32) -> [u32;
         }
     }
     places[0] = first;
-    places.map(|place| place & PLACE)
+    places.map(|place| place & OFFSET_MASK)
 }
 
 /// Guesses the row positions of the blocks except the first: those after the bytes that follow the
@@ -360,7 +360,7 @@ fn guess_places<'s, T: Tables<'s>>(input: &[u8; CHUNK], from: usize, start: u32)
             places[k] = if byte == b'\n' { start } else { entry };
         }
     }
-    places.map(|place| place & PLACE)
+    places.map(|place| place & OFFSET_MASK)
 }
 
 /// Returns which byte of a window is the last line end, or the first of the last few bytes if none

@@ -1,6 +1,6 @@
 use Rattle.std.proofs.Common.{◌-◌, ◌≤◌, length}
 use Rattle.logos_scan.specs.Attempts.{SkipsTo}
-use Rattle.logos_scan.proofs.attempts.tried.Given as goal
+use Rattle.logos_scan.proofs.attempts.attempted.Given as goal
 
 abbrev pub invariant-loop-to : goal.invariant-loop-to
 invariant-loop-to l = record {

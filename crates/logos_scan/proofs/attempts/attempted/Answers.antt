@@ -1,7 +1,7 @@
 use Rattle.std.proofs.Common.{◌-◌, ◌<◌, length, refl, arith}
 use Rattle.logos_machine.specs.inside.IsAt.{IsMatch}
 use Rattle.logos_scan.specs.Attempts.{skips_none, skips_then}
-use Rattle.logos_scan.proofs.attempts.tried.Goals as goal
+use Rattle.logos_scan.proofs.attempts.attempted.Goals as goal
 
 pub loop-to-init : goal.loop-to-init
 loop-to-init c = record {

@@ -6,13 +6,13 @@ use Rattle.logos_code.specs.Code.{CodeValue}
 use Rattle.logos_code.specs.CodeView.{state_at}
 use Rattle.logos_code.specs.Headline.{IsSound}
 use Rattle.logos_code.specs.LastMarks.{next_status}
-use Rattle.logos_code.specs.Rows.{IsUse, Says}
-use Rattle.logos_code.specs.Runs.{Status, goes_on, acts_on, looped, stays, target}
+use Rattle.logos_code.specs.Rows.{IsUse, Describes}
+use Rattle.logos_code.specs.Runs.{Status, continues, acts_on, looped, stays, target}
 use Rattle.logos_code.specs.declared.code.rows.MatchUse.{MatchUse}
 use Rattle.logos_code.specs.declared.code.rows.Step.{Step}
 use Rattle.logos_code.specs.declared.code.rows.Step.TheVariants.{Leads, Halts, Looks}
 use Rattle.logos_scan.specs.fold.Folds.{Goes, EndsAs, leaf_of}
-use Rattle.logos_machine.specs.inside.Looks.{Sees, Tried}
+use Rattle.logos_machine.specs.inside.Looks.{Sees, Attempted}
 use Rattle.logos_machine.proofs.LookLemmas.{loops_no, loops_on, sees_byte}
 use Rattle.logos_machine.proofs.StatusLemmas.{is_at_next, is_at_match}
 use Rattle.logos_machine.proofs.WalkLemmas.{comes_first}
@@ -57,8 +57,8 @@ module _ (code : CodeValue) (sound : IsSound code) (bytes : List ℕ) (start : �
         let loops = s.loops in
         omega (arith, none, loops)
 
-    sees : (step : Step) → stays code (state_at code s.state).fast_loop byte ≡ false → Says code (state_at code s.state) byte step → Sees code bytes start s.state s.offset at step
-    sees step out says = sees_byte code bytes start s.state there s.offset at byte step begun (ends_loop out) (slice_get-get_or bytes at 0 within) says
+    sees : (step : Step) → stays code (state_at code s.state).fast_loop byte ≡ false → Describes code (state_at code s.state) byte step → Sees code bytes start s.state s.offset at step
+    sees step out describes = sees_byte code bytes start s.state there s.offset at byte step begun (ends_loop out) (slice_get-get_or bytes at 0 within) describes
 
     -- a byte that the fast loop takes
     is_at_stays : stays code (state_at code s.state).fast_loop byte ≡ true → ComesTo code bytes start (at + 1) (272 * s.state)
@@ -93,11 +93,11 @@ module _ (code : CodeValue) (sound : IsSound code) (bytes : List ℕ) (start : �
           comes = record {
             context = does.0;
             is_at = n.0;
-            stood = next_status here then comes.stood does.1;
+            of_attempt = next_status here then comes.of_attempt does.1;
             few = omega (arith, few, past);
-            goes_on = λ found m g.
+            continues = λ found m g.
                 let e : s.before + suc m ≡ s.before + 1 + m = omega arith in
-                rw (← e) (comes.goes_on found (suc m) (goes_on here then found m does.1 g));
+                rw (← e) (comes.continues found (suc m) (continues here then found m does.1 g));
           };
           past = omega arith;
           loops = refl;
@@ -111,17 +111,17 @@ module _ (code : CodeValue) (sound : IsSound code) (bytes : List ℕ) (start : �
     ])
 
     -- a match that ends before it, by a state that marks it
-    halts : (leaf : ℕ) (used : MatchUse) → Says code (state_at code s.state) byte (Halts (record { 0 = leaf }) used) → ((n : ℕ) × Tried code bytes start (matched leaf at) n) × IsUse code leaf used
-    halts leaf used says =
+    halts : (leaf : ℕ) (used : MatchUse) → Describes code (state_at code s.state) byte (Halts (record { 0 = leaf }) used) → ((n : ℕ) × Attempted code bytes start (matched leaf at) n) × IsUse code leaf used
+    halts leaf used describes =
         let comes = s.comes in
-        let seen : Sees code bytes start s.state s.offset at (Halts (record { 0 = leaf }) used) = sees (Halts (record { 0 = leaf }) used) says.0 says in
+        let seen : Sees code bytes start s.state s.offset at (Halts (record { 0 = leaf }) used) = sees (Halts (record { 0 = leaf }) used) describes.0 describes in
         let does = seen.0 comes.context in
         let few = comes.few in
         let past = s.past in (
           (
             s.before + 1,
             record {
-              attempts = comes.goes_on (matched leaf at) 1 (acts_on here (Some (leaf, at)) at (matched leaf at) does refl);
+              attempts = comes.continues (matched leaf at) 1 (acts_on here (Some (leaf, at)) at (matched leaf at) does refl);
               within = is_at_match code sound bytes start starts here (Some (leaf, at)) at comes.is_at does;
               few = omega (arith, few, past, within);
             },
@@ -130,10 +130,10 @@ module _ (code : CodeValue) (sound : IsSound code) (bytes : List ℕ) (start : �
         )
 
     -- or by the state to which the byte leads
-    looks : (leaf : ℕ) (used : MatchUse) → Says code (state_at code s.state) byte (Looks (record { 0 = leaf }) used) → ((n : ℕ) × Tried code bytes start (matched leaf at) n) × IsUse code leaf used
-    looks leaf used says =
+    looks : (leaf : ℕ) (used : MatchUse) → Describes code (state_at code s.state) byte (Looks (record { 0 = leaf }) used) → ((n : ℕ) × Attempted code bytes start (matched leaf at) n) × IsUse code leaf used
+    looks leaf used describes =
         let comes = s.comes in
-        let seen : Sees code bytes start s.state s.offset at (Looks (record { 0 = leaf }) used) = sees (Looks (record { 0 = leaf }) used) says.0 says in
+        let seen : Sees code bytes start s.state s.offset at (Looks (record { 0 = leaf }) used) = sees (Looks (record { 0 = leaf }) used) describes.0 describes in
         let does = seen.0 comes.context in
         let then : Status = record { state = does.0; offset = at + 1; context = does.1 } in
         let n = is_at_next code sound bytes start starts here then comes.is_at does.2 in
@@ -143,7 +143,7 @@ module _ (code : CodeValue) (sound : IsSound code) (bytes : List ℕ) (start : �
           (
             s.before + 2,
             record {
-              attempts = comes.goes_on (matched leaf at) 2 (goes_on here then (matched leaf at) 1 does.2 (acts_on then (Some (leaf, at)) (at + 1) (matched leaf at) does.3 refl));
+              attempts = comes.continues (matched leaf at) 2 (continues here then (matched leaf at) 1 does.2 (acts_on then (Some (leaf, at)) (at + 1) (matched leaf at) does.3 refl));
               within = m;
               few = omega (arith, few, past, within);
             },
@@ -152,8 +152,8 @@ module _ (code : CodeValue) (sound : IsSound code) (bytes : List ℕ) (start : �
         )
 
     -- a match that ends before the byte, by its entry
-    pub tried_ends : (entry : ℕ) (e : EndsAs code s.state byte entry) → ((n : ℕ) × Tried code bytes start (matched (leaf_of entry) at) n) × IsUse code (leaf_of entry) e.used
-    tried_ends entry e = elim e.says [
+    pub attempted_ends : (entry : ℕ) (e : EndsAs code s.state byte entry) → ((n : ℕ) × Attempted code bytes start (matched (leaf_of entry) at) n) × IsUse code (leaf_of entry) e.used
+    attempted_ends entry e = elim e.describes [
       | inl h ↦ halts (leaf_of entry) e.used h
       | inr l ↦ looks (leaf_of entry) e.used l
     ]

@@ -3,7 +3,7 @@ use Rattle.std.specs.Result.{OnOk}
 use Rattle.logos_type_params.specs.cycles.inside.Traversals.{Reaches}
 use Rattle.logos_type_params.proofs.cycles.ListLemmas.{read_at, read_past, targets_read, no_targets, contains_none}
 use Rattle.logos_type_params.proofs.cycles.TraversalLemmas.{reaches_none}
-use Rattle.logos_type_params.proofs.cycles.reference.go_on.Goals as goal
+use Rattle.logos_type_params.proofs.cycles.reference.add_targets.Goals as goal
 
 pub returns : goal.returns
 returns c =
