@@ -1,5 +1,5 @@
-//! Says to the macro which library it is built with, by a sum of the sources, so that it uses no
-//! answers that another one gave.
+//! Passes a checksum of the library's sources to the macro, so that the macro uses no stored
+//! answers of another library.
 
 use std::fs;
 use std::path::{Path, PathBuf};

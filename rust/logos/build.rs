@@ -1,5 +1,5 @@
-//! Says to the crate, by a variable, whether the compiler makes vectors of loops, which it does at
-//! some levels of optimisation alone.
+//! Tells the crate by a variable whether the compiler vectorizes loops, which it does only at some
+//! levels of optimization.
 
 fn main() {
     println!("cargo:rerun-if-changed=build.rs");

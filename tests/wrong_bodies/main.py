@@ -20,7 +20,7 @@ ROOT = Path(__file__).resolve().parents[2]
 # What came of the bodies of each crate, for a later run over the same texts.
 RESULTS = ROOT / 'out' / 'wrong_bodies'
 WRITING = threading.Lock()
-# The page of the bodies that the gate tries, and that of all others.
+# The page of the bodies that the gate checks, and that of all others.
 GATE, OTHERS = 'gate.md', 'others.md'
 
 

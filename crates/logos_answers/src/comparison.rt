@@ -21,9 +21,9 @@ pub enum Compared {
     OtherMode,
 }
 
-/// Compares the lexers of two graphs without faults. They are equivalent if they read inputs of the
-/// same kind, and from each offset of each input both find matches of variants of the same name, or
-/// skips, or errors, which end at the same offset. The effects of callbacks are not compared.
+/// Compares the lexers of two graphs without faults. Two lexers are equivalent if both read text or
+/// both read any bytes, and if from each offset of each input they find the same kind of item, with
+/// the same variant name and the same end. The effects of callbacks are not compared.
 ///
 /// # Errors
 ///

@@ -13,7 +13,7 @@ use logos_page::Page;
 use logos_pattern::leaf::Leaf;
 use std::alloc::{AllocError, Global};
 
-/// Inputs that a leaf finds and loses.
+/// An input on which a leaf is found, and one on which it loses to another leaf.
 #[derive(Drop)]
 pub struct Evidence {
     /// A shortest input on which a lexer finds a match of the leaf first, if there is one.
@@ -64,7 +64,8 @@ fn push_example(
     Ok(())
 }
 
-/// Returns inputs that a leaf of a graph without faults finds and loses.
+/// Returns an input on which a leaf of a graph without faults is found, and one on which it loses
+/// to another leaf.
 ///
 /// # Errors
 ///

@@ -5,7 +5,7 @@ use Rattle.logos_token.specs.Punctuation.{is_alone}
 use Rattle.logos_attribute.specs.Pieces.{comma, Piece, up_to_comma, after_comma, pieces, through_comma, unnamed}
 use Rattle.logos_attribute.specs.inside.Cutting.{first_run}
 
--- what is left behind some tokens
+-- the rest after some tokens
 abbrev pub rest_by : (run front rest : TokenList) → run ≡ append front rest → IsRestOf run rest
 rest_by run front rest e = record { front = front; is = e }
 

@@ -8,7 +8,7 @@ use Rattle.std.specs.Range.{range_inclusive_start, range_inclusive_end}
 use Rattle.std.specs.declared.ops.RangeInclusive.{RangeInclusive}
 use Rattle.logos_byte_class.specs.Bytes.{bounds, AreSeparatedFrom, Comparison, compares, some_compares, is_among, join, joined}
 
--- A comparison that is begun, in front of comparisons: the first one is joined to it if just one
+-- A comparison that is begun, in front of comparisons: the first one is joined to it if exactly one
 -- byte lies between them.
 abbrev pub join_to : ℕ → ℕ → List ℕ → List Comparison → List Comparison
 join_to first last except [] = record { first = first; last = last; except = except } ∷ []

@@ -33,7 +33,7 @@ nothing_appended : (known : Option (List ℕ)) → Appends known known []
 nothing_appended None = tt
 nothing_appended (Some bytes) = sym (append-nil bytes)
 
--- One more element has the property, and so what is left decides as before.
+-- One more element has the property, and so the rest decides as before.
 pub all_next : {X : Type 0} (P : X → Type 0) (xs : List X) (i : ℕ) (item : X) → i < length xs → item ≡ get_or xs i item → P item → (All P (drop i xs) → All P xs) → All P (drop (i + 1) xs) → All P xs
 all_next P xs i item l e p so rest =
     let k : i + 1 ≡ suc i = omega arith in
@@ -102,7 +102,7 @@ IsReported texts old new =
     (reported : List ℕ) × Appends old new reported × ((more : List (List ℕ)) (rest : List ℕ) → OccurInOrder more rest → OccurInOrder (texts ++ more) (reported ++ rest))
 
 module _ {F : Type 0} (yields makes : F → List ℕ → List ℕ → F → Type 0) (finds : F → List ℕ → List ℕ → Occurrence → F → Type 0) where
-  -- How the runs of files so far ended: what completes the rest completes the whole.
+  -- How the runs of files so far ended: a result for the rest completes to a result for the whole.
   abbrev pub IsDoneSoFar : List OrderValue → List OrderValue → ℕ → F → F → Option (List ℕ) → Option (List ℕ) → Type 0
   IsDoneSoFar orders left status first now old new =
       status ≡ 0 → (after : F) (last : Option (List ℕ)) → AreCarriedOut yields makes finds left now after new last → AreCarriedOut yields makes finds orders first after old last

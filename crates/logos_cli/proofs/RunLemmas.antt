@@ -73,7 +73,7 @@ written Shown failure is_written old new (inr r) s t =
     let m = message_shown Shown failure r.1 in
     (m.0, m.1, λ b. let a = t b in ([], subst (λ x. Appends old new x) (m.2 a.0) a.1))
 
--- the same behind a warning
+-- the same after a warning
 pub written_after : (Shown : List ℕ → Type 0) (failure : Failure) (is_warned is_written : Bool) (old middle new : Option (List ℕ)) → FailsBy (IsRefusedFor Shown) failure → status_of failure ≡ 1 →
     (IsTrue is_warned → (text : List ℕ) × Appends old middle text) → (IsTrue is_written → IsTrue is_warned × ((usage : List ℕ) × Appends middle new (message_of usage failure))) →
     (shown : List ℕ) × Shown shown × (IsTrue is_written → (front : List ℕ) × Appends old new (front ++ shown))
@@ -82,7 +82,7 @@ written_after Shown failure is_warned is_written old middle new (inr r) s w t =
     let m = message_shown Shown failure r.1 in
     (m.0, m.1, λ b. let a = t b in let front = w a.0 in (front.0, Appends-trans old middle new front.0 m.0 front.1 (subst (λ x. Appends middle new x) (m.2 a.1.0) a.1.1)))
 
--- a refusal whose text shows something, and what is known of that text
+-- a refusal whose text shows something, and the facts about that text
 pub shown_only : {A : Type 0} (Shown Known : A → List ℕ → Type 0) (found : Option A) → IfSome found (λ one. (shown : List ℕ) × Shown one shown × Known one shown) → IfSome found (λ one. (shown : List ℕ) × Shown one shown)
 shown_only Shown Known None h = tt
 shown_only Shown Known (Some one) h = (h.0, h.1)

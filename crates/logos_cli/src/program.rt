@@ -40,7 +40,7 @@ options:
 
 const VERSION: &str = "logos_cli 0.1.0 (for logos 0.16)\n";
 
-/// How the program ended.
+/// The way in which the program ended.
 #[derive(Clone, Copy)]
 pub(crate) struct Ending {
     /// The exit status.

@@ -37,7 +37,7 @@ mask_tests tables k table h is b =
     rw (found, small_power (k % 8) small, and_pow (slice_index table b) (k % 8))
     (some_of_power (bit_at (slice_index table b) (k % 8)) (2 ^ (k % 8)) (bit_at-lt (slice_index table b) (k % 8)) (pow_pos (k % 8)))
 
--- what holds of each element of a mapped list
+-- a property of each element of a mapped list
 pub All-map : {A B : Type 0} (P : B → Type 0) (f : A → B) (xs : List A) (i : ℕ) (x : A) → All P (map f xs) → i < length xs → x ≡ get_or xs i x → P (f x)
 All-map P f xs i x all h is =
     rw (← is) at (rw (get_or-map f xs i x (f x) h) at (all i (f x) (rw length-map h)))

@@ -27,7 +27,7 @@ star_b_code header = record {
   code_leaves = [];
 }
 
--- the error on `aaa` takes all three bytes, and its try enters one state
+-- the error on `aaa` takes all three bytes, and its match attempt enters one state
 pub star_b_code_fails : (header : Header) → Attempts (star_b_code header) aaa 0 (failed 3) 1
 star_b_code_fails header = acts_on _ None 3 (failed 3) (_, refl, refl) record {
   past = omega arith;

@@ -202,7 +202,7 @@ no_last_marks code s bytes start at passed offset are of_attempt e d =
     let none : last_mark_at [] s ≡ Unseen = get_or-eq_default [] Unseen {n = s} (omega arith) in
     subst (λ (m : LastMark). Holds m passed offset) (sym none) tt
 
--- what holds of each element so far, and of one more
+-- a property of each element so far, and of one more
 pub one_more : {A : Type 0} (P : A → Type 0) (xs : List A) (i : ℕ) (x : A) → i < length xs → x ≡ get_or xs i x → P x → ((j : ℕ) (d : A) → j < i → P (get_or xs j d)) →
     (j : ℕ) (d : A) → j < i + 1 → P (get_or xs j d)
 one_more P xs i x h is holds before j d l = ⊎_elim (before j d) now (either j i l)
@@ -219,7 +219,7 @@ one_more P xs i x h is holds before j d l = ⊎_elim (before j d) now (either j 
     now : i ≡ j → P (get_or xs j d)
     now e = subst (λ (n : ℕ). P (get_or xs n d)) e here
 
--- where branches lead, what holds of all of their targets holds
+-- where branches lead, a property of all of their targets holds
 pub branches_follow : (code : CodeValue) (marks : List LastMark) (from : LastMark) (edges : List (Condition × ℕ)) → All (λ edge. FollowsAt code marks from edge.1) edges →
     ForkAgrees code marks from (by_conditions edges)
 branches_follow code marks from edges all b t leads =

@@ -167,7 +167,7 @@ only_step : (P : Step → Type 0) (entry : ℕ) (step : Step) → (IsStepOf entr
 only_step P entry step (inl f) described none other g = subst P (sym (same_step entry step other f g)) described
 only_step P entry step (inr f) described none other g = subst P (sym (same_step entry Undescribed other f g)) none
 
--- an entry that leads is a place
+-- an entry that leads is a row offset
 step_row_start : (entry : ℕ) (step : Step) → IsStepOf entry step → LeadsToRowStart entry
 step_row_start entry (Leads s) f h = omega (arith, f.0)
 step_row_start entry (Stays s) f h = absurd (omega (arith, f.0, h))

@@ -9,11 +9,11 @@ use Rattle.logos_code.specs.Runs.{passes, target}
 some_none : {A : Type 0} {a : A} → None ≡ Some a → ⊥
 some_none h = cc
 
--- what holds of each element holds of the one at an index
+-- a property of each element holds of the one at an index
 pub All-slice_get : {A : Type 0} (P : A → Type 0) (xs : List A) (i : ℕ) (x : A) → All P xs → slice_get xs i ≡ Some x → P x
 All-slice_get P xs i x all is = rw (get_or_from_slice_get xs i x x is) at (all i x (slice_get_within xs i x is))
 
--- what is found in a list, if something is
+-- the result in a list, if something is
 pub All-find : {A : Type 0} (P : A → Type 0) (p : A → Bool) (xs : List A) → All P xs → IfSome (find p xs) P
 All-find P p [] all = search rules
 All-find P p (x ∷ xs) all = go (p x) (All-find P p xs (λ i d h. all (suc i) d (omega arith)))

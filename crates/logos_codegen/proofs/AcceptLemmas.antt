@@ -63,7 +63,7 @@ enum_once enum leaves others options other faults a b =
       same,
     )
 
--- it gives tokens of the same kinds
+-- it has tokens of the same kinds
 kinds_alike : (enum : EnumValue) (leaves others : List LeafView) (options other : OptionsView) → ReadsEnum enum leaves options [] → ReadsEnum enum others other [] → kinds_of_views leaves ≡ kinds_of_views others
 kinds_alike enum leaves others options other a b =
     let none = silent enum leaves options a in
@@ -113,7 +113,7 @@ accepted_once source rules rules' utf8 utf8' a b =
     let once = enum_once b.enum a.leaves b.leaves a.options b.options [] reads_as b.enum_reads in
     (a.same_rules ∙ once.1 ∙ sym b.same_rules, a.same_mode ∙ ap utf8_mode once.2 ∙ sym b.same_mode)
 
--- a source without faults gives tokens of the kinds of its leaves
+-- a source without faults has tokens of the kinds of its leaves
 pub kinds_as_analyzed : (source : List ℕ) (rules : List Rule) (utf8 : Bool) (enum : EnumValue) (item : Span) (leaves : List LeafView) (options : OptionsView) → YieldsEnum source enum item → ReadsEnum enum leaves options [] →
     (a : IsAccepted source rules utf8) → kinds_of_views leaves ≡ kinds_of_views a.leaves
 kinds_as_analyzed source rules utf8 enum item leaves options reads_as enum_reads a =
@@ -121,7 +121,7 @@ kinds_as_analyzed source rules utf8 enum item leaves options reads_as enum_reads
     let own : ReadsEnum a.enum leaves options [] = rw same.0 at enum_reads in
     kinds_alike a.enum leaves a.leaves options a.options own a.enum_reads
 
--- a source that is accepted gives tokens of one list of kinds
+-- a source that is accepted has tokens of one list of kinds
 pub kinds_once : (source : List ℕ) (rules rules' : List Rule) (utf8 utf8' : Bool) (a : IsAccepted source rules utf8) (b : IsAccepted source rules' utf8') → kinds_of_views a.leaves ≡ kinds_of_views b.leaves
 kinds_once source rules rules' utf8 utf8' a b = kinds_as_analyzed source rules' utf8' a.enum a.item a.leaves a.options a.reads_as a.enum_reads b
 

@@ -68,7 +68,7 @@ pub struct ExprToken<'i> {
     pub slice: &'i [u8],
 }
 
-/// Why there are no tokens.
+/// The errors of the tokenizer.
 #[derive(Clone, Copy, Debug, PartialEq, Eq)]
 pub enum ExprError {
     /// The enum of the tokenizer is refused. This never happens: a test constructs the tokenizer.

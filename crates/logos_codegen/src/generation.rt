@@ -68,7 +68,7 @@ impl Generated<'_> {
         Ok(self.printed(alloc)?.text)
     }
 
-    /// Returns the same text with the pieces of the source in it.
+    /// Returns the text that `text` returns, with the pieces of the source in it.
     ///
     /// # Errors
     ///
@@ -346,11 +346,11 @@ fn put_together<'s>(code: Code<'s>, graph: Graph<'s>, head: EnumHead<'s>) -> Gen
     }
 }
 
-/// Makes the code of the lexer of a source.
+/// Generates the code of a lexer from its source.
 ///
 /// The source is an enum with the attributes `token` and `regex` on its variants and `logos` in
-/// front of it. Leaves are numbered skips first, then in the order of the source. The code finds
-/// the same items in both shapes of `config`.
+/// front of it. Leaves are numbered in the order of the source, skips first. The code finds the
+/// same items in both shapes of `config`.
 ///
 /// # Errors
 ///

@@ -13,7 +13,7 @@ use logos_scan::items::items;
 use logos_token::error::Errors;
 use std::alloc::{AllocError, AllocFailed, Global};
 
-/// Why an input was not lexed.
+/// The reasons why an input cannot be lexed.
 #[derive(Debug, Drop)]
 pub enum LexSourceError {
     /// The source has these faults, or passes a limit.

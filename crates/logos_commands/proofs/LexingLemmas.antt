@@ -57,7 +57,7 @@ module _ (source input : List ℕ) (rules : List Rule) (utf8 : Bool) (code : Cod
 
 -- ---- the lines of items, one after another
 
--- What completes the run from a place on, and the lines behind a block, completes the whole run and
+-- What completes the run from an offset on, and the lines after a block, completes the whole run and
 -- all lines.
 abbrev pub Continues : CodeValue → Callback → List ℕ → ℕ → List ℕ → Option (List ℕ) → ℕ → List ℕ → Option (List ℕ) → Type 0
 Continues code callback input from before old to block now =

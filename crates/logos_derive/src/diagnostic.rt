@@ -4,7 +4,7 @@ use logos_token::error::{FaultCode, Memory};
 use logos_token::token::Span;
 use std::alloc::Global;
 
-/// Whether a diagnostic refuses its enum.
+/// The level of a diagnostic: whether it refuses its enum.
 #[derive(Clone, Copy, Debug, PartialEq, Eq)]
 pub enum Level {
     Error,

@@ -21,8 +21,8 @@ pub(crate) struct KnownError<'f, 'p, 't> {
     pub(crate) left_out: usize,
 }
 
-/// Returns the lines under an error: the rest of its message, the clues about it, the help, and how
-/// many faults with its code are left out.
+/// Returns the lines under an error: the rest of its message, the clues about it, the help, and the
+/// number of faults with its code that are left out.
 pub(crate) fn notes_of(alloc: Global, error: KnownError<'_, '_, '_>) -> Result<Vec<Note>, Memory> {
     let mut notes = Vec::new(alloc);
     add_put_in(alloc, error, &mut notes)?;

@@ -10,7 +10,7 @@ use Rattle.logos_enum.specs.Extents.{begins_arrow, depth_after, is_end, after_fr
 use Rattle.logos_enum.specs.Marks.{less, begins_with}
 use Rattle.logos_enum.proofs.RuleLemmas.{IsRestOf-join}
 
--- what is left after one token, and after more
+-- the rest after one token, and after more
 pub past : (token : Token) (run rest : TokenList) → IsRestOf run rest → IsRestOf (also token run) rest
 past token run rest r = record { front = also token r.front; is = ap (also token) r.is }
 

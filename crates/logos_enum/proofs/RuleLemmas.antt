@@ -17,7 +17,7 @@ append_append : (front middle back : TokenList) → append (append front middle)
 append_append none middle back = refl
 append_append (also token front) middle back = ap (also token) (append_append front middle back)
 
--- what is left of what is left
+-- the rest of the rest
 pub IsRestOf-join : (run middle rest : TokenList) → IsRestOf run middle → IsRestOf middle rest → IsRestOf run rest
 IsRestOf-join run middle rest r s = record { front = append r.front s.front; is = r.is ∙ (ap (append r.front) s.is ∙ sym (append_append r.front s.front rest)) }
 
@@ -25,7 +25,7 @@ IsRestOf-join run middle rest r s = record { front = append r.front s.front; is 
 pub IsRestOf-token : (run : TokenList) (token : Token) (rest : TokenList) → run ≡ also token rest → IsRestOf run rest
 IsRestOf-token run token rest e = record { front = also token none; is = e }
 
--- one more value behind those in front
+-- one more value after those in front
 joined-push : {A : Type 0} (before : List A) (value : A) (outcome : Outcome (List A)) → joined before (preceded_by value outcome) ≡ joined (before ++ value ∷ []) outcome
 joined-push before value (Ok read) = ap (λ list. Ok (list, read.1)) (sym (append_assoc before (value ∷ []) read.0))
 joined-push before value (Err error) = refl
@@ -43,7 +43,7 @@ module _ {A B : Type 0} (First : Rule A) (Next : A → Rule B) (run : TokenList)
   then-goes value rest error h (inl e) = inl e
   then-goes value rest error h (inr k) = inr (goes h k)
 
--- one more value behind those that a list has in front
+-- one more value after those that a list has in front
 pub one-more : {A X : Type 0} (view : X → A) (old new : List X) (value : X) (outcome : Outcome (List A)) →
     new ≡ old ++ value ∷ [] → joined (map view old) (preceded_by (view value) outcome) ≡ joined (map view new) outcome
 one-more view old new value outcome e = joined-push (map view old) (view value) outcome ∙ ap (λ list. joined list outcome) (sym (ap (map view) e ∙ map-append view old (value ∷ [])))

@@ -36,7 +36,7 @@ module _ (graph : List GraphState) where
       go None = sym (none bytes n l)
       go (Some t) = refl
 
-  -- who follows more follows fewer
+  -- a relation that follows more bytes follows fewer
   pub fewer : (bytes : List ℕ) (s m n : ℕ) → m ≤ n → alive graph s bytes n ≡ true → alive graph s bytes m ≡ true
   fewer bytes s zero n l e = refl
   fewer [] s (suc m) n l e = refl
@@ -88,7 +88,7 @@ module _ (one other : List GraphState) (names others : List ℕ) (utf8 : Bool) w
   abbrev pub IsAfter : Bool → ℕ → Type 0
   IsAfter begun at = (begun ≡ true) ⊎ (0 < at)
 
-  -- where the errors do not part, both can be followed as far at each place at which a character
+  -- where the errors do not part, both can be followed as far at each offset at which a character
   -- can begin
   pub together : (bytes : List ℕ) (s t : ℕ) (begun : Bool) → parts s t begun bytes ≡ false → (at : ℕ) → at < length bytes → IsAfter begun at →
       is_cut utf8 (slice_index bytes at) ≡ true → alive one s bytes (suc at) ≡ alive other t bytes (suc at)
@@ -100,7 +100,7 @@ module _ (one other : List GraphState) (names others : List ℕ) (utf8 : Bool) w
   together (b ∷ bytes) s t begun e (suc at) l p q =
       later one s b bytes at (omega arith) ∙ together bytes (step_to one s b) (step_to other t b) true (or_none _ _ e).1 at (omega arith) (inl refl) q ∙ sym (later other t b bytes at (omega arith))
 
-  -- just one can be followed over this byte
+  -- exactly one can be followed over this byte
   pub record Part (s t : ℕ) (begun : Bool) (bytes : List ℕ) : Type 0 where
     pub at : ℕ
     pub inside : at < length bytes

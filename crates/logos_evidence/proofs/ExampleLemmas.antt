@@ -42,7 +42,7 @@ module _ (graph : List GraphState) (leaf : ℕ) where
   or_won None m n before = is_won m n before
   or_won (Some x) m n before = refl
 
-  -- what completes the rest completes the whole
+  -- a result for the rest completes to a result for the whole
   goes : (bytes : List ℕ) (p : Point) (n : ℕ) →
       (q : Point) × (after (example_next graph leaf) p bytes ≡ Some q) × (example_goal graph leaf q ≡ won (last_from graph p.here n bytes) p.last)
   goes [] p n = (p, refl, is_won (mark_at_end graph p.here) n p.last)

@@ -125,7 +125,7 @@ module _ (rules : List Rule) (dfa : Automaton) (late : ReadsOneByteLate rules df
   Continues p site rest = (q : Point) × (after next p rest ≡ Some q)
       × (goal q ≡ ((p.met || met_on site (Some p.here) rest) && not (won graph leaf (last_from graph p.there site rest) p.last)))
 
-  -- what completes the rest completes the whole
+  -- a result for the rest completes to a result for the whole
   goes : (rest u : List ℕ) (p : Point) (site : ℕ) → IsBytes (u ++ rest) → IsState dfa u p.here → Continues p site rest
   goes [] u p site bytes is =
       let own = front_bytes u [] bytes in

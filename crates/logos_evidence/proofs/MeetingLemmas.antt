@@ -52,7 +52,7 @@ module _ (rules : List Rule) (dfa : Automaton) (late : ReadsOneByteLate rules df
   stays [] = refl
   stays (b ∷ rest) = stays rest
 
-  -- what completes the rest completes the whole
+  -- a result for the rest completes to a result for the whole
   abbrev Continues : ℕ → List ℕ → Type 0
   Continues s rest = (q : Point) × (after next (meeting_at s false) rest ≡ Some q) × (goal q ≡ met_from (Some s) rest)
 
@@ -72,7 +72,7 @@ module _ (rules : List Rule) (dfa : Automaton) (late : ReadsOneByteLate rules df
     ih.2 ∙ sym (unfold_met s b t rest to ∙ ap (λ (m : Bool). m || met_from (Some t) rest) met),
   )
 
-  -- what completes the rest completes the whole
+  -- a result for the rest completes to a result for the whole
   goes : (rest u : List ℕ) (s : ℕ) → IsBytes (u ++ rest) → IsState dfa u s → Continues s rest
   goes [] u s bytes is = (meeting_at s false, refl, refl)
   goes (b ∷ rest) u s bytes is =

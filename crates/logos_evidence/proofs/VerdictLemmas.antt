@@ -1,4 +1,4 @@
--- A machine that follows two graphs tells whether their last matches differ, or else their errors.
+-- A machine that follows two graphs tells whether their last matches differ, or otherwise their errors.
 use Rattle.std.proofs.Common.{◌≡◌, ℕ, ◌+◌, ◌<◌, ◌≤◌, ◌==◌, Bool, true, false, not, ◌&&◌, ◌||◌, List, [], ◌∷◌, Option, None, Some, is_some, if◌then◌else◌, refl, sym, ap, ◌∙◌, arith, eq-eqb}
 use Rattle.std.specs.Option.{option_or}
 use Rattle.std.proofs.lemmas.Bool.{ne_eqb}
@@ -94,7 +94,7 @@ module _ (one other : List GraphState) (names others : List ℕ) (utf8 : Bool) w
   one_more None None (Some m) (Some k) n met last parts errors h g =
       marked met (not (same_mark names (Some m) others (Some k))) errors ∙ same_end m k n
 
-  -- what completes the rest completes the whole
+  -- a result for the rest completes to a result for the whole
   pub goes : (bytes : List ℕ) (p : Point) (n : ℕ) →
       (q : Point) × (after (pair_next one other names others utf8) p bytes ≡ Some q)
       × (pair_goal one other names others utf8 q ≡ verdict (last_from one p.here n bytes) (last_from other p.there n bytes) p.met p.last (errors_part p.here p.there p.begun bytes))

@@ -38,7 +38,7 @@ use Rattle.logos_token.specs.Faults.{Fault}
 
 -- ---- the enums of a file, one after another
 
--- the enums up to a place were gathered: with what the others give it is what all give
+-- the enums up to an index were gathered: with what the others give it is what all give
 pub record SoFar (shape : Shape) (text : List ℕ) (found left : List FoundEnum) (gathered : Gathered) : Type 0 where
   pub from : ℕ
   pub order : AreInOrder from (map found_span left) (length text)
@@ -227,7 +227,7 @@ pub refuses_then : {A E : Type 0} (result : Result A E) (shape : Shape) (text : 
     OnOk result (AddsRefusal one.span.from refusal clues old.refused.items new.refused.items) → new.parts.items ≡ old.parts.items → source ≡ text_at text one → one.derives ≡ true → OnOk result (GathersOne shape text one old new)
 refuses_then result shape text one refusal clues old new source h s a p k e = ok_then result (λ b. refuses_one shape text one refusal clues old new source k e h s b p) a
 
--- what holds of a result gives something else of it
+-- a property of a result gives something else of it
 pub wraps : {A E : Type 0} {One Other : A → Type 0} (result : Result A E) → ((a : A) → One a → Other a) → IfOk result One → IfOk result Other
 wraps (Ok done) f h = f done h
 wraps (Err error) f h = tt

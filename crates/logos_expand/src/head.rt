@@ -8,8 +8,8 @@ use logos_tables::Shape;
 use logos_token::error::Memory;
 use std::alloc::Global;
 
-/// Returns a file with these bytes after its first line, which names the source of the file. A file
-/// whose first bytes are significant, which are `#!` and U+FEFF, has no such line.
+/// Returns a file with these bytes, after a first line that names the source of the file. If the
+/// bytes begin with `#!` or U+FEFF, which must remain first, there is no such line.
 pub(crate) fn with_head(
     alloc: Global,
     path: &str,

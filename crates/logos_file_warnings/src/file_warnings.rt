@@ -143,8 +143,8 @@ pub fn push_warned(page: &mut Page, source: &Source<'_>, warned: &[Warning])
     push_warnings(page, Part { source, offset: 0 }, warned);
 }
 
-/// Returns the text of the warnings of a file. `is_missing` is whether none of its enums derives
-/// `Logos`, which is a line of the report.
+/// Returns the text of the warnings of a file. If `is_missing` is set, none of its enums derives
+/// `Logos`, and the text has a line about that.
 pub fn warning_text(
     source: &Source<'_>,
     showing: Showing,

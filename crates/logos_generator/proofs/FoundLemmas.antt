@@ -16,7 +16,7 @@ module _ (code : CodeValue) (graph : List GraphState) (utf8 : Bool) (bytes : Lis
   abbrev placed : Option (ℕ × ℕ) → Option (ℕ × ℕ)
   placed = option_map (λ p. (p.0, from + p.1))
 
-  -- a mark by its place, and by the length of its match
+  -- a mark by its offset, and by the length of its match
   placed_mark : (early accept : Option ℕ) (n : ℕ) →
       marked (mark_by early accept) (from + suc n) None ≡ placed (mark_of (record { accept = accept; early = early }) (suc n))
   placed_mark (Some leaf) accept n = refl
@@ -60,7 +60,7 @@ module _ (code : CodeValue) (graph : List GraphState) (utf8 : Bool) (bytes : Lis
   of_some (Some q) p e = let f : (q.0, from + q.1) ≡ p = cc in
       (q.1, ap (λ (r : ℕ × ℕ). Some (r.0, q.1)) f, sym (ap (λ (r : ℕ × ℕ). r.1) f))
 
-  -- a mark of the graph is one by its place
+  -- a mark of the graph is one by its offset
   there : (n leaf size : ℕ) → mark_after graph utf8 bytes from n ≡ Some (leaf, size) → mark_n graph 0 rest from n ≡ Some (leaf, from + size)
   there n leaf size e = mark_is n ∙ ap placed e
 

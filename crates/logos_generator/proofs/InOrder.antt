@@ -9,7 +9,7 @@ use Rattle.logos_code.specs.declared.action.Action.TheVariants.{Emit, Skip, Erro
 use Rattle.logos_code.specs.Items.{Callback, Item, token, error, skips, MayAnswer, items_of, over, match, fault, Items}
 use Rattle.logos_code.specs.Order.{AreInOrder, Parts, all_parted, token_part, error_part, part_left_out, uses_of, IsLeftOut}
 
--- what is in order from a place on is so from an earlier one on
+-- what is in order from an offset on is so from an earlier one on
 pub in_order_earlier : (end at before : ℕ) (items : List Item) → before ≤ at → AreInOrder end at items → AreInOrder end before items
 in_order_earlier end at before [] l o = omega (arith, l, o)
 in_order_earlier end at before (token leaf from to slice ∷ rest) l o = (omega (arith, l, o.0), o.1, o.2)
@@ -46,7 +46,7 @@ module _ (rules : List Rule) (callback : Callback) (utf8 : Bool) (bytes : List �
   in_order inside (fault from to rest s l) =
       (omega arith, s.2.may_stop.nonempty, in_order (stop_within rules utf8 bytes from to s.0 s.2) l)
 
--- what is found at each place parts the input
+-- the result at each offset parts the input
 module _ (rules : List Rule) (callback : Callback) (utf8 : Bool) (bytes : List ℕ) where
   abbrev PartsHere : ℕ → List Item → Type 0
   PartsHere = Parts (IsLeftOut rules callback bytes) (length bytes)

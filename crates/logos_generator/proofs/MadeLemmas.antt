@@ -91,7 +91,7 @@ mark_named leaves type names = go type.early type.accept names.1 names.0
 not_marked : (type : StateType) → IsUnmarked type → mark_made type ≡ None
 not_marked type none = rw (none.0, none.1) refl
 
--- the mark that is made is late just where the state has a late mark alone
+-- the mark that is made is late exactly where the state has a late mark alone
 late_made : (type : StateType) → IsSomeAnd (mark_made type) (λ mark. IsTrue mark.late) → IsLateType type
 late_made type late = go type.early type.accept late
   where
@@ -113,7 +113,7 @@ last_is graph t last = go (slice_get graph t) refl last
     go (Some state) e h = by_accept state state.state_type.accept e refl h.0.0 h.0.1 h.1
 
 module _ (code : CodeValue) (tests : List (List Bool)) (realised : (k b : ℕ) → b < 256 → passes_test code.bit_tables k b ≡ tests_byte tests k b) (fits : length tests ≤ 8 * length code.bit_tables) where
-  -- the fast loop takes just the bytes that lead back
+  -- the fast loop takes exactly the bytes that lead back
   stays_at : (s : ℕ) (edges : List Edge) (loop : Option ℕ) (b : ℕ) → b < 256 → IsLoopOf tests s edges loop →
       All (λ edge. (b : ℕ) → b < 256 → is_in edge.0 b ≡ true → edge_leads edges b ≡ Some edge.1) edges → AllPairs (λ edge other. edge.1 ≢ other.1) edges →
       stays code loop b ≡ true ↔ edge_leads edges b ≡ Some s

@@ -106,7 +106,7 @@ found_edge p (x ∷ edges) t e = go (p x) refl (found_edge p edges t) e
     go true f later e = (0, x, refl, f, cc)
     go false f later e = let l = later e in (suc l.0, l.1, l.2, l.3, l.4)
 
--- what holds of the target of each edge holds of where a byte leads
+-- a property of the target of each edge holds of where a byte leads
 pub lead_among : (P : ℕ → Type 0) (p : Edge → Bool) (edges : List Edge) (t : ℕ) → All (λ edge. P edge.1) edges → option_map (λ e. e.1) (find p edges) ≡ Some t → P t
 lead_among P p edges t all e =
     let f = found_edge p edges t e in
@@ -170,7 +170,7 @@ module _ (code : CodeValue) (tests : List (List Bool)) (realised : (k b : ℕ) �
   fork_at s edges (by_conditions branches) b h f = branches_at s edges branches b h f.1
   fork_at s edges (by_table entries) b h f = f.2 b h
 
-  -- what holds of each edge's target holds of each branch's
+  -- a property of each edge's target holds of each branch's
   branches_among : (P : ℕ → Type 0) (s : ℕ) (edges : List Edge) (branches : List (Condition × ℕ)) → AreBranchesOf tests s edges branches → All (λ edge. P edge.1) edges →
       All (λ branch. NamesCondition code branch.0 × P branch.1) branches
   branches_among P s [] branches are all = rw are (All-none (λ (branch : Condition × ℕ). NamesCondition code branch.0 × P branch.1))

@@ -29,7 +29,7 @@ listed xs f n long each =
 pub set_is : (table : List Bool) (ranges : List (ℕ × ℕ)) → length table ≡ 256 → ((b : ℕ) → b < 256 → slice_index_or table b false ≡ is_in ranges b) → table ≡ set_of ranges
 set_is table ranges long each = listed table (is_in ranges) 256 long (λ k d h. get_or_default table k d false (omega (arith, h, long)) ∙ each k h)
 
--- one use behind others
+-- one use after others
 pub numbered_both : (tests : List (List Bool)) (a b : List (List (ℕ × ℕ))) → numbered tests (a ++ b) ≡ numbered (numbered tests a) b
 numbered_both tests a b = fold-append with_use tests a b
 
@@ -41,7 +41,7 @@ edges_numbered f xs i d old new whole l e all =
     ∙ sym (numbered_both old (f (edge_of (get_or xs i d))) (flat_map f (map edge_of (drop (i + 1) xs))))
     ∙ ap (λ rest. numbered old (flat_map f (map edge_of rest))) (sym (drop_more xs i d l)) ∙ all
 
--- the uses of a state behind those of the states before it
+-- the uses of a state after those of the states before it
 pub states_numbered : (graph : List GraphState) (s : ℕ) (state : GraphState) (old new whole : List (List Bool)) → slice_get graph s ≡ Some state →
     new ≡ numbered old (state_uses s state.normal) → numbered old (uses_from s (drop s graph)) ≡ whole → numbered new (uses_from (s + 1) (drop (s + 1) graph)) ≡ whole
 states_numbered graph s state old new whole is e all =
@@ -65,7 +65,7 @@ pub jump_table_is : (table : List ℕ) (s : ℕ) (edges : List Edge) → length 
 jump_table_is table s edges long each = listed table (λ b. jump_entry (leads_beside s edges b)) 256 long (λ k d h.
     get_or_default table k d 0 (omega (arith, h, long)) ∙ sym (entry_back (slice_index table k)) ∙ ap jump_entry (each k h))
 
--- the jump tables of a state behind those of the states before it
+-- the jump tables of a state after those of the states before it
 pub states_tabled : (graph : List GraphState) (s : ℕ) (state : GraphState) (old new whole : List (List ℕ)) → slice_get graph s ≡ Some state →
     new ≡ with_tables old (fork_tables s state.normal) → with_tables old (tables_from s (drop s graph)) ≡ whole → with_tables new (tables_from (s + 1) (drop (s + 1) graph)) ≡ whole
 states_tabled graph s state old new whole is e all =

@@ -31,7 +31,7 @@ module _ (rules : List Rule) (callback : Callback) (once : AnswersOnce callback)
   one_end : (from leaf to other end : ℕ) → from ≤ length text → Finds rules utf8 text from (matched leaf to) → Finds rules utf8 text from (matched other end) → matched leaf to ≡ matched other end
   one_end from leaf to other end inside s t = finds_one rules utf8 text from inside (matched leaf to) (matched other end) s t
 
-  -- a place has one list of items
+  -- an offset has one list of items
   pub items_once : {at : ℕ} {items others : List Item} → at ≤ length text → Items rules callback utf8 text at items → Items rules callback utf8 text at others → items ≡ others
   items_once inside (over from s) (over row_start t) = refl
   items_once inside (over from s) (match row_start to leaf answer rest t m l) = absurd (let f : ended ≡ matched leaf to = finds_one rules utf8 text from inside ended (matched leaf to) s t in cc)

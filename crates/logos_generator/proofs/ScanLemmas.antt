@@ -15,7 +15,7 @@ module _ (graph : List GraphState) where
   abbrev pub passed : ℕ → ℕ → Option (ℕ × ℕ) → Option (ℕ × ℕ)
   passed s at context = marked (mark_at s) at context
 
-  -- the context after the whole way: state s is entered at the place `at`, with this rest and this
+  -- the context after the whole way: state s is entered at the offset `at`, with this rest and this
   -- context
   abbrev pub last_of : ℕ → List ℕ → ℕ → Option (ℕ × ℕ) → Option (ℕ × ℕ)
   last_of s [] at context = option_map_or (λ t. passed t (at + 1) (passed s at context)) (next_at_end graph s) (passed s at context)
@@ -26,7 +26,7 @@ module _ (graph : List GraphState) where
   reach s [] = 0
   reach s (b ∷ rest) = option_map_or (λ t. suc (reach t rest)) (next_by graph s b) 0
 
-  -- the mark after n bytes, by its place
+  -- the mark after n bytes, by its offset
   abbrev pub mark_n : ℕ → List ℕ → ℕ → ℕ → Option (ℕ × ℕ)
   mark_n s rest at n =
       option_and_then (λ type. marked (mark_made type) (at + n) None) (type_after graph s (take n rest) (nat_lt (length rest) n))
@@ -196,7 +196,7 @@ module _ (graph : List GraphState) where
           later n f zero h k = absurd (not_before n h)
           later n f (suc m) h k = mark_n-suc s b rest at m t e ∙ f m (omega arith) (less m k)
 
-  -- just what is in reach can be followed
+  -- exactly what is in reach can be followed
   pub walk_reach : (s : ℕ) (rest : List ℕ) (n : ℕ) → n ≤ length rest → IsSome (walk graph s (take n rest) false) ↔ (n ≤ reach s rest)
   walk_reach s rest zero h = (λ g. omega arith, λ g. refl)
   walk_reach s [] (suc n) h = absurd (none n h)

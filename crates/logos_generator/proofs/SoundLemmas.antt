@@ -3,7 +3,7 @@ use Rattle.std.proofs.Common.{◌≡◌, ℕ, zero, suc, ◌<◌, ◌↔◌, ◌
 use Rattle.std.proofs.lemmas.List.{get_or-map, length-map}
 use Rattle.logos_code.specs.CodeView.{AreDifferent}
 
--- what holds of each element of a mapped list
+-- a property of each element of a mapped list
 pub All-map-iff : {A B : Type 0} (P : B → Type 0) (f : A → B) (xs : List A) → All (λ x. P (f x)) xs ↔ All P (map f xs)
 All-map-iff {A = A} P f xs = (there, back)
   where

@@ -86,7 +86,7 @@ module _ (code : CodeValue) (graph : List GraphState) where
   end_at : (s : ℕ) (state : GraphState) → slice_get graph s ≡ Some state → next_at_end graph s ≡ state.eoi
   end_at s state is = rw is refl
 
-  -- the fast loop takes what leads back
+  -- the fast loop takes the bytes that lead back
   pub loops : (s : ℕ) (state : GraphState) (made : CodeState) → slice_get graph s ≡ Some state → Makes code s state made →
       (b : ℕ) → b < 256 → stays code made.fast_loop b ≡ true → next_by graph s b ≡ Some s
   loops s state made is makes b small e =
@@ -117,7 +117,7 @@ module _ (code : CodeValue) (graph : List GraphState) where
       pub reached : last_of graph next.state (drop next.offset bytes) next.offset next.context ≡ None →
           at.offset + reach graph at.state (drop at.offset bytes) ≡ next.offset + reach graph next.state (drop next.offset bytes)
 
-    -- the attempt is over, and acts on what is found
+    -- the attempt is over, and acts on the result
     pub record IsDone (at : Status) (what : Turn) : Type 0 where
       pub offset : ℕ
       pub is : what ≡ acts (last_of graph at.state (drop at.offset bytes) at.offset at.context) offset

@@ -152,7 +152,7 @@ range_rises n (edge ∷ edges) range t r l = go (order t edge.1) (λ p. range_ri
         rw (not_lt_test t edge.1 (omega arith), other_test t edge.1 (λ e. omega arith))
         (r.0, later (omega arith))
 
--- what holds of each edge when a range is added
+-- a property of each edge when a range is added
 module _ (P Q : Edge → Type 0) (range : ℕ × ℕ) (t : ℕ) (other : (edge : Edge) → P edge → Q edge)
     (same : (edge : Edge) → P edge → edge.1 ≡ t → Q (edge.0 ++ range ∷ [], edge.1)) (new : Q (range ∷ [], t)) where
   all_with : (edges : List Edge) → All P edges → All Q (with_range edges range t)

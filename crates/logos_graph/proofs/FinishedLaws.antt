@@ -186,7 +186,7 @@ module _ (final : Table) (apart : table.IsLeast final) (ends : (s t k : ℕ) →
         has_type e.0 (λ type. type.early ≢ Some leaf) (edge_within final e.0 e.1 t e.2).0 e.3,
       )
 
--- what holds of the reduced table of an automaton
+-- a property of the reduced table of an automaton
 module _ (raw : Table) (root : ℕ) (reduction : Reduction) (made : table.IsReductionOf raw root reduction) (is_raw : IsRaw raw root) where
   abbrev mid : Table
   mid = made.marked

@@ -45,7 +45,7 @@ module _ (table : Table) (graph : List GraphState) (shows : Shows table graph) w
     one : (b : ℕ) → b < 256 → IsBytes (b ∷ [])
     one b l = All-cons (λ b. b < 256) b [] l nil
 
-    -- the byte leads on from just one of the two
+    -- the byte leads on from exactly one of the two
     at_byte : (n s t k a : ℕ) → 1 ≤ n → s < size table → t < size table → k < 256 → to table s k ≡ Some a → to table t k ≡ None → Evidence n s t
     at_byte n s t k a some hs ht l e f = (
       k ∷ [],

@@ -40,7 +40,7 @@ module _ {S T : Type 0} (IsIn : S → Type 0) (f : S → T) (g : Edges S) (h : E
       go None e ih = refl
       go (Some t) e ih = ap (λ n. n + 1) (ih t (m.inside s t b (first_byte b rest ok) i e))
 
-  -- what leads to a mark leads to its image
+  -- a state that leads to a mark leads to its image
   pub map_leads : (s : S) → IsIn s → Leads g s → Leads h (f s)
   map_leads s i (to_mark {t = t} b ok e k) = to_mark b ok (m.edges s b ok i ∙ ap (option_map f) e) (rw (m.types t (m.inside s t b ok i e)) k)
   map_leads s i (onward {t = t} b ok e l) = onward b ok (m.edges s b ok i ∙ ap (option_map f) e) (map_leads t (m.inside s t b ok i e) l)

@@ -7,7 +7,7 @@ use Rattle.logos_reduce.specs.Edges.{IsMarked, Edges, Leads, to_mark, onward, to
 use Rattle.logos_graph.specs.inside.Walk.{marked, last_mark, followed, Covers}
 use Rattle.logos_graph.proofs.Steps.{first_byte, other_bytes, none_before, skipped, no_mark, unmarked}
 
--- a step is kept if it leads to a useful state, and else left out
+-- a step is kept if it leads to a useful state, and otherwise left out
 abbrev pub IsKept : {S : Type 0} → (S → Type 0) → Option S → Option S → Type 0
 IsKept IsUseful None o = o ≡ None
 IsKept IsUseful (Some t) o = ((o ≡ Some t) × IsUseful t) ⊎ ((o ≡ None) × (IsUseful t → ⊥))
@@ -99,7 +99,7 @@ module _ {S : Type 0} (g h : Edges S) (p : IsPruned g h) where
   kept_step t (Some x) o' (inl k) e u = k.0 ∙ e
   kept_step t (Some x) o' (inr k) e u = let same : t ≡ x = cc (e) in absurd (k.1 (subst (IsUseful g h) same u))
 
-  -- what leads to a mark still does
+  -- a state that leads to a mark still does
   pub leads_kept : (s : S) → Leads g s → Leads h s
   leads_kept s (to_mark {t = t} b ok e m) = to_mark b ok (kept_step t (g.next s b) (h.next s b) (p.edges s b ok) e (inl m)) (rw (p.types t) m)
   leads_kept s (onward {t = t} b ok e l) = onward b ok (kept_step t (g.next s b) (h.next s b) (p.edges s b ok) e (inr l)) (leads_kept t l)

@@ -1,5 +1,5 @@
 -- An automaton that marks one byte late, without reductions: its last mark is the longest match,
--- and its states lead on just where the bytes read can still grow.
+-- and its states lead on exactly where the bytes read can still grow.
 use Rattle.std.proofs.Common.{◌≡◌, ◌↔◌, ℕ, zero, suc, ◌+◌, ◌<◌, ◌≤◌, ◌⊎◌, inl, inr, List, [], ◌∷◌, ◌++◌, length, take, Option, Some, None, IsSome, IsFalse, MatchOption, refl, sym, ◌∙◌, ap, subst, option_and_then, arith, length-append, append_assoc, append-nil}
 use Rattle.std.proofs.lemmas.List.Elements.{All-append, All-cons, All-nil, All-take}
 use Rattle.std.proofs.lemmas.Bool.{cases_lt}
@@ -14,7 +14,7 @@ use Rattle.logos_reduce.specs.Edges.{StateType, IsMarked, Edges, reach, Leads, t
 abbrev pub FirstOrNone : List Rule → Option ℕ → List ℕ → ℕ → ℕ → Type 0
 FirstOrNone rules x bytes from to = MatchOption x (NoneMatches rules bytes from to) (IsFirst rules bytes from to)
 
--- the longest match from the place that ends below the limit, if there is one
+-- the longest match from the offset that ends below the limit, if there is one
 pub record IsBestBelow (rules : List Rule) (bytes : List ℕ) (from limit leaf to : ℕ) : Type 0 where
   pub order : from ≤ to
   pub below : to < limit
@@ -225,7 +225,7 @@ module _ (rules : List Rule) (free : IsFalse (some_leads rules)) {S : Type 0} (g
       let f = mark_is_first (g.type_of q.1) u 0 (length u) q.4 (subst (λ x. IsMarked (g.type_of x)) here m) in
       record { more = []; after = []; are_bytes = All-nil (λ b. b < 256); leaf = f.0; matches = rw (append-nil u, append-nil u) f.1 }
 
-  -- no beginning of the rest that can still grow goes beyond the place
+  -- no beginning of the rest that can still grow goes beyond the offset
   abbrev pub GrowsUpTo : List ℕ → List ℕ → ℕ → ℕ → Type 0
   GrowsUpTo u v at to = (n : ℕ) → 0 < n → n ≤ length v → Grows rules (u ++ take n v) → at + n ≤ to
 

@@ -67,7 +67,7 @@ module _ (rules : List Rule) where
   joins leaves None x r = refl
   joins leaves (Some b) x r = ap Some (higher_joins b x r)
 
--- what holds of all listed holds of the first by priority
+-- a property of all listed holds of the first by priority
 pub first_too : (rules : List Rule) (P : ℕ → Type 0) (leaves : List ℕ) → All P leaves → IfSome (first_of rules leaves) P
 first_too rules P [] all = tt
 first_too rules P (x ∷ leaves) all = go (first_of rules leaves) (All-head P x leaves all) (first_too rules P leaves (All-tail P x leaves all))

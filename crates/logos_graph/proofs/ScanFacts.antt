@@ -175,7 +175,7 @@ module _ (graph : List GraphState) where
     abbrev placed : Option (ℕ × ℕ) → Option (ℕ × ℕ)
     placed = option_map (λ p. (p.0, from + p.1))
 
-    -- a mark by its place, and by the length of its match
+    -- a mark by its offset, and by the length of its match
     placed_mark : (early accept : Option ℕ) (m : ℕ) → marked (record { accept = accept; early = early }) (from + m) None ≡ placed (found.mark_of (record { accept = accept; early = early }) (suc m))
     placed_mark (Some leaf) accept m = let e : from + m + 1 ≡ from + suc m = omega arith in rw e refl
     placed_mark None (Some leaf) m = let e : from + m ≡ from + (suc m - 1) = omega arith in rw e refl

@@ -29,7 +29,7 @@ module _ {S : Type 0} (next : S → ℕ → Option S) (at_end : S → Option S) 
     pub early : (s : S) (leaf : ℕ) → (new s).early ≡ Some leaf → AllAccept old s leaf
     pub kept : (t : S) → IsKept old new t
 
--- what is known of the marks before a state that may be early
+-- the facts about the marks before a state that may be early
 abbrev pub Agree : Option ℕ → ℕ → Option (ℕ × ℕ) → Option (ℕ × ℕ) → Type 0
 Agree None at last last' = last ≡ last'
 Agree (Some leaf) at last last' = last' ≡ Some (leaf, at)

@@ -56,7 +56,7 @@ module _ (table : Table) (graph : List GraphState) (len : length graph ≡ size 
   each : (P : GraphState → Type 0) → ((s : ℕ) (state : GraphState) → s < size table → IsStateOf table s state → P state) → All P graph
   each P all = λ k d l. all k (get_or graph k d) (omega arith) (are k (get_or graph k d) (slice_get-get_or graph k d l))
 
-  -- what holds of the state to which an edge leads
+  -- a property of the state to which an edge leads
   at : (t : ℕ) (P : GraphState → Type 0) → t < size table → ((state : GraphState) → IsStateOf table t state → P state) → IsSomeAnd (slice_get graph t) P
   at t P l all = let f = found t l in subst (λ (o : Option GraphState). IsSomeAnd o P) (sym f.1) (all f.0 f.2)
 

@@ -60,7 +60,7 @@ module _ (rules : List Rule) {S : Type 0} (g : Edges S) (root : S) (reads : Mark
       go (Some l) first =
           (λ e. let q : l ≡ leaf = cc in subst (IsFirst rules bytes from to) q first, λ h. ap Some (first_is_one rules bytes from to l leaf first h))
 
-  -- all children accept a leaf just where it is settled
+  -- all children accept a leaf exactly where it is settled
   pub all_accept_settled : (bytes : List ℕ) (s : S) (leaf : ℕ) → IsBytes bytes → reach g root bytes ≡ Some s →
       AllAccept g.next g.at_end g.type_of s leaf ↔ IsSettled rules bytes leaf
   all_accept_settled bytes s leaf ok way = (there, back)

@@ -1,9 +1,9 @@
-//! When a text has colors. Used by `logos_cli` and `logos_options`.
+//! The condition under which a text has colors. Used by `logos_cli` and `logos_options`.
 
 ghost use Rattle.std.specs.Prelude.{◌≡◌};
 ghost use Rattle.logos_host.specs.Colors.{color_named, has_colors};
 
-/// When a text has colors.
+/// The condition under which a text has colors.
 #[derive(Clone, Copy, Debug, PartialEq, Eq)]
 pub enum Color {
     /// Always.

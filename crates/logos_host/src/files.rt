@@ -5,7 +5,7 @@ ghost use Rattle.std.specs.Prelude.{ℕ, List, ⊤, IfOk, OnOk};
 
 use crate::reason::Reason;
 
-/// Why a call on a file failed.
+/// The errors of an operation on a file.
 #[derive(Clone, Copy, Debug, PartialEq, Eq)]
 pub enum FileError {
     /// The file was not read or written, for this reason.

@@ -1,11 +1,11 @@
-//! Why a file cannot be read or written. Used by `logos_commands` and `logos_items`.
+//! The reasons why a file cannot be read or written. Used by `logos_commands` and `logos_items`.
 
 ghost use Rattle.std.specs.Prelude.{◌≡◌};
 ghost use Rattle.logos_host.specs.Messages.{reason_text};
 
 use std::io::ErrorKind;
 
-/// Why a file cannot be read or written.
+/// The reasons why a file cannot be read or written.
 #[derive(Clone, Copy, Debug, PartialEq, Eq)]
 pub enum Reason {
     /// There is no such file.

@@ -11,7 +11,7 @@ use std::os::unix::fs::MetadataExt;
 use std::rt::Files as Runtime;
 use std::{fs, io};
 
-/// The files that a runtime reaches.
+/// The files that a runtime can access.
 #[derive(Drop)]
 pub struct Disk<'r, R> {
     /// The runtime.
@@ -83,7 +83,7 @@ fn is_same(one: &Metadata, other: &Metadata) -> bool {
     one.is_file() && one.dev() == other.dev() && one.ino() == other.ino()
 }
 
-/// Returns why a call on a file failed.
+/// Returns the error for a failed operation on a file.
 pub(crate) fn file_error(error: &io::Error) -> FileError {
     match error.kind() {
         ErrorKind::OutOfMemory => FileError::Memory,

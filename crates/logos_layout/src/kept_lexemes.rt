@@ -11,7 +11,7 @@ struct Enclosing<'t, 's> {
     to: usize,
 }
 
-/// The remaining tokens of a source that stay.
+/// A cursor over the tokens of a source that stay.
 #[derive(Drop)]
 pub(crate) struct Staying<'t, 's> {
     /// The rest of the innermost open group.

@@ -51,7 +51,7 @@ impl WordLines {
         Ok(())
     }
 
-    /// Returns how many bytes fit into the line after the word.
+    /// Returns the number of bytes that fit into the line after the word.
     pub(crate) fn room(&self) -> usize {
         let used = self.column.saturating_add(self.word.len());
         MAX_LINE.saturating_sub(used)

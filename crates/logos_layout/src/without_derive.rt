@@ -22,8 +22,8 @@ struct Thinned {
 }
 
 /// Returns the text of a source without the lexemes that are not among these tokens, up to the
-/// first byte that cannot be read into a lexeme. A line on which only such lexemes are is removed
-/// with them. Comments stay unless they are inside of a removed lexeme.
+/// first byte that cannot be read into a lexeme. A line that contains only such lexemes is removed
+/// with them. Comments stay unless they are inside a removed lexeme.
 pub(crate) fn text_without(
     alloc: Global,
     source: &str,

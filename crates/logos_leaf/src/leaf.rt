@@ -327,9 +327,9 @@ fn read_leaf<'s>(
     }
 }
 
-/// Returns the leaf of a `regex` or `skip`. Returns `None` if a subpattern is missing, when its
-/// text is not a pattern, or when its priority does not fit `usize`, and reports that. A greedy dot
-/// is also reported, but the leaf is returned.
+/// Returns the leaf of a `regex` or `skip`. Returns `None` if a subpattern is missing, if its text
+/// is not a pattern, or if its priority does not fit `usize`, and reports that. A greedy dot is
+/// also reported, but the leaf is returned.
 ///
 /// # Errors
 ///

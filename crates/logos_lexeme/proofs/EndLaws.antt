@@ -22,7 +22,7 @@ pub Passes-one : (test : ℕ → Bool) (bytes : List ℕ) (at m n : ℕ) → Pas
 Passes-one test bytes at m n p q = p.moves ∙ sym q.moves
 
 module _ (based : Bool) (bytes : List ℕ) where
-  -- a sign and a point are ASCII, and end behind one byte also where they continue an identifier
+  -- a sign and a point are ASCII, and end after one byte also where they continue an identifier
   one_after : (at n : ℕ) → Continues based bytes at n → get_or bytes at 0 < 128 → n ≡ at + 1
   one_after at n (letter p) h = p.moves ∙ past-ascii bytes at h
   one_after at n (point b e d m) h = m
@@ -189,7 +189,7 @@ starts_inside bytes at e = elim (cases_lt at (length bytes)) [
   | inr l ↦ absurd (false≢true (sym is_start-nothing ∙ ap is_start (sym (character-end bytes at l)) ∙ e))
 ]
 
--- what is known of the offset where the name of an identifier begins
+-- the facts about the offset where the name of an identifier begins
 pub record IsNameStart (bytes : List ℕ) (at name : ℕ) : Type 0 where
   pub after : at ≤ name
   pub begins : name < length bytes

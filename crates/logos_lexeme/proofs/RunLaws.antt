@@ -20,7 +20,7 @@ module _ (Step : ℕ → ℕ → Type 0) where
   Steps-le moves here = omega arith
   Steps-le moves (step {at} {mid} s r) = omega (arith, moves at mid s, Steps-le moves r)
 
-  -- from a last offset steps lead nowhere else
+  -- from a last offset steps lead to no other offset
   pub Steps-last : {at to : ℕ} → IsLast Step at → Steps Step at to → at ≡ to
   Steps-last last here = refl
   Steps-last {at} last (step {mid = mid} s r) = absurd (last mid s)

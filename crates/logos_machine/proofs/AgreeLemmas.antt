@@ -141,14 +141,14 @@ attempts_agree code bytes others start seen n found fits same whole t =
     let other : AttemptsWithin code others start seen found n = subst (λ (l : List ℕ). AttemptsWithin code l start seen found n) is_other (goes_agree code front (drop seen bytes) (drop seen others) start seen (omega (arith, long)) cut one) in
     (other, goes_within code others start seen other)
 
--- what was found in a part and depends on it alone is found there, whatever follows it
+-- what was found in a part and depends on it alone is found there, regardless of the bytes after it
 pub attempts_whatever_follows : (code : CodeValue) (part rest : List ℕ) (start n : ℕ) (found : Found) → MayFollow code rest → AttemptsWithin code part start (length part) found n → Attempts code (part ++ rest) start found n
 attempts_whatever_follows code part rest start n found follows t =
     let one : AttemptsWithin code (part ++ []) start (length part) found n = subst (λ (l : List ℕ). AttemptsWithin code l start (length part) found n) (sym (append-nil part)) t in
     let cut : IsTrue code.utf8 → IsCharBoundary (part ++ rest) (length part) = λ utf8. IsCharBoundary-at_seam (part ++ rest) part rest refl (follows utf8) in
     goes_within code (part ++ rest) start (length part) (goes_agree code part [] rest start (length part) (omega arith) cut one)
 
--- ---- a try that is open at the end of the bytes does not depend on them alone
+-- ---- a match attempt that is open at the end of the bytes does not depend on them alone
 
 closed_open : (state : CodeState) → IsClosed state → IsOpen state → ⊥
 closed_open state closed (inl loops) = some_not_none state.fast_loop loops closed.fast_loop

@@ -17,7 +17,7 @@ IsBlock v = (length v ≡ 16) × Each1 (Fits w8) v
 abbrev pub down : ℕ → ℕ → ℕ
 down a b = a / 2 ^ b
 
--- halves of bytes are places of sixteen entries
+-- halves of bytes are offsets of sixteen entries
 pub high_ok : (v : List ℕ) → IsBlock v → SwzOk w8 16 16 0 (zip2 down v (replicate 16 4))
 high_ok v fits =
     let small = Each1-weaker (λ a. a < 256) (λ a. a / 16 < 16) (λ a h. omega arith) v (below_from_Fits w8 v fits.1) in
@@ -55,7 +55,7 @@ looked_up t f g v js fits e small describes =
     get_or-swz_l_below w8 16 t 0 js i (omega (arith, lt, long)) below
     ∙ ap (λ k. get_or t k 0) (first ∙ is) ∙ describes x fit ∙ sym (get_or-map f v i 0 0 within))
 
--- by lower halves, in the entries from a place on
+-- by lower halves, in the entries from an offset on
 pub by_low : (mask : List ℕ) (at : ℕ) (v : List ℕ) → at ≤ 16 → IsBlock v →
     swz_l w8 16 (chunk 0 16 (take (32 - at) (drop at mask))) 0 (zip2 bit_and v (replicate 16 15)) ≡ map (λ b. slice_index mask (at + b % 16)) v
 by_low mask at v room fits =

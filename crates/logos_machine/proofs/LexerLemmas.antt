@@ -85,7 +85,7 @@ abbrev pub moved : {C : Type 0} → LexerValue C → (from to steps : ℕ) → L
 moved lexer from to steps = record { code = lexer.code; input = lexer.input; callback = lexer.callback; from = from; to = to; steps = steps }
 
 module _ {C : Type 0} (callback : Callback) (old : LexerValue C) where
-  -- what continues from here, after skipped matches, continues after the last item
+  -- a continuation from here, after skipped matches, continues after the last item
   pub record Continues (from : ℕ) : Type 0 where
     pub after : old.to ≤ from
     pub within : from ≤ length old.input

@@ -122,7 +122,7 @@ module _ (code : CodeValue) (sound : IsSound code) (bytes : List ℕ) (start : �
                     clash : mark.late ≡ true → ⊥
                     clash f = let g : false ≡ true = sym l ∙ f in cc
 
-    -- after the root's place no late state is one step on
+    -- after the root's offset no late state is one step on
     second_at : (t : ℕ) → (at.state ≡ code.root → ¬ IsLate code t) → IsLate code t → start + 1 < offset + 1
     second_at t early late = let b = s.begun in ⊎_elim (λ h. omega (arith, h)) (λ e. absurd (early (s.first (omega (arith, e, b))).0 late)) (order start offset (omega (arith, b)))
       where
@@ -220,7 +220,7 @@ module _ (code : CodeValue) (sound : IsSound code) (bytes : List ℕ) (start : �
         go None f e = f
         go (Some mark) f e = absurd (cc)
 
-    -- nothing is passed, so no place past the input is reached
+    -- nothing is passed, so no offset past the input is reached
     in_input : passed ≡ None → at.offset ≤ length bytes
     in_input e = ⊎_elim (λ h. h) (λ h. absurd (rw (unmarked e) at (late_marked at.state state is h.late))) s.within
 

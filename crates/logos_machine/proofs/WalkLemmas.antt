@@ -1,4 +1,4 @@
--- Tries by entries.
+-- Match attempts by entries.
 use Rattle.std.proofs.Common.{◌≡◌, ℕ, zero, suc, ◌+◌, ◌-◌, ◌*◌, ◌/◌, ◌%◌, ◌<◌, ◌≤◌, inl, inr, ⊎_elim, true, false, List, length, drop, get_or, Option, Some, None, refl, sym, subst, arith, length-drop}
 use Rattle.std.proofs.lemmas.Option.{slice_get-get_or, slice_get_past}
 use Rattle.logos_automaton.specs.Munch.{matched, failed}

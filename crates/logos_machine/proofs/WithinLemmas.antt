@@ -14,7 +14,7 @@ use Rattle.logos_machine.specs.inside.IsAt.{IsMatch}
 use Rattle.logos_machine.proofs.AgreeLemmas.{open_attempts, attempts_whatever_follows}
 use Rattle.logos_machine.proofs.LexerLemmas.{moved, item_span}
 
--- a span of the part holds the same bytes, whatever follows
+-- a span of the part holds the same bytes, regardless of the bytes that follow
 range_front : (part rest : List ℕ) (from to : ℕ) → from ≤ to → to ≤ length part → slice_range (part ++ rest) from to ≡ slice_range part from to
 range_front part rest from to order fits =
     ap (λ l. take (to - from) l) (drop-append-le from part rest (omega (arith, order, fits)))
@@ -34,8 +34,8 @@ module _ (uses : List Use) (callback : Callback) (part rest : List ℕ) (from to
   may_front leaf answer m = subst (λ (l : List ℕ). MayAnswer uses callback part leaf l answer) (sym (range_front part rest from to order fits)) m
 
 module _ {C : Type 0} (callback : Callback) (old : LexerValue C) where
-  -- what continues from here, after matches without an item, continues after the last item,
-  -- whatever follows the part
+  -- a continuation from here, after matches without an item, continues after the last item,
+  -- regardless of the bytes after the part
   pub record ContinuesWithin (from : ℕ) : Type 0 where
     pub after : old.to ≤ from
     pub within : from ≤ length old.input

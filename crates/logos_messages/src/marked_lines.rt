@@ -20,8 +20,8 @@ pub(crate) struct Reach {
     pub(crate) last: Location,
 }
 
-/// Appends the lines of a span, as a member. Long lines are left out, and if a span has many lines,
-/// all of them are.
+/// Appends a member with the lines of a span. Long lines are left out. If the span has many lines,
+/// all of them are left out.
 pub(crate) fn push_lines(lines: &mut JsonLines, source: &Source<'_>, reach: Reach)
     ensures { YieldsLineList source.now.text reach.first reach.last lines.old lines.new }
 {

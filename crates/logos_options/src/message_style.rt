@@ -16,7 +16,8 @@ pub struct MessageStyle {
     pub color: Color,
 }
 
-/// Returns the style that settings select: without them a report, with colors on a terminal.
+/// Returns the style that the settings select. The default is a report, with colors if it is
+/// written to a terminal.
 ///
 /// # Errors
 ///

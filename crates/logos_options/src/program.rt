@@ -5,7 +5,7 @@ ghost use Rattle.logos_options.specs.Imports.{cli_takes, show_takes};
 
 use crate::options::{OptionName, OptionRow, ROWS};
 
-/// A program with options.
+/// The programs that take options.
 #[derive(Clone, Copy, Debug, PartialEq, Eq)]
 pub enum Program {
     /// `logos_cli`.

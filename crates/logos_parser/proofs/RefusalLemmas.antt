@@ -17,7 +17,7 @@ use Rattle.logos_parser.specs.Refusals.{Refuses}
 use Rattle.logos_parser.specs.declared.refusal.Refusal.{Refusal}
 use Rattle.logos_parser.specs.declared.refusal.Refusal.TheVariants.{Errors, Memory}
 
--- what holds of the faults may be weakened
+-- a property of the faults may be weakened
 pub refuses_by : (P Q : List Fault → Type 0) → ((faults : List Fault) → P faults → Q faults) → (error : Refusal) → Refuses P error → Refuses Q error
 refuses_by P Q h (Errors errors) r = h errors r
 refuses_by P Q h Memory r = tt

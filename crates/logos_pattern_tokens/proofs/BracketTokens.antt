@@ -120,7 +120,7 @@ pub open_is : (negated : Bool) (lead : Lead) (text rest : Text) → Opens negate
 open_is negated lead text rest (positive l t r none k) = plain_open t none ∙ ap (λ (x : Lead × Text). (false, x.0, x.1)) (lead_is l t r k)
 open_is negated lead text rest (negative l t r k) = turned_open t ∙ ap (λ (x : Lead × Text). (true, x.0, x.1)) (lead_is l t r k)
 
--- ---- items: what is read is written there
+-- ---- items: each value that is read is written there
 
 abbrev Item_at : BracketToken → Text → Text → Type 0
 Item_at = BracketTakes
@@ -287,7 +287,7 @@ class_none t none = from (class_at t) (class_taken t)
     from None h = refl
     from (Some x) h = absurd (none h.name h.kind h.negated x.1 h.is_class h.is_text)
 
--- ---- tokens: what is read is written there
+-- ---- tokens: each value that is read is written there
 
 inner_taken : (t : Text) → BracketTakes (inner_at t).0 (91 ∷ t) (inner_at t).1
 unfolding inner_at
@@ -339,7 +339,7 @@ bracket_token_taken (c ∷ rest) =
     (λ e. operator_taken c rest e)
     (λ d. item_taken (c ∷ rest) (rw (b, a, d) refl))))
 
--- ---- tokens: what is written is read
+-- ---- tokens: each value that is written is read
 
 plain_last : (c : ℕ) (rest : Text) → c ≢ 92 → last_at (c ∷ rest) ≡ Some (Character c, rest)
 unfolding last_at

@@ -55,7 +55,7 @@ number_taken (c ∷ t) = from (is_digit c) refl
         sized f.0 (number_from 0 (c ∷ t)) digit refl f.1 f.2 f.3 (shorter_number c t digit) _ refl
     from false digit = tt
 
--- ---- what is read is written there
+-- ---- each value that is read is written there
 
 pub lazy_taken : (s : Text) (least : ℕ) (most : Option ℕ) → Counts s least most → (rest : Text) → Takes (lazy_at least most rest).0 (s ++ rest) (lazy_at least most rest).1
 unfolding lazy_at
@@ -99,7 +99,7 @@ count_taken t =
     bind_taken Takes (123 ∷ t) (number_at t) (λ x. bounds_at x.0 x.1) _ (number_taken t) (λ x h.
     subst (λ y. IsTaken Takes (123 ∷ y) (bounds_at x.0 x.1)) (sym h.1) (bounds_taken h.0 x.0 h.2 x.1))
 
--- ---- what is written is read
+-- ---- each value that is written is read
 
 pub lazy_no : (least : ℕ) (most : Option ℕ) (rest : Text) → NotBegins 63 rest → lazy_at least most rest ≡ (repeats (record { least = least; most = most; lazy = false }), rest)
 unfolding lazy_at

@@ -10,7 +10,7 @@ use Rattle.logos_pattern_tokens.specs.Escapes.{single_of, plain_property, proper
 use Rattle.logos_pattern_tokens.specs.Spelling.{NotBegins, Lacks, property_letter, Escapes, single, two_digits, four_digits, eight_digits, any_digits, boundary, property, named_property}
 use Rattle.logos_pattern_tokens.proofs.Picks.{IsTaken, pick, pick_is, bind_taken, map_taken, apart, cut_found, cut_there}
 
--- ---- what is read is written there
+-- ---- each value that is read is written there
 
 property_of_taken : (text : Text) (negated : Bool) (name rest : Text) → ((set : Set) → plain_property name ≡ Some set → Escapes (Property set negated) text rest) → IsTaken Escapes text (property_of negated name rest)
 unfolding property_of
@@ -95,7 +95,7 @@ escape_taken (c ∷ rest) =
     (pick_is Escapes c 98 here (boundary_at rest) _ (boundary_taken rest)
     (single_taken c rest))))
 
--- ---- what is written is read
+-- ---- each value that is written is read
 
 -- hex digits do not begin with a brace, and have none
 no_end : (d : ℕ) → hex_digit d ≡ None → (n m : ℕ) (digits : Text) → hex_from n digits ≡ Some m → Lacks d digits

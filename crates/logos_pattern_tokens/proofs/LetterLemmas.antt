@@ -52,7 +52,7 @@ letters_taken s (c ∷ rest) =
     from more None is = tt
     from more (Some t) is = one_more s t c rest (letters_from t rest) is (more t)
 
--- ---- what is written is read
+-- ---- each value that is written is read
 
 pub not_end : (s t : Letters) (c d : ℕ) → next_letter s c ≡ Some t → next_letter s d ≡ None → eqb c d ≡ false
 not_end s t c d some none = from (eqb c d) refl

@@ -15,9 +15,9 @@ use Rattle.logos_pattern_tokens.proofs.Counted.{lazy_taken, count_taken, lazy_no
 use Rattle.logos_pattern_tokens.proofs.EscapeLemmas.{escape_taken, escape_is}
 use Rattle.logos_pattern_tokens.proofs.LetterLemmas.{Spelled, Completes, stops, goes, Ends, closes_setting, opens_group, letters_taken, completed, settings_of, completes_of, no_letter_at, not_end}
 
--- ---- what is read is written there
+-- ---- each value that is read is written there
 
--- a name behind these characters
+-- a name after these characters
 name_taken : (front : Text → Text) → ((name rest : Text) → Lacks 62 name → is_name name ≡ true → Takes (opens (named name)) (front (name ++ 62 ∷ rest)) rest) → (t : Text) → IsTaken Takes (front t) (name_at t)
 unfolding name_at
 name_taken front rule t =
@@ -95,7 +95,7 @@ is_taken (c ∷ rest) =
     step : (d : ℕ) (x y : Option (Token × Text)) → IsTaken Takes (d ∷ rest) x → (eqb c d ≡ false → IsTaken Takes (c ∷ rest) y) → IsTaken Takes (c ∷ rest) (cond (eqb c d) x y)
     step d x y p q = pick Takes (c ∷ rest) (eqb c d) x y (λ e. subst (λ k. IsTaken Takes (k ∷ rest) x) (sym (eqb-true c d e)) p) q
 
--- ---- what is written is read
+-- ---- each value that is written is read
 
 name_is : (name rest : Text) → Lacks 62 name → is_name name ≡ true → name_at (name ++ 62 ∷ rest) ≡ Some (opens (named name), rest)
 unfolding name_at

@@ -1,4 +1,4 @@
--- Items that are found in a part whatever follows it, as they are stored.
+-- Items that are found in a part regardless of the bytes after it, as they are stored.
 use Rattle.std.proofs.Common.{◌≡◌, ◌∙◌, ℕ, ◌<◌, ◌≤◌, Bool, true, false, if◌then◌else◌, List, [], ◌∷◌, ◌++◌, length, map, Some, slice_range, option_map, refl, sym, ap, subst, arith}
 use Rattle.std.proofs.lemmas.List.{append_assoc, append-nil, map-append}
 use Rattle.std.proofs.lemmas.Str.{IsUtf8-nil}
@@ -21,7 +21,7 @@ use Rattle.logos_machine.proofs.PartLemmas.{next_first, over_first}
 use Rattle.logos_relex.specs.Chunks.{EndBy, item_at, offset_of, from_of, to_of}
 use Rattle.logos_relex.specs.declared.chunk.ItemAt.{ItemAt}
 
--- ---- what completes the rest completes the whole
+-- ---- a result for the rest completes to a result for the whole
 
 module _ (code : CodeValue) (callback : Callback) (part : List ℕ) where
   pub begun_item : (items : List Item) (from to : ℕ) (item : Item) → AreBegun code callback part items from → ((rest : List ℕ) → MayFollow code rest → RunsOn code callback (part ++ rest) from item to) →
@@ -116,7 +116,7 @@ end_with (first ∷ items) item end h some within = (h.0, h.1, end_with items it
 
 -- ---- a lexer on a part
 
--- its items so far were found whatever follows the part
+-- its items so far were found regardless of the bytes after the part
 pub record Settling (code : CodeValue) (callback : Callback) (part : List ℕ) (items : List ItemAt) (to : ℕ) : Type 0 where
   pub within : to ≤ length part
   pub spans : EndBy to items

@@ -5,14 +5,14 @@ ghost use Rattle.logos_relex.specs.Views.{bytes_of, IsBorder, LookBelow};
 
 use crate::chunk::Chunk;
 
-/// A border between chunks: how many chunks are before it, and how many bytes.
+/// A border between chunks: the number of chunks before it, and their number of bytes.
 #[derive(Clone, Copy)]
 pub(crate) struct Border {
     pub index: usize,
     pub at: usize,
 }
 
-/// Returns the border after the first chunks that looked only at bytes before `limit`.
+/// Returns the border after the leading chunks that examined only bytes before `limit`.
 pub(crate) fn untouched(chunks: &[Chunk], limit: usize) -> Border
     ensures border { IsBorder chunks.now result }
     ensures below { LookBelow limit (take result.index chunks.now) }

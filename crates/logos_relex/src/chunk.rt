@@ -39,14 +39,15 @@ impl Chunk {
         self.items.as_slice()
     }
 
-    /// Returns how many bytes the chunk has.
+    /// Returns the length of the chunk in bytes.
     pub fn length(&self) -> usize
         ensures { result ≡ self.now.length }
     {
         self.length
     }
 
-    /// Returns how many bytes, counted from the chunk's first one, were examined to find its items.
+    /// Returns the number of bytes, counted from the chunk's first one, that were examined to find
+    /// its items.
     pub fn window(&self) -> usize
         ensures { result ≡ self.now.window }
     {

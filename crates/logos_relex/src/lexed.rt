@@ -12,7 +12,7 @@ use logos_machine::machine::{Action, NotUtf8};
 use logos_token::token::Span;
 use std::alloc::{AllocError, AllocFailed, Global};
 
-/// Why an input was not lexed.
+/// The reasons why an input cannot be lexed.
 #[derive(Clone, Copy, Debug, PartialEq, Eq)]
 pub enum RelexError {
     /// The input is not UTF-8, and the code is in UTF-8 mode. `valid_up_to` is the length in bytes
@@ -57,7 +57,8 @@ pub struct Edit<'i> {
     pub input: &'i [u8],
 }
 
-/// The items of an input, in chunks. After an edit, only chunks that looked at it are lexed again.
+/// The items of an input, in chunks. After an edit, only chunks that examined the edited bytes are
+/// lexed again.
 #[derive(Debug, Drop)]
 pub struct Lexed {
     alloc: Global,
@@ -126,9 +127,9 @@ impl Lexed {
         })
     }
 
-    /// Lexes an edited input. The items that did not look at the edit stay: those before it, and
-    /// those from the first border after it that is met again. The callback is called only for
-    /// bytes that are lexed again, so its answer must depend on the leaf and the slice alone.
+    /// Lexes an edited input. Items that do not depend on the edit stay: those before it, and those
+    /// from the first border after it that the new items also reach. The callback is called only
+    /// for bytes that are lexed again, so its answer must depend on the leaf and the slice alone.
     ///
     /// # Errors
     ///
@@ -215,7 +216,7 @@ impl Lexed {
         self.alloc
     }
 
-    /// Returns how many bytes the input has.
+    /// Returns the length of the input in bytes.
     pub fn length(&self) -> usize
         ensures { result ≡ self.now.length }
     {
@@ -230,7 +231,7 @@ impl Lexed {
         self.chunks.as_slice()
     }
 
-    /// Returns the items after all chunks. Their spans count from where the last chunk ends.
+    /// Returns the items after all chunks. Their spans count from the end of the last chunk.
     pub fn last(&self) -> &[ItemAt]
         ensures { result.now ≡ self.now.last.items }
     {

@@ -1,5 +1,5 @@
-//! The items of an input that changes: after an edit, only the chunks that looked at it are lexed
-//! again.
+//! The items of an input that changes: after an edit, only the chunks that examined the edited
+//! bytes are lexed again.
 
 #![tactic(auto)]
 

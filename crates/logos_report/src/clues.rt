@@ -177,7 +177,7 @@ impl Member<'_> {
         }
     }
 
-    /// Returns whether no fault of the set follows it.
+    /// Returns whether it is the last fault of its set.
     pub(crate) fn is_last(&self) -> bool {
         self.number >= self.meeting.names.len().saturating_sub(1)
     }

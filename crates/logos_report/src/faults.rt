@@ -121,7 +121,7 @@ fn push_rest_text(page: &mut Page, count: usize)
     page.end();
 }
 
-/// Returns how many of these faults have this code.
+/// Returns the number of these faults that have this code.
 pub(crate) fn count_code(faults: &[SpannedError], code: FaultCode) -> usize
     ensures { result ≡ count_by (has_name (name_of code)) (faults_of faults.now) }
 {
@@ -132,9 +132,9 @@ pub(crate) fn count_code(faults: &[SpannedError], code: FaultCode) -> usize
     count
 }
 
-/// Returns how many of these faults have this code, but at most one more than the number that is
-/// shown. It searches from the last one on, so that the time of all these calls is linear in the
-/// number of faults.
+/// Returns the number of these faults that have this code, but at most one more than the number
+/// that is shown. The search begins at the last fault, so that the time of all these calls is
+/// linear in the number of faults.
 pub(crate) fn seen_of(faults: &[SpannedError], code: FaultCode) -> usize
     ensures { result ≡ seen_of code (faults_of faults.now) }
 {
@@ -157,7 +157,7 @@ fn has_code(fault: &SpannedError, code: FaultCode) -> bool
     fault.code.name() == code.name()
 }
 
-/// Returns how many reports of errors these faults have. `Previous` is an earlier definition to
+/// Returns the number of error reports for these faults. `Previous` is an earlier definition to
 /// which an error refers, and a set of ambiguous leaves with a clue has one report.
 pub fn count_errors(errors: &Errors, clues: &Clues) -> usize
     ensures { result ≡ errors_after (first_faults (sizes_of clues.now)) errors.now }

@@ -66,8 +66,8 @@ fn push_part(page: &mut Page, source: &Source<'_>, refused: &[Refused], number: 
     );
 }
 
-/// Returns how many faults of these parts, and of `front`, have this code, but at most one more
-/// than the number that is shown. It searches from the last one on.
+/// Returns the number of faults of these parts, and of `front`, that have this code, but at most
+/// one more than the number that is shown. The search begins at the last fault.
 pub fn seen_in(earlier: &[Refused], front: &[SpannedError], code: FaultCode) -> usize
     ensures { result ≡ seen_of code (all_faults earlier.now ++ faults_of front.now) }
 {
@@ -83,8 +83,8 @@ pub fn seen_in(earlier: &[Refused], front: &[SpannedError], code: FaultCode) -> 
     count
 }
 
-/// Returns how many faults of a part and of those around it have this code, saturating at the
-/// greatest number.
+/// Returns the number of faults of a part and of those around it that have this code, saturating at
+/// the greatest number.
 pub fn count_in(listing: FaultListing<'_>, code: FaultCode) -> usize
     ensures { result ≡ min (count_by (has_name (name_of code)) (listed_faults listing.entry))
         (2 ^ 64 - 1) }

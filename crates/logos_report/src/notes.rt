@@ -43,8 +43,8 @@ fn push_put_in_note(page: &mut Page, shown: ShownFault<'_, '_, '_>)
     }
 }
 
-/// Appends the name of the substituted subpattern after which the byte of a fault is counted, and
-/// the position of its definition.
+/// Appends the name of the subpattern that was substituted before the faulty byte, and the position
+/// of its definition.
 pub fn push_put_in(page: &mut Page, part: Part<'_, '_>, put: PutIn<'_>)
     ensures { Shows [] page.old page.new }
 {

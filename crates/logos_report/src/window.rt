@@ -190,14 +190,14 @@ impl LineWindow<'_> {
         column.saturating_sub(1).saturating_sub(self.front)
     }
 
-    /// Returns how many columns are shown before a column.
+    /// Returns the number of columns that are shown before a column.
     pub(crate) fn columns_before(self, column: usize) -> usize {
         let dots = if self.is_cut() { 3 } else { 0 };
         let shown = self.characters_before(column).saturating_sub(self.skipped);
         columns(self.text, self.skipped, shown).saturating_add(dots)
     }
 
-    /// Returns how many columns are shown from a column to another one.
+    /// Returns the number of columns that are shown from a column to another one.
     pub(crate) fn columns_between(self, from: usize, to: usize) -> usize {
         let first = self.characters_before(from).max(self.skipped);
         let count = self.characters_before(to).saturating_sub(first);

@@ -76,7 +76,7 @@ pub body_rest : (run : TokenList) → IsRestOf run (after_body run)
 body_rest none = IsRestOf-self none
 body_rest (also token rest) = body_step token rest (body_rest rest) (ends_body token) refl
 
--- what is left after the name and the generic parameters of an enum
+-- the rest after the name and the generic parameters of an enum
 head_rest : (run : TokenList) → IsRestOf run (after_head run)
 head_rest none = IsRestOf-self none
 head_rest (also (identifier text span) rest) = past _ rest _ (generics_rest rest)

@@ -57,7 +57,7 @@ pub fn enums_in(alloc: Global, text: &str) -> Result<Vec<FoundEnum>, Refusal>
     }
 }
 
-/// Returns the same enums with the tokens of the file.
+/// Returns the enums that `enums_in` returns, with the tokens of the file.
 ///
 /// # Errors
 ///

@@ -16,7 +16,7 @@ use Rattle.logos_scan.specs.declared.attempts.Taken.{Taken}
 use Rattle.logos_scan.specs.declared.attempts.Taken.TheVariants.{Emits as TakenEmits, CallsBack as TakenCallsBack, Fails as TakenFails, Ends as TakenEnds}
 
 module _ {C : Type 0} (callback : Callback) (old : LexerValue C) where
-  -- what continues continues after what is skipped
+  -- a continuation continues after the skipped matches
   pub goes_skips : (from to : ℕ) → Continues callback old from → SkipsTo old.code old.input from to → Continues callback old to
   goes_skips from to g (skips_none at) = g
   goes_skips from to g (skips_then first mid end leaf steps s attempted is) = goes_past_skip callback old mid end leaf steps (goes_skips first mid g s) attempted is
@@ -74,7 +74,7 @@ module _ {C : Type 0} (callback : Callback) (old : LexerValue C) where
       let e = ends_run callback old to n (moved old to to n) refl (goes_skips start to on skips) t in
       record { from = e.from; to = e.to; over = e.over }
 
--- a run's try begins in the input
+-- a run's match attempt begins in the input
 pub start_within : (code : CodeValue) (rows input : List ℕ) (run : WithChunk) (start at : ℕ) → IsRun code rows input run start at → start ≤ length input
 start_within code rows input run start at r =
     let s = r.is_at in

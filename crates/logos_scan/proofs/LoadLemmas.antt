@@ -63,7 +63,7 @@ rest_long input base = omega (arith, length-take (length input - base) (drop bas
 pub part_there : (input : List ℕ) (base j : ℕ) → base + 4608 ≤ length input → j < 4608 → slice_index (take 4608 (take (length input - base) (drop base input))) j ≡ slice_index (drop base input) j
 part_there input base j long h = get_or-take 4608 (take (length input - base) (drop base input)) j 0 h ∙ rest_there input base j (omega (arith, long, h))
 
--- the place of the root
+-- the row offset of the root
 pub root_is_row_start : (code : CodeValue) (rows : List ℕ) → AreFolded code rows → IsRowStart rows (272 * code.root)
 root_is_row_start code rows folded =
     let c = comes_first code folded.sound [] 0 (omega arith) in
@@ -174,7 +174,7 @@ module _ (code : CodeValue) (rows : List ℕ) (folded : AreFolded code rows) (in
       }
 
   module _ (cur : ChunkCursor) (same_base : cur.base ≡ base) (is_at : IsAt entries cur) where
-    -- where a later try stands, the run with the cursor there stands
+    -- where a later match attempt stands, the run with the cursor there stands
     later_run : (start from at now : ℕ) (r : IsRun code rows input run start from) → from ≤ at → at ≤ run.count → NoToken entries from at → StartsAt base entries from start at now →
         IsRun code rows input (moved run cur) now at × SkipsTo code input start now
     later_run start from at now r le near none starts =
@@ -242,7 +242,7 @@ module _ (code : CodeValue) (rows : List ℕ) (folded : AreFolded code rows) (in
               ])
         ]
 
-  -- the place after the chunk
+  -- the row offset after the chunk
   pub is_at_last : (start : ℕ) → IsRun code rows input run start run.count → ComesTo code input start (base + run.count) run.row_start
   is_at_last start r =
       let w = r.walked in

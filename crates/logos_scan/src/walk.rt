@@ -18,7 +18,7 @@ pub mod repair;
 /// The bits of an entry that name the next row, by its offset.
 pub const OFFSET_MASK: u32 = 0xF_FFFF;
 
-/// The flag of an entry before whose byte a match ends.
+/// The flag of an entry where a match ends before the byte.
 pub const ENDED: u32 = 1 << 31;
 
 /// The flag of an entry at whose byte there is something to do.

@@ -36,8 +36,8 @@ pub(crate) enum Chosen {
     Several(FoundEnum, FoundEnum),
 }
 
-/// Returns the requested enum of a file, which is the first one if no name is given. If there are
-/// others then, writes a note to standard error.
+/// Returns the requested enum of a file, which is the first one if no name is given. If the file
+/// then has several, writes a note to standard error.
 pub(crate) fn lexer_in<'w, E: Write>(
     alloc: Global,
     task: Task<'w>,

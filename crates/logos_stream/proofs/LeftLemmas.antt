@@ -51,7 +51,7 @@ all_of_two : (a b c : Option (List ℕ)) (first second : List ℕ) (is_over : Bo
 all_of_two a b c first second true p q h k = none_more a b c first second p q (h refl)
 all_of_two a b c first second false p q h k = all_more a b first second p (k refl)
 
--- ---- streams go on
+-- ---- streams continue
 
 module _ {R : Type 0} (remaining : R → Option (List ℕ)) (code : CodeValue) (callback : Callback) where
   abbrev On : WindowValue R → WindowValue R → List Item → Type 0

@@ -1,4 +1,4 @@
--- The bytes of a part, as a window moves on in them and more are read.
+-- The bytes of a part, as a window moves in them and more are read.
 use Rattle.std.proofs.Common.{◌≡◌, ◌∙◌, ◌⊎◌, inl, inr, ⊎_elim, ℕ, zero, suc, ◌+◌, ◌-◌, ◌<◌, ◌≤◌, ◌^◌, min, Bool, true, false, ◌||◌, IsTrue, IsFalse, List, [], ◌++◌, append-nil, length, take, drop, slice_range, Option, None, Some, IsUtf8, IsCharBoundary, refl, sym, ap, subst, arith}
 use Rattle.std.specs.Io.KnownBytes.{Consumes, IsAtEnd}
 use Rattle.std.proofs.Math.Seq.{take-add}
@@ -14,7 +14,7 @@ module _ (part : List ℕ) (at ready : ℕ) (order : at ≤ ready) (within : rea
   lexed_length = omega (arith, length-take (ready - at) (drop at part), length-drop at part)
 
   module _ (to : ℕ) (fits : to ≤ ready - at) where
-    -- what is left after some bytes of a slice
+    -- the rest after some bytes of a slice
     pub left_after : slice_range part (at + to) ready ≡ drop to (slice_range part at ready)
     left_after =
         let e : ready - at ≡ to + (ready - (at + to)) = omega arith in

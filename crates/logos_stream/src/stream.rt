@@ -16,7 +16,7 @@ use std::marker::Model;
 
 /// A run of a code value on the bytes of a reader. Offsets and lengths count bytes.
 ///
-/// At most a bound is in memory, whatever the length of the stream. In UTF-8 mode the bytes are
+/// At most the bound is in memory, regardless of the length of the stream. In UTF-8 mode the bytes are
 /// validated as they are read.
 ///
 /// ```text
@@ -74,7 +74,7 @@ impl<'c, 's, R: Read + Drop, C: Fn(LeafId, &[u8]) -> Action + Copy> Stream<'c, '
         })
     }
 
-    /// Returns the next event. An item is returned only if it is the next one whatever bytes
+    /// Returns the next event. An item is returned only if it does not depend on the bytes that
     /// follow. After any other event, each call returns that event again until `read` has read.
     pub fn next(&mut self) -> Streamed
         requires { TakesMatches C.Fn self.old.code self.old.callback }
@@ -125,7 +125,8 @@ impl<'c, 's, R: Read + Drop, C: Fn(LeafId, &[u8]) -> Action + Copy> Stream<'c, '
         self.window.slice()
     }
 
-    /// Returns how many bytes of the stream were passed, saturating at the greatest number.
+    /// Returns the number of bytes of the stream that were passed, saturating at the greatest
+    /// number.
     pub fn offset(&self) -> usize
         ensures { result ≡ self.now.window.offset }
     {

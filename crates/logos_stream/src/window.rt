@@ -131,7 +131,8 @@ impl<R: Read + Drop> Window<R> {
         &self.parts.part()[self.from..self.at]
     }
 
-    /// Returns how many bytes of the stream were passed, saturating at the greatest number.
+    /// Returns the number of bytes of the stream that were passed, saturating at the greatest
+    /// number.
     pub(crate) fn offset(&self) -> usize
         ensures { result ≡ self.now.offset }
     {

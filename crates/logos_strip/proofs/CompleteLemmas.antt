@@ -40,7 +40,7 @@ pub result_not_refused : {T : Type 0} (source : List ℕ) (result : Result T Ref
 result_not_refused source (Ok value) whole r = tt
 result_not_refused source (Err error) whole r = not_refused source error whole r
 
--- what is left of the tokens of a source that spells an enum
+-- the rest of the tokens of a source that spells an enum
 pub known_stripped : {A E : Type 0} (f : A → TokenList) (source : List ℕ) (tokens : TokenList) (result : Result A E) → SpellsEnum source → Spells source tokens →
     IfOk result (λ left. f left ≡ stripped tokens) → IfOk result (λ left. IsStripped source (f left))
 known_stripped f source tokens (Ok left) whole s is =

@@ -1,4 +1,4 @@
-//! Reads the text of a pattern into the tree that it spells by the grammar. `logos_pattern` calls
+//! Parses the text of a pattern into its tree, as the grammar defines it. `logos_pattern` calls
 //! `parse` for each pattern.
 
 #![tactic(auto)]

@@ -27,14 +27,14 @@ small_marks parts sound k d l =
     let names = All-map (NamesExisting (code_of parts)) (state_of parts.jump_tables.items) states k state sound.states l (get_or_default states k d state l) in
     small_mark state.mark (length (map use_of parts.leaves.items)) 9223372036854775807 count names.mark
 
--- the numbers of all marks, by what is seen of the code
+-- the numbers of all marks, by the facts about the code
 pub marks_seen : (parts : CodeParts) (code : CodeValue) (states : List TheState) → states ≡ parts.states.items → code_of parts ≡ code →
     map (λ (state : TheState). mark_number (option_map mark_of state.mark)) states ≡ map (λ state. mark_number state.mark) code.states
 marks_seen parts code states same is =
     ap (λ (xs : List TheState). map (λ (state : TheState). mark_number (option_map mark_of state.mark)) xs) same
     ∙ sym (map-map (λ state. mark_number state.mark) (state_of parts.jump_tables.items) parts.states.items) ∙ ap (λ (code : CodeValue). map (λ state. mark_number state.mark) code.states) is
 
--- which leaves are left out, by what is seen of the code
+-- which leaves are left out, by the facts about the code
 pub skips_seen : (parts : CodeParts) (code : CodeValue) (leaves : List CodeLeaf) → leaves ≡ parts.leaves.items → code_of parts ≡ code →
     map (λ leaf. skip_number (use_of leaf)) leaves ≡ map skip_number code.leaves
 skips_seen parts code leaves same is =

@@ -8,7 +8,7 @@ use Rattle.logos_text.specs.Texts.{texts_of}
 use Rattle.logos_type.specs.Printed.{printed_type}
 use Rattle.logos_type.specs.TypeTrees.{type_tree}
 
--- what is known of the text of a code, together
+-- the facts about the text of a code, together
 pub code_shown : {S E : Type 0} (view : S → List ℕ) (around : AroundValue) (code : CodeValue) (result : Result S E) → IfOk result (λ text. OccurInOrder (texts_of code) (view text)) →
     IfOk result (λ text. BeginsWith (opening_text short_core around (printed_type (type_tree code.header.this))) (view text)) →
     IfOk result (λ text. IsCodeText around code (view text))

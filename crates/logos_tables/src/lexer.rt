@@ -17,8 +17,8 @@ use logos_token::error::Memory;
 use logos_type::print_type;
 use std::alloc::Global;
 
-/// Returns the Rust text of an implementation of `Logos` for the enum, whose function that lexes
-/// has tables for the loop of the runtime, with the pieces of the source in it. The tables hold the
+/// Returns the Rust text of an implementation of `Logos` for the enum, with the pieces of the
+/// source in it. Its lexing function has tables for the loop of the runtime. The tables hold the
 /// step of each byte, and of the end of the input, in each state of the code, and the mark of each
 /// state.
 ///

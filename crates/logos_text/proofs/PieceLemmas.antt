@@ -132,7 +132,7 @@ notes_nothing a = notes_text [] (sym (append-nil (string_bytes a.text))) refl
 pub last_noted : {last : List ℕ} {runs : List TokenList} {a b c : Sink} → Notes runs a b → Prints last [] b c → NotesLast last runs a c
 last_noted p q = record { front = p.text; prints = prints_last p.prints q }
 
--- what completes the rest of a loop's runs completes all of them
+-- a result for the rest of a loop's runs completes all of them
 pub runs_more : {A : Type 0} (f : A → List TokenList) (xs : List A) (i : ℕ) (d : A) (start old new : Sink) → i < length xs → d ≡ get_or xs i d → Notes (f d) old new →
     ((whole : Sink) → Notes (flat_map f (drop i xs)) old whole → Notes (flat_map f xs) start whole) → (whole : Sink) → Notes (flat_map f (drop (i + 1) xs)) new whole →
     Notes (flat_map f xs) start whole

@@ -19,7 +19,7 @@ item_added g xs i d whole old new l e all =
 pub items_added : {A : Type 0} (g : A → List ℕ) (xs : List A) (i : ℕ) (whole text : List ℕ) → length xs ≤ i → text ++ flat_map g (drop i xs) ≡ whole → text ≡ whole
 items_added g xs i whole text l all = sym (append-nil text) ∙ ap (λ rest. text ++ flat_map g rest) (sym (drop_of_length-le xs l)) ∙ all
 
--- one part behind another
+-- one part after another
 pub parts : (a : List ℕ) {b c : List ℕ} (u v : List ℕ) → b ≡ a ++ u → c ≡ b ++ v → c ≡ a ++ (u ++ v)
 parts a u v e f = f ∙ ap (λ w. w ++ v) e ∙ append_assoc a u v
 
@@ -41,7 +41,7 @@ adds_both {xs} {ys} {a} {b} {c} p q = record {
   occur = occur_together xs ys p.added q.added p.occur q.occur;
 }
 
--- something is printed behind
+-- something is printed after
 pub grows_after : {xs : List (List ℕ)} {a b c : List ℕ} → Adds xs a b → Grows b c → Adds xs a c
 grows_after {xs} {a} {b} {c} p q = subst (λ texts. Adds texts a c) (append-nil xs) (adds_both p q)
 
@@ -60,7 +60,7 @@ grows_text text e = record { added = text; is = e; occur = tt }
 pub occur_whole : {texts : List (List ℕ)} {old whole : List ℕ} → old ≡ [] → Adds texts old whole → OccurInOrder texts whole
 occur_whole {texts} {old} {whole} none p = subst (λ w. OccurInOrder texts w) (sym (p.is ∙ ap (λ w. w ++ p.added) none)) p.occur
 
--- what completes the rest of a loop's texts completes all of them
+-- a result for the rest of a loop's texts completes all of them
 more_added : (all rest texts left : List (List ℕ)) (start old new : List ℕ) → rest ≡ texts ++ left → Adds texts old new →
     ((whole : List ℕ) → Adds rest old whole → Adds all start whole) → (whole : List ℕ) → Adds left new whole → Adds all start whole
 more_added all rest texts left start old new e step so_far whole afterward = so_far whole (subst (λ ts. Adds ts old whole) (sym e) (adds_both step afterward))

@@ -30,7 +30,7 @@ copied items copies now k p copy h e same pushed is =
     ∙ ap (λ (ts : List Tree). map tree_of copies ++ ts) (sym (list_front items k p h e))
     ∙ is
 
--- one tree more behind others
+-- one tree more after others
 pub pushed_tree : (old now : List TypePart) (p : TypePart) → now ≡ old ++ p ∷ [] → map tree_of now ≡ map tree_of old ++ tree_of p ∷ []
 pushed_tree old now p e = ap (λ (ps : List TypePart). map tree_of ps) e ∙ map_push tree_of old p
 

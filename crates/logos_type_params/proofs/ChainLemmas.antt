@@ -69,7 +69,7 @@ pub any_put : (t : Bor Text) (keys keys' : List (Bor Text)) → PutsText t keys 
 any_put t keys keys' put x =
     sym (any_texts x keys') ∙ put (record { ref_ptr = (0, 0); now = x }) ∙ ap (λ (b : Bool). cond (bytes_eq t.now x) true b) (any_texts x keys)
 
--- ---- the places of names
+-- ---- the slots of names
 
 once : (ps : List ParamValue) (t : Text) (i j : ℕ) → OccursAt ps t i → OccursAt ps t j → i ≡ j
 once [] t i j s k = absurd s
@@ -111,7 +111,7 @@ pub start_of : {ps : List ParamValue} {from to : Text} → Leads ps from to → 
 start_of {ps = ps} (one {from = from} {to = to} h) = slot_of ps from to h
 start_of {ps = ps} (on {from = from} {over = over} h l) = slot_of ps from over h
 
--- ---- places that are added
+-- ---- slots that are added
 
 module _ (params : List ParamValue) where
   -- none is added
@@ -121,7 +121,7 @@ module _ (params : List ParamValue) where
   pub reaches_untyped : (t : Text) (old : List ℕ) → ((i : ℕ) → OccursAt params t i → ⊥) → Reaches params (names (name t)) old old
   reaches_untyped t old none = reaches_none (names (name t)) old (λ x i e s. none i (subst (λ (y : Text). OccursAt params y i) (sym (same_text t x e)) s))
 
-  -- the place of one name is added
+  -- the slot of one name is added
   pub reaches_slot : (t : Text) (i : ℕ) (old new : List ℕ) → OccursAt params t i → new ≡ old ++ i ∷ [] → Reaches params (names (name t)) old new
   reaches_slot t i old new s e = record {
     each = λ j. rw e (
@@ -148,7 +148,7 @@ module _ (params : List ParamValue) where
       either t true e h = inl e
       either t false e h = inr (rw e at h)
 
--- the parts of a type, one after another, where what completes the rest completes the whole
+-- the parts of a type, one after another, where a result for the rest completes to a result for the whole
 pub reaches_on : (params : List ParamValue) (Whole : List ℕ → Type 0) (items : List TypePart) (k : ℕ) (p : TypePart) (old mid : List ℕ) →
     ((new : List ℕ) → Reaches params (some_names (trees (map tree_of (drop k items)))) old new → Whole new) → k < length items → p ≡ get_or items k p →
     Reaches params (names (tree_of p)) old mid →
@@ -158,9 +158,9 @@ reaches_on params Whole items k p old mid completes h e first new rest =
     at_drop_more (λ ps. trees (map tree_of ps)) items k p h ∙ ap (λ (q : TypePart). also (tree_of q) (trees (map tree_of (drop (k + 1) items)))) (sym e) in
     completes new (rw front (reaches_both params (names (tree_of p)) (some_names (trees (map tree_of (drop (k + 1) items)))) old mid new first rest))
 
--- ---- chains by places
+-- ---- chains by slots
 
--- each type has the list of the places to which it leads, where what completes the rest completes
+-- each type has the list of the slots to which it leads, where a result for the rest completes
 -- the whole
 pub reached_on : (params : List ParamValue) {L : Type 0} (items : L → List ℕ) (es : Entries) (k : ℕ) (e : Bor Text × TypeParam) (old new : List L) (list : L) →
     ((left : List (List ℕ)) → AreReached params (map param_value (drop k es)) left → AreReached params params (map items old ++ left)) → k < length es → e ≡ get_or es k e →

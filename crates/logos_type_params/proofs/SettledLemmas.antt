@@ -34,7 +34,7 @@ key_has t keys keys' x put h = any_has x (texts keys') (any_put t keys keys' put
 key_put : (t : Bor Text) (keys keys' : List (Bor Text)) → PutsText t keys keys' → Has (texts keys') t.now
 key_put t keys keys' put = any_has t.now (texts keys') (any_put t keys keys' put t.now ∙ rw (eq_text t.now t.now refl) refl)
 
--- what holds of a success that is one
+-- a property of a success that is one
 pub on_ok_is : {T E P : Type 0} (r : Result T E) → IsOk r → OnOk r P → P
 on_ok_is (Ok x) is p = p
 on_ok_is (Err e) is p = absurd (true≢false (sym is))
@@ -132,7 +132,7 @@ and_fault_on : (found : Option Tree) (named : Named) (rest : List Fault) → and
 and_fault_on None named rest = refl
 and_fault_on (Some tree) named rest = refl
 
--- types are copied one by one: what is left of the names completes the types and the faults of all
+-- types are copied one by one: the rest of the names completes the types and the faults of all
 pub record Copying (types : List Given) (all_types : List Tree) (all_faults : List Fault) (rest : List Named) (keys : List (Bor Text)) (copies : List Tree) (faults : List Fault) : Type 0 where
   pub front : List Named
   pub fronts : AreInFront front keys
@@ -170,7 +170,7 @@ needs_held params marks t leads keys keys' l needed put are =
 pub needs_free : (params : List ParamValue) (marks : List Bool) (t : Text) (leads : Bool) (held : List Text) → leads ≡ false → (AreMarked params marks → IsTrue leads ↔ Leads params t t) → NeedsName params marks t held held
 needs_free params marks t leads held l needed are = is_free (λ back. true≢false (sym ((needed are).1 back) ∙ l)) refl
 
--- names are checked one by one, where what completes the rest completes the whole
+-- names are checked one by one, where a result for the rest completes to a result for the whole
 pub record Checking (params : List ParamValue) (Whole : List Fault → Type 0) (rest : List Named) (keys : List (Bor (List ℕ))) (now : List Fault) : Type 0 where
   pub front : List Named
   pub fronts : AreInFront front keys
@@ -184,7 +184,7 @@ check_on params marks Whole all rest named keys keys' before after c e h are = r
   completes = λ faults r. c.completes faults (rw e (one_more (h.checked are c.front c.fronts) r));
 }
 
--- faults behind those that stood in front already
+-- faults after those that stood in front already
 checked_after : {params : List ParamValue} {front : List Named} {named : Named} {old new : List Fault} (ahead : List Fault) → IsChecked params front named old new → IsChecked params front named (ahead ++ old) (ahead ++ new)
 checked_after ahead (declared_again d e) = declared_again d (ap (λ l. ahead ++ l) e)
 checked_after ahead (leads_on n e) = leads_on n (ap (λ l. ahead ++ l) e)

@@ -66,7 +66,7 @@ module _ {X : Type 0} where
   found_none t [] h = refl
   found_none t (e ∷ es) h = let l = slot_none t e es h in rw l.0 (found_none t es l.1)
 
-  -- one value more: where its text has a place, and where it has none
+  -- one value more: where its text has a slot, and where it has none
   pub put_at : (entry : Bor Text × X) (es : Rows X) (i : ℕ) → slot_in es entry.0.now ≡ Some i → slice_set es i entry ≡ put_in entry es
   put_at entry [] i h = absurd cc
   put_at entry (e ∷ es) zero h = rw (slot_first entry.0.now e es h) refl
@@ -76,7 +76,7 @@ module _ {X : Type 0} where
   put_last entry [] h = refl
   put_last entry (e ∷ es) h = let l = slot_none entry.0.now e es h in rw l.0 (ap (λ (xs : Rows X). e ∷ xs) (put_last entry es l.1))
 
-  -- the places stay where a value is replaced
+  -- the slots stay where a value is replaced
   same_slots : (entry : Bor Text × X) (es : Rows X) (i : ℕ) → slot_in es entry.0.now ≡ Some i → (q : Text) → slot_in es q ≡ slot_in (slice_set es i entry) q
   same_slots entry [] i h q = absurd cc
   same_slots entry (e ∷ es) zero h q = ap (λ (x : Text). if bytes_eq q x then Some 0 else option_map suc (slot_in es q)) (sym (same_text entry.0.now e.0.now (slot_first entry.0.now e es h)))
@@ -85,7 +85,7 @@ module _ {X : Type 0} where
   pub placed_set : (entry : Bor Text × X) (es : Rows X) (slots : List (Bor Text × ℕ)) (i : ℕ) → ArePlaced es slots → slot_in es entry.0.now ≡ Some i → ArePlaced (slice_set es i entry) slots
   placed_set entry es slots i are h q = are q ∙ same_slots entry es i h q.now
 
-  -- a new one has the place after all others
+  -- a new one has the slot after all others
   slot_last : (entry : Bor Text × X) (es : Rows X) (q : Text) → slot_in es q ≡ None → bytes_eq q entry.0.now ≡ true → slot_in (es ++ entry ∷ []) q ≡ Some (length es)
   slot_last entry [] q h e = rw e refl
   slot_last entry (x ∷ es) q h e = let l = slot_none q x es h in rw l.0 (ap (λ (r : Option ℕ). option_map suc r) (slot_last entry es q l.1 e))

@@ -107,7 +107,7 @@ firsts_local plus none = refused_here plus none refl refl
 pub begin_local : (plus : Bool) (run : TokenList) {f : First} → begin plus run ≡ f → FirstLocal plus run f
 begin_local plus run e = subst (FirstLocal plus run) e (firsts_local plus run)
 
--- a type that is just a name
+-- a type that is exactly a name
 pub record NameLocal (run : TokenList) (text : List ℕ) : Type 0 where
   pub first : Token
   pub rest : TokenList

@@ -14,7 +14,7 @@ use Rattle.logos_type_reader.proofs.TableLocal.{SameOpen, over, into, out, Stops
 use Rattle.logos_type_reader.proofs.BeginLocal.{Begun, by_tokens, by_group, Refuses, at_once, after_some, begin_local, unnamed_local}
 use Rattle.logos_type_reader.proofs.TypesLocal.{local_move, MoveLocal, FormLocal, form_local, unnamed_same, parts_local, move_local}
 
--- a fault at a place: in the run, or after the group that is open
+-- a fault at a spot: in the run, or after the group that is open
 data FixedAt (Q : TokenList → Option TokenList → Fault → Type 0) (run : TokenList) (b : Option TokenList) (fault : Fault) : Type 0 where
   inner_stage : (front : Front) (left : TokenList) → IsAt front run left → OccursAt fault front left →
       ((other l : TokenList) (c : Option TokenList) → IsAt front other l → SameOpen b c → SameSign left l → Q other c (fault_at fault l)) → FixedAt Q run b fault
@@ -35,7 +35,7 @@ record FixedType (n : ℕ) (plus : Bool) (run : TokenList) (fault : Fault) : Typ
   fresh : Fresh front run
   decides : (other l : TokenList) → IsAt front other l → SameSign left l → NoType n plus other (fault_at fault l)
 
--- a fault with a place
+-- a fault with a spot
 abbrev pub Placed : Fault → Type 0
 Placed (mismatch span) = Unit {0}
 Placed (unsupported span) = Unit {0}
@@ -112,7 +112,7 @@ later_fixed {n} {now} {p} {run} {b} {afterward} {ps} {fault} (out e g k) l =
     (out_fixed (λ x c f. NoParts n (to afterward.stage x c) f) (λ x c f. NoParts n (to p x c) f) run afterward.run fault (λ x f m. later (k x) m)
     (subst (λ (x : Option TokenList). FixedAt (λ y c f. NoParts n (to afterward.stage y c) f) afterward.run x fault) g l))
 
--- what holds of the run from its front on
+-- a property of the run from its front on
 from_front : (F : TokenList → Type 0) {front : Front} {run left other l : TokenList} → Fresh front run → ForSeen run F → IsAt front run left → IsAt front other l → SameSign left l → F other
 from_front F {run = run} n k at_start at_start h = seen_unnamed F run n k h
 from_front F n k (past_token {token = t} a) (past_token b) h = seen_after F t k (same_at a b h)

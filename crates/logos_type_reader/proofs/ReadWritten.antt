@@ -50,17 +50,17 @@ data AfterName (levels : ℕ) (kind : PathKind) : TokenList → List Tree → To
   name_last : {rest : TokenList} → may_follow (name_ending kind) rest ≡ true → AfterName levels kind rest [] rest
   name_longer : {run rest : TokenList} {parts : List Tree} {e : Ending} → Longer levels kind run parts rest e → may_follow e rest ≡ true → AfterName levels kind run parts rest
 
--- behind `>`
+-- after `>`
 data Onward (levels : ℕ) (kind : PathKind) : TokenList → List Tree → TokenList → Type 0 where
   stop : {rest : TokenList} → begins_colons rest ≡ false → Onward levels kind rest [] rest
   onward : {s t : Span} {p : Spacing} {run rest : TokenList} {parts : List Tree} {e : Ending} → Path levels kind run parts rest e → may_follow e rest ≡ true →
       Onward levels kind (also (punctuation 58 Joint s) (also (punctuation 58 p t) run)) (sign colons ∷ parts) rest
 
--- behind `<`
+-- after `<`
 data InArguments (levels : ℕ) (kind : PathKind) : TokenList → List Tree → TokenList → Type 0 where
   in_arguments : {run middle rest : TokenList} {front back : List Tree} → Arguments levels kind run front middle → Onward levels kind middle back rest → InArguments levels kind run (front ++ back) rest
 
--- behind `::`
+-- after `::`
 data AfterColons (levels : ℕ) (kind : PathKind) (may : Bool) : TokenList → List Tree → TokenList → Type 0 where
   to_path : {run rest : TokenList} {parts : List Tree} {e : Ending} → Path levels kind run parts rest e → may_follow e rest ≡ true → AfterColons levels kind may run parts rest
   to_angle : {s : Span} {p : Spacing} {run rest : TokenList} {parts : List Tree} → may ≡ true → InArguments levels (argued kind) run parts rest →
@@ -114,7 +114,7 @@ data AfterElement (after : TokenList) : TokenList → List Tree → TokenList �
 data AtElement (levels : ℕ) (after : TokenList) : TokenList → List Tree → TokenList → Type 0 where
   at_element : {run middle rest : TokenList} {t : Tree} {parts : List Tree} {e : Ending} → Written levels true run t middle e → AfterElement after middle parts rest → AtElement levels after run (t ∷ parts) rest
 
--- behind `*`
+-- after `*`
 data AtPointer (levels : ℕ) : TokenList → List Tree → TokenList → Type 0 where
   at_const : {s : Span} {run rest : TokenList} {parts : List Tree} → LastType levels false run parts rest → AtPointer levels (also (identifier (codes "const") s) run) (sign (word (codes "const")) ∷ parts) rest
   at_mut : {s : Span} {run rest : TokenList} {parts : List Tree} → LastType levels false run parts rest → AtPointer levels (also (identifier (codes "mut") s) run) (sign (word (codes "mut")) ∷ parts) rest
@@ -140,7 +140,7 @@ data AfterBound (levels : ℕ) : Bool → TokenList → List Tree → TokenList 
   plus_more : {s : Span} {p : Spacing} {run rest : TokenList} {parts : List Tree} {e : Ending} → Bounds levels true run parts rest e → may_follow e rest ≡ true →
       AfterBound levels true (also (punctuation 43 p s) run) (sign (mark 43) ∷ parts) rest
 
--- behind `+`
+-- after `+`
 data AtFurther (levels : ℕ) : TokenList → List Tree → TokenList → Type 0 where
   no_further : {rest : TokenList} → begins_bound rest ≡ false → AtFurther levels rest [] rest
   some_further : {run rest : TokenList} {parts : List Tree} {e : Ending} → Bounds levels true run parts rest e → may_follow e rest ≡ true → AtFurther levels run parts rest
@@ -149,7 +149,7 @@ data AtFurther (levels : ℕ) : TokenList → List Tree → TokenList → Type 0
 data AfterEnclosed (levels : ℕ) (plus : Bool) (after : TokenList) : TokenList → List Tree → TokenList → Type 0 where
   close_enclosed : {rest : TokenList} {back : List Tree} → AfterBound levels plus after back rest → AfterEnclosed levels plus after none (sign (closing Parenthesis) ∷ back) rest
 
--- behind `for`, after its `<`, and behind one of its lifetimes
+-- after `for`, after its `<`, and after one of its lifetimes
 data AtFor (After : Parts) : TokenList → List Tree → TokenList → Type 0 where
   at_for : {run middle rest : TokenList} {front back : List Tree} → Lifetimes run front middle → After middle back rest → AtFor After run (front ++ back) rest
 
@@ -165,7 +165,7 @@ data AtFn (levels : ℕ) : TokenList → List Tree → TokenList → Type 0 wher
   at_fn : {s : Span} {run rest : TokenList} {parts : List Tree} {e : Ending} → Taking levels run parts rest e → may_follow e rest ≡ true →
       AtFn levels (also (identifier (codes "fn") s) run) (sign (word (codes "fn")) ∷ parts) rest
 
--- behind `extern`
+-- after `extern`
 data AtExtern (levels : ℕ) : TokenList → List Tree → TokenList → Type 0 where
   extern_fn : {run rest : TokenList} {parts : List Tree} → AtFn levels run parts rest → AtExtern levels run parts rest
   extern_as : {text : List ℕ} {s : Span} {run rest : TokenList} {parts : List Tree} → AtFn levels run parts rest → AtExtern levels (also (literal text s) run) (sign (value text) ∷ parts) rest
@@ -472,7 +472,7 @@ further_plus (some_further w f) = plus_more w f
 bounds_further : {levels : ℕ} {run rest : TokenList} {parts : List Tree} → Last (Bounds levels true) run parts rest → AtFurther levels run parts rest
 bounds_further (ending w f) = some_further w f
 
--- the lifetimes behind `for`
+-- the lifetimes after `for`
 module _ {After : Parts} where
   for_opened : {s : Span} {p : Spacing} {run rest : TokenList} {parts : List Tree} → InFor After run parts rest → AtFor After (also (punctuation 60 p s) run) (sign (mark 60) ∷ parts) rest
   for_opened (in_for l a) = at_for (in_angles l) a

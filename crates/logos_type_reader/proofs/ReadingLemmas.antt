@@ -13,7 +13,7 @@ use Rattle.logos_type_reader.specs.declared.reader.TypeFault.TheVariants as faul
 use Rattle.logos_type_reader.specs.ReadingViews.{left, spot_left, IsStep, IsFirst, IfFault, fault_of}
 use Rattle.logos_type_reader.proofs.TableSteps.{Moves, Onward, Inward, steps, Begins, first_steps}
 
--- what is left of what is left is left of the whole
+-- the rest of the rest is left of the whole
 append_from : (front middle rest : TokenList) → append front (append middle rest) ≡ append (append front middle) rest
 append_from no_token middle rest = refl
 append_from (and_token t front) middle rest = ap (λ (x : TokenList). and_token t x) (append_from front middle rest)
@@ -24,7 +24,7 @@ rest_from {run} {middle} {rest} r q = record { front = append r.front q.front; i
 pub rest_self : (run : TokenList) → IsRestOf run run
 rest_self run = record { front = no_token; is = refl }
 
--- one spot is behind another, with less left
+-- one spot is after another, with less left
 pub record Later (spot afterward : Spot) : Type 0 where
   pub rest : IsRestOf (outer spot.run spot.outside) (outer afterward.run afterward.outside)
   pub less : spot_left afterward < spot_left spot
@@ -34,7 +34,7 @@ pub record Left (spot : Spot) (run : TokenList) : Type 0 where
   pub rest : IsRestOf (outer spot.run spot.outside) run
   pub less : 2 * count_of run ≤ spot_left spot
 
--- a run is behind another one, with less left
+-- a run is after another one, with less left
 pub record Rest (run rest : TokenList) : Type 0 where
   pub is : IsRestOf run rest
   pub less : count_of rest < count_of run
@@ -97,7 +97,7 @@ or_false : (a : Bool) → (a || false) ≡ a
 or_false true = refl
 or_false false = refl
 
--- with the parts so far, what completes the rest completes the whole, and what is wrong with the
+-- with the parts so far, a result for the rest completes to a result for the whole, and what is wrong with the
 -- rest is wrong with the whole
 pub record Remains (levels : ℕ) (from : Spot) (old now : List Tree) (barred : Bool) (spot : Spot) : Type 0 where
   pub front : List Tree

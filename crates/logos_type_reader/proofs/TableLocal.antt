@@ -38,7 +38,7 @@ pub data Passes (Q : TokenList → Option TokenList → Spot → Type 0) (run : 
 abbrev pub Moving : Type 0
 Moving = TokenList → Option TokenList → Move
 
--- it stops at a place of the run, and so of each run with the same tokens in front and the same
+-- it stops at a spot of the run, and so of each run with the same tokens in front and the same
 -- sign there
 abbrev pub Stops : Moving → TokenList → Option TokenList → Fault → Type 0
 Stops M run b f = (front : TokenList) × (left : TokenList) × (run ≡ append front left) × (f ≡ mismatch (first_span left))

@@ -1,4 +1,4 @@
--- Each move of the table continues behind where it was, with less left.
+-- Each move of the table continues after where it was, with less left.
 use Rattle.std.proofs.Common.{◌≡◌, ℕ, ◌<◌, ◌*◌, ◌==◌, ◌&&◌, ◌||◌, Bool, true, false, bytes_eq, codes, if◌then◌else◌, Option, Some, None, List, refl, ap, subst, ◌≤◌, arith}
 use Rattle.logos_lexeme.specs.declared.lexeme.Span.{Span}
 use Rattle.logos_lexeme.specs.declared.lexeme.Spacing.{Spacing}
@@ -63,7 +63,7 @@ after_one t rest (Some after) p = record { rest = self_rest after; less = omega 
 within_one : (t : Token) (rest : TokenList) (p : Stage) → Inward (also t rest) (to p rest None)
 within_one t rest p = record { rest = first_rest t rest; less = omega (arith, one_token t); alone = refl }
 
--- behind two tokens
+-- after two tokens
 after_two_tokens : (t u : Token) (rest : TokenList) (outside : Option TokenList) (p : Stage) → Onward (also t (also u rest)) outside (to p rest outside)
 after_two_tokens t u rest None p = record { rest = record { front = also t (also u none); is = refl }; less = omega (arith, one_token t) }
 after_two_tokens t u rest (Some after) p = record { rest = self_rest after; less = omega (arith, one_token t) }

@@ -20,7 +20,7 @@ use Rattle.logos_type_reader.specs.Table.{Spot, Move, ends, takes, needs, keeps_
 use Rattle.logos_type_reader.specs.Reading.{IsType, name_alone, formed, a_token, a_bar, a_type as part_type, a_still_type, still_tokens, a_nest, AreParts, ended, further as part}
 use Rattle.logos_type_reader.specs.Written.{Ending, closed, named, plain_named, applied, taking, bounded, trailing, may_follow, name_ending, begins_mut, begins_named_argument, begins_parameter, Lifetimes, in_angles, LifetimeList, no_lifetime, last_lifetime, lifetimes, Written, a_name, a_form, Form, path, rooted, qualified, borrowed, borrowed_for, slice, array, tuple, trait_object, bound_function, function, pointer_const, pointer_mut, Referent, shared, mutable, Listed as ListedTypes, nothing, single, several, Qualified, of_type, of_trait, AnyPath, from_name, from_root, Path, last, longer, Longer, member, angled, angled_member, called, giving, Angled, plain, turbofish, Arguments, finished, final, further, Argument, a_lifetime, a_literal, empty_braces, braces, a_type, a_binding, Bounds, one_bound, last_bound, plus_after, bounds, Bound, lifetime_bound, trait_bound, enclosed, Questioned, unquestioned, questioned, Trait, unbound, for_all, Function, not_safe, safe, Linked, linked, linked_as, unlinked, Taking, takes_only, takes_and_yields, Parameters, no_parameter, last_parameter, parameters, Parameter, unnamed, with_name}
 
--- a place with what is left there
+-- a spot with the rest there
 abbrev pub at : Stage → TokenList → Option TokenList → Spot
 at p run outside = record { stage = p; run = run; outside = outside }
 
@@ -626,7 +626,7 @@ next_nest e h a = part (a_nest e h) a refl
 no_part : {levels : ℕ} {p : Stage} {run : TokenList} → next_at p run None ≡ ends → AreParts levels false (at p run None) [] run
 no_part e = ended e
 
--- where two places have the same next move, the same parts stand
+-- where two spots have the same next move, the same parts stand
 same_next : {levels : ℕ} {c : Bool} {p q : Stage} {run : TokenList} {b : Option TokenList} {parts : List Tree} {rest : TokenList} → next_at q run b ≡ next_at p run b → AreParts levels c (at p run b) parts rest → AreParts levels c (at q run b) parts rest
 same_next k (ended e) = ended (k ∙ e)
 same_next k (part (a_token e) a f) = part (a_token (k ∙ e)) a f
@@ -653,7 +653,7 @@ name_not text s rest r g = rw (r, g) refl
 same_parts : {levels : ℕ} {spot : Spot} {ps qs : List Tree} {rest : TokenList} → ps ≡ qs → AreParts levels false spot ps rest → AreParts levels false spot qs rest
 same_parts {levels} {spot} {rest = rest} e a = subst (λ (ts : List Tree). AreParts levels false spot ts rest) e a
 
--- the lifetimes behind `for`
+-- the lifetimes after `for`
 lifetime_list_occurs : {levels : ℕ} {run middle : TokenList} {parts : List Tree} (binder : Binder) (b : Option TokenList) → LifetimeList run parts middle → {rest : TokenList} {back : List Tree} →
     AreParts levels false (at (after_for binder) middle b) back rest → AreParts levels false (at (stage.ForList binder) run b) (parts ++ back) rest
 lifetime_list_occurs {middle = middle} binder b (no_lifetime {s = s} {p = p}) k = next_token (for_closes binder s p middle b) k
@@ -666,7 +666,7 @@ lifetimes_occur : {levels : ℕ} {run middle : TokenList} {parts : List Tree} (b
     AreParts levels false (at (after_for binder) middle b) back rest → AreParts levels false (at (stage.For binder) run b) (parts ++ back) rest
 lifetimes_occur binder b (in_angles {s = s} {p = p} {run = run} w) k = next_token (for_opens binder s p run b) (lifetime_list_occurs binder b w k)
 
--- a place where a path begins, in front of another place
+-- a spot where a path begins, in front of another spot
 record PathAt (p : Stage) (kind : PathKind) (q : Stage) (b : Option TokenList) : Type 0 where
   at_name : (text : List ℕ) (s : Span) (run : TokenList) → next_at p (also (identifier text s) run) b ≡ nests (word text) (at (stage.Named kind) run None) q
   at_root : (s t : Span) (o : Spacing) (run : TokenList) → next_at p (also (punctuation 58 Joint s) (also (punctuation 58 o t) run)) b ≡ nests colons (at (stage.Colons kind false) run None) q
@@ -679,7 +679,7 @@ binder_path : (kind : BoundKind) (b : Option TokenList) → PathAt (stage.TraitP
 unfolding next_at
 binder_path kind b = record { at_name = λ text s run. refl; at_root = λ s t o run. refl }
 
--- a place where the path of a bound begins, perhaps with `for<..>`
+-- a spot where the path of a bound begins, perhaps with `for<..>`
 record TraitAt (p : Stage) (kind : BoundKind) (b : Option TokenList) : Type 0 where
   for_at : (s : Span) (run : TokenList) → next_at p (also (identifier (codes "for") s) run) b ≡ takes (word (codes "for")) (at (stage.For (OfTrait kind)) run b)
   name_at : (text : List ℕ) (s : Span) (run : TokenList) → bytes_eq text (codes "for") ≡ false → next_at p (also (identifier text s) run) b ≡ nests (word text) (at (stage.Named OfBound) run None) (after_bound kind)

@@ -34,7 +34,7 @@ pub fn enum_warnings(
     }
 }
 
-/// Returns the same of an enum with these tokens.
+/// Returns the warnings of `enum_warnings` for an enum with these tokens.
 ///
 /// # Errors
 ///

@@ -1,4 +1,4 @@
-//! Each form of the language that the crates use: what goes in, and what comes out.
+//! Each form of the language that the crates use: its input and its output.
 
 use rattle_erase::{Paths, erase};
 

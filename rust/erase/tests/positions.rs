@@ -1,4 +1,4 @@
-//! Erases all sources of the repository, and compares the position of each character that is left.
+//! Erases all sources of the repository, and compares the position of each remaining character.
 
 use rattle_erase::{Paths, erase};
 use std::fs;

@@ -1,4 +1,4 @@
-//! What is refused, and where.
+//! Sources that are refused, and the locations of their errors.
 
 use rattle_erase::{Paths, erase};
 

@@ -49,7 +49,7 @@ pub struct Label {
     pub text: String,
 }
 
-/// Why there is no answer, and how to fix it.
+/// The reason that there is no answer, and the way to fix it.
 pub struct Failure(pub String);
 
 /// The shape of an implementation, named as in the variable `LOGOS_SHAPE`.

@@ -1,7 +1,7 @@
-//! What a lexer has found ahead of itself: tokens of a part of a chunk, or nothing.
+//! The items that a lexer has found ahead of its own offset: tokens of a part of a chunk, or none.
 //!
-//! The loop of `run` takes these tokens. What it calls here takes and returns the whole by value:
-//! so a loop over tokens can keep its lexer in registers.
+//! The loop of `run` takes these tokens. The functions that it calls in this module take and return
+//! the whole state by value, so that a loop over tokens can keep its lexer in registers.
 
 use crate::folded::Folded;
 use crate::internal::Tables;
@@ -16,7 +16,8 @@ const BEGINS: usize = 7168;
 /// A lexer that looks ahead goes on to do so where so many bytes are left.
 const FEWEST: usize = 2048;
 
-/// What a lexer keeps of what is ahead of it. It is small, so that it can be in registers.
+/// The items that a lexer has found ahead of its own offset. The value is small, so that it can be
+/// kept in registers.
 pub(crate) struct Ahead {
     /// The tokens of the room's word that are left: a bit for each byte before which one ends.
     tokens: u64,
@@ -25,7 +26,7 @@ pub(crate) struct Ahead {
     room: Option<Room>,
 }
 
-/// How a lexer goes on where its word has no more tokens.
+/// The next step of a lexer whose word has no more tokens.
 pub(crate) enum Next {
     /// By the word.
     Word,
@@ -38,14 +39,14 @@ pub(crate) enum Next {
 }
 
 impl Ahead {
-    /// Nothing is known, and nothing will be.
+    /// No item is found ahead, and none will be.
     pub(crate) const NONE: Ahead = Ahead {
         tokens: 0,
         plain_to: usize::MAX,
         room: None,
     };
 
-    /// Returns what is known at a byte offset of an input that has `len` bytes.
+    /// Returns the state at a byte offset of an input that has `len` bytes.
     #[inline(always)]
     pub(crate) fn new(from: usize, len: usize) -> Ahead {
         let is_short = len.wrapping_sub(from) < BEGINS + HESITATES;
@@ -60,8 +61,8 @@ impl Ahead {
         }
     }
 
-    /// Returns what is known at a byte offset of an input that has `len` bytes, for a lexer that
-    /// looks ahead as one with this does.
+    /// Returns the state at a byte offset of an input that has `len` bytes, for a lexer that looks
+    /// ahead in the same way as this one.
     #[inline(always)]
     pub(crate) fn anew(&self, from: usize, len: usize) -> Ahead {
         match &self.room {
@@ -71,7 +72,7 @@ impl Ahead {
         }
     }
 
-    /// Returns what is known by a lexer that looks ahead another way than by the rule.
+    /// Returns the state of a lexer that looks ahead in another way than the default one.
     #[cold]
     pub(crate) fn by_way(way: Way) -> Ahead {
         Ahead {
@@ -89,13 +90,13 @@ impl Ahead {
         }
     }
 
-    /// Returns whether match attempts find the item that follows a byte offset.
+    /// Returns whether the item after a byte offset is found by a match attempt.
     #[inline(always)]
     pub(crate) fn is_plain(&self, end: usize) -> bool {
         end < self.plain_to
     }
 
-    /// Returns the leaf of the next token of the word, and the token's place.
+    /// Returns the leaf and the span of the next token of the word.
     #[inline(always)]
     pub(crate) fn token(&self) -> Option<(usize, Span)> {
         if self.tokens == 0 {
@@ -104,13 +105,13 @@ impl Ahead {
         self.room.as_ref()?.token(self.tokens)
     }
 
-    /// Leaves the next token of the word behind.
+    /// Skips the next token of the word.
     #[inline(always)]
     pub(crate) fn pass(&mut self) {
         self.tokens &= self.tokens.wrapping_sub(1);
     }
 
-    /// Goes on to the next word of the chunk, if there is one.
+    /// Moves to the next word of the chunk, if there is one.
     #[inline(always)]
     pub(crate) fn next_word(&mut self) -> bool {
         let next = self.room.as_mut().and_then(|room| room.next_word());
@@ -118,7 +119,7 @@ impl Ahead {
         next.is_some()
     }
 
-    /// Moves what is known out.
+    /// Takes the state out, and leaves `NONE`.
     #[inline(always)]
     pub(crate) fn take(&mut self) -> Ahead {
         core::mem::replace(self, Ahead::NONE)
@@ -182,8 +183,8 @@ impl Ahead {
     }
 }
 
-/// What is called out of line. These are functions of the enum: so the compiler puts them beside
-/// its `lex`, and each table once into a program.
+/// The functions that are called out of line. They are functions of the enum, so that the compiler
+/// places them next to its `lex`, and each table once in a program.
 pub(crate) trait Looks<'source>: Tables<'source> {
     /// Finds out how a lexer goes on after the last item, which ended at a byte offset.
     #[inline(never)]

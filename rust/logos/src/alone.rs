@@ -1,8 +1,9 @@
-//! What a lexer has found ahead of itself where there is no memory to look ahead: nothing.
+//! The items that a lexer has found ahead of its own offset, for builds without memory to look
+//! ahead: none.
 
 use crate::Way;
 
-/// When the lexer was to look ahead.
+/// The setting when the lexer looks ahead, which has no effect here.
 pub(crate) struct Ahead {
     pub(crate) way: Way,
 }

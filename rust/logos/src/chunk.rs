@@ -21,7 +21,7 @@ const FAR: usize = 384;
 /// Fewer bytes than these are not worth a part of their own.
 const LEAST_PART: usize = 2 * NEAR;
 
-/// What the walk over a chunk has found.
+/// The matches that a walk over a chunk has found.
 pub(crate) struct Chunk {
     /// The entry of each byte.
     trace: [u32; CHUNK],
@@ -60,7 +60,7 @@ impl Chunk {
         Some(leaf_of(*self.trace.get(at)?))
     }
 
-    /// Returns the row position after a byte.
+    /// Returns the row offset after a byte.
     pub(crate) fn place(&self, at: usize) -> u32 {
         self.trace[at] & OFFSET_MASK
     }
@@ -95,8 +95,8 @@ impl Chunk {
         }
     }
 
-    /// Walks over all bytes of a chunk from a place on. The blocks but the first begin where it is
-    /// guessed: by lines or by few bytes, and from `start` on after a line end.
+    /// Walks over all bytes of a chunk, from a row on. The other blocks begin in guessed rows: by
+    /// lines or by a few bytes, and from `start` on after a line end.
     #[inline]
     pub(crate) fn walk<'s, T: Tables<'s>>(
         &mut self,
@@ -149,7 +149,8 @@ impl Chunk {
         walked
     }
 
-    /// Walks over fewer bytes than a chunk has: in as many parts at once, and the last ones singly.
+    /// Walks over fewer bytes than a chunk has: in parallel parts, and over the last bytes one by
+    /// one.
     #[inline]
     pub(crate) fn walk_rest<'s, T: Tables<'s>>(&mut self, rest: &[u8], place: u32) -> Walked {
         let size = rest.len() / BLOCKS;
@@ -176,8 +177,8 @@ impl Chunk {
         walked
     }
 
-    /// Walks over some bytes again from a place, until the trace has the same place. Returns where,
-    /// and the place there.
+    /// Walks over some bytes again from another row, until it reaches the row that the trace has.
+    /// Returns the offset there, and the row.
     #[inline]
     pub(crate) fn walk_again<'s, T: Tables<'s>>(
         &mut self,
@@ -198,7 +199,7 @@ impl Chunk {
         (range.end, place)
     }
 
-    /// Returns how many entries up to a byte ask.
+    /// Returns the number of bytes up to an offset that need a separate match attempt.
     pub(crate) fn asks(&self, to: usize) -> usize {
         let words = self.ends.iter().zip(&self.tokens).take(to.div_ceil(WORD));
         words
@@ -206,8 +207,8 @@ impl Chunk {
             .sum()
     }
 
-    /// Counts, in one of so many words up to a byte: the bytes of these words, the matches that end
-    /// there, and the states that are entered.
+    /// Samples one of every `one_of` words up to a byte, and returns three counts: their bytes, the
+    /// matches that end there, and the states that are entered.
     pub(crate) fn sample(&self, to: usize, one_of: usize) -> [usize; 3] {
         let mut sums = [0; 3];
         for word in (0..(to / WORD).min(WORDS)).step_by(one_of) {

@@ -105,7 +105,7 @@ pub fn looking<'source, Token: Tables<'source>>(
     lexer
 }
 
-/// What becomes of a match.
+/// The outcome of a match.
 pub enum CallbackResult<'source, Token: Logos<'source>> {
     Emit(Token),
     Error(Token::Error),

@@ -12,7 +12,7 @@ use core::ops::{Deref, DerefMut, Range};
 /// A part of an input, in byte offsets.
 pub type Span = Range<usize>;
 
-/// When a lexer looks ahead.
+/// The setting when a lexer looks ahead.
 #[derive(Clone, Copy, Debug, PartialEq, Eq)]
 pub enum Way {
     /// Where that pays.
@@ -25,8 +25,8 @@ pub enum Way {
     Part,
 }
 
-/// A run of a lexer over an input. As an iterator it yields each token, or the error that stands in
-/// its place.
+/// A run of a lexer over an input. As an iterator it yields each token, or an error for unmatched
+/// input.
 pub struct Lexer<'source, Token: Logos<'source>> {
     source: &'source Token::Source,
     start: usize,
@@ -109,7 +109,7 @@ impl<'source, Token: Logos<'source>> Lexer<'source, Token> {
         SpannedIter { lexer: self }
     }
 
-    /// Returns an iterator over the tokens that follow, with their places: the items of
+    /// Returns an iterator over the tokens that follow, with their spans: the items of
     /// [`Lexer::spanned`].
     pub fn scan(self) -> Scanner<'source, Token>
     where
@@ -121,7 +121,8 @@ impl<'source, Token: Logos<'source>> Lexer<'source, Token> {
     /// Returns an iterator over the items that do not depend on the bytes after this part of the
     /// input. At its end [`Lexer::remainder`] is the text with which the next part has to begin.
     ///
-    /// That holds for callbacks that read their match alone: others see the part and not the rest.
+    /// Callbacks must read only their match: other text that they read is that of the part, not of
+    /// the whole input.
     pub fn scan_part(mut self) -> Scanner<'source, Token>
     where
         Token: Scan<'source>,

@@ -1,8 +1,8 @@
 //! The rows that the loop over match attempts reads.
 //!
 //! A row has an entry for each byte and for the end of the input, or for each class. An entry below
-//! [`STAYS`] leads to a state: it is the position of that state's row. Otherwise its upper bits are
-//! its kind, and its lower bits are the number of a leaf or of a loop.
+//! [`STAYS`] leads to a state: it is the row offset of that state. Otherwise its upper bits are its
+//! kind, and its lower bits are the number of a leaf or of a loop.
 
 use crate::data::{Unpacked, SYMBOLS};
 

@@ -36,7 +36,7 @@ pub trait Scan<'source>: Tables<'source> {
 
 impl<'source, T: Tables<'source>> Scan<'source> for T {}
 
-/// An iterator over tokens with their places. It dereferences to its lexer.
+/// An iterator over tokens with their spans. It dereferences to its lexer.
 pub struct Scanner<'source, Token: Scan<'source>> {
     lexer: Lexer<'source, Token>,
 }
@@ -46,7 +46,7 @@ impl<'source, Token: Scan<'source>> Scanner<'source, Token> {
         Scanner { lexer }
     }
 
-    /// Returns the lexer, which is behind the last token.
+    /// Returns the lexer, positioned after the last token.
     pub fn into_lexer(self) -> Lexer<'source, Token> {
         let mut lexer = self.lexer;
         lexer.set_way(Way::ByRule);

@@ -64,7 +64,7 @@ pub(crate) struct Walk {
 
 pub(crate) type Room = std::boxed::Box<Walk>;
 
-/// Returns a walk that is nowhere yet.
+/// Returns a walk that has not begun.
 #[cold]
 pub(crate) fn new_room(way: Way) -> Room {
     const NEW: Walk = Walk {
@@ -92,7 +92,7 @@ pub(crate) fn new_room(way: Way) -> Room {
 }
 
 impl Walk {
-    /// Returns the leaf and the place of the first of some tokens of the word.
+    /// Returns the leaf and the span of the first of some tokens of the word.
     #[inline(always)]
     pub(crate) fn token(&self, tokens: u64) -> Option<(usize, Span)> {
         let word = &self.word;
@@ -102,7 +102,7 @@ impl Walk {
         Some((leaf, word.span_of(tokens)))
     }
 
-    /// Goes on to the next word of the chunk, if there is one, and returns its tokens.
+    /// Moves to the next word of the chunk, if there is one, and returns its tokens.
     #[inline(always)]
     pub(crate) fn next_word(&mut self) -> Option<u64> {
         let word = &self.word;
@@ -133,7 +133,7 @@ impl Walk {
         tokens & left
     }
 
-    /// Returns whether nothing is walked over.
+    /// Returns whether no byte is walked over.
     pub(crate) fn is_empty(&self) -> bool {
         self.len == 0
     }
@@ -192,8 +192,9 @@ impl Walk {
         self.cost = AGAIN * walked.again;
     }
 
-    /// Returns the leaf of the try that is over at a byte of the chunk and began at a byte offset,
-    /// and where its match ends; or a number that no leaf has, and where the try is over.
+    /// Returns the leaf of the match attempt that ended at a byte of the chunk and began at a byte
+    /// offset, and the end of its match; or a number that no leaf has, and the offset at which the
+    /// attempt ended.
     #[inline]
     pub(crate) fn found_at<'s, T: Tables<'s>>(
         &mut self,
@@ -257,9 +258,9 @@ impl Walk {
         (self.word, self.is_moved) = (Word::empty(start), false);
     }
 
-    /// Tells by the walk over the chunk, and by those before, whether it is worth its time to take
-    /// the tokens of this one. If it is not, returns up to which byte offset match attempts are to
-    /// find the items.
+    /// Decides from the walks over this chunk and the ones before whether taking the tokens of this
+    /// one saves time. If it does not, returns the byte offset up to which match attempts find the
+    /// items.
     pub(crate) fn plain_to(&mut self) -> Option<usize> {
         let sampled = if self.len < CHUNK {
             SAMPLED / 6

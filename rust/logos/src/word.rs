@@ -1,9 +1,9 @@
-//! A word of a chunk: before which of its bytes matches end.
+//! A word of a chunk, with a bit for each byte before which a match ends.
 
 use crate::Span;
 
-/// A word of a chunk. The tokens that end before its bytes are kept apart, since they are taken one
-/// by one.
+/// A word of a chunk. The tokens that end before its bytes are stored separately, since they are
+/// taken one by one.
 #[derive(Clone, Copy)]
 pub(crate) struct Word {
     /// A bit for each byte before which a match ends.
@@ -26,14 +26,14 @@ impl Word {
         }
     }
 
-    /// Returns the place of the first of some tokens, of which there is one.
+    /// Returns the span of the first of some tokens, of which there is at least one.
     #[inline(always)]
     pub(crate) fn span_of(&self, tokens: u64) -> Span {
         let end = self.here + tokens.trailing_zeros() as usize;
         self.after(self.ends & !tokens & tokens.wrapping_sub(1))..end
     }
 
-    /// Returns where the last match ended.
+    /// Returns the end of the last match.
     #[inline(always)]
     pub(crate) fn last_end(&self) -> usize {
         self.after(self.ends)

@@ -1,4 +1,5 @@
-//! Lexers that look ahead, by the rule, everywhere and nowhere, beside `lex` by hand.
+//! Lexers that look ahead by the rule, everywhere or nowhere, compared with a `lex` that is written
+//! by hand.
 
 mod tables;
 

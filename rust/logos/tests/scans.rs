@@ -1,4 +1,4 @@
-//! `scan`, and parts of inputs. `tests/rust_text` has those of printed lexers.
+//! `scan`, and parts of inputs. `tests/rust_text` has the tests of printed lexers.
 
 mod tables;
 

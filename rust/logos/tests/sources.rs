@@ -1,4 +1,4 @@
-//! Inputs of other types than text and bytes, and what else programs call.
+//! Inputs of other types than text and bytes, and the other functions that programs call.
 
 use logos::source::Chunk;
 use logos::{Lexer, Logos, Source};

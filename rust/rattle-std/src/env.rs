@@ -16,7 +16,7 @@ pub trait Env {
     fn arg(&self, i: usize, buf: &mut [u8]) -> Result<usize, FillError>;
 }
 
-/// Why an argument was not written.
+/// The reasons why an argument was not written.
 #[derive(Clone, Copy, Debug, PartialEq, Eq)]
 pub enum FillError {
     /// There is no argument with this index.

@@ -6,7 +6,7 @@ use crate::string::String;
 use crate::vec::Vec;
 use core::fmt;
 
-/// Rattle's `collect`.
+/// Replaces Rattle's `collect`.
 pub trait ListIn: Iterator + Sized {
     /// Returns a collection of all items.
     ///
@@ -48,7 +48,7 @@ impl FromItems<char> for String {
     }
 }
 
-/// Rattle's `to_vec`.
+/// Replaces Rattle's `to_vec`.
 pub trait VecIn<T> {
     /// Returns a vector of copies.
     ///
@@ -64,7 +64,7 @@ impl<T: Copy> VecIn<T> for [T] {
     }
 }
 
-/// Rattle's `to_string`.
+/// Replaces Rattle's `to_string`.
 pub trait StringIn: fmt::Display {
     /// Returns the text of a value.
     ///
@@ -78,7 +78,7 @@ pub trait StringIn: fmt::Display {
 
 impl<T: fmt::Display + ?Sized> StringIn for T {}
 
-/// Rattle's `to_ascii_lowercase`.
+/// Replaces Rattle's `to_ascii_lowercase`.
 pub trait AsciiLowercaseIn {
     /// Returns a copy with ASCII letters in lower case.
     ///

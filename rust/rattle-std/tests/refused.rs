@@ -1,8 +1,8 @@
-//! Refused memory is answered, and leaves everything as it was.
+//! A call whose request for memory is refused returns an error and changes nothing.
 //!
 //! The allocator of this program refuses one request of a thread: the first one, the second one and
-//! so on, until a call makes fewer. Each call has to return an error then, and its vector, text or
-//! set has to be as it was.
+//! so on, until a call makes fewer. Then each call must return an error, and its vector, text or
+//! set must be unchanged.
 
 use rattle_std::alloc::{AllocError, Global};
 use rattle_std::boxed::Box;

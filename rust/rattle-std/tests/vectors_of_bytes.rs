@@ -1,4 +1,4 @@
-//! Vectors of `std::simd`, each method beside a loop over its bytes.
+//! Vectors of `std::simd`, each method compared with a loop over its bytes.
 
 use rattle_std::simd::prelude::*;
 

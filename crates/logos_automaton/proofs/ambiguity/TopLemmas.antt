@@ -60,7 +60,7 @@ module _ (rules : List Rule) where
   top_listed [] leaf h = absurd h
   top_listed (x ∷ leaves) leaf h = highest_there x leaves
 
-  -- just those listed to which none listed is higher are of the highest priority
+  -- exactly those listed to which none listed is higher are of the highest priority
   pub top_exactly : (leaves : List ℕ) (leaf : ℕ) → Has (top_of rules leaves) leaf ↔ (Has leaves leaf × ((other : ℕ) → Has leaves other → priority_of rules other ≤ priority_of rules leaf))
   top_exactly leaves leaf = (there, back)
     where

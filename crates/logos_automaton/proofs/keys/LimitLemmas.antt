@@ -87,7 +87,7 @@ only_byte : (x : ℕ) → x < 256 → IsBytes (x ∷ [])
 only_byte x lt = one_byte_more [] x lt no_bytes
 
 module _ (rules : List Rule) (ts : List Core) (are : AreRuleCores rules ts) (looks : Bool) (looks_is : looks ≡ some_look rules) (free : looks ≡ false → AreFree ts) where
-  -- the state after bytes and one more, whatever follows
+  -- the state after bytes and one more, regardless of the bytes that follow
   pub record IsUpTo (u : List ℕ) (b : ℕ) (s : State) : Type 0 where
     pub after : (post : List ℕ) → IsAfter ((u ++ b ∷ []) ++ post) ts (suc (length u)) s
     pub rising : IsRising s.matches

@@ -165,7 +165,7 @@ module _ (all : List TreeSteps) (lives : List LiveTree) (n : ℕ) (live : LiveTr
   pub next_same : (x y : ℕ) {W : Type 0} → step_of all live x ≡ step_of all live y → (AreSameBy all (drop n lives) x y → W) → AreSameBy all (drop (n + 1) lives) x y → W
   next_same x y same so_far rest = so_far (subst (λ ls. AreSameBy all ls x y) (sym next_live) (same, rest))
 
--- an element at an index is the element there, whatever the default is
+-- an element at an index is the element there, for any default
 pub item_is : (lives : List LiveTree) (n : ℕ) (d : LiveTree) → n < length lives → get_or lives n d ≡ get_or lives n (get_or lives n d)
 item_is [] n d lt = absurd (omega (arith, lt))
 item_is (live ∷ lives) zero d lt = refl

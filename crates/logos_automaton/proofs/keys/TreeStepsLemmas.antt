@@ -21,7 +21,7 @@ use Rattle.logos_positions.proofs.steps.MarkLemmas.{Has-push}
 below_or_same : (a b : ℕ) → a < b + 1 → (a < b) ⊎ (a ≡ b)
 below_or_same a b lt = grind arith
 
--- what is known by the byte before, where the byte is not marked
+-- the facts by the byte before, where the byte is not marked
 pub if_known : (P : ℕ → Type 0) (is_first : Bool) (before : ℕ) → (is_first ≡ false → P before) → IfSome (then_some (not is_first) before) P
 if_known P true before same = tt
 if_known P false before same = same refl

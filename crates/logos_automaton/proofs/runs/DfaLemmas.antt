@@ -94,7 +94,7 @@ module _ (ts : List Core) (looks : Bool) (start : ℕ) (ks : List Key) (rows : L
     exactly = λ k. (λ c. (has k).0 ((contains_has s.matches k).0 c), λ p. (contains_has s.matches k).1 ((has k).1 p));
   }
 
-  -- the state after the bytes at the front of what is left
+  -- the state after the bytes at the front of the rest
   pub run : (w : List ℕ) → (looks ≡ false → AreFree ts) → (front post : List ℕ) (m i : ℕ) (s : State) → drop m w ≡ front ++ post → IsBytes front → IsAt ks i s → IsAfter w ts m s →
       (j : ℕ) × (n : State) × (dfa_after (automaton_of start ks rows ends) (Some i) front ≡ Some j) × IsAt ks j n × IsAfter w ts (m + length front) n
   run w free [] post m i s is bytes at after = (i, s, refl, at, subst (λ k. IsAfter w ts k s) (omega arith) after)

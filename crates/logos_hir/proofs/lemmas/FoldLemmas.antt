@@ -44,7 +44,7 @@ any_front f g (x ∷ xs) (suc i) h e =
     ap₂ ◌||◌ (e 0 (omega arith) (omega arith))
     (any_front f g xs i (λ k le within. h (suc k) (omega arith) (omega arith)) (λ k lt within. e (suc k) (omega arith) (omega arith)))
 
--- the pairs between two places, of pairs that ascend
+-- the pairs between two points, of pairs that ascend
 pub within_image : (xs : List (ℕ × ℕ)) (r : ℕ × ℕ) (i j c : ℕ) →
     ((k : ℕ) → k < i → k < length xs → (get_or xs k (0, 0)).0 < r.0) → ((k : ℕ) → k < length (drop i xs) → r.0 ≤ (get_or (drop i xs) k (0, 0)).0) →
     ((k : ℕ) → k < j → k < length (drop i xs) → (get_or (drop i xs) k (0, 0)).0 ≤ r.1) → ((k : ℕ) → j ≤ k → k < length (drop i xs) → r.1 < (get_or (drop i xs) k (0, 0)).0) →
@@ -320,7 +320,7 @@ cased_members xs ys h = fun_ext (λ c. ap (λ b. scalar c && b) (h c) ∙ at c (
     at c (inr a) (inr b) (inr d) (inl e) = cased_lower (in_ranges xs) c d e
     at c (inr a) (inr b) (inr d) (inr e) = cased_other (in_ranges xs) c (inr (inr e))
 
--- ---- the two places of a search
+-- ---- the two points of a search
 
 pub within_parts : (xs : List (ℕ × ℕ)) (first last i j c : ℕ) →
     IsPartitionPoint (λ p. ltb p.0 first ≡ true) (λ p. ltb p.0 first ≡ false) xs i →

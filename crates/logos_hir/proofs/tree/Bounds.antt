@@ -5,7 +5,7 @@ use Rattle.logos_hir.specs.Text.{OccursAt}
 use Rattle.logos_hir.specs.Tree.{Tree, empty, literal, byte_class, char_class, look, repetition, capture, concat, alternation, Trees, none, also}
 use Rattle.logos_hir.specs.Matches.{Matches, MatchesInOrder, SomeMatches, Pieces}
 
--- the places are in order and within n
+-- the points are in order and within n
 abbrev pub Within : ℕ → ℕ → ℕ → Type 0
 Within n from to = from ≤ n → (from ≤ to) × (to ≤ n)
 

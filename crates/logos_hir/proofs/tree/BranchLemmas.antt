@@ -162,12 +162,12 @@ others_unfit h simple no_class no_literal = of_kind (kind h)
         let choice : IsChoice (alternation bs) = subst IsChoice (simple.1 ∙ is) (simplest_made simple.0).choice in
         sym (ap (λ t. fits_of (branches_of t)) is ∙ alternation_unfit bs choice)
 
--- ---- branches from a place on
+-- ---- branches from a point on
 
 of_trees : (from : ℕ) (all : List Hir) → length (map tree_of (drop from all)) ≡ length all - from
 of_trees from all = length-map (drop from all) tree_of ∙ length-drop from all
 
--- there is just one branch from the place on
+-- there is exactly one branch from the point on
 pub is_alone : (from n : ℕ) (all : List Hir) → n ≡ length all → n - from ≡ 1 → length (map tree_of (drop from all)) ≡ 1
 is_alone from n all e one = let size = of_trees from all in omega (arith, size, e, one)
 

@@ -18,7 +18,7 @@ use Rattle.logos_hir.specs.Passable.{passable, all_passable, some_passable}
 not_lf : (b : ℕ) → b ≢ 10 → (b == 10) ≡ false
 not_lf b lf = grind (arith, nat_tests)
 
--- a look that holds in front of a byte that is neither a word byte nor CR nor LF also holds at the
+-- a look-around assertion that holds before a byte that is neither a word byte nor CR nor LF also holds at the
 -- end
 pub holds_at_end : (l : Look) (before : Option ℕ) (b : ℕ) → is_word (Some b) ≡ false → b ≢ 10 → b ≢ 13 →
     IsTrue (holds_between l before (Some b)) → IsTrue (holds_between l before None)

@@ -5,7 +5,7 @@ use Rattle.logos_hir.specs.Text.{OccursAt}
 use Rattle.logos_hir.specs.Tree.{Tree, empty, literal, byte_class, char_class, look, repetition, capture, concat, alternation, Trees, none, also}
 use Rattle.logos_hir.specs.Matches.{Matches, MatchesInOrder, SomeMatches, Pieces}
 
--- the places are in order, and the second is within n or the first
+-- the points are in order, and the second is within n or the first
 abbrev pub InOrder : ℕ → ℕ → ℕ → Type 0
 InOrder n from to = (from ≤ to) × (to ≤ max from n)
 

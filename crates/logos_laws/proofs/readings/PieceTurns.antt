@@ -1,4 +1,4 @@
--- The pieces of a run are its first piece and those of what is left after it.
+-- The pieces of a run are its first piece and those of the rest after it.
 use Rattle.std.proofs.Common.{◌≡◌, ◌==◌, if◌then◌else◌, ℕ, Bool, true, false, List, ◌∷◌, refl, sym, ◌∙◌, ap, subst, eqb-true}
 use Rattle.logos_lexeme.specs.declared.lexeme.Span.{Span}
 use Rattle.logos_lexeme.specs.declared.lexeme.Spacing.TheVariants.{Alone, Joint}
@@ -66,7 +66,7 @@ name_turn text span (also (literal other at) rest) e = through_cut (λ run. name
 name_turn text span (also (doc other at) rest) e = mark_turn (record { text = text; span = span }) (doc other at) rest
 name_turn text span (also (group delimiter at inside) rest) e = cc
 
--- the first piece, and those of what is left
+-- the first piece, and those of the rest
 turn : (first : Token) (rest : TokenList) → ends_in_group first rest ≡ false → pieces (also first rest) ≡ first_piece first rest ∷ pieces (rest_after_piece (also first rest))
 turn (identifier text span) rest e = name_turn text span rest e
 turn (punctuation c spacing span) rest e = through_cut (λ run. unnamed (also (punctuation c spacing span) run)) rest

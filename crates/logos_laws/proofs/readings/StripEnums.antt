@@ -1,4 +1,4 @@
--- What stays of an enum.
+-- The rest of an enum.
 use Rattle.std.proofs.Common.{◌≡◌, true, false, List, [], ◌∷◌, ◌++◌, Option, Some, Ok, Err, refl, sym, ap, ◌∙◌, subst}
 use Rattle.logos_lexeme.specs.declared.lexeme.Span.{Span}
 use Rattle.logos_lexeme.specs.declared.lexeme.Delimiter.TheVariants.{Parenthesis, Bracket, Brace}
@@ -88,7 +88,7 @@ end_none : (run rest : TokenList) (u : Unit {0}) → end_in run ≡ Ok (u, rest)
 end_none none rest u e = refl
 end_none (also token more) rest u e = cc
 
--- ---- What stays from the visibility on.
+-- ---- The tokens that stay, from the visibility on.
 
 not_last : (head : TokenList) (token : Token) → is_none (append head (also token none)) ≡ false
 not_last none token = refl

@@ -15,7 +15,7 @@ length-tail_of : (n o : ℕ) → length (tail_of n o) ≡ n
 length-tail_of zero o = refl
 length-tail_of (suc n) o = let e = length-tail_of n (o % size n) in omega arith
 
--- one byte and what is left
+-- one byte and the rest
 pub part_bound : (n h o : ℕ) → n < 3 → h < 64 → o < size n → h * size n + o < size (suc n)
 part_bound zero h o lt a b = omega arith
 part_bound (suc zero) h o lt a b = omega arith
@@ -172,7 +172,7 @@ lead_past b ge =
     cond-false _ _ _ (le-ltb b 0x80 (omega arith)) ∙ cond-false _ _ _ (le-ltb b 0xC0 (omega arith))
     ∙ cond-false _ _ _ (le-ltb b 0xE0 (omega arith)) ∙ cond-false _ _ _ (le-ltb b 0xF0 (omega arith)) ∙ cond-false _ _ _ (le-ltb b 0xF8 ge)
 
--- what holds of each first byte
+-- a property of each first byte
 module _ (P : ℕ → Lead → Type 0)
     (one : (b : ℕ) → b < 0x80 → P b (record { left = 0; start = b; floor = 0 }))
     (two : (b : ℕ) → 0xC0 ≤ b → b < 0xE0 → P b (record { left = 1; start = (b - 0xC0) * 64; floor = 0x80 }))

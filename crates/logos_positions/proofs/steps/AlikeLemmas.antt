@@ -110,7 +110,7 @@ has_moved old xs ys from i shift y made is order h q = rw made (
     last_or_lower : (a b : ℕ) → a < b + 1 → (a ≡ b) ⊎ (a < b)
     last_or_lower a b lt = grind arith
 
--- what holds of the list while positions are added: the positions that are moved are all above
+-- a property of the list while positions are added: the positions that are moved are all above
 -- `low`
 abbrev pub AreMoved : List ℕ → List ℕ → ℕ → ℕ → ℕ → ℕ → Type 0
 AreMoved old xs from to i shift = (low high : ℕ) → IsSet old low → low ≤ high → ((k : ℕ) → from ≤ k → k < to → low ≤ slice_index old k + shift) →

@@ -89,7 +89,7 @@ module _ (test : Look → Bool) (xs : List ℕ) where
       exits_then n a (plus a) base w d front result is
       (rw back at f) (rw back at g)
 
-  -- what is left of at most n copies, past one
+  -- the rest of at most n copies, past one
   pub Exits-past_up_to : (n : ℕ) (a : Core) (base w : ℕ) (any entered left : Bool) → w ≡ width a →
       IsTrue left ↔ Exits a test (λ q. Has xs (base + q)) (IsTrue entered) →
       (IsTrue (any || entered) ⊎ Exits (up_to n a) test (λ q. Has xs (base + w + q)) (IsTrue left))

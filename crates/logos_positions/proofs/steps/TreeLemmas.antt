@@ -119,7 +119,7 @@ step_by_own t test x own marks positions base left same s =
       leaves = iff_trans s.leaves (Exits-iff t test (λ p. Has own (base + p)) (λ p. Has marks (base + p)) (IsTrue false) (IsTrue false) here (λ u. u, λ u. u));
     }
 
--- ---- the marks between two places
+-- ---- the marks between two points
 
 range_length : (xs : List ℕ) (a b : ℕ) → b ≤ length xs → length (slice_range xs a b) ≡ b - a
 range_length xs a b le =

@@ -15,7 +15,7 @@ before_old splits fresh c l = let t : nat_lt c fresh ≡ true = grind (arith, na
 pub before_new : (splits : List Split) (fresh c : ℕ) → fresh ≤ c → block_before splits fresh c ≡ (split_at splits c).parent
 before_new splits fresh c l = let t : nat_lt c fresh ≡ false = grind (arith, nat_tests) in rw t refl
 
--- what is known of the targets of a state, by the blocks that were first
+-- the facts about the targets of a state, by the blocks that were first
 led_before : (table : Table) (f g : ℕ → ℕ) (h : ℕ → ℕ) → ((s : ℕ) → s < size table → f s ≡ h (g s)) → (s k : ℕ) → target_block table f s k ≡ option_map h (target_block table g s k)
 led_before table f g h same s k = go (to table s k) (λ t e. (edge_within table s k t e).1)
   where

@@ -66,7 +66,7 @@ sources-found table block from sources b preds found s k hs e = go (to table s k
     go None q e = absurd (cc)
     go (Some t) q e = found t s (edge_within table s k t q).1 (let same : block t ≡ b = cc in same) (preds.all s k t hs (edge_symbol table s k t q) q)
 
--- sources of a block are sources of what is left of it
+-- sources of a block are sources of the rest of it
 pub sources-stay : (table : Table) (splits more : List Split) (old new : ℕ → ℕ) (sources : List ℕ) (b : ℕ) → b < length splits → IsExtension table splits more old new →
     AreSources (size table) (target_block table old) sources b → AreSources (size table) (target_block table new) sources b
 sources-stay table splits more old new sources b l x from s k hs e = go (to table s k) refl e

@@ -76,7 +76,7 @@ module _ (edge : ℕ → ℕ → Option ℕ) (numbers states numbers' states' : 
     unfolding new_symbol
     symbol_new = let t : nat_eq (length states) (length states) ≡ true = grind (arith, nat_tests) in rw t refl
 
-    -- an edge from a place that was there
+    -- an edge from an index that was there
     old_edge : (r l c : ℕ) → r < length states → edge (slice_index states' r) l ≡ Some c → edge (slice_index states r) l ≡ Some c
     old_edge r l c m q = ap (λ (x : ℕ). edge x l) (sym (front r m)) ∙ q
 
@@ -187,7 +187,7 @@ run_goes table block s leader k e row goes at same l p m = ap (option_map block)
     here : (l : ℕ) → target_by row l ≡ to table leader l
     here l = goes l ∙ ap (λ (s : ℕ). to table s l) at
 
--- the next place
+-- the next index
 pub turn_next : (edge : ℕ → ℕ → Option ℕ) → ((b k c : ℕ) → edge b k ≡ Some c → k < 257) → (numbers states : List ℕ) (i : ℕ) → IsInTurn edge numbers states i 257 → IsInTurn edge numbers states (i + 1) 0
 turn_next edge wide numbers states i h = record {
   met = λ r l b m c q. h.met r l b m (down r l c (wide (slice_index states r) l b q)) q;
@@ -210,7 +210,7 @@ turn_next edge wide numbers states i h = record {
     up r l (inl x) = inl (omega arith)
     up r l (inr x) = let z = x.0 in inl (omega arith)
 
--- before the first place
+-- before the first index
 pub turn_first : (edge : ℕ → ℕ → Option ℕ) (numbers states : List ℕ) → length states ≤ 1 → IsInTurn edge numbers states 0 0
 turn_first edge numbers states l = record {
   met = λ r k b m c q. absurd (none r k c);

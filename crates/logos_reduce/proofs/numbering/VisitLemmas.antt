@@ -10,7 +10,7 @@ use Rattle.logos_reduce.proofs.numbering.NumberLemmas.{target_numbered}
 use Rattle.logos_reduce.proofs.tables.EdgeLemmas.{edge_within}
 
 module _ (old new : Table) (block leader : ℕ → ℕ) (root : ℕ) (states : List ℕ) (numbered : IsNumbered old block leader root states new) where
-  -- an edge by places of blocks
+  -- an edge by indexes of blocks
   abbrev by_blocks : ℕ → ℕ → Option ℕ
   by_blocks b k = target_block old block (leader b) k
 

@@ -37,14 +37,14 @@ grows_on a b c g h = record { keeps = λ t i e. h.keeps t i (g.keeps t i e) }
 pub met_kept : (old new : List ℕ) → Grows old new → (s : ℕ) → IsMet old s → IsMet new s
 met_kept old new g s m = let e = g.keeps s (slice_index old s - 1) (omega arith) in omega arith
 
--- the place of a state that is met
+-- the index of a state that is met
 pub met_slot : (numbers states : List ℕ) → IsOrder numbers states → (s : ℕ) → IsMet numbers s → (i : ℕ) × (i < length states) × (slice_index states i ≡ s)
 met_slot numbers states h s m = let p = h.named s (slice_index numbers s - 1) (omega arith) in (slice_index numbers s - 1, p.0, p.1)
 
 pub none_met : (numbers states : List ℕ) → IsOrder numbers states → states ≡ [] → (s : ℕ) → IsMet numbers s → ⊥
 none_met numbers states h e s m = let p = met_slot numbers states h s m in let l = p.1 in let n = ap length e in omega arith
 
--- a state keeps its place
+-- a state keeps its index
 pub slot_kept : (old old_states new new_states : List ℕ) → IsOrder old old_states → IsOrder new new_states → Grows old new →
     (i : ℕ) → i < length old_states → (i < length new_states) × (slice_index new_states i ≡ slice_index old_states i)
 slot_kept old old_states new new_states h k g i l = k.named (slice_index old_states i) i (g.keeps (slice_index old_states i) i (h.placed i l).1)

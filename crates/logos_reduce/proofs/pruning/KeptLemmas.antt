@@ -31,7 +31,7 @@ module _ (old new : Table) (prune : IsPrunedTable old new) where
   pub same_mark : (s : ℕ) → mark new s ≡ mark old s
   same_mark s = ap (λ (v : _). mark_in v.items s) prune.marks
 
-  -- what leads to a mark still does
+  -- a state that leads to a mark still does
   pub leads_kept : (s : ℕ) → Leads (edges old) s → Leads (edges new) s
   leads_kept s (to_mark {t = t} b ok e m) = to_mark b ok (kept_edge s b t e (inl m)) (rw (same_mark t) m)
   leads_kept s (onward {t = t} b ok e l) = onward b ok (kept_edge s b t e (inr l)) (leads_kept t l)

@@ -53,7 +53,7 @@ pub seed_of_use : (table : Table) (s : ℕ) → IsSeed table s → IsOfUse table
 seed_of_use table s (inl m) = inl m
 seed_of_use table s (inr e) = inr (to_end e.1 e.2)
 
--- what leads to a state that is of use is of use too
+-- a state that leads to a state that is of use is of use too
 pub use_before : (table : Table) (s b t : ℕ) → b < 256 → to table s b ≡ Some t → IsOfUse table t → IsOfUse table s
 use_before table s b t l e (inl m) = inr (to_mark b l e m)
 use_before table s b t l e (inr h) = inr (onward b l e h)

@@ -5,7 +5,7 @@ use Rattle.std.proofs.lemmas.Bool.{cases_lt}
 use lib.Pointwise.{pointwise, bytes_decides}
 use Rattle.logos_reduce.specs.Rows.{rows_at, target_of, target_by, target_in, AreWide}
 
--- a longer list of distinct rows has the old ones at their places
+-- a longer list of distinct rows has the old ones at their indexes
 same_rows : (slots : List ℕ) (distinct distinct' : List (List ℕ)) → ((i : ℕ) → i < length slots → slice_index slots i < length distinct) →
     ((slot : ℕ) → slot < length distinct → slice_index_or distinct' slot [] ≡ slice_index_or distinct slot []) → rows_at slots distinct' ≡ rows_at slots distinct
 same_rows [] distinct distinct' inside same = refl

@@ -47,7 +47,7 @@ fill_more f row made made' k e entry same before filled old here = λ j l. go j 
     go j l (inl m) = ap target_of (before j m) ∙ old j m
     go j l (inr m) = ap target_of (filled j m l) ∙ here ∙ ap (λ (x : ℕ). f (target_of x)) (sym (same j m l))
 
--- what holds of each row of a list once one of them is another
+-- a property of each row of a list once one of them is another
 pub set_row : (P : ℕ → List ℕ → Type 0) (rows : List (List ℕ)) (i : ℕ) (row : List ℕ) → i < length rows → P i row →
     ((j : ℕ) → j ≢ i → P j (slice_index_or rows j [])) → (j : ℕ) → P j (slice_index_or (slice_set rows i row) j [])
 set_row P rows i row l here others j = go (cases_eq j i)

@@ -40,7 +40,7 @@ module _ (raw : Table) (root : ℕ) (reduction : Reduction) (made : IsReductionO
   marked_number : (t : ℕ) → IsIn t → IsMarked (type_of (mark mid t)) → IsMarked (type_of (mark final (number t)))
   marked_number t i m = subst IsMarked (sym (end.number_type raw root reduction made t i)) m
 
-  -- what leads to a mark still does by the numbers of states
+  -- a state that leads to a mark still does by the numbers of states
   leads_number : (s : ℕ) → IsIn s → Leads (edges mid) s → Leads (edges final) (number s)
   leads_number s i (to_mark {t = t} b ok e m) =
       let q = kept_edge mid pruned made.pruned s b t e (inl m) in
@@ -66,7 +66,7 @@ module _ (raw : Table) (root : ℕ) (reduction : Reduction) (made : IsReductionO
       let u = (end.mid_edge raw root reduction made (end.leader_of raw root reduction made r) k x.0 x.1).1 in
       subst (IsOfUse final) x.3 (of_use_number x.0 x.2 u)
 
-  -- what leads on to a state that is of use is of use
+  -- a state that leads to a state that is of use is of use
   use_back : (s b t : ℕ) → b < 256 → to raw s b ≡ Some t → IsOfUse mid t → IsOfUse mid s
   use_back s b t l e (inl m) = inr (to_mark b l (end.raw_edge raw root reduction made s b ∙ e) m)
   use_back s b t l e (inr m) = inr (onward b l (end.raw_edge raw root reduction made s b ∙ e) m)

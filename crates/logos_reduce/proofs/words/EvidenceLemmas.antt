@@ -45,7 +45,7 @@ reached_on table s left k bytes o way e =
     same None = refl
     same (Some a) = refl
 
--- what is known once bytes lead from two states to others that are still to be distinguished
+-- the facts once bytes lead from two states to others that are still to be distinguished
 pub record IsStage (r : Reduction) (h : HistoryOf r) (s t : ℕ) (bytes : List ℕ) (left right : ℕ) : Type 0 where
   pub ok : AreBytes bytes
   pub left_in : left < size r.table

@@ -39,7 +39,7 @@ target_small code s b next few sound there leads =
 pub goes_stays : (code : CodeValue) (s b : ℕ) → s < length code.states → stays code (state_at code s).fast_loop b ≡ true → Goes code s b (272 * s)
 goes_stays code s b there on = record { next = s; there = there; is = refl; takes = inl (on, refl) }
 
--- the place in an entry
+-- the row offset in an entry
 pub row_start_is : (entry : ℕ) → row_start_of entry ≡ entry % 1048576
 row_start_is entry = and_mask entry 20
 

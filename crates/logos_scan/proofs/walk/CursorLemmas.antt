@@ -386,7 +386,7 @@ passes_on trace old mid new a b = record {
       (starts_from mid.base old.base trace mid.from (start_of mid) new.from (start_of new) a.base b.starts);
 }
 
--- a cursor that moves on to the next word passes the rest of this one
+-- a cursor that moves to the next word passes the rest of this one
 pub passes_word : (trace : List ℕ) (old new : ChunkCursor) → IsAt trace old → (t : IsAt trace new) → old.ends < 2 ^ 64 → old.tokens ≡ 0 → new.base ≡ old.base → new.from ≡ t.first →
     new.from ≡ 64 * old.word + 64 → new.word_start ≡ start_by (old.base + 64 * old.word) old.word_start old.ends → Passes trace old new
 passes_word trace old new s t fits none eb ef en es =

@@ -51,7 +51,7 @@ walked_join rows text p trace from mid to q r le le' a b = record {
   ];
 }
 
--- a walk without its first byte begins in the place that its entry names
+-- a walk without its first byte begins in the row offset that its entry names
 pub walked_rest : (rows text : List ℕ) (p : ℕ) (trace : List ℕ) (from to q : ℕ) → from < to
     → Walked rows text p trace from to q
     → Walked rows text (row_start_of (slice_index trace from)) trace (from + 1) to q
@@ -116,7 +116,7 @@ walked_again rows text p guess trace new from at to q r end le lt within e f sam
     (walked_apart rows text r trace new (at + 1) to end at (entry_at rows text at q) (inl (omega arith)) e
     (subst (λ k. Walked rows text k trace (at + 1) to end) same (walked_rest rows text guess trace at to end lt rest)))
 
--- the places beside a range that holds the place of a write
+-- the row offsets beside a range that holds the row offset of a write
 pub same_beside : (from at to : ℕ) (first old new : List ℕ) (entry : ℕ) → from ≤ at → at < to → new ≡ set old at entry
     → (mid : ℕ) → mid ≤ to → IsSameBeside from mid first old → IsSameBeside from to first new
 same_beside from at to first old new entry le lt e mid ml same j out =
@@ -124,7 +124,7 @@ same_beside from at to first old new entry le lt e mid ml same j out =
     ∙ get_or-set_other old at j entry 0 (elim out [ inl l ↦ omega (arith, l) | inr g ↦ omega (arith, g) ])
     ∙ same j (elim out [ inl l ↦ inl l | inr g ↦ inr (omega (arith, g)) ])
 
--- a walk outside the places that were written again
+-- a walk outside the row offsets that were written again
 pub walked_out : (rows text : List ℕ) (p : ℕ) (old new : List ℕ) (from to q low high : ℕ) → (high ≤ from) ⊎ (to ≤ low)
     → IsSameBeside low high old new → Walked rows text p old from to q → Walked rows text p new from to q
 walked_out rows text p old new from to q low high out same w =

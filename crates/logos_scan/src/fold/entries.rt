@@ -11,7 +11,7 @@ use logos_code::code::rows::{
 };
 use logos_hir::leaf::LeafId;
 
-/// The flag of an entry before whose byte a match ends whose leaf may have a callback.
+/// The flag of an entry where a match of a leaf that may have a callback ends before the byte.
 pub const CALLS: u32 = 1 << 29;
 
 /// The number of entries of one kind in the rows of a code.

@@ -75,7 +75,7 @@ module _ (a : List ℕ) (utf8 : IsUtf8 a) (text : HasText a) where
       let shown : encode_utf8 (slice_index a from) ≡ slice_range a from to = ap first_text t in
       sym shown ∙ ap encode_utf8 byte ∙ encode_ascii comma (omega arith)
 
-  -- sites of what is left of pieces
+  -- sites of the rest of pieces
   record Seated (from : ℕ) (stays : Bool) (pieces : List Piece) (ms : List Lexeme) : Type 0 where
     sites : List Site
     linked : Linked a sites

@@ -146,7 +146,7 @@ module _ (a : List ℕ) (utf8 : IsUtf8 a) (text : HasText a) (docs : HasDocs a) 
         blank = rw (← there) w.blank;
       }
 
-  -- what is seen of a site
+  -- the facts about a site
   abbrev ShownSite : Site → ℕ → Type 0
   ShownSite (same kind from to) q = Shown a b from q kind to
   ShownSite (loose spacing from to) q = Window a b from q (to - from)

@@ -154,7 +154,7 @@ mark-front scope next character spacing span (also token more) only t = go (goes
 group-front : (pieces : List (Option Token)) (delimiter : Delimiter) (span : Span) (inside : TokenList) → in_front pieces (group delimiter span inside) ≡ group delimiter span inside
 group-front pieces delimiter span inside = front_either (λ t. t ≡ group delimiter span inside) pieces (group delimiter span inside) refl refl
 
--- a group with what is left in it
+-- a group with the rest in it
 thins-group : (stays inner_stays : Bool) (delimiter : Delimiter) (span : Span) (inside kept : TokenList) (ls ms : List Lexeme) → Thins inner_stays (lexemes inside) (lexemes kept) → Thins stays ls ms →
     Thins true (token_lexemes (group delimiter span inside) ++ ls) (token_lexemes (group delimiter span kept) ++ ms)
 thins-group stays inner_stays delimiter span inside kept ls ms t u =
@@ -180,7 +180,7 @@ group-left stays pieces (Some scope) delimiter span inside ls ms ih t =
     let kept = left (sorted scope Open inside) in
     rw (group-front pieces delimiter span kept) (thins-group stays (first_stays scope Open inside) delimiter span inside kept ls ms (ih scope) t)
 
--- one token that stays, with what is left after it
+-- one token that stays, with the rest after it
 keep-token : (scope : Scope) (spot : TokenSpot) (token : Token) (rest : TokenList) → goes scope spot (also token rest) ≡ false → ThinsInside token → ThinsRun scope (spot_after scope spot false token) rest →
     Thins true (token_lexemes token ++ lexemes rest)
     (token_lexemes (in_front (sorted scope (spot_after scope spot false token) rest) (thinned (scope_inside scope spot token rest) token)) ++ lexemes (left (sorted scope (spot_after scope spot false token) rest)))
@@ -197,7 +197,7 @@ step scope spot token rest inside ih = go (goes scope spot (also token rest)) re
     go true e = let t = drop-token (first_stays scope (spot_after scope spot true token) rest) token (lexemes rest) _ (ih (spot_after scope spot true token)) in rw e t
     go false e = let t = keep-token scope spot token rest e inside (ih (spot_after scope spot false token)) in rw e t
 
--- what is left of a run is thinned
+-- the rest of a run is thinned
 pub thins-run : (scope : Scope) (spot : TokenSpot) (run : TokenList) → ThinsRun scope spot run
 thins-run scope spot none = ended
 thins-run scope spot (also (identifier text span) rest) = step scope spot (identifier text span) rest tt (λ next. thins-run scope next rest)

@@ -135,7 +135,7 @@ scope-bare scope spot (literal text span) rest = refl
 scope-bare scope spot (doc text span) rest = refl
 scope-bare scope spot (group delimiter span inside) rest = ap (scope_of scope spot delimiter) (none-bare rest)
 
--- what is left
+-- the rest
 
 abbrev bare_pieces : List (Option Token) → List (Option Token)
 bare_pieces pieces = map (option_map bare_token) pieces
@@ -199,7 +199,7 @@ sorted-bare scope spot (also (group delimiter span inside) rest) = step scope sp
 stripped-bare : (tokens : TokenList) → stripped (bare tokens) ≡ bare (stripped tokens)
 stripped-bare tokens = ap left (sorted-bare Enum Open tokens) ∙ left-bare (sorted Enum Open tokens)
 
--- nothing more goes from tokens that are those of what is left, spans aside
+-- nothing more goes from tokens that are those of the rest, spans aside
 pub bare-once : (tokens again : TokenList) → bare again ≡ bare (stripped tokens) → bare (stripped again) ≡ bare again
 bare-once tokens again e =
     sym (stripped-bare again) ∙ ap stripped e ∙ stripped-bare (stripped tokens) ∙ ap bare (stripped-once tokens) ∙ sym e

@@ -451,6 +451,6 @@ once scope spot (also (doc text span) rest) reached = step scope spot (doc text 
 once scope spot (also (group delimiter span inside) rest) reached =
     step scope spot (group delimiter span inside) rest reached (λ inner. once inner Open inside (reached-start inner)) (λ next r. once scope next rest r)
 
--- nothing more goes from what is left of an enum
+-- nothing more goes from the rest of an enum
 pub stripped-once : (tokens : TokenList) → stripped (stripped tokens) ≡ stripped tokens
 stripped-once tokens = ap left (once Enum Open tokens tt) ∙ left-kept (stripped tokens)

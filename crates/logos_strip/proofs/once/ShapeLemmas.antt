@@ -40,7 +40,7 @@ shape-thinned (Some scope) (literal text span) = refl
 shape-thinned (Some scope) (doc text span) = refl
 shape-thinned (Some scope) (group delimiter span inside) = refl
 
--- what is left of a token has its shape
+-- the rest of a token has its shape
 pub shape-front : (pieces : List (Option Token)) (scope : Option Scope) (token : Token) → shape (in_front pieces (thinned scope token)) ≡ shape token
 shape-front pieces scope token =
     let is = shape-thinned scope token in
@@ -108,7 +108,7 @@ after-shape Derives spot false token = part-shape Within token
 after-shape Variants spot gone token = attributed-shape Named spot gone token
 after-shape Fields spot gone token = attributed-shape Within spot gone token
 
--- after what is left of a token the spot is the same
+-- after the rest of a token the spot is the same
 pub after-front : (scope : Scope) (spot : TokenSpot) (gone : Bool) (pieces : List (Option Token)) (inner : Option Scope) (token : Token) →
     spot_after scope spot gone (in_front pieces (thinned inner token)) ≡ spot_after scope spot gone token
 after-front scope spot gone pieces inner token =
@@ -122,7 +122,7 @@ scope-shape scope spot (literal text span) rest = refl
 scope-shape scope spot (doc text span) rest = refl
 scope-shape scope spot (group delimiter span inside) rest = refl
 
--- in what is left of a token the scope is the same
+-- in the rest of a token the scope is the same
 pub scope-front : (scope : Scope) (spot : TokenSpot) (pieces : List (Option Token)) (inner : Option Scope) (token : Token) (rest : TokenList) →
     scope_inside scope spot (in_front pieces (thinned inner token)) rest ≡ scope_inside scope spot token rest
 scope-front scope spot pieces inner token rest =

@@ -20,7 +20,7 @@ use Rattle.logos_syntax.proofs.brackets.Texts.{InBracket, cuts_more, taken, fits
 abbrev at : Stack → Level → Slot
 at k l = record { level = l; stack = k }
 
--- a walk leaves as many brackets open as its last place is in
+-- a walk leaves as many brackets open as its last point is in
 walk_leaves : (k : Stack) (l : Level) (ts : List BracketToken) (q : Slot) → walk (at k l) ts ≡ Some q → LeavesOpen (suc (size k)) ts (suc (size q.stack))
 walk_leaves k l [] q e =
     let same : at k l ≡ q = cc in

@@ -168,7 +168,7 @@ walk_more p (x ∷ xs) ys = from (λ q. walk_more q xs ys) (advance p x)
     from more None = refl
     from more (Some q) = more q
 
--- the tokens that a place was read from
+-- the tokens that a point was read from
 abbrev pub tokens_at : Level → Stack → List BracketToken
 tokens_at l bottom = operands_tokens (level_inside l)
 tokens_at l (over k outer) = tokens_at outer k ++ Open l.negated l.lead ∷ operands_tokens (level_inside l)

@@ -86,12 +86,12 @@ ends_there negated lead os ts =
     ∙ ap (option_and_then (λ q. walk q (Close ∷ ts))) (operands_walk os negated lead bottom)
     ∙ close_at_bottom negated lead os ts
 
--- a walk of all operands continues from each place on it
+-- a walk of all operands continues from each point on it
 continues : (negated : Bool) (lead : Lead) (os : Operands) (ts front : List BracketToken) (p : Slot) → operands_tokens os ≡ ts ++ front → walk (starting negated lead bottom) ts ≡ Some p → walk p front ≡ Some (slot_of negated lead os bottom)
 continues negated lead os ts front p e w =
     sym (ap (option_and_then (λ q. walk q front)) w) ∙ sym (walk_more (starting negated lead bottom) ts front) ∙ ap (walk (starting negated lead bottom)) (sym e) ∙ operands_walk os negated lead bottom
 
--- ---- what a reader has read of a bracket, at a place inside of it
+-- ---- what a reader has read of a bracket, at a point inside of it
 
 pub record HasWalked (negated : Bool) (lead : Lead) (text here : Text) (p : Slot) : Type 0 where
   pub tokens : List BracketToken
@@ -120,7 +120,7 @@ onward negated lead text here rest p inside h k = from (compare h.tokens (operan
     from (inl r) = first r.0 r.1 r.2
     from (inr r) = past (r.0 ∷ r.1) r.2
 
--- ---- two brackets at one place
+-- ---- two brackets at one point
 
 same_inside : (os qs : Operands) → operands_tokens os ≡ operands_tokens qs → os ≡ qs
 same_inside os qs e =
@@ -282,7 +282,7 @@ too_deep_at_once base (bracket n d os) h = omega arith
 
 -- ---- what a reader has read
 
--- the inside of the bracket up to a place, and the frames there
+-- the inside of the bracket up to a point, and the frames there
 pub record InBracket (flags : Flags) (base : ℕ) (negated : Bool) (lead : Lead) (text here : Text) (s : Frames) : Type 0 where
   pub slot : Slot
   pub walked_to : HasWalked negated lead text here slot

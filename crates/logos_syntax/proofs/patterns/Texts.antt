@@ -175,7 +175,7 @@ still_open flags text s names r shut depth spelled =
     let ran = subst (λ x. Runs s x (at_level flags bottom (level_of spelled.1.written))) (no_cut l.more l.cut) l.run in
     shut (ap (λ (x : State). x.below) (no_runs s (at_level flags bottom (level_of spelled.1.written)) ran))
 
--- ---- what is found
+-- ---- the result
 
 pub found : (flags : Flags) (text : Text) (s : State) (names : GroupNames) (tree : Tree) → HasRead flags text [] s names → s.below ≡ [] → tree ≡ whole_tree s.top → s.top.inner ≤ 250 → IsFound flags text tree
 found flags text s names tree r ended is shallow =

@@ -92,7 +92,7 @@ Follows (piece ∷ rest) = piece.kind ≢ Gap
 abbrev pub HasText : List ℕ → Type 0
 HasText a = (kind : LexemeKind) (from to : ℕ) → IsCharBoundary a from → IsNext a from kind to → kind ≢ Gap → parts (lexeme_of a kind (record { from = from; to = to })) ≡ (record { text = slice_range a from to; gap = gap_of a kind from to }) ∷ []
 
--- behind joint punctuation another lexeme begins
+-- after joint punctuation another lexeme begins
 abbrev pub HasJoints : List ℕ → Type 0
 HasJoints a = (from to : ℕ) (rest : List Piece) → IsCharBoundary a from → IsNext a from (Punctuation Joint) to → Pieces a to rest (length a) → Follows rest
 

@@ -246,7 +246,7 @@ module _ (a : List ℕ) (utf8 : IsUtf8 a) where
   has_text (OpeningKind d) p to bound n no_gap = let adv = piece-advances a p (OpeningKind d) to n in ap (λ t. part_with t (gap_of a (OpeningKind d) p to)) (opening_at_text p to d bound (omega (arith, adv.0, adv.1)) (occurs_at (OpeningKind d) p to bound n no_gap).form)
   has_text (Closing d) p to bound n no_gap = let adv = piece-advances a p (Closing d) to n in ap (λ t. part_with t (gap_of a (Closing d) p to)) (closing_at_text p to d bound (omega (arith, adv.0, adv.1)) (occurs_at (Closing d) p to bound n no_gap).form)
 
-  -- behind joint punctuation
+  -- after joint punctuation
 
   record IsCharacterHere (x : ℕ) : Type 0 where
     inside : x < length a

@@ -28,7 +28,7 @@ pub end_of-run_end : (token : Token) (rest : TokenList) → end_of token rest �
 end_of-run_end token none = refl
 end_of-run_end token (also next rest) = end_of-run_end next rest
 
--- a run is left of itself behind no tokens
+-- a run is left of itself after no tokens
 pub IsRestOf-self : (run : TokenList) → IsRestOf run run
 IsRestOf-self run = record { front = none; is = refl }
 
@@ -36,7 +36,7 @@ pub append-also : (front : TokenList) (token : Token) (back : TokenList) → app
 append-also none token back = refl
 append-also (also first front) token back = ap (also first) (append-also front token back)
 
--- what is left behind one token more
+-- the rest after one token more
 pub IsRestOf-rest : (run rest : TokenList) → IsRestOf run rest → IsRestOf run (rest_of rest)
 IsRestOf-rest run none r = r
 IsRestOf-rest run (also token rest) r = record { front = append r.front (also token none); is = r.is ∙ sym (append-also r.front token rest) }

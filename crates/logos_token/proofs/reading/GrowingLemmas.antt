@@ -1,4 +1,4 @@
--- One more tree behind those of a buffer.
+-- One more tree after those of a buffer.
 use Rattle.std.proofs.Common.{◌≡◌, List, [], ◌++◌, map, sym, ◌∙◌, ap, append-nil}
 use Rattle.logos_token.specs.declared.token.entry.Entry.{Entry}
 use Rattle.logos_token.specs.Tokens.{Token, none, also, append}

@@ -24,7 +24,7 @@ pub run-lexemes : (delimiter : Delimiter) (span : Span) (inside rest : TokenList
 run-lexemes delimiter span inside rest more =
     append_assoc (token_lexemes (group delimiter span inside)) (lexemes rest) more ∙ group-lexemes delimiter span inside (lexemes rest ++ more)
 
--- behind tokens the same delimiters are open as in front
+-- after tokens the same delimiters are open as in front
 pub opened-lexemes : (tokens : TokenList) (around : List (Delimiter × ℕ)) (more : List Lexeme) → opened around (lexemes tokens ++ more) ≡ opened around more
 opened-lexemes none around more = refl
 opened-lexemes (also (identifier text span) rest) around more = opened-lexemes rest around more
@@ -74,7 +74,7 @@ closed-most_open : (front back : List Lexeme) (around afterward : List (Delimite
 closed-most_open front back around afterward n true e goes is = rw e (goes is)
 closed-most_open front back around afterward n false e goes is = cc
 
--- most delimiters are open in the front or in what is behind
+-- most delimiters are open in the front or in what is after
 pub most_open-append : (front back : List Lexeme) (around afterward : List (Delimiter × ℕ)) → opened around front ≡ Some afterward →
     most_open (length around) (front ++ back) ≡ max (most_open (length around) front) (most_open (length afterward) back)
 most_open-append [] back around afterward is = let e : around ≡ afterward = cc in rw e (omega (arith, most_open-least (length afterward) back))

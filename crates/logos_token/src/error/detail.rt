@@ -24,7 +24,7 @@ pub enum Detail {
     },
 }
 
-/// Why a text is not a pattern, and where.
+/// The fault of a text that is not a pattern, and its location.
 #[derive(Clone, Copy, Debug)]
 pub struct PatternDetail {
     pub kind: PatternKind,

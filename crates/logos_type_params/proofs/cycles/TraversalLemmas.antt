@@ -98,7 +98,7 @@ reaches_both x xs f f1 f2 w w1 w2 a b = record {
   left = b.left ∙ a.left;
 }
 
--- one target after another, where what completes the rest completes the whole
+-- one target after another, where a result for the rest completes to a result for the whole
 pub reaches_on : (Whole : List Bool → List ℕ → Type 0) (ts : List ℕ) (k : ℕ) (f f1 : List Bool) (w w1 : List ℕ) →
     ((f2 : List Bool) (w2 : List ℕ) → Reaches (drop k ts) f w f2 w2 → Whole f2 w2) → k < length ts → Reaches (get_or ts k 0 ∷ []) f w f1 w1 →
     (f2 : List Bool) (w2 : List ℕ) → Reaches (drop (k + 1) ts) f1 w1 f2 w2 → Whole f2 w2

@@ -96,7 +96,7 @@ pub(super) fn taken_step(at: &Spot<'_, '_>) -> Next
     }
 }
 
-/// Returns the step between a name and `:`.
+/// Returns the step between the name of a parameter and `:`.
 pub(super) fn typed_step(at: &Spot<'_, '_>) -> Next
     ensures { IsAction result (spot_of at.now)
         (typed_move (tokens_of at.now.run) (outside_of at.now.outside)) }

@@ -150,7 +150,7 @@ fn argument_word(kind: PathKind, at: &Spot<'_, '_>) -> Next
     Ok(TableEntry::Need(true, Stage::ArgumentEnd(kind)))
 }
 
-/// Returns the step among arguments.
+/// Returns the step among the arguments of a path.
 pub(super) fn arguments_step(kind: PathKind, at: &Spot<'_, '_>) -> Next
     ensures { IsAction result (spot_of at.now)
         (arguments_move kind (tokens_of at.now.run) (outside_of at.now.outside)) }
@@ -178,7 +178,7 @@ pub(super) fn braced_step(kind: PathKind, at: &Spot<'_, '_>) -> Next
     }
 }
 
-/// Returns the step between a name and `=`.
+/// Returns the step between a name and `=` among the arguments of a path.
 pub(super) fn equals_step(kind: PathKind, at: &Spot<'_, '_>) -> Next
     ensures { IsAction result (spot_of at.now)
         (equals_move kind (tokens_of at.now.run) (outside_of at.now.outside)) }
@@ -189,7 +189,7 @@ pub(super) fn equals_step(kind: PathKind, at: &Spot<'_, '_>) -> Next
     }
 }
 
-/// Returns the step between a name and `:` among arguments.
+/// Returns the step between a name and `:` among the arguments of a path.
 pub(super) fn constrained_step(kind: PathKind, at: &Spot<'_, '_>) -> Next
     ensures { IsAction result (spot_of at.now)
         (constrained_move kind (tokens_of at.now.run) (outside_of at.now.outside)) }

@@ -1,4 +1,4 @@
-//! The budget of memory: how many bytes may be in use.
+//! The budget of memory: the number of bytes that may be in use.
 //!
 //! It is set by programs and macros that read untrusted input. Beyond it growth fails as if memory
 //! ran out. The capacity of everything that this crate allocates is counted; the overhead of the

@@ -43,7 +43,7 @@ pub mod sets {
         }
     }
 
-    /// Why there is no set for a name.
+    /// The error for a name that has no set.
     #[derive(Clone, Copy, Debug, PartialEq, Eq, Hash)]
     pub enum LookupError {
         /// No property has the name.

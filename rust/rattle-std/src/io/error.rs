@@ -73,7 +73,7 @@ const LINKS_LEAD_ROUND: i32 = if cfg!(any(target_os = "linux", target_os = "andr
 
 macro_rules! kinds {
     ($($(#[$doc:meta])* $kind:ident,)*) => {
-        /// Why reading or writing failed.
+        /// The kinds of errors of reading and writing.
         #[derive(Clone, Copy, Debug, PartialEq, Eq, Hash)]
         pub enum ErrorKind {
             $($(#[$doc])* $kind,)*

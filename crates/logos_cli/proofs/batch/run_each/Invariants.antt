@@ -5,7 +5,7 @@ use Rattle.logos_cli.specs.inside.BatchFiles.{orders_of}
 use Rattle.logos_cli.proofs.BatchLemmas.{IsDoneSoFar, IsEndedSoFar}
 use Rattle.logos_cli.proofs.batch.run_each.Given as goal
 
--- What completes the rest completes the whole.
+-- A result for the rest completes to a result for the whole.
 abbrev pub invariant-loop-batch_file : goal.invariant-loop-batch_file
 invariant-loop-batch_file g l =
     IsDoneSoFar g.F.Files.read_yields g.F.Files.write_makes g.F.ComparableFiles.compare_finds (orders_of (order_value l.order) l.batch_files) (orders_of (order_value l.order) (drop l.batch_file-index l.batch_files)) l.ending.status l.fn.files l.files (g.O.Write.contents l.fn.out) (g.O.Write.contents l.out)

@@ -15,7 +15,7 @@ use Rattle.logos_codegen.proofs.RefusalLemmas.{ends_refuses}
 use Rattle.logos_codegen.proofs.GraphLemmas.{graph_refuses, graph_made}
 use Rattle.logos_codegen.proofs.generation.accept.Goals as goal
 
--- what holds of a result by two facts about it
+-- a property of a result by two facts about it
 together : {T E : Type 0} (result : Result T E) (P Q R : T → Type 0) → ((x : T) → P x → Q x → R x) → IfOk result P → IfOk result Q → IfOk result R
 together (Ok x) P Q R by p q = by x p q
 together (Err e) P Q R by p q = tt

@@ -6,7 +6,7 @@ use Rattle.logos_generator.specs.Runs.{RunsAs}
 use Rattle.logos_generator.proofs.Compose.{is_lexer_of}
 use Rattle.logos_codegen.proofs.generation.code_of.Goals as goal
 
--- what holds of a result by three facts about it
+-- a property of a result by three facts about it
 together : {T E : Type 0} (P Q R S : T → Type 0) (result : Result T E) → ((x : T) → P x → Q x → R x → S x) → IfOk result P → IfOk result Q → IfOk result R → IfOk result S
 together P Q R S (Ok x) by p q r = by x p q r
 together P Q R S (Err e) by p q r = tt

@@ -3,7 +3,7 @@ use Rattle.logos_machine.specs.LexerValue.{answers_of}
 use Rattle.logos_commands.proofs.LexingLemmas.{Continues}
 use Rattle.logos_commands.proofs.item_lines.write_lines.Given as goal
 
--- code, input and callback stay, the block has room for a line, and what completes the rest
+-- code, input and callback stay, the block has room for a line, and a result for the rest
 -- completes the whole
 abbrev pub invariant-loop-item : goal.invariant-loop-item
 invariant-loop-item g l = record {

@@ -31,7 +31,7 @@ new-requires-clause-closed c =
     let closed = raw_closed (dfa_of c.args.dfa.now) c.requires.total (rows_of c.in_ok-rows.rows) c.in_ok-rows.ensures (wide c.in_ok-rows.rows) in
     λ s k t l e. let w = closed s k t (omega (arith, l, n)) e in omega (arith, w, n)
 
--- what is known of the parts, of a table that has them
+-- the facts about the parts, of a table that has them
 module _ (leaves : List Leaf) (dfa : Automaton) (marks : Vec StateMarks Global) (rows : Rows) (table : Table) (same_marks : table.marks ≡ marks) (same_rows : table.rows ≡ rows) where
   states : vec_len marks ≡ length dfa.matches → size table ≡ length dfa.matches
   states e = ap (λ (v : Vec StateMarks Global). vec_len v) same_marks ∙ e

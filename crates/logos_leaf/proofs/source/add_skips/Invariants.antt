@@ -7,7 +7,7 @@ use Rattle.logos_leaf.specs.LeafViews.{leaf_view}
 use Rattle.logos_leaf.specs.Variants.{SkipsAdd}
 use Rattle.logos_leaf.proofs.source.add_skips.Given as goal
 
--- what completes the rest completes the whole
+-- a result for the rest completes to a result for the whole
 abbrev pub invariant-loop-skip : goal.invariant-loop-skip
 invariant-loop-skip l = (after : List LeafView) (new : List Fault) →
     SkipsAdd (names_of l.subpatterns) (map definition_view l.skip-iterator.rest.items) (map leaf_view l.leaves.items) after l.errors new →

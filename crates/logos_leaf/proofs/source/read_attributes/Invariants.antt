@@ -7,7 +7,7 @@ use Rattle.logos_definition.specs.ParserViews.{parser_view}
 use Rattle.logos_leaf.specs.Sources.{ReadsAttributes}
 use Rattle.logos_leaf.proofs.source.read_attributes.Given as goal
 
--- what completes the rest completes the whole
+-- a result for the rest completes to a result for the whole
 abbrev pub invariant-loop-attribute : goal.invariant-loop-attribute
 invariant-loop-attribute l = (o : OptionsView) (new : List Fault) →
     ReadsAttributes (parser_view l.parser) o l.parser.errors new (tokens_of l.rest) →

@@ -6,7 +6,7 @@ use Rattle.logos_definition.specs.ParserViews.{parser_view}
 use Rattle.logos_leaf.specs.Sources.{ReadsParameters}
 use Rattle.logos_leaf.proofs.source.read_parameters.Given as goal
 
--- what completes the rest completes the whole
+-- a result for the rest completes to a result for the whole
 abbrev pub invariant-loop-parameter : goal.invariant-loop-parameter
 invariant-loop-parameter l = (o : OptionsView) (new : List Fault) →
     ReadsParameters (parser_view l.parser) o l.parser.errors new (map parameter_value (drop l.parameter-index l.parameters)) →

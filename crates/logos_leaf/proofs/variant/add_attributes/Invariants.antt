@@ -10,7 +10,7 @@ use Rattle.logos_leaf.specs.LeafViews.{leaf_view}
 use Rattle.logos_leaf.specs.Variants.{AttributesAdd}
 use Rattle.logos_leaf.proofs.variant.add_attributes.Given as goal
 
--- what completes the rest completes the whole
+-- a result for the rest completes to a result for the whole
 abbrev pub invariant-loop-attribute : goal.invariant-loop-attribute
 invariant-loop-attribute l = record {
   unchanged : parser_view l.parser ≡ parser_view l.fn.parser;

@@ -10,7 +10,7 @@ use Rattle.logos_leaf.specs.LeafViews.{leaf_view}
 use Rattle.logos_leaf.specs.Variants.{VariantsAdd}
 use Rattle.logos_leaf.proofs.variant.add_variants.Given as goal
 
--- what completes the rest completes the whole
+-- a result for the rest completes to a result for the whole
 abbrev pub invariant-loop-variant : goal.invariant-loop-variant
 invariant-loop-variant l = record {
   unchanged : parser_view l.parser ≡ parser_view l.fn.parser;

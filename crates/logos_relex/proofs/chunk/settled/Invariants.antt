@@ -3,7 +3,7 @@ use Rattle.logos_machine.specs.LexerValue.{answers_of}
 use Rattle.logos_relex.proofs.ItemLemmas.{Settling}
 use Rattle.logos_relex.proofs.chunk.settled.Given as goal
 
--- The items so far were found whatever follows the part.
+-- The items so far were found regardless of the bytes after the part.
 abbrev pub invariant-loop-item : goal.invariant-loop-item
 invariant-loop-item g l = record {
   same_code : l.lexer.code ≡ l.fn.lexer.code;

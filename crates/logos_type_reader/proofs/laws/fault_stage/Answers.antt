@@ -7,7 +7,7 @@ use Rattle.logos_type_reader.proofs.WrittenReads.{type_occurs}
 use Rattle.logos_type_reader.proofs.FaultStages.{placed}
 use Rattle.logos_type_reader.proofs.laws.fault_stage.Goals as goal
 
--- a fault with a place is none of depth
+-- a fault with a spot is none of depth
 not_deep : (fault : Fault) (front : Front) (left other : TokenList) → OccursAt fault front left → fault_at fault other ≡ too_deep → ⊥
 not_deep (mismatch span) front left other s e = cc
 not_deep (unsupported span) front left other s e = cc

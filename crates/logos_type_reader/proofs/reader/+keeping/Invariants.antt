@@ -14,7 +14,7 @@ decreases-keep_token l = 3 * token_count (token_of l.tree)
 abbrev pub decreases-keep_group : goal.decreases-keep_group
 decreases-keep_group l = 3 * count_of (inside_of l.group) + 2
 
--- what is left completes the whole
+-- the rest completes the whole
 abbrev pub invariant-keep_tokens-loop-tree : goal.invariant-keep_tokens-loop-tree
 invariant-keep_tokens-loop-tree l =
     (map tree_of l.parts.items ++ still_run (tokens_of l.rest) ≡ map tree_of l.fn.parts.items ++ still_run (tokens_of l.fn.run)) × (count_of (tokens_of l.rest) ≤ count_of (tokens_of l.fn.run))

@@ -6,7 +6,7 @@ use Rattle.logos_definition.specs.Arguments.{ReadsPieces}
 use Rattle.logos_definition.specs.ParserViews.{parser_view}
 use Rattle.logos_definition.proofs.parser.Parser.add_pieces.Given as goal
 
--- what completes the rest completes the whole
+-- a result for the rest completes to a result for the whole
 abbrev pub invariant-loop-piece : goal.invariant-loop-piece
 invariant-loop-piece l = (options : OptionsView) (faults : List Fault) →
     ReadsPieces (parser_view l.self) options l.self.errors faults (pieces_left l.pieces) →

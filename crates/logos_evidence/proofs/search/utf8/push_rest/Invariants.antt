@@ -2,7 +2,7 @@ use Rattle.std.proofs.Common.{◌≡◌, ◌++◌}
 use Rattle.logos_evidence.specs.search.Rests.{completion}
 use Rattle.logos_evidence.proofs.search.utf8.push_rest.Given as goal
 
--- what completes the rest completes the whole
+-- a result for the rest completes to a result for the whole
 abbrev pub invariant-loop-rest : goal.invariant-loop-rest
 invariant-loop-rest l = l.bytes.items ++ completion l.rest ≡ l.initial.bytes.items ++ completion l.fn.rest
 

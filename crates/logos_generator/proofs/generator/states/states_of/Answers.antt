@@ -13,7 +13,7 @@ use Rattle.logos_generator.proofs.NodeLemmas.{states_turn}
 use Rattle.logos_generator.proofs.NumberLemmas.{states_numbered, states_whole, states_tabled, states_all_tabled}
 use Rattle.logos_generator.proofs.generator.states.states_of.Goals as goal
 
--- what holds of all states holds of this one
+-- a property of all states holds of this one
 codable_at : (graph : List GraphState) (k : ℕ) (state : GraphState) → All IsCodable graph → slice_get graph k ≡ Some state → IsCodable state
 codable_at graph k state all e = rw (get_or_from_slice_get graph k state state e) at (all k state (slice_get_within graph k state e))
 

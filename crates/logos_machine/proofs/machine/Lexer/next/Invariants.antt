@@ -3,7 +3,7 @@ use Rattle.logos_machine.specs.LexerValue.{answers_of}
 use Rattle.logos_machine.proofs.LexerLemmas.{Continues}
 use Rattle.logos_machine.proofs.machine.Lexer.next.Given as goal
 
--- what continues after the skipped matches continues after the last item
+-- a continuation after the skipped matches continues after the last item
 abbrev pub invariant-loop-to : goal.invariant-loop-to
 invariant-loop-to g l = record {
   same : l.self ≡ l.fn.self;

@@ -5,7 +5,7 @@ use Rattle.logos_machine.specs.inside.IsAt.{IsStatus}
 use Rattle.logos_machine.specs.inside.Attempts.{status_of}
 use Rattle.logos_machine.proofs.machine.part.attempt_in_part.Given as goal
 
--- what continues from here is the whole attempt, and it looks at the end if this does
+-- a continuation from here is the whole attempt, and it looks at the end if this does
 abbrev pub invariant-loop-next : goal.invariant-loop-next
 invariant-loop-next l = record {
   is_at : IsStatus l.code l.part l.start (status_of l.at);

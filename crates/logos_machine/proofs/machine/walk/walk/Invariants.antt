@@ -2,7 +2,7 @@ use Rattle.std.proofs.Common.{◌≡◌, ◌-◌, ◌*◌, ◌/◌, ◌≤◌, l
 use Rattle.logos_machine.specs.inside.Looks.{Comes}
 use Rattle.logos_machine.proofs.machine.walk.walk.Given as goal
 
--- what continues from here is the whole attempt
+-- a continuation from here is the whole attempt
 abbrev pub invariant-loop-at : goal.invariant-loop-at
 invariant-loop-at l = record {
   comes : Comes l.code l.input l.start (l.row_start / 272) l.at l.before;

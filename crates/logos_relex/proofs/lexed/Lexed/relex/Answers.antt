@@ -22,7 +22,7 @@ make_anew-requires-clause-within g c =
 pub make_anew-requires-clause-bytes : goal.make_anew-requires-clause-bytes
 make_anew-requires-clause-bytes g c = (known c.args.code.now (answers_of g.C.Fn c.args.callback.now) c.args.self.now c.args.edit.input.now c.args.edit.replaced c.requires.former).1
 
--- what stays and what was made anew are all items
+-- the items that stay and the new ones are all items
 pub returns-in-Ok-clause-lexed : goal.returns-in-Ok-clause-lexed
 returns-in-Ok-clause-lexed g c =
     let start = c.untouched-start.result in

@@ -25,7 +25,7 @@ returns-then-branch g c =
     let ended = subst (λ (b : Bool). Steps g.R.Read.remaining c.args.self.code (answers_of g.C.Fn c.args.self.callback) old new former items b) c.if-branch.true by_callback in
     stepping_over g.R.Read.remaining c.args.self.code (answers_of g.C.Fn c.args.self.callback) c.args.self.window old new former items inv.stepping ended
 
--- it goes on
+-- it continues
 pub loop-preserved : goal.loop-preserved
 loop-preserved g c =
     let inv = c.loop.invariant in

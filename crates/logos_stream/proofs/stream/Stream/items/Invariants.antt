@@ -3,7 +3,7 @@ use Rattle.logos_machine.specs.LexerValue.{answers_of}
 use Rattle.logos_stream.proofs.LeftLemmas.{Stepping}
 use Rattle.logos_stream.proofs.stream.Stream.items.Given as goal
 
--- The items so far were given by the stream, which goes on.
+-- The items so far were given by the stream, which continues.
 abbrev pub invariant-loop : goal.invariant-loop
 invariant-loop g l = record {
   same_code : l.stream.code ≡ l.fn.self.code;
