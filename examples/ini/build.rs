@@ -1,4 +1,4 @@
-//! Expands the lexers in `src/lexers.rs`. Everything else in that file stays as it is.
+//! Expands the lexers in `src/lexers.rs`. All other text of that file stays unchanged.
 
 fn main() {
     logos_build::expand("src/lexers.rs");

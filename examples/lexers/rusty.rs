@@ -3,7 +3,7 @@
 
 use logos::Logos;
 
-/// What stands around tokens.
+/// Blanks and comments.
 pub mod trivia {
     use logos::Logos;
 

@@ -4,8 +4,8 @@
 use std::fs;
 use std::path::{Path, PathBuf};
 
-/// The folders beside the package that hold the sources of the macro and of all that it calls. In a
-/// package from a registry they are not there, and the version says it.
+/// The folders beside the package with the sources of the macro and of everything that it calls. A
+/// package from a registry lacks them, and its version identifies the sources.
 const FOLDERS: [&str; 4] = [
     "src",
     "../logos-codegen",
@@ -16,7 +16,7 @@ const FOLDERS: [&str; 4] = [
 /// The crates in Rattle, and a file that is beside them.
 const CRATES: [&str; 2] = ["../../crates", "../../crates.txt"];
 
-/// Folders that say nothing of what a library does.
+/// Folders that do not affect the behavior of a library.
 const LEFT_OUT: [&str; 6] = ["must-fail", "out", "proofs", "specs", "target", "tests"];
 
 fn main() {

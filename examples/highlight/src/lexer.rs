@@ -2,7 +2,7 @@
 
 use logos::Logos;
 
-/// The tokens of a language like Rust. Every variant is a kind of text that looks the same.
+/// The tokens of a language like Rust. Every variant is a kind of text with one style.
 #[derive(Logos, Clone, Copy, Debug, PartialEq)]
 // All characters outside ASCII count as letters: that keeps the lexer small, and colours are no
 // worse for it.

@@ -1,5 +1,5 @@
-//! Compares the parts of a sample with those that are written beside it, and the text of the page
-//! with the sample. Where a Chromium is found, so is what it shows.
+//! Compares the parts of a sample with the stored ones, and the text of the page with the sample.
+//! If a Chromium is found, the text that it shows is compared too.
 
 use std::fs;
 use std::process::Command;
@@ -52,7 +52,7 @@ fn browser() -> Option<&'static str> {
         .find(|name| Command::new(name).arg("--version").output().is_ok_and(|output| output.status.success()))
 }
 
-/// Returns a text as `encodeURIComponent` of a browser gives it.
+/// Returns a text as `encodeURIComponent` of a browser encodes it.
 fn encoded(text: &str) -> String {
     let plain = |byte: u8| byte.is_ascii_alphanumeric() || b"-_.!~*'()".contains(&byte);
     text.bytes().map(|byte| if plain(byte) { char::from(byte).to_string() } else { format!("%{byte:02X}") }).collect()

@@ -25,13 +25,13 @@ pub struct Setting<'s> {
     pub value: Vec<Value<'s>>,
 }
 
-/// What is wrong with a line.
+/// The errors of a line.
 #[derive(Clone, Debug, Default, PartialEq)]
 pub enum Fault {
     /// It is neither a section nor a setting.
     #[default]
     Line,
-    /// This place in a value.
+    /// An error at this offset of a value.
     Value(usize),
 }
 
@@ -65,7 +65,7 @@ mod value {
 
 pub use value::Value;
 
-/// Returns what is between the first and the last byte of a text.
+/// Returns the text between the first and the last byte of a text.
 fn inner(text: &str) -> &str {
     &text[1..text.len() - 1]
 }

@@ -1,4 +1,4 @@
-//! Reads settings, and texts with one error each.
+//! Reads settings, and texts each of which has one error.
 
 use ini::lexers::{Fault, Setting, Value};
 use ini::{read, Section};

@@ -2,7 +2,7 @@
 
 use logos::Logos;
 
-/// The tokens of JSON with comments, and what is close to one, to say exactly what is wrong.
+/// The tokens of JSON with comments, and malformed tokens, for exact error messages.
 #[derive(Logos, Clone, Copy, Debug, PartialEq)]
 #[logos(skip r"[ \t\r\n]+")]
 #[logos(skip(r"//[^\n]*", allow_greedy = true))]

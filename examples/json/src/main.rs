@@ -1,4 +1,4 @@
-//! Reads JSON with comments and prints it with one member a line, or says what is wrong and where.
+//! Reads JSON with comments and prints it with one member on each line, or reports its errors.
 
 mod lexer;
 mod parser;

@@ -101,7 +101,7 @@ impl<'s> Parser<'s> {
     }
 }
 
-/// Returns what is wrong with a token that JSON does not have.
+/// Returns the error message for a token that JSON does not have.
 fn complaint(token: Token) -> Option<&'static str> {
     match token {
         Token::LeadingZero => Some("a number has no zeros in front"),

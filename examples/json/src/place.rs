@@ -1,8 +1,8 @@
-//! Errors with the line in which they stand.
+//! Errors, shown with their lines.
 
 use std::ops::Range;
 
-/// What is wrong, and where, in byte offsets.
+/// An error: its message, and its span in byte offsets.
 #[derive(Debug, PartialEq)]
 pub struct Error {
     pub span: Range<usize>,

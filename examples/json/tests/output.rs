@@ -1,4 +1,4 @@
-//! Runs the program on the files of `data`, and on texts with one error each.
+//! Runs the program on the files of `data`, and on texts each of which has one error.
 
 use std::path::Path;
 use std::process::{Command, Output};
@@ -15,7 +15,7 @@ fn a_sample_is_printed_one_member_a_line() {
     assert!(output.status.success());
 }
 
-/// The text, and what is printed after the file's name.
+/// The text, and the output after the file's name.
 const WRONG: [(&str, &str); 16] = [
     ("{\"a\": 01}", ":1:7: a number has no zeros in front\n{\"a\": 01}\n      ^^\n"),
     ("[1, 2.]", ":1:5: a point stands between digits\n[1, 2.]\n    ^^\n"),

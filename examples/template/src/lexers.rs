@@ -2,7 +2,7 @@
 
 use logos::Logos;
 
-/// What stands outside tags.
+/// The text outside tags.
 #[derive(Logos, Clone, Copy, Debug, PartialEq)]
 #[logos(subpattern comment = r"\{\{!([^}]|\}[^}])*")]
 pub enum Outside {
@@ -30,7 +30,7 @@ pub enum Outside {
     UnclosedComment,
 }
 
-/// What stands inside a tag.
+/// The tokens inside a tag.
 #[derive(Logos, Clone, Copy, Debug, PartialEq)]
 #[logos(skip r"[ \t\r\n]+")]
 pub enum Inside {

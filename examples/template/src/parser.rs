@@ -5,7 +5,7 @@ use crate::place::Error;
 use logos::{Lexer, Logos};
 use std::ops::Range;
 
-/// What is done with a value before it is printed.
+/// A filter that changes a value before it is printed.
 #[derive(Clone, Copy, Debug, PartialEq)]
 pub enum Filter {
     Upper,

@@ -1,4 +1,4 @@
-//! Renders the letter of `data`, and templates with one error each.
+//! Renders the letter of `data`, and templates each of which has one error.
 
 use std::path::Path;
 use std::process::{Command, Output};
@@ -15,7 +15,7 @@ fn a_letter_is_rendered() {
     assert!(output.status.success());
 }
 
-/// The template, and what is printed after the file's name.
+/// The template, and the output after the file's name.
 const WRONG: [(&str, &str); 9] = [
     ("a {{#x}} b", ":1:3: the section is not closed\na {{#x}} b\n  ^^^^^^\n"),
     ("a\n{{/x}}", ":2:1: no section is open here\n{{/x}}\n^^^^^^\n"),

@@ -11,7 +11,7 @@ fn erased(text: &str) -> String {
     output.replacen("\nuse std::prelude::*;\n", "", 1)
 }
 
-/// Asserts what comes out of each source.
+/// Asserts the output for each source.
 fn assert_forms(forms: &[(&str, &str)]) {
     for (text, wanted) in forms {
         assert_eq!(erased(text), *wanted, "from: {text}");

@@ -8,12 +8,12 @@ use crate::internal::Tables;
 use crate::walk::{new_room, Room};
 use crate::{Span, Way};
 
-/// So many bytes are lexed without a look ahead after a lexer is made: a lexer, or a clone of one,
-/// of which a few tokens are wanted, walks over no chunk.
+/// The number of bytes that are lexed without looking ahead after a lexer is made. A lexer, or a
+/// clone of one, from which only a few tokens are taken walks over no chunk.
 const HESITATES: usize = 512;
-/// A lexer begins to look ahead where so many bytes are left.
+/// The number of remaining bytes from which on a lexer begins to look ahead.
 const BEGINS: usize = 7168;
-/// A lexer that looks ahead goes on to do so where so many bytes are left.
+/// The number of remaining bytes from which on a lexer that looks ahead continues to do so.
 const FEWEST: usize = 2048;
 
 /// The items that a lexer has found ahead of its own offset. The value is small, so that it can be
@@ -130,7 +130,7 @@ impl Ahead {
         let was_plain = core::mem::replace(&mut self.plain_to, 0) != 0;
         let room = match &mut self.room {
             Some(room) => room,
-            // The lexer has hesitated.
+            // The lexer has not looked ahead yet.
             room if bytes.len().saturating_sub(end) >= BEGINS && T::HAS_ROWS => {
                 room.insert(new_room(Way::ByRule))
             }
@@ -144,7 +144,7 @@ impl Ahead {
                 return Next::Word;
             }
         } else if let Some(cut) = room.cut() {
-            // After the match, which can move the lexer, the walk begins where that is.
+            // The match may have moved the lexer: the walk begins at its offset after that.
             let start = room.word.last_end();
             let (leaf, end) = room.found_at::<T>(bytes, cut, start);
             room.is_moved = true;
@@ -153,7 +153,7 @@ impl Ahead {
         T::refill(self, bytes)
     }
 
-    /// Walks over the next chunk, if that pays.
+    /// Walks over the next chunk, if that saves time.
     #[inline(always)]
     fn refill<'s, T: Tables<'s>>(&mut self, bytes: &[u8]) -> Next {
         let Some(room) = &mut self.room else {
@@ -186,7 +186,7 @@ impl Ahead {
 /// The functions that are called out of line. They are functions of the enum, so that the compiler
 /// places them next to its `lex`, and each table once in a program.
 pub(crate) trait Looks<'source>: Tables<'source> {
-    /// Finds out how a lexer goes on after the last item, which ended at a byte offset.
+    /// Determines how a lexer continues after the last item, which ended at a byte offset.
     #[inline(never)]
     fn go_on(mut ahead: Ahead, bytes: &[u8], end: usize) -> (Ahead, Next) {
         let next = ahead.next::<Self>(bytes, end);

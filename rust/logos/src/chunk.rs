@@ -15,7 +15,7 @@ pub(crate) const CHUNK: usize = BLOCKS * BLOCK;
 /// chunk.
 pub(crate) const WORD: usize = 64;
 const WORDS: usize = CHUNK / WORD;
-/// So many bytes before a block are looked at to guess its place, and so many for a line end.
+/// The numbers of bytes before a block that are examined: to guess its row, and to find a line end.
 const NEAR: usize = 32;
 const FAR: usize = 384;
 /// Fewer bytes than these are not worth a part of their own.
@@ -33,8 +33,8 @@ pub(crate) struct Chunk {
 
 /// The result of a walk over a whole chunk.
 pub(crate) struct Walked {
-    /// The row position after the chunk.
-    pub(crate) place: u32,
+    /// The row offset after the chunk.
+    pub(crate) row_start: u32,
     /// The number of bytes that were processed again.
     pub(crate) again: usize,
     /// The number of bytes that guesses by lines examined.
@@ -43,8 +43,7 @@ pub(crate) struct Walked {
     pub(crate) missed: bool,
 }
 
-/// Guesses at the row positions of blocks, and the number of bytes that were examined for line
-/// ends.
+/// Guesses of the row offsets of blocks, and the number of bytes that were examined for line ends.
 type Guesses = ([u32; BLOCKS], usize);
 
 impl Chunk {
@@ -61,7 +60,7 @@ impl Chunk {
     }
 
     /// Returns the row offset after a byte.
-    pub(crate) fn place(&self, at: usize) -> u32 {
+    pub(crate) fn row_start(&self, at: usize) -> u32 {
         self.trace[at] & OFFSET_MASK
     }
 
@@ -101,50 +100,50 @@ impl Chunk {
     pub(crate) fn walk<'s, T: Tables<'s>>(
         &mut self,
         input: &[u8; CHUNK],
-        place: u32,
+        row_start: u32,
         start: u32,
         by_lines: bool,
     ) -> Walked {
         let (mut guesses, looked) = if by_lines {
             T::guess_by_lines(input, start)
         } else {
-            (guess_places::<T>(input, BLOCK - NEAR, start), 0)
+            (guess_row_offsets::<T>(input, BLOCK - NEAR, start), 0)
         };
-        guesses[0] = place;
-        let places = T::walk_blocks(input, &mut self.trace, guesses);
-        let walked = self.repair::<T>(input, BLOCK, guesses, places);
+        guesses[0] = row_start;
+        let row_starts = T::walk_blocks(input, &mut self.trace, guesses);
+        let walked = self.repair::<T>(input, BLOCK, guesses, row_starts);
         self.set_bits(0, CHUNK);
         Walked { looked, ..walked }
     }
 
-    /// Walks again over the blocks, of `size` bytes each, whose places were not guessed, as far as
-    /// that changes something.
+    /// Walks again over the blocks, of `size` bytes each, whose rows were guessed wrong, as far as
+    /// that changes entries.
     #[inline]
     fn repair<'s, T: Tables<'s>>(
         &mut self,
         input: &[u8],
         size: usize,
         guesses: [u32; BLOCKS],
-        places: [u32; BLOCKS],
+        row_starts: [u32; BLOCKS],
     ) -> Walked {
         let mut walked = Walked {
-            place: places[0],
+            row_start: row_starts[0],
             again: 0,
             looked: 0,
             missed: false,
         };
         for k in 1..BLOCKS {
             let (from, to) = (k * size, (k + 1) * size);
-            let mut place = places[k];
-            if walked.place != guesses[k] {
-                let (at, there) = self.walk_again::<T>(input, from..to, walked.place);
+            let mut row_start = row_starts[k];
+            if walked.row_start != guesses[k] {
+                let (at, there) = self.walk_again::<T>(input, from..to, walked.row_start);
                 walked.again += at - from;
                 if at == to {
-                    place = there;
+                    row_start = there;
                     walked.missed = true;
                 }
             }
-            walked.place = place;
+            walked.row_start = row_start;
         }
         walked
     }
@@ -152,24 +151,24 @@ impl Chunk {
     /// Walks over fewer bytes than a chunk has: in parallel parts, and over the last bytes one by
     /// one.
     #[inline]
-    pub(crate) fn walk_rest<'s, T: Tables<'s>>(&mut self, rest: &[u8], place: u32) -> Walked {
+    pub(crate) fn walk_rest<'s, T: Tables<'s>>(&mut self, rest: &[u8], row_start: u32) -> Walked {
         let size = rest.len() / BLOCKS;
         let mut walked = Walked {
-            place,
+            row_start,
             again: 0,
             looked: 0,
             missed: false,
         };
         let mut done = 0;
         if size >= LEAST_PART {
-            let guesses = guess_parts::<T>(rest, size, place);
-            let places = T::walk_parts(rest, &mut self.trace, size, guesses);
-            walked = self.repair::<T>(rest, size, guesses, places);
+            let guesses = guess_parts::<T>(rest, size, row_start);
+            let row_starts = T::walk_parts(rest, &mut self.trace, size, guesses);
+            walked = self.repair::<T>(rest, size, guesses, row_starts);
             done = BLOCKS * size;
         }
         for (entry, byte) in self.trace.iter_mut().zip(rest).skip(done) {
-            *entry = step::<T>(*byte, walked.place);
-            walked.place = *entry & OFFSET_MASK;
+            *entry = step::<T>(*byte, walked.row_start);
+            walked.row_start = *entry & OFFSET_MASK;
         }
         let end = rest.len().next_multiple_of(WORD).min(CHUNK);
         self.trace[rest.len().min(end)..end].fill(0);
@@ -184,23 +183,23 @@ impl Chunk {
         &mut self,
         input: &[u8],
         range: Span,
-        place: u32,
+        row_start: u32,
     ) -> (usize, u32) {
-        let mut place = place;
+        let mut row_start = row_start;
         for at in range.clone() {
-            let entry = step::<T>(input[at], place);
-            place = entry & OFFSET_MASK;
-            let same = self.trace[at] & OFFSET_MASK == place;
+            let entry = step::<T>(input[at], row_start);
+            row_start = entry & OFFSET_MASK;
+            let same = self.trace[at] & OFFSET_MASK == row_start;
             self.trace[at] = entry;
             if same {
-                return (at + 1, place);
+                return (at + 1, row_start);
             }
         }
-        (range.end, place)
+        (range.end, row_start)
     }
 
     /// Returns the number of bytes up to an offset that need a separate match attempt.
-    pub(crate) fn asks(&self, to: usize) -> usize {
+    pub(crate) fn undecided(&self, to: usize) -> usize {
         let words = self.ends.iter().zip(&self.tokens).take(to.div_ceil(WORD));
         words
             .map(|(ends, tokens)| (tokens & !ends).count_ones() as usize)
@@ -231,17 +230,18 @@ fn entered(trace: &[u32; WORD]) -> usize {
     entered as usize
 }
 
-/// What is called out of line. These are functions of the enum: so the compiler puts them beside
-/// its `lex`, and each table once into a program.
+/// The functions that are called out of line. They are functions of the enum, so that the compiler
+/// places them next to its `lex`, and each table once in a program.
 trait Blocks<'source>: Tables<'source> {
-    /// Walks over all blocks at once, each from its place, and returns the places after them.
+    /// Walks over all blocks in parallel, each from its row, and returns the row offsets after
+    /// them.
     #[inline(never)]
     fn walk_blocks(
         input: &[u8; CHUNK],
         trace: &mut [u32; CHUNK],
-        places: [u32; BLOCKS],
+        row_starts: [u32; BLOCKS],
     ) -> [u32; BLOCKS] {
-        let mut places = places;
+        let mut row_starts = row_starts;
         let blocks: [&[u8; BLOCK]; BLOCKS] =
             core::array::from_fn(|k| input[k * BLOCK..].first_chunk().expect("a block"));
         for at in (0..BLOCK).step_by(STEPS) {
@@ -251,39 +251,39 @@ trait Blocks<'source>: Tables<'source> {
             let part = core::hint::black_box(part.expect("a part"));
             for n in 0..STEPS {
                 for k in 0..BLOCKS {
-                    let entry = step::<Self>(blocks[k][at + n], places[k]);
+                    let entry = step::<Self>(blocks[k][at + n], row_starts[k]);
                     part[k * BLOCK + n] = entry;
-                    places[k] = entry;
+                    row_starts[k] = entry;
                 }
             }
         }
-        places.map(|place| place & OFFSET_MASK)
+        row_starts.map(|row_start| row_start & OFFSET_MASK)
     }
 
-    /// Walks over parts of `size` bytes at once, each from its place, and returns the places after
-    /// them.
+    /// Walks over parts of `size` bytes in parallel, each from its row, and returns the row offsets
+    /// after them.
     #[inline(never)]
     fn walk_parts(
         rest: &[u8],
         trace: &mut [u32; CHUNK],
         size: usize,
-        places: [u32; BLOCKS],
+        row_starts: [u32; BLOCKS],
     ) -> [u32; BLOCKS] {
-        let mut places = places;
+        let mut row_starts = row_starts;
         let parts: [&[u8]; BLOCKS] = core::array::from_fn(|k| &rest[k * size..(k + 1) * size]);
         let mut traces = trace.chunks_exact_mut(size);
         let traces: [&mut [u32]; BLOCKS] = core::array::from_fn(|_| traces.next().expect("a part"));
         for at in 0..size {
             for k in 0..BLOCKS {
-                let entry = step::<Self>(parts[k][at], places[k]);
+                let entry = step::<Self>(parts[k][at], row_starts[k]);
                 traces[k][at] = entry;
-                places[k] = entry;
+                row_starts[k] = entry;
             }
         }
-        places.map(|place| place & OFFSET_MASK)
+        row_starts.map(|row_start| row_start & OFFSET_MASK)
     }
 
-    /// Guesses those places by more bytes: from the last line end on before each block.
+    /// Guesses the row offsets by more bytes: from the last line end before each block.
     #[cold]
     #[inline(never)]
     fn guess_by_lines(input: &[u8; CHUNK], start: u32) -> Guesses {
@@ -293,14 +293,15 @@ trait Blocks<'source>: Tables<'source> {
             from = from.min(BLOCK - FAR + last_line_end(window.expect("a window")));
         }
         let looked = (BLOCKS - 1) * (BLOCK - from);
-        (guess_places::<Self>(input, from, start), looked)
+        (guess_row_offsets::<Self>(input, from, start), looked)
     }
 }
 
 impl<'source, T: Tables<'source>> Blocks<'source> for T {}
 
-/// Gathers the flags of the entries of a word: of each half those of every fourth entry stand in a
-/// number, four bits apart. It is called and writes to memory, so that the compiler makes vectors.
+/// Gathers the flags of the entries of a word: the flags of every fourth entry of each half are in
+/// one number, four bits apart. The function is not inlined and writes to memory, so that the
+/// compiler makes vectors.
 #[inline(never)]
 fn gather(trace: &[u32; WORD], to: &mut [u32; 8]) {
     let (low, high) = trace.split_at(WORD / 2);
@@ -327,41 +328,46 @@ fn bits_of(flags: &[u32; 8]) -> (u64, u64) {
     (ends, tokens)
 }
 
-/// Returns the entry of a byte in the row at a position. The position may be that of an entry.
+/// Returns the entry of a byte in the row at an offset. The offset may have the upper bits of an
+/// entry.
 #[inline(always)]
-fn step<'s, T: Tables<'s>>(byte: u8, place: u32) -> u32 {
-    T::entry_of(byte, place)
+fn step<'s, T: Tables<'s>>(byte: u8, row_start: u32) -> u32 {
+    T::entry_of(byte, row_start)
 }
 
-/// Guesses the places of parts of `size` bytes but the first, as [`guess_places`] does.
+/// Guesses the row offsets of all parts of `size` bytes but the first, as [`guess_row_offsets`] does.
 #[inline]
 fn guess_parts<'s, T: Tables<'s>>(rest: &[u8], size: usize, first: u32) -> [u32; BLOCKS] {
-    let mut places = [T::ROOT; BLOCKS];
+    let mut row_starts = [T::ROOT; BLOCKS];
     for at in size - NEAR..size {
         for k in 1..BLOCKS {
             let byte = rest[(k - 1) * size + at];
-            let entry = step::<T>(byte, places[k]);
-            places[k] = if byte == b'\n' { T::ROOT } else { entry };
+            let entry = step::<T>(byte, row_starts[k]);
+            row_starts[k] = if byte == b'\n' { T::ROOT } else { entry };
         }
     }
-    places[0] = first;
-    places.map(|place| place & OFFSET_MASK)
+    row_starts[0] = first;
+    row_starts.map(|row_start| row_start & OFFSET_MASK)
 }
 
-/// Guesses the row positions of the blocks except the first: those after the bytes that follow the
-/// last line end, from byte `from` of the previous block on. All are guessed at once, like blocks
-/// are processed.
+/// Guesses the row offsets of all blocks but the first: those after the bytes that follow the last
+/// line end, from byte `from` of the previous block on. All guesses are made in parallel, as blocks
+/// are walked.
 #[inline(always)]
-fn guess_places<'s, T: Tables<'s>>(input: &[u8; CHUNK], from: usize, start: u32) -> [u32; BLOCKS] {
-    let mut places = [start; BLOCKS];
+fn guess_row_offsets<'s, T: Tables<'s>>(
+    input: &[u8; CHUNK],
+    from: usize,
+    start: u32,
+) -> [u32; BLOCKS] {
+    let mut row_starts = [start; BLOCKS];
     for at in from..BLOCK {
         for k in 1..BLOCKS {
             let byte = input[(k - 1) * BLOCK + at];
-            let entry = step::<T>(byte, places[k]);
-            places[k] = if byte == b'\n' { start } else { entry };
+            let entry = step::<T>(byte, row_starts[k]);
+            row_starts[k] = if byte == b'\n' { start } else { entry };
         }
     }
-    places.map(|place| place & OFFSET_MASK)
+    row_starts.map(|row_start| row_start & OFFSET_MASK)
 }
 
 /// Returns which byte of a window is the last line end, or the first of the last few bytes if none

@@ -15,13 +15,13 @@ pub type Span = Range<usize>;
 /// The setting when a lexer looks ahead.
 #[derive(Clone, Copy, Debug, PartialEq, Eq)]
 pub enum Way {
-    /// Where that pays.
+    /// If that saves time.
     ByRule,
     /// Nowhere.
     Never,
     /// Everywhere.
     Always,
-    /// Everywhere, and it finds those items alone that are the same whatever follows the input.
+    /// Everywhere, and it finds only the items that do not depend on the bytes after the input.
     Part,
 }
 

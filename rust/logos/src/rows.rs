@@ -33,8 +33,8 @@ pub(crate) const FORTH: u32 = 128;
 const FARTHEST: u32 = 30;
 
 impl<const STATES: usize, const RUNS: usize> Unpacked<STATES, RUNS> {
-    /// Returns the rows of all states. There are `N` entries, so that the position of each row plus
-    /// a byte or a class is the index of an entry.
+    /// Returns the rows of all states. There are `N` entries, so that the offset of each row plus a
+    /// byte or a class is the index of an entry.
     ///
     /// # Panics
     ///

@@ -12,11 +12,11 @@ use crate::Way;
 use crate::{Lexer, Logos, Source};
 use core::ops::ControlFlow::{self, Break, Continue};
 
-/// The next item, or nothing at the end of the input; or else how a lexer goes on.
+/// The next item, or nothing at the end of the input; or otherwise how a lexer continues.
 type Step<'source, Token, Next> =
     ControlFlow<Option<Result<Token, <Token as Logos<'source>>::Error>>, Next>;
 
-/// Says to the compiler that match attempts are to have the registers.
+/// Hints to the compiler that match attempts should have the registers.
 #[cfg(feature = "std")]
 #[cold]
 fn away() {}
@@ -220,7 +220,7 @@ pub(crate) trait Run<'source>: Loops<'source> {
         }
     }
 
-    /// Does what is to be done with a match of a leaf that is not a token at once.
+    /// Completes a match of a leaf that does not become a token directly.
     #[inline(always)]
     fn act_on(lex: &mut Lexer<'source, Self>, leaf: usize) -> Step<'source, Self, ()> {
         let end = lex.end();
@@ -239,7 +239,7 @@ pub(crate) trait Run<'source>: Loops<'source> {
         }))
     }
 
-    /// Takes what the lexer has found ahead of itself.
+    /// Takes the items that the lexer has found ahead.
     #[cfg(feature = "std")]
     #[inline(always)]
     fn look(lex: &mut Lexer<'source, Self>) -> Step<'source, Self, Option<usize>> {
@@ -275,7 +275,7 @@ pub(crate) trait Run<'source>: Loops<'source> {
         }
     }
 
-    /// Tells what a match is that the walk over the input does not know.
+    /// Finds the match that the walk over the input leaves undecided.
     #[cfg(feature = "std")]
     #[inline(always)]
     fn found(lex: &mut Lexer<'source, Self>, leaf: usize) -> Step<'source, Self, Option<usize>> {
@@ -288,7 +288,7 @@ pub(crate) trait Run<'source>: Loops<'source> {
         }
     }
 
-    /// Does what [`Tables::plain`] does, out of line: there it is a look into a table, and no jump.
+    /// Calls [`Tables::plain`] out of line, where it is a look-up in a table instead of a jump.
     #[cfg(feature = "std")]
     #[inline(never)]
     fn plain_apart(leaf: usize) -> Option<Self> {
@@ -304,7 +304,7 @@ pub(crate) trait Run<'source>: Loops<'source> {
         Self::error(lex)
     }
 
-    /// Returns whether the match that begins at a position is the same one whatever follows the
+    /// Returns whether the match that begins at a position does not depend on the bytes after the
     /// input: whether a byte ends the attempt.
     #[cfg(not(feature = "std"))]
     #[cold]

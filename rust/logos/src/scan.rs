@@ -15,8 +15,8 @@ use core::ops::{Deref, DerefMut};
     note = "`scan` is there for lexers in the shape `tables`, which is the default one"
 )]
 pub trait Scan<'source>: Tables<'source> {
-    /// Returns an iterator over the tokens of an input, with their places. It is another name of
-    /// `Token::lexer(source).spanned()`, and as fast.
+    /// Returns an iterator over the tokens of an input, with their spans. It is another name of
+    /// `Token::lexer(source).spanned()`, and equally fast.
     fn scan(source: &'source Self::Source) -> Scanner<'source, Self>
     where
         Self::Extras: Default,

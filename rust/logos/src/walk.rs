@@ -13,23 +13,24 @@ use crate::{Span, Way};
 /// texts on which walks are faster from those on which they are slower.
 const STEP: usize = 6;
 const AGAIN: usize = 24;
-const LOOK: usize = 10;
-const ASK: usize = 400;
-const TRY: usize = 400;
+const EXAMINE: usize = 10;
+const UNDECIDED: usize = 400;
+const ATTEMPT: usize = 400;
 const MATCH: usize = 39;
 const ENTER: usize = 19;
-/// Walks lose where matches have fewer bytes in the mean.
+/// The mean length of matches, in bytes, below which walks are slower than match attempts.
 const SHORTEST: usize = 2;
-/// The chunks that match attempts go through where walks are not worth their time: the fewest, and
-/// the most after several times in a row.
+/// The numbers of chunks that match attempts process if walks do not save time: the least, and the
+/// greatest after several such decisions in a row.
 const FEWEST_PLAIN: usize = 4;
 const MOST_PLAIN: usize = 64;
-/// The bits of so many bytes are set one by one.
+/// The greatest number of bytes whose bits are set one by one.
 const FEW: usize = 6;
 /// One of this many words is examined to decide whether walks pay off.
 const SAMPLED: usize = 18;
 
-/// So many bytes are walked over after match attempts, to find out whether walks are worth it.
+/// The number of bytes that are walked over after match attempts, to determine whether walks save
+/// time.
 const TRIAL: usize = 768;
 
 /// A walk over an input.
@@ -37,18 +38,18 @@ pub(crate) struct Walk {
     chunk: Chunk,
     /// The word whose tokens the lexer takes.
     pub(crate) word: Word,
-    /// The word is not what follows the last item.
+    /// The word does not follow the last item.
     pub(crate) is_moved: bool,
     pub(crate) way: Way,
-    /// The byte of the chunk before which the word is cut, since its entry asks.
+    /// The byte of the chunk before which the word is cut, since its entry needs a match attempt.
     cut: Option<usize>,
-    /// The offset and the length of the chunk, and the row positions before and after it.
+    /// The offset and the length of the chunk, and the row offsets before and after it.
     base: usize,
     len: usize,
     first: u32,
-    place: u32,
-    /// What was to be done twice in the chunk, what moves of the lexer cost since the walk over it,
-    /// and what the last walks gained.
+    row_start: u32,
+    /// The number of steps that were repeated in the chunk, the cost of moves of the lexer since
+    /// the walk over it, and the time that the last walks saved.
     cost: usize,
     moves: usize,
     gain: isize,
@@ -58,7 +59,7 @@ pub(crate) struct Walk {
     missed: bool,
     /// Fewer bytes than a chunk has are walked over next.
     tries: bool,
-    /// What guesses by few bytes cost of late in a chunk, and guesses by lines.
+    /// The recent costs, in a chunk, of guesses by few bytes and of guesses by lines.
     guesses: [usize; 2],
 }
 
@@ -76,7 +77,7 @@ pub(crate) fn new_room(way: Way) -> Room {
         base: 0,
         len: 0,
         first: 0,
-        place: 0,
+        row_start: 0,
         cost: 0,
         moves: 0,
         gain: 0,
@@ -86,7 +87,7 @@ pub(crate) fn new_room(way: Way) -> Room {
         guesses: [0; 2],
     };
     let mut room = std::boxed::Box::new(NEW);
-    (room.way, room.guesses[1]) = (way, LOOK * 500);
+    (room.way, room.guesses[1]) = (way, EXAMINE * 500);
     room.tries = way == Way::ByRule;
     room
 }
@@ -113,16 +114,16 @@ impl Walk {
         Some(self.begin_word(at, word.here + WORD, !0, word.last_end()))
     }
 
-    /// Goes on to the word that begins at a byte of the chunk, and of the input, and returns its
-    /// tokens: of the bits `from`, up to an entry that asks.
+    /// Moves to the word that begins at a byte of the chunk, and of the input, and returns its
+    /// tokens: of the bits `from`, up to an entry that needs a match attempt.
     #[inline(always)]
     fn begin_word(&mut self, at: usize, here: usize, from: u64, start: usize) -> u64 {
         let (ends, tokens) = self.chunk.bits(at);
-        let asks = tokens & !ends & from;
+        let undecided = tokens & !ends & from;
         let mut left = from;
-        if asks != 0 {
-            left &= (asks - 1) & !asks;
-            self.cut = Some(at + asks.trailing_zeros() as usize);
+        if undecided != 0 {
+            left &= (undecided - 1) & !undecided;
+            self.cut = Some(at + undecided.trailing_zeros() as usize);
         }
         self.word = Word {
             ends: ends & left,
@@ -153,7 +154,7 @@ impl Walk {
     #[inline]
     pub(crate) fn walk<'s, T: Tables<'s>>(&mut self, bytes: &[u8], start: usize) -> u64 {
         self.base += self.len;
-        self.first = self.place;
+        self.first = self.row_start;
         let mut rest = bytes.get(self.base..).unwrap_or_default();
         if core::mem::take(&mut self.tries) {
             rest = rest.get(..TRIAL).unwrap_or(rest);
@@ -166,19 +167,19 @@ impl Walk {
         self.begin_word(0, self.base, !0, start)
     }
 
-    /// Walks over a whole chunk. Of both kinds of guesses the one is made that costs less. What is
-    /// known of the other gets less, so that it is made again at times.
+    /// Walks over a whole chunk with the kind of guesses that costs less. The recorded cost of the
+    /// other kind decreases, so that it is tried again at times.
     #[inline]
     fn walk_chunk<'s, T: Tables<'s>>(&mut self, input: &[u8; CHUNK]) {
         let start = if self.missed {
-            self.place
+            self.row_start
         } else {
             <T as Folded>::ROOT
         };
         let by_lines = self.guesses[1] < self.guesses[0];
-        let walked = self.chunk.walk::<T>(input, self.place, start, by_lines);
-        (self.len, self.place, self.missed) = (CHUNK, walked.place, walked.missed);
-        self.cost = AGAIN * walked.again + LOOK * walked.looked;
+        let walked = self.chunk.walk::<T>(input, self.row_start, start, by_lines);
+        (self.len, self.row_start, self.missed) = (CHUNK, walked.row_start, walked.missed);
+        self.cost = AGAIN * walked.again + EXAMINE * walked.looked;
         let (this, other) = (by_lines as usize, !by_lines as usize);
         self.guesses[this] = (3 * self.guesses[this] + self.cost) / 4;
         self.guesses[other] -= self.guesses[other] / 16;
@@ -187,8 +188,8 @@ impl Walk {
     /// Walks over fewer bytes than a chunk has.
     #[inline]
     fn walk_rest<'s, T: Tables<'s>>(&mut self, rest: &[u8]) {
-        let walked = self.chunk.walk_rest::<T>(rest, self.place);
-        (self.len, self.place) = (rest.len(), walked.place);
+        let walked = self.chunk.walk_rest::<T>(rest, self.row_start);
+        (self.len, self.row_start) = (rest.len(), walked.row_start);
         self.cost = AGAIN * walked.again;
     }
 
@@ -207,16 +208,16 @@ impl Walk {
         if leaf != 0 {
             return (leaf - 1, end);
         }
-        let place = match cut.checked_sub(1) {
+        let row_start = match cut.checked_sub(1) {
             _ if end == start => <T as Folded>::ROOT,
-            Some(before) => self.chunk.place(before),
+            Some(before) => self.chunk.row_start(before),
             None => self.first,
         };
-        match T::last(place) {
+        match T::last(row_start) {
             Last::Never => (usize::MAX, end),
             Last::Back(leaf, bytes) => (leaf, end - bytes),
             Last::Varies => {
-                self.moves += TRY;
+                self.moves += ATTEMPT;
                 T::try_again(bytes, start)
             }
         }
@@ -233,13 +234,13 @@ impl Walk {
             return 0;
         }
         let input = &bytes[self.base..];
-        let (to, place) = self.chunk.walk_again::<T>(input, at..self.len, root);
+        let (to, row_start) = self.chunk.walk_again::<T>(input, at..self.len, root);
         if to == self.len {
-            self.place = place;
+            self.row_start = row_start;
         }
         self.moves += AGAIN * (to - at);
         if self.cut.is_none() {
-            self.moves += ASK;
+            self.moves += UNDECIDED;
         }
         if to - at <= FEW {
             self.chunk.set_few_bits(at, to);
@@ -254,7 +255,7 @@ impl Walk {
 
     /// Forgets the chunk, and lets the next match begin at a byte offset.
     pub(crate) fn begin_anew(&mut self, start: usize, root: u32) {
-        (self.cut, self.len, self.base, self.place) = (None, 0, start, root);
+        (self.cut, self.len, self.base, self.row_start) = (None, 0, start, root);
         (self.word, self.is_moved) = (Word::empty(start), false);
     }
 
@@ -273,8 +274,9 @@ impl Walk {
         } else {
             sampled * (MATCH * ends + ENTER * entered)
         };
-        let asks = ASK * self.chunk.asks(self.len);
-        let walk = sampled * STEP * bytes + self.cost + asks + core::mem::take(&mut self.moves);
+        let undecided = UNDECIDED * self.chunk.undecided(self.len);
+        let walk =
+            sampled * STEP * bytes + self.cost + undecided + core::mem::take(&mut self.moves);
         self.gain = self.gain / 8 * 7 + lexer as isize - walk as isize;
         if self.gain > 0 {
             self.plain /= 2;

@@ -8,10 +8,10 @@ use crate::Span;
 pub(crate) struct Word {
     /// A bit for each byte before which a match ends.
     pub(crate) ends: u64,
-    /// Where the word begins, in the input and in the chunk.
+    /// The offset of the word, in the input and in the chunk.
     pub(crate) here: usize,
     pub(crate) at: usize,
-    /// Where the last match ended that is not among `ends`.
+    /// The end of the last match that is not among `ends`.
     pub(crate) start: usize,
 }
 
@@ -39,7 +39,7 @@ impl Word {
         self.after(self.ends)
     }
 
-    /// Returns where the last match ended, after some of the ends.
+    /// Returns the end of the last match, after some of the ends.
     #[inline(always)]
     fn after(&self, ends: u64) -> usize {
         if ends == 0 {

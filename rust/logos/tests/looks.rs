@@ -68,7 +68,7 @@ fn a_callback_can_take_another_text() {
     assert!(other().len() > 20_000);
 }
 
-/// A lexer by tables and the one by hand, which are to be at the same place.
+/// A lexer by tables and the one by hand, which must be at the same offset.
 struct Both<'s, const STATES: usize>
 where
     Token<'s, STATES>: Logos<'s>,
@@ -121,7 +121,7 @@ where
 }
 
 impl<'s> Both<'s, 8> {
-    /// Goes on by another lexer for some items, and comes back.
+    /// Continues with another lexer for some items, and returns to the first one.
     fn morph(self, count: usize) -> Self {
         let mut others = Both {
             tables: self.tables.morph::<ByClasses>(),
@@ -138,7 +138,7 @@ impl<'s> Both<'s, 8> {
     }
 }
 
-/// Moves lexers at places of a seed, up to their end.
+/// Moves lexers at the offsets that a seed determines, up to their end.
 fn move_along(mut both: Both<'_, 8>, seed: u64) {
     let mut state = seed;
     while both.next() {

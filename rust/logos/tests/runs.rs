@@ -3,8 +3,8 @@
 use logos::internal::{CallbackResult, CallbackRetVal, LexerInternal, SkipRetVal};
 use logos::{Filter, FilterResult, Lexer, Logos, Skip, Source};
 
-/// Digits are numbers, blanks are skipped, and letters are what `extras` says. Everything else is
-/// an error.
+/// Digits are numbers, blanks are skipped, and `extras` selects the action for letters. All other
+/// bytes are errors.
 #[derive(Clone, Copy, Debug, PartialEq)]
 enum Word {
     Number(u32),
@@ -163,7 +163,7 @@ fn a_lexer_goes_on_as_another() {
     assert_eq!((bytes.slice(), bytes.extras), ("1", 1));
 }
 
-/// Returns what becomes of a match, as a word.
+/// Returns the outcome of a match, as a word.
 fn outcome(result: CallbackResult<'_, Word>) -> String {
     match result {
         CallbackResult::Emit(token) => format!("{token:?}"),

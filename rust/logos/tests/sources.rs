@@ -27,7 +27,7 @@ impl<'s, S: Source + 's> Logos<'s> for Pair<S> {
     }
 }
 
-/// Returns for each item whether it is a token, and its place.
+/// Returns for each item whether it is a token, and its span.
 fn items<S: Source>(source: S) -> Vec<(bool, Range<usize>)> {
     Pair::<S>::lexer(&source)
         .spanned()
@@ -110,7 +110,7 @@ fn a_type_of_the_program_is_an_input() {
     );
 }
 
-/// The same with the two methods that the crate asks for where `forbid_unsafe` is off.
+/// The same source with the two methods that the crate requires without `forbid_unsafe`.
 #[cfg(not(feature = "forbid_unsafe"))]
 #[test]
 fn the_unsafe_methods_of_an_input_may_be_written() {

@@ -1,4 +1,4 @@
-//! Sets and maps do what Rattle's contracts promise.
+//! Sets and maps behave as Rattle's contracts require.
 
 use rattle_std::alloc::Global;
 use rattle_std::collections::{BTreeSet, HashMap, HashSet};

@@ -1,4 +1,5 @@
-//! The stand-ins for crates. Expected values are those of RFC 8259, of Unicode's data files, and of
+//! The replacements of crates. Expected values are those of RFC 8259, of Unicode's data files, and
+//! of
 //! Rust's own formatting.
 
 use rattle_std::alloc::Global;

@@ -35,7 +35,7 @@ fn is_refused() -> bool {
     left == 0
 }
 
-// SAFETY: each request is refused or handed on to the system's allocator.
+// SAFETY: each request is refused or passed to the system's allocator.
 unsafe impl GlobalAlloc for Refusing {
     unsafe fn alloc(&self, layout: Layout) -> *mut u8 {
         if is_refused() {
@@ -164,7 +164,7 @@ fn texts() {
 }
 
 /// Adds numbers to something until memory is refused, for each request that can be refused, and
-/// tests that it has those that it said were added, and no others.
+/// tests that it has exactly those that it reported as added.
 fn fill<T>(
     new: impl Fn() -> T,
     insert: impl Fn(&mut T, u32) -> bool,

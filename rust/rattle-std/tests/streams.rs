@@ -15,7 +15,7 @@ fn path(name: &str) -> String {
     format!("{}/{name}", env!("CARGO_TARGET_TMPDIR"))
 }
 
-/// A reader that is interrupted each other time, and gives at most `most` bytes.
+/// A reader that is interrupted every other time, and returns at most `most` bytes.
 struct Slow<'b> {
     bytes: &'b [u8],
     most: usize,

@@ -1,4 +1,4 @@
-//! Vectors, texts and boxes do what Rattle's contracts promise.
+//! Vectors, texts and boxes behave as Rattle's contracts require.
 
 use rattle_std::alloc::Global;
 use rattle_std::boxed::Box;

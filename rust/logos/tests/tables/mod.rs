@@ -48,7 +48,7 @@ fn step(state: usize, bytes: &[u8], at: usize) -> u8 {
     })
 }
 
-/// Returns the leaf of the longest match and where it ends, or no leaf and where the try is over.
+/// Returns the leaf of the longest match and its end, or no leaf and the end of the attempt.
 fn attempt(bytes: &[u8], start: usize) -> (usize, usize) {
     let (mut state, mut at, mut found) = (0, start, None);
     loop {
@@ -64,7 +64,7 @@ fn attempt(bytes: &[u8], start: usize) -> (usize, usize) {
     }
 }
 
-/// Returns a table with zeros behind it: the states that they belong to are not reached.
+/// Returns a table followed by zeros: the states to which they belong are not reached.
 const fn padded<const N: usize>(table: &[u8; 8]) -> [u8; N] {
     let (mut padded, mut at) = ([0; N], 0);
     while at < table.len() {
@@ -74,8 +74,9 @@ const fn padded<const N: usize>(table: &[u8; 8]) -> [u8; N] {
     padded
 }
 
-/// What the lexers find. The number says which lexer it is: 8 or 301 is how many states its tables
-/// have, and so whether a row has an entry for each byte or for each class; 0 has no tables.
+/// The tokens of the lexers. The number identifies a lexer: with 8 or 301 it is the number of states
+/// of its tables, which determines whether a row has an entry for each byte or for each class. A
+/// lexer with 0 has no tables.
 #[derive(Clone, Debug, PartialEq)]
 pub enum Token<'s, const STATES: usize> {
     Word,
@@ -108,8 +109,8 @@ macro_rules! actions {
                 .nth(leaf)?
         }
 
-        /// `(` goes on to the next `)`, and is left out where there is none. `<` goes on in another
-        /// text where the extras are 7.
+        /// `(` extends to the next `)`, and is skipped if there is none. `<` continues in another
+        /// text if the extras are 7.
         fn act(lexer: &mut Lexer<'s, Self>, leaf: usize) -> CallbackResult<'s, Self> {
             match leaf {
                 2 => {
@@ -214,7 +215,7 @@ macro_rules! lexer {
 lexer!(8, { 8 * 272 + 256 }, { 4096 + 1024 });
 lexer!(301, { 301 * WIDTH + 256 }, { 4096 + 1024 });
 
-/// Returns the text in which a callback goes on.
+/// Returns the text in which a callback continues.
 pub fn other() -> &'static str {
     static OTHER: OnceLock<String> = OnceLock::new();
     OTHER.get_or_init(|| "a (b) 1.2 c. d ".repeat(2000))
@@ -248,7 +249,7 @@ pub fn text(pieces: usize, seed: u64) -> String {
     (0..pieces).map(|_| next()).collect()
 }
 
-/// An item, its place, and the extras after it.
+/// An item, its span, and the extras after it.
 pub type Item<'s> = (Result<ByHand<'s>, ()>, Span, usize);
 
 /// Returns the items of a lexer, by a loop.
@@ -263,7 +264,7 @@ where
     found
 }
 
-/// Compares what is found, and shows the first difference.
+/// Compares the items that were found, and shows the first difference.
 pub fn compare<Item: PartialEq + std::fmt::Debug>(found: Vec<Item>, wanted: Vec<Item>) {
     for (n, wanted) in wanted.iter().enumerate() {
         assert_eq!(found.get(n), Some(wanted), "item {n}");

@@ -19,7 +19,7 @@ enum Token {
     Star,
 }
 
-/// The marks of comments, and what stands between them.
+/// The delimiters of comments, and the text between them.
 #[derive(Logos)]
 enum Part {
     #[token("/*")]

@@ -1,4 +1,4 @@
-//! Errors that say what is wrong, and where.
+//! Errors with a message and a location.
 
 use logos::{Lexer, Logos, Span};
 use std::fmt;

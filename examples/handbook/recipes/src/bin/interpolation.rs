@@ -36,7 +36,7 @@ enum Token {
     Text(Text),
 }
 
-/// What is read.
+/// The mode of reading.
 enum Mode<'s> {
     Code(Lexer<'s, Code>),
     Text(Lexer<'s, Text>),
@@ -44,7 +44,7 @@ enum Mode<'s> {
 
 struct Tokens<'s> {
     mode: Option<Mode<'s>>,
-    /// For each string that code stands in, the braces that are open in this code.
+    /// For each string that contains code, the number of braces that are open in this code.
     open: Vec<usize>,
 }
 

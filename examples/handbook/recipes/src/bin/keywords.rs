@@ -1,4 +1,4 @@
-//! Keywords beside names.
+//! Keywords and names.
 
 use logos::Logos;
 

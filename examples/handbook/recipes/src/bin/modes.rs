@@ -27,7 +27,7 @@ enum Tag<'s> {
     Close,
 }
 
-/// Prints the tokens of a tag, and returns the lexer of what follows it.
+/// Prints the tokens of a tag, and returns the lexer of the text after it.
 fn read_tag<'s>(mut tag: Lexer<'s, Tag<'s>>) -> Lexer<'s, Text<'s>> {
     for item in tag.by_ref() {
         println!("  {item:?}");

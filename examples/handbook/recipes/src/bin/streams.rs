@@ -30,7 +30,7 @@ fn for_each(
         if left > LONGEST {
             return Err(io::Error::new(io::ErrorKind::InvalidData, "a token is too long"));
         }
-        // A long token is read again with each part, so the part is as long as what is left.
+        // A long token is read again with each part, so the part is as long as the rest.
         let bytes = left.max(PART) as u64;
         let is_last = input.by_ref().take(bytes).read_to_end(&mut part)? == 0;
         let lexer = Lexer::<Token>::new(part.as_slice());

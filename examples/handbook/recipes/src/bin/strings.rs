@@ -38,7 +38,7 @@ fn text<'s>(lexer: &mut Lexer<'s, Token<'s>>) -> Result<Cow<'s, str>, Fault> {
     Ok(Cow::Owned(text))
 }
 
-/// Returns what a backslash before this character means.
+/// Returns the character that a backslash before this character denotes.
 fn unescaped(character: Option<char>) -> Result<char, Fault> {
     match character {
         Some('n') => Ok('\n'),

@@ -73,7 +73,7 @@ impl Parser<'_> {
         Ok(left)
     }
 
-    /// Evaluates a number, or what stands in parentheses.
+    /// Evaluates a number, or an expression in parentheses.
     fn operand(&mut self) -> Value {
         match self.tokens.next() {
             Some((Ok(Token::Number(value)), _)) => Ok(value),
