@@ -11,8 +11,8 @@
 # The programs are those that `.ci/run` has proved and built, and it refuses where a file has
 # changed since. With --built they are taken from a folder in which they were built, and COMMIT says
 # that they are not the proved ones. After the bytes of each program a line names the commit, which
-# `--version` of logos_cli and logos_show prints. The same commit and the same programs give the same
-# bytes, wherever the clone lies.
+# `--version` of logos_cli and logos_show prints. The same commit and the same programs give the
+# same bytes, wherever the clone lies.
 set -euo pipefail
 
 root=$(cd "$(dirname "${BASH_SOURCE[0]}")/.." && pwd)

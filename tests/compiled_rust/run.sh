@@ -133,8 +133,8 @@ lexer_text() {
 compile() {
     CARGO_PROFILE_DEV_OPT_LEVEL=1 CARGO_PROFILE_DEV_DEBUG=0 cargo build --offline --quiet -p logos-derive --manifest-path "$root/Cargo.toml" --target-dir "$root/out/cargo"
     cp "$root/out/cargo/debug/liblogos_derive.so" "$room"
-    # (most of the time goes into what `scan` finds, so its library is optimised, with all checks; it
-    # says what its build script says to it at a higher level)
+    # (most of the time goes into what `scan` finds, so its library is optimised, with all checks;
+    # it says what its build script says to it at a higher level)
     LOGOS_VECTORS=1 rustc --edition 2021 --crate-type rlib --crate-name logos --cfg 'feature="export_derive"' --extern "logos_derive=$room/liblogos_derive.so" \
         -C opt-level=1 -C debug-assertions=on -o "$room/liblogos.rlib" "$root/rust/logos/src/lib.rs"
     rustc --edition 2021 --crate-type proc-macro --crate-name serde -o "$room/libserde.so" "$here/serde.rs"

@@ -2,9 +2,10 @@
 """Looks for words that this repository does not use, for the form of comments, and for the homes of
 words: words.py
 
-Read for words are the comments and the names in `src` and `specs` of each crate, the names of these
-files, the comments of tests/calls, and the pages that people read first. Quoted text is left out,
-and so are blocks of code on pages. `docs/GLOSSARY.md` has the words that are not used, with their
+Read for words are the comments and the names in `src`, `specs` and `proofs` of each crate, the
+names of these files, the sentences of its wrong bodies, the comments of tests/calls, of the
+packages in `rust` and of the examples, and the pages that people read first. Quoted text is left
+out, and so are blocks of code on pages. `docs/GLOSSARY.md` has the words that are not used, with their
 replacements; each of them has its patterns here. Each word of that page has a home, which must
 exist.
 
@@ -27,8 +28,8 @@ import tokenize
 from common import ROOT, has_option, listed, read
 
 GLOSSARY = "docs/GLOSSARY.md"
-# The pages outside of `docs` and `rust` that are read for words.
-PAGES = ("README.md", "CONTRIBUTING.md", "CHANGELOG.md", "tests/README.md")
+# The pages outside of `docs`, `rust` and `examples` that are read for words.
+PAGES = ("README.md", "CONTRIBUTING.md", "CHANGELOG.md", "tests/README.md", "bench/README.md", "crates/README.md")
 # With fewer that pass, files or rows were lost, or are no longer read.
 LEAST = 250
 COLUMNS = 100
@@ -40,7 +41,8 @@ LISTS = (".ci/run", "crates.txt", "tests/parts")
 # Each entry of the glossary's last table: the words in a name, and the pattern in a sentence.
 UNUSED = {
     "told, tell": (["told", "tell", "tells", "telling", "teller", "tellers"], r"\b(?:told|tells?|telling|tellers?)\b"),
-    "said, for what was read": (["said"], r"\bsaid\b"),
+    "said, for what was read": (["said", "unsaid"], r"\bsaid\b"),
+    "say, for state": (["say", "says"], r"\b(?:says|say)\b"),
     "misfit": (["misfit", "misfits"], r"\bmisfits?\b"),
     "behind, for after": (["behind"], r"\bbehind\b(?! (?:a |the )?(?:reference|pointer)s?\b)"),
     "kept, as a name": ([], r"\bwhat is kept\b|\bthe kept\b(?! [a-z])"),
@@ -53,13 +55,13 @@ UNUSED = {
     "place": (["place", "places"], r"(?<=.)(?<!\bin )(?<!\bin its )(?<!\bin their )(?<!\btakes the )(?<!\btook the )\bplaces?\b"),
     "chart": (["chart", "charts"], r"(?<!\bflow )\bcharts?\b"),
     "words, for arguments": ([], r"\bwords? (?:asks?|requests?|of (?:a|the) (?:command|program|call)|after the program)\b|\bcommand'?s? words\b"),
-    "ask, for call": (["asks"], r"\b(?:ask|asks|asked|asking)\b"),
+    "ask, for call": (["ask", "asks"], r"\b(?:ask|asks|asked|asking)\b"),
     "give, for return": (["give", "gives", "gave"], r"\b(?:gives|gave)\b|\b(?:they|it|calls?|shapes|tables|files|that|which|who|not) give\b"),
     "stand, for be": (["stand", "stands", "stood"], r"\b(?:stands?|stood|standing)\b"),
     "go on, for continue": ([], r"\b(?:go|goes|went|going) on\b"),
     "hand on, for re-export": ([], r"\bhand(?:s|ed|ing)? (?:\w+ )?on\b"),
     "mend, cure, for fix": (["mend", "mends", "mended"], r"\b(?:mend(?:s|ed|ing)?|cure[sd]?)\b"),
-    "try, for match attempt": (["tries"], r"\b(?:a|an|the|each|its|that|one|no|every|next|last) try\b|\b(?:the|its|their|of|all|these|more|many) tries\b|^Tries\b"),
+    "try, for match attempt": (["tries", "tried"], r"\b(?:a|an|the|each|its|that|one|no|every|next|last) try\b|\b(?:the|its|their|of|all|these|more|many) tries\b|^Tries\b"),
     "look, for look-around": ([], r"\b(?:a|the|each|no|one|some|its) look\b(?!-)|\blooks (?:hold|are|of)\b"),
     "believe, for trust": ([], r"\bbeliev\w+"),
     "status, for exit status": ([], r"(?<=.)(?<!\bexit )\bstatus(?:es)? \d"),
@@ -80,13 +82,19 @@ UNUSED = {
 MESSAGES = ("again what may stand there", "for what gives no token")
 # The comments of crates have no "what": they name the thing.
 IN_COMMENTS = {"what, for a thing": re.compile(r"\bwhat\b", re.I)}
-# The entries for which the comments of the test programs are not read yet.
-NOT_YET = set(UNUSED) - {"told, tell", "said, for what was read", "misfit", "behind, for after", "kept, as a name", "list, for report", "just, for exactly", "place"}
+# The file in `rust` that a program prints.
+MADE = {"rust/rattle-std/src/crates/unicode_tables.rs"}
 WHOLE_NAMES = {"kept": "kept, as a name", "Reached": "reached, work, as names of types", "Work": "reached, work, as names of types"}
-# Names that users of the library know, and those of the standard library's contracts.
-PUBLIC = {"telling", "Telling", "from_gives", "next_gives"}
-# Names of constants, types and members that the proofs have.
-PROVED = {"PLACE", "ASKS", "ASKS_AFTER", "Stood", "stood", "mended"}
+# Names that users of the library know, and those of the standard library and of its contracts.
+PUBLIC = {
+    "telling", "Telling", "from_gives", "next_gives", "into_iter_gives", "write_str_gives", "eqb_tells", "leb_tells", "tells_all_ascii_digits",
+    "told",
+}
+# Names of the laws of a run, which users of the library call.
+LAWS = {"RunsGoOver", "RunsGoLater", "ItemsGoOver", "runs_go_over", "runs_go_later", "items_go_over"}
+# Pairs of words in names that are not used.
+NAME_PAIRS = {("go", "on"): "go on, for continue", ("goes", "on"): "go on, for continue", ("going", "on"): "go on, for continue",
+              ("so", "many"): "so many", ("hand", "on"): "hand on, for re-export", ("handed", "on"): "hand on, for re-export"}
 NAME_WORDS = {word: entry for entry, (words, _) in UNUSED.items() for word in words}
 SENTENCES = {entry: re.compile(pattern, re.I if "^" not in pattern else 0) for entry, (_, pattern) in UNUSED.items()}
 NAME = re.compile(r"[A-Za-z_][A-Za-z0-9_]*")
@@ -100,15 +108,19 @@ LISTS_A_FAULT = re.compile(r"\bfn (list_\w+)")
 
 def in_name(name, listing):
     """Yields the entry of each word in a name that is not used."""
-    if name in PUBLIC or name in PROVED:
+    if name in PUBLIC or name in LAWS:
         return
     if name in WHOLE_NAMES:
         yield WHOLE_NAMES[name]
     if name in listing:
         yield "list, for report"
-    for part in PART.findall(name):
-        if part.lower() in NAME_WORDS:
-            yield NAME_WORDS[part.lower()]
+    parts = [part.lower() for part in PART.findall(name)]
+    for part in parts:
+        if part in NAME_WORDS:
+            yield NAME_WORDS[part]
+    for pair in zip(parts, parts[1:]):
+        if pair in NAME_PAIRS:
+            yield NAME_PAIRS[pair]
 
 
 def in_sentence(text, patterns=SENTENCES):
@@ -175,15 +187,43 @@ def units():
     for name in sorted(os.listdir(f"{ROOT}/crates")):
         found[name] = below(f"crates/{name}/src", ".rt") + below(f"crates/{name}/specs", ".antt")
     found["tests/calls"] = below("tests/calls/src", ".rt.in")
-    for path in [*PAGES, *below("docs", ".md"), *below("rust", ".md")]:
+    for path in [*PAGES, *below("docs", ".md"), *below("rust", ".md"), *below("examples", ".md")]:
         found[path] = [path]
     return found
+
+
+def read_for_words_alone():
+    """Returns further files that are read for words: the proofs and the wrong bodies of each crate, the
+    packages in `rust`, and each example."""
+    found = {}
+    for name in sorted(os.listdir(f"{ROOT}/crates")):
+        found[f"{name}/proofs"] = below(f"crates/{name}/proofs", ".antt")
+        found[f"{name}/must-fail"] = below(f"crates/{name}/must-fail", ".md")
+    for room in ("rust", "examples"):
+        for name in sorted(os.listdir(f"{ROOT}/{room}")):
+            if os.path.isdir(f"{ROOT}/{room}/{name}"):
+                found[f"{room}/{name}"] = [path for path in below(f"{room}/{name}", (".rs", ".rt.in")) if path not in MADE and "/target/" not in path]
+    return {unit: paths for unit, paths in found.items() if paths}
+
+
+def in_comments(path):
+    """Yields the line and the entry of each word in the comments of a file in Rust that is not used."""
+    text = read(path)
+    for it in RATTLE.finditer(text):
+        if it["comment"]:
+            words, _ = apart(it["comment"].lstrip("/! "))
+            number = text.count("\n", 0, it.start()) + 1
+            yield from ((number, entry) for entry in in_sentence(words, {**SENTENCES, **IN_COMMENTS}))
 
 
 def unused(path, listing):
     """Yields the line and the entry of each word in a file, or in its name, that is not used."""
     if path.endswith(".md"):
         yield from in_page(path, listing)
+    elif path.startswith(("rust/", "examples/")):
+        yield from in_comments(path)
+    elif "/proofs/" in path:
+        yield from ((line, entry) for line, entry in in_code(path, listing) if entry != "kept, as a name")
     else:
         for name in path.split("/")[2:]:
             yield from ((0, entry) for entry in in_name(name.split(".")[0], listing))
@@ -322,14 +362,13 @@ def word_faults(found):
     listing = {name for paths in found.values() for path in paths if path.endswith((".rt", ".rt.in"))
                for name in LISTS_A_FAULT.findall(read(path))}
     for paths in found.values():
-        yield [f"{path}:{line}: {entry}" for path in paths for line, entry in unused(path, listing)
-               if not (path.startswith("tests/calls/") and entry in NOT_YET)]
+        yield [f"{path}:{line}: {entry}" for path in paths for line, entry in unused(path, listing)]
 
 
 def main():
     has_option()
     found = units()
-    checked = [*word_faults(found)]
+    checked = [*word_faults({**found, **read_for_words_alone()})]
     for crate in (it for it in found if "." not in it):
         checked.append([f"{path}:{line}: {why}" for path in found[crate] for line, why in form_faults(path)])
     for paths in others(found).values():

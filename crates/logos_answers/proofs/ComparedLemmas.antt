@@ -1,4 +1,4 @@
--- What a comparison says of two graphs.
+-- The meaning of a comparison of two graphs.
 use Rattle.std.proofs.Common.{◌≡◌, ℕ, List, length, sym, subst}
 use Rattle.logos_evidence.specs.declared.comparison.Comparison.{Comparison}
 use Rattle.logos_evidence.specs.declared.comparison.Comparison.TheVariants.{Differ, Same}
@@ -25,7 +25,7 @@ module _ (one other : GraphValue) (names other_names : List ℕ) (mode : AreOfOn
   compared_as Same answer = (names, other_names, mode, answer)
   compared_as (Differ input) answer = (names, other_names, mode, answer)
 
-  -- what is said by the answer, by other names of the numbers
+  -- the meaning of the answer, with other names for the numbers
   pub compared_is : (given other_given : List ℕ) (made : Comparison) (compared : Compared) → given ≡ names → other_given ≡ other_names →
       IsAnswer (rules_of one.leaves) given (rules_of other.leaves) other_given one.utf8 made → compared ≡ compared_by made → IsCompared one other compared
   compared_is given other_given made compared same same_other answer e =

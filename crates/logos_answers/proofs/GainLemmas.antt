@@ -30,7 +30,7 @@ not_utf8 bytes other = go (is_utf8 bytes) refl
     go true e = absurd (other (IsUtf8-from_is_utf8 bytes e))
     go false e = e
 
--- what is shown of bytes that are UTF-8, and of others
+-- the shown form of bytes that are UTF-8, and of others
 pub utf8_shown : (bytes : List ℕ) → IsUtf8 bytes → shown_bytes bytes ≡ flat_map shown_character (chars bytes)
 utf8_shown bytes u = rw (is_utf8-from_IsUtf8 bytes u) refl
 

@@ -11,6 +11,6 @@ by_answer : {E : Type 0} (text : List ℕ) (answer : Result ℕ E) → all_ascii
 by_answer text (Ok value) digits h = grind (arith, nat_tests)
 by_answer text (Err error) digits h = grind (arith, nat_tests)
 
--- what `parse` answers on digits
+-- the result of `parse` on digits
 pub decimal_parsed : {E : Type 0} (text : List ℕ) (answer : Result ℕ E) → all_ascii_digits text ≡ true → ParsesUnsigned 64 10 text answer → result_ok answer ≡ decimal text
 decimal_parsed text answer digits h = by_answer text answer digits (parse_digits (numerals_by_value _ tells_all_ascii_digits) 64 text answer h digits)

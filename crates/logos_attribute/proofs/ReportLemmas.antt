@@ -1,4 +1,4 @@
--- Lists of faults that grow.
+-- Growing lists of faults.
 use Rattle.std.proofs.Common.{◌≡◌, List, [], ◌++◌, ◌∙◌, ap, sym, append_assoc}
 use Rattle.std.proofs.lemmas.List.{append-nil}
 use Rattle.logos_token.specs.Faults.{Fault}

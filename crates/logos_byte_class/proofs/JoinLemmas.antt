@@ -82,7 +82,7 @@ is_in-push (x ∷ rs) r b = rw (is_in-push rs r b) (or_assoc (nat_le x.0 b && na
     or_assoc true u v = refl
     or_assoc false u v = refl
 
--- a range of marked bytes is added: the bytes below the next one are told
+-- a range of marked bytes is added: the bytes below the next one are determined
 pub members_more : (rs : List (ℕ × ℕ)) (start end next : ℕ) (test : ℕ → Bool) → start < end → end ≤ next →
     ((b : ℕ) → b < start → is_in rs b ≡ test b) → ((b : ℕ) → start ≤ b → is_in rs b ≡ false) →
     ((b : ℕ) → start ≤ b → b < end → test b ≡ true) → ((b : ℕ) → end ≤ b → b < next → test b ≡ false) →

@@ -96,7 +96,7 @@ module _ {F : Type 0} (same : F → List ℕ → List ℕ → Bool → Type 0) (
     ap (λ all. has_twins (map output_of all)) (sym d) ∙ sym (ap has_twins (outputs_are order twins)) ∙ t,
   )
 
--- What was written of refusals, so that the texts of later ones follow.
+-- The texts of refusals that were written, so that the texts of later ones follow.
 abbrev pub IsReported : List (List ℕ) → Option (List ℕ) → Option (List ℕ) → Type 0
 IsReported texts old new =
     (reported : List ℕ) × Appends old new reported × ((more : List (List ℕ)) (rest : List ℕ) → OccurInOrder more rest → OccurInOrder (texts ++ more) (reported ++ rest))

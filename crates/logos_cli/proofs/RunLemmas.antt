@@ -1,4 +1,4 @@
--- Why a run fails, and what is said of that.
+-- The reasons why a run fails, and their reports.
 use Rattle.std.proofs.Common.{◌≡◌, ◌≢◌, ◌⊎◌, ◌≤◌, ℕ, List, [], ◌++◌, Option, Some, None, Bool, Result, Ok, Err, IfErr, IfSome, IsTrue, inl, inr, refl, subst, arith, string_bytes}
 use Rattle.std.proofs.KnownBytes.{Appends-trans}
 use Rattle.std.specs.Io.KnownBytes.{Appends}
@@ -45,7 +45,7 @@ pub fails_also : (One Other : List ℕ → Type 0) (failure : Failure) → ((sho
 fails_also One Other failure f (inl e) = inl e
 fails_also One Other failure f (inr r) = inr (r.0, refused_also One Other failure f r.1)
 
--- a failure that is a refusal or of status 3 is no misuse
+-- a failure that is a refusal or of exit status 3 is not a misuse
 pub fails_twice : {Reason : Type 0} (failure : Failure) → (status_of failure ≡ 3) ⊎ ((status_of failure ≡ 1) × Reason) → status_of failure ≢ 2
 fails_twice failure (inl e) s = omega (arith, e, s)
 fails_twice failure (inr r) s = omega (arith, r.0, s)
@@ -64,7 +64,7 @@ message_shown Shown Output r = absurd r
 message_shown Shown Closed r = absurd r
 message_shown Shown Memory r = absurd r
 
--- what standard error got last of a refusal
+-- the last text of a refusal on standard error
 pub written : (Shown : List ℕ → Type 0) (failure : Failure) (is_written : Bool) (old new : Option (List ℕ)) → FailsBy (IsRefusedFor Shown) failure → status_of failure ≡ 1 →
     (IsTrue is_written → (usage : List ℕ) × Appends old new (message_of usage failure)) →
     (shown : List ℕ) × Shown shown × (IsTrue is_written → (front : List ℕ) × Appends old new (front ++ shown))

@@ -42,7 +42,7 @@ pub All-map : {A B : Type 0} (P : B → Type 0) (f : A → B) (xs : List A) (i :
 All-map P f xs i x all h is =
     rw (← is) at (rw (get_or-map f xs i x (f x) h) at (all i (f x) (rw length-map h)))
 
--- what a state names is there
+-- the tables and states that a state names exist
 pub state_names : (code : CodeParts) (s : ℕ) (state : TheState) → IsSound (code_of code) → s < length (code_of code).states →
     state ≡ get_or code.states.items s state → NamesExisting (code_of code) (state_of code.jump_tables.items state)
 state_names code s state sound l is =

@@ -72,7 +72,7 @@ root_mark code sound = go (slice_get code.states code.root) refl sound.root
         ap (λ (s : CodeState). s.mark) same ∙ h.mark
 
 module _ (code : CodeValue) (sound : IsSound code) (marks : List LastMark) (agree : Agree code marks) (bytes : List ℕ) (start : ℕ) where
-  -- where the fast loop ends of a stand's state
+  -- the end of the fast loop of a status's state
   abbrev stop_of : Status → ℕ
   stop_of at = at.offset + looped code (state_at code at.state).fast_loop (drop at.offset bytes)
 
@@ -163,7 +163,7 @@ module _ (code : CodeValue) (sound : IsSound code) (marks : List LastMark) (agre
           go (Some b) e = by_byte b (target code state.fork b) refl e
           go None e = by_end fresh e
 
-    -- what a match attempt passed that ends here
+    -- the mark that a match attempt passed that ends here
     module _ (passed : Option (ℕ × ℕ)) (offset : ℕ) where
       acted : acts (passed_of at) (stop_of at) ≡ acts passed offset → Holds (last_mark_at marks at.state) passed offset
       acted e =

@@ -225,7 +225,7 @@ module _ (code : CodeValue) (state : CodeState) where
   first_describes b entry first is (inl e) = subst (IsEntry code state b) (sym e) is
   first_describes b entry first is (inr h) = entry_describes b first Undescribed (inl h) tt
 
-  -- what a state does where no byte leads on
+  -- the step of a state if no byte leads on
   pub halting_describes : (b : ℕ) (step : Step) → stays code state.fast_loop b ≡ false → target code state.fork b ≡ None → IsHalting code state.mark step → Describes code state b step
   halting_describes b (Leads s) out none is = absurd is
   halting_describes b (Stays s) out none is = absurd is

@@ -1,4 +1,4 @@
--- What is printed around a lexer, part by part.
+-- The text around a lexer, part by part.
 use Rattle.std.proofs.Common.{◌≡◌, ℕ, List, Option, refl}
 use Rattle.logos_text.specs.Fronts.{AroundValue}
 use Rattle.logos_token.specs.Tokens.{TokenList}

@@ -1,4 +1,4 @@
--- From a lexer's items to what the tokenizer of expressions makes of them.
+-- From a lexer's items to the tokens of the tokenizer of expressions.
 use Rattle.std.proofs.Common.{◌≡◌, ℕ, ◌+◌, ◌<◌, ◌≤◌, drop, get_or, Bool, true, false, List, [], ◌∷◌, ◌++◌, length, map, slice_range, refl, sym, ap, ◌∙◌, append_assoc, append-nil, MatchBool, arith, None, IsUtf8}
 use Rattle.std.proofs.lemmas.List.{drop_more}
 use Rattle.logos_pattern.specs.Leaf.{kind_value}
@@ -90,7 +90,7 @@ kinds_turn leaves i d old new x lt is same before =
     let split = append_assoc old (x ∷ []) (map (λ (leaf : Leaf). kind_given (kind_value leaf.kind)) (drop (i + 1) leaves)) in
     rw is (split ∙ ap (λ u. old ++ (u ∷ map (λ (leaf : Leaf). kind_given (kind_value leaf.kind)) (drop (i + 1) leaves))) same ∙ (rw (drop_more leaves i d lt) at before))
 
--- the kinds of leaves as an enum says them
+-- the kinds of leaves of an enum
 pub kinds_viewed : (leaves : List Leaf) → map (λ leaf. kind_given (kind_value leaf.kind)) leaves ≡ kinds_of_views (map leaf_view leaves)
 kinds_viewed [] = refl
 kinds_viewed (leaf ∷ leaves) = ap (λ (kinds : List ExprKind). kind_given (kind_value leaf.kind) ∷ kinds) (kinds_viewed leaves)
@@ -180,7 +180,7 @@ module _ (rules : List Rule) (utf8 : Bool) (text : List ℕ) where
       let k' : Items rules emits utf8 text to others = rw u k in
       record { rest = others; are = ap (λ x. error None from x (slice_range text from x) ∷ others) (sym u); items = k'; inside = stop_within rules utf8 text from to s.0 s.2 }
 
-  -- what is read has the outcome of all items
+  -- the items that were read have the outcome of all items
   read_outcome : (kinds : List ExprKind) {at : ℕ} {items all : List Item} → at ≤ length text → AreRead rules utf8 text at items → Items rules emits utf8 text at all → outcome_of kinds items ≡ outcome_of kinds all
   read_outcome kinds inside (all_read at o) a = ap (outcome_of kinds) (items_once rules emits emits_once utf8 text inside o a)
   read_outcome kinds inside (token_read at leaf from to slice next items n r) a =

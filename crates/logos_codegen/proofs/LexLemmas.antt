@@ -50,7 +50,7 @@ accepted_texts source rules a =
     let text : utf8_faults true a.leaves ≡ [] = rw (sym a.same_mode) at (silent a.enum a.leaves a.options a.enum_reads).text in
     rw a.same_rules (texts_are a.leaves text)
 
--- what is no refusal of the source is none of lexing
+-- a result that is not a refusal of the source is not one of lexing
 pub memory_no_refusal : (refusal : Refusal) (error : LexSourceError) → IsThatRefusal refusal error → IsMemory refusal → IsNoRefusal error
 memory_no_refusal (Errors faults) error e m = absurd m
 memory_no_refusal Memory error e m = rw e tt
@@ -89,7 +89,7 @@ module _ (source : List ℕ) (rules : List Rule) (utf8 : Bool) (code : CodeValue
   runs_are_cut text bytes items are valid runs =
       are_cut anything bytes items (are, λ t. valid) runs rules (rw text at accepted)
 
--- what is not lexed by the code of an accepted source
+-- the inputs that the code of an accepted source does not lex
 pub unlexed_just : (source : List ℕ) (rules : List Rule) (utf8 : Bool) (code : CodeValue) (input : List ℕ) → IsAccepted source rules utf8 → IsLexer rules utf8 code →
     {T : Type 0} (result : Result T LexSourceError) → IfErr result (IsUnlexed code input) → IfErr result (IsJust source input)
 unlexed_just source rules utf8 code input a l (Ok items) h = tt
@@ -103,7 +103,7 @@ unlexed_no_refusal code input (Err (Refused faults)) h = h
 unlexed_no_refusal code input (Err (NotUtf8 valid_up_to)) h = tt
 unlexed_no_refusal code input (Err OutOfMemory) h = tt
 
--- ---- what `lex_source` says of its result
+-- ---- the contract of `lex_source`
 
 module _ (source : List ℕ) (rules : List Rule) (utf8 : Bool) (code : CodeValue) (accepted : IsAccepted source rules utf8) (lexer : IsLexer rules utf8 code)
     (callback : Callback) (bytes : List ℕ) (are : IsBytes bytes) where

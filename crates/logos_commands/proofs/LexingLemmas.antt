@@ -1,5 +1,5 @@
--- What lexing an input by an accepted source shows of the two, and the lines that are written of
--- its items.
+-- The facts that follow from lexing an input by an accepted source, and the lines that are written
+-- of its items.
 use Rattle.std.proofs.Common.{◌≡◌, ◌∙◌, sym, ap, subst, ℕ, List, [], ◌∷◌, ◌++◌, append_assoc, append-nil, Option, Bool, Result, Ok, Err, IfErr, OnOk, IsTrue, IsUtf8, inr}
 use Rattle.std.proofs.KnownBytes.{Appends-trans}
 use Rattle.std.specs.Io.KnownBytes.{Appends}
@@ -57,8 +57,8 @@ module _ (source input : List ℕ) (rules : List Rule) (utf8 : Bool) (code : Cod
 
 -- ---- the lines of items, one after another
 
--- What completes the run from an offset on, and the lines after a block, completes the whole run and
--- all lines.
+-- A result for the run from an offset on, and the lines after a block, completes the whole run
+-- and all lines.
 abbrev pub Continues : CodeValue → Callback → List ℕ → ℕ → List ℕ → Option (List ℕ) → ℕ → List ℕ → Option (List ℕ) → Type 0
 Continues code callback input from before old to block now =
     (rest : List Item) (new : Option (List ℕ)) → Runs code callback input to rest → Appends now new (block ++ lines_of rest) → WritesLines code callback input from before old new

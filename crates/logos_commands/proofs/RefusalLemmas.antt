@@ -79,13 +79,13 @@ export_refused source config graph code name export g Output r = absurd r
 export_refused source config graph code name export g Closed r = absurd r
 export_refused source config graph code name export g Memory r = absurd r
 
--- a source that is refused gives no part
+-- a source that is refused has no part
 pub part_refused : (source : List ℕ) (part : Part) (failure : Failure) → ShowsFaultsOf (IsRefused source) failure → RefusesLexer source part failure
 part_refused source (Text shape) failure r = r
 part_refused source Diagram failure r = r
 part_refused source Export failure r = inl r
 
--- what a lexer that was made does not do
+-- the failures that a finished lexer excludes
 pub lexer_refused : {T : Type 0} (source : List ℕ) (part : Part) (config : Config) (graph : GraphValue) (code : CodeValue) (name : Slice) (export : Option (List ℕ)) →
     IsGiven source config graph code name export → (r : Result T Failure) → (part ≢ Export → IfErr r (λ failure. status_of failure ≡ 3)) →
     IfErr r (λ failure. status_of failure ≡ 1 → RefusesExport (export_destination export name.text) failure) →

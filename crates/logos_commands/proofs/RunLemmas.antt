@@ -1,4 +1,4 @@
--- What a command does to files and to standard output.
+-- The effect of a command on files and on standard output.
 use Rattle.std.proofs.Common.{ℕ, List, Bool, Option, Result, Ok, Err, IfOk, subst}
 use Rattle.logos_automaton.specs.Munch.{Rule}
 use Rattle.logos_code.specs.Code.{CodeValue}
@@ -18,7 +18,7 @@ part_of effect part source rules utf8 graph code name export a g (Ok x) h =
     record { rules = rules; utf8 = utf8; accepted = a; graph = graph; code = code; name = name; export = export; given = g; is = h }
 part_of effect part source rules utf8 graph code name export a g (Err failure) h = tt
 
--- a file was read, and what its source gives was delivered
+-- a file was read, and the result for its source was delivered
 pub carried : {F : Type 0} (yields makes : F → List ℕ → List ℕ → F → Type 0) (file : List ℕ) (files between after : F) (old new : Option (List ℕ)) (effect : Effect) (Yields : List ℕ → Effect → Type 0) →
     ReadsSource yields file files between (λ source. Yields source effect) → HasEffect makes effect between after old new → Carries yields makes file files after old new Yields
 carried yields makes file files between after old new effect Yields r h = record {

@@ -1,4 +1,4 @@
--- From what was made to a derivation.
+-- From a lexer to a derivation.
 use Rattle.std.proofs.Common.{◌≡◌, ◌≢◌, ℕ, List, [], ◌∷◌, Option, Result, Ok, Err, IfOk, sym, ◌∙◌}
 use Rattle.logos_code.specs.Code.{CodeValue}
 use Rattle.logos_codegen.specs.Around.{IsAroundOf}

@@ -136,7 +136,7 @@ module _ (run one other rest after : TokenList) (front : IsFront run one rest) (
       let e : ◌≡◌ {A = Option TokenList} (Some rest) (Some after) = sym front.announced ∙ (ap announced_in m ∙ second.announced) in
       cc
 
-  -- what is read after the one front is read after the other
+  -- tokens that are read after the one front are read after the other
   front-item : (outcome : Outcome EnumValue) → item other after outcome → item one rest outcome
   front-item outcome h =
       let k : item one after outcome = subst (λ (x : TokenList). item x after outcome) (sym front-attributes) h in
@@ -159,7 +159,7 @@ once-reads run one other (unannounced n) (reads f h) = absurd (no-front run n _ 
 once-reads run one other (unannounced n) (refuses f h) = absurd (no-front run n _ _ f)
 once-reads run one other (unannounced n) (unannounced m) = refl
 
--- what stands of the enum after a front stands of the whole
+-- facts about the enum after a front are facts about the whole
 pub item-occurs : (run attributes rest : TokenList) (error : ReadError) → IsFront run attributes rest →
     Occurs (λ e. item attributes rest (Err e)) error → Occurs (λ e. Reads run (Err e)) error
 item-occurs run attributes rest error f (inl m) = inl m

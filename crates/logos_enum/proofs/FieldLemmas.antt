@@ -24,7 +24,7 @@ type-fails run front (faults.Mismatch span) error h x e = rw e (inr (fails (mism
 type-fails run front faults.LimitNesting error h x e = rw e (inr (fails too_deep front h x))
 type-fails run front faults.Memory error h x e = inl e
 
--- what is wrong inside a group is wrong with what holds it
+-- a fault inside a group is a fault of the construct that contains it
 pub tuple-fails : (run : TokenList) (opened : Opened) (error : ReadError) → parenthesis_in run ≡ Some opened →
     Occurs (λ e. fields false opened.inside (Err e)) error → Occurs (λ e. Holding run (Err e)) error
 tuple-fails run opened error e (inl m) = inl m

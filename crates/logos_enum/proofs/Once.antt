@@ -35,7 +35,7 @@ succeeding A value = Ok value
 abbrev pub leaving : TokenList → Result TokenList ReadError
 leaving rest = Ok rest
 
--- what is read, and where it is read to, by one outcome
+-- the value that is read, and the end of its tokens, by one outcome
 same-read : {A : Type 0} (one other : A × TokenList) → ◌≡◌ {A = Outcome A} (Ok one) (Ok other) → one ≡ other
 same-read one other e = cc
 

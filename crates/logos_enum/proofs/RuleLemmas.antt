@@ -34,7 +34,7 @@ pub joined-nil : {A : Type 0} (before : List A) (rest : TokenList) → joined be
 joined-nil before rest = ap (λ list. Ok (list, rest)) (append-nil before)
 
 module _ {A B : Type 0} (First : Rule A) (Next : A → Rule B) (run : TokenList) where
-  -- what stands of the first rule, and of the one after it, stands of both
+  -- facts about the first rule, and about the one after it, are facts about both
   pub then-stops : (error : ReadError) → Occurs (λ e. First run (Err e)) error → Occurs (λ e. Then First Next run (Err e)) error
   then-stops error (inl e) = inl e
   then-stops error (inr h) = inr (stops h)
@@ -48,7 +48,7 @@ pub one-more : {A X : Type 0} (view : X → A) (old new : List X) (value : X) (o
     new ≡ old ++ value ∷ [] → joined (map view old) (preceded_by (view value) outcome) ≡ joined (map view new) outcome
 one-more view old new value outcome e = joined-push (map view old) (view value) outcome ∙ ap (λ list. joined list outcome) (sym (ap (map view) e ∙ map-append view old (value ∷ [])))
 
--- what stops an item stops the list, and what is wrong with the rest of it is wrong with the whole
+-- a fault of an item is a fault of the list, and so is a fault of the rest of the list
 pub listed-stops : {A : Type 0} (ends : TokenList → Bool) (Item : Rule A) (run rest : TokenList) → ends rest ≡ false →
     ((error : ReadError) → Listed ends Item rest (Err error) → Listed ends Item run (Err error)) → {error : ReadError} →
     Occurs (λ e. Item rest (Err e)) error → Occurs (λ e. Listed ends Item run (Err e)) error

@@ -79,7 +79,7 @@ module _ (one other : List GraphState) (leaves twins : ℕ) (one_finished : IsFi
       let run = goes one other names others utf8 w first_point 0 in
       record { input = input; end = run.0; way = run.1; goal = run.2 ∙ e }
 
-  -- ---- Where the machine tells no difference, the same is found
+  -- ---- If the machine detects no difference, equal results are found
 
   module _ (bytes : List ℕ) (from : ℕ) (same : differs (drop from bytes) ≡ false) where
     abbrev rest : List ℕ
@@ -110,7 +110,7 @@ module _ (one other : List GraphState) (leaves twins : ℕ) (one_finished : IsFi
         reported_same _ _ (unmarked_none one leaves one_finished utf8 bytes from to x) (unmarked_none other twins other_finished utf8 bytes from end y) in
         errors_agree utf8 bytes from one other (λ at l p cut. together one other names others utf8 rest 0 0 false none at l (inr p) cut) to end x y
 
-  -- ---- Where it tells one, different things are found
+  -- ---- If it detects one, different results are found
 
   module _ (rules other_rules : List Rule) (finds : FindsTheLongest rules utf8 one) (other_finds : FindsTheLongest other_rules utf8 other) where
     differences : (bytes : List ℕ) → IsInput utf8 bytes → differs bytes ≡ true → IsDifference rules names other_rules others utf8 bytes

@@ -18,7 +18,7 @@ use Rattle.logos_evidence.specs.inside.Machines.{is_last, point_from, first_poin
 use Rattle.logos_evidence.proofs.FoundLemmas.{last_found, found_last}
 use Rattle.logos_evidence.proofs.InputLemmas.{input_on}
 
--- what follows from the two cases of an answer
+-- the consequences of the two cases of an answer
 pub answer_on : {V : Type 0} (P Q : Type 0) (A B : V → Type 0) → (P → Q) → ((v : V) → A v → B v) → (o : Option V) → MatchOption o P A → MatchOption o Q B
 answer_on P Q A B none some None h = none h
 answer_on P Q A B none some (Some v) h = some v h

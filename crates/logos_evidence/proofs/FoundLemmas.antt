@@ -1,4 +1,4 @@
--- The last match, step by step, is what a graph finds first.
+-- The last match, step by step, is the first match that a graph finds.
 use Rattle.std.proofs.Common.{◌≡◌, ℕ, zero, suc, ◌+◌, ◌<◌, ◌≤◌, ◌⊎◌, Bool, false, List, [], ◌∷◌, length, take, drop, IsSomeAnd, Option, None, Some, option_map, option_and_then, nat_lt, slice_get, refl, sym, ap, ◌∙◌, subst, inl, inr, arith, le-ltb}
 use Rattle.std.proofs.lemmas.Bool.{cases_lt}
 use Rattle.std.proofs.lemmas.Bool.Decides.{nat_tests}

@@ -1,4 +1,4 @@
--- What is left of an input from a boundary on is an input.
+-- The rest of an input from a boundary on is an input.
 use Rattle.std.proofs.Common.{ℕ, zero, suc, Bool, List, [], ◌∷◌, drop, IsTrue, arith}
 use Rattle.std.specs.Str.{IsCharBoundary}
 use Rattle.std.proofs.lemmas.Str.{IsUtf8-drop}

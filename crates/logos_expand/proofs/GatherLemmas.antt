@@ -1,4 +1,4 @@
--- What the enums of a file give, one after another.
+-- The results for the enums of a file, one after another.
 use Rattle.std.proofs.Common.{◌≡◌, ◌==◌, ◌≤◌, ◌<◌, ◌+◌, ℕ, suc, Bool, List, [], ◌∷◌, ◌++◌, append_assoc, true, false, IfOk, OnOk, Option, Result, Ok, Err, map, length, get_or, drop, string_bytes, refl, sym, ap, ◌∙◌, arith, eqb-true, subst}
 use Rattle.std.proofs.lemmas.List.{append-nil}
 use Rattle.std.proofs.Math.Seq.{drop-cons}
@@ -17,12 +17,12 @@ use Rattle.logos_report.specs.declared.file_report.Refused.{Refused}
 use Rattle.logos_expand.specs.Expanding.{IsExpansion, IsExpanded, IsFileOf, IsUnreadable, Replaces, text_at}
 use Rattle.logos_tables.specs.Shapes.{config_of}
 use Rattle.logos_text.specs.Fronts.{AroundValue}
-use Rattle.logos_expand.specs.Expanding.Replaces.{ended as r_ended, stays as r_stays, yields as r_gives}
+use Rattle.logos_expand.specs.Expanding.Replaces.{ended as r_ended, stays as r_stays, yields as r_yields}
 use Rattle.logos_expand.specs.Heads.{IsHeaded}
 use Rattle.logos_expand.specs.inside.Steps.{AddsRefusal, AreFaultsOf, GathersOne, IsExpansionBy, IsPut}
 use Rattle.logos_expand.specs.Gathering.{AreRefused, Gathers, GathersAll}
 use Rattle.logos_expand.specs.Gathering.AreRefused.{whole, lexers}
-use Rattle.logos_expand.specs.Gathering.Gathers.{ended as g_ended, stays as g_stays, yields as g_gives, refuses as g_refuses}
+use Rattle.logos_expand.specs.Gathering.Gathers.{ended as g_ended, stays as g_stays, yields as g_yields, refuses as g_refuses}
 use Rattle.logos_rust_file.specs.declared.finder.FoundEnum.{FoundEnum}
 use Rattle.logos_rust_file.specs.declared.replacement.Replacement.{Replacement}
 use Rattle.logos_rust_file.specs.Files.{AreEnumsOf}
@@ -38,7 +38,8 @@ use Rattle.logos_token.specs.Faults.{Fault}
 
 -- ---- the enums of a file, one after another
 
--- the enums up to an index were gathered: with what the others give it is what all give
+-- the enums up to an index were gathered: with the results for the others, these are the results
+-- for all
 pub record SoFar (shape : Shape) (text : List ℕ) (found left : List FoundEnum) (gathered : Gathered) : Type 0 where
   pub from : ℕ
   pub order : AreInOrder from (map found_span left) (length text)
@@ -102,7 +103,7 @@ yields_one shape text one part old new source k e s x p r = record {
   refused = [];
   parts_are = p;
   refused_are = r ∙ sym (append-nil old.refused.items);
-  completes = λ rest more worse g. g_gives e s (subst (λ bytes. IsExpansion shape bytes (string_bytes part.text)) k x) g;
+  completes = λ rest more worse g. g_yields e s (subst (λ bytes. IsExpansion shape bytes (string_bytes part.text)) k x) g;
 }
 
 -- a refusal has faults of which this holds
@@ -126,7 +127,7 @@ refuses_one shape text one refusal clues old new source k e h s a p = record {
 replaces_all : (shape : Shape) (text : List ℕ) (found : List FoundEnum) (parts : List Replacement) (refused : List Refused) → Gathers shape text found parts refused → refused ≡ [] → Replaces shape text found parts
 replaces_all shape text _ _ _ g_ended e = r_ended
 replaces_all shape text _ _ _ (g_stays d g) e = r_stays d (replaces_all shape text _ _ _ g e)
-replaces_all shape text _ _ _ (g_gives d s x g) e = r_gives d s x (replaces_all shape text _ _ _ g e)
+replaces_all shape text _ _ _ (g_yields d s x g) e = r_yields d s x (replaces_all shape text _ _ _ g e)
 replaces_all shape text _ _ _ (g_refuses d s x k g) e = absurd cc
 
 -- the result of a file without faults
@@ -170,7 +171,7 @@ order_parts : (shape : Shape) (text : List ℕ) (found : List FoundEnum) (parts 
 order_parts shape text _ _ _ from to g_ended o = o
 order_parts shape text _ _ _ from to (g_stays {one} {rest} {parts} {refused} d g) o =
     earlier from one.span.to (map part_span parts) to (omega (arith, o.0, o.1)) (order_parts shape text rest parts refused one.span.to to g o.2)
-order_parts shape text _ _ _ from to (g_gives {one} {part} {rest} {parts} {refused} d s x g) o =
+order_parts shape text _ _ _ from to (g_yields {one} {part} {rest} {parts} {refused} d s x g) o =
     rw s (o.0, o.1, order_parts shape text rest parts refused one.span.to to g o.2)
 order_parts shape text _ _ _ from to (g_refuses {one} {bad} {rest} {parts} {refused} d s x k g) o =
     earlier from one.span.to (map part_span parts) to (omega (arith, o.0, o.1)) (order_parts shape text rest parts refused one.span.to to g o.2)
@@ -211,14 +212,14 @@ spells_enum source rules utf8 a within = record {
 pub whole_refused : (shape : Shape) (text : List ℕ) (refusal : Refusal) (clues : Clues) (old new : List Refused) → old ≡ [] → Refuses (IsUnreadable text) refusal → AddsRefusal 0 refusal clues old new → AreRefused shape text new
 whole_refused shape text refusal clues old new e h a = whole (a.are ∙ ap (λ r. r ++ a.bad ∷ []) e) a.is_offset (faults_hold (IsUnreadable text) refusal a.bad.errors h a.faults)
 
--- what holds after success gives something else
+-- a property that holds after success implies another one
 pub ok_then : {A E One Other : Type 0} (result : Result A E) → (One → Other) → OnOk result One → OnOk result Other
 ok_then (Ok done) f h = f h
 ok_then (Err error) f h = tt
 
 -- an enum with faults was gathered, where there was memory for them
 
--- what holds stays so where a call fails or not
+-- a property is preserved whether a call fails or not
 pub holds_then : {A E P : Type 0} (result : Result A E) → P → OnOk result P
 holds_then (Ok done) p = p
 holds_then (Err error) p = tt
@@ -227,7 +228,7 @@ pub refuses_then : {A E : Type 0} (result : Result A E) (shape : Shape) (text : 
     OnOk result (AddsRefusal one.span.from refusal clues old.refused.items new.refused.items) → new.parts.items ≡ old.parts.items → source ≡ text_at text one → one.derives ≡ true → OnOk result (GathersOne shape text one old new)
 refuses_then result shape text one refusal clues old new source h s a p k e = ok_then result (λ b. refuses_one shape text one refusal clues old new source k e h s b p) a
 
--- a property of a result gives something else of it
+-- a property of a result implies another one
 pub wraps : {A E : Type 0} {One Other : A → Type 0} (result : Result A E) → ((a : A) → One a → Other a) → IfOk result One → IfOk result Other
 wraps (Ok done) f h = f done h
 wraps (Err error) f h = tt

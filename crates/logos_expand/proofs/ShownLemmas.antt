@@ -4,7 +4,7 @@ use Rattle.std.proofs.lemmas.List.{append-nil}
 use Rattle.logos_page.specs.Pages.{PageValue, Shows, OccurInOrder}
 use Rattle.logos_page.proofs.PageLemmas.{shows_then, unseen}
 
--- what is shown first stays shown
+-- text that is shown first stays shown
 pub first_shown : {one other : List (List ℕ)} {old middle new : PageValue} → Shows one old middle → Shows other middle new → Shows one old new
 first_shown {one} {other} {old} {middle} {new} s t = subst (λ texts. Shows texts old new) (append-nil one) (shows_then s (unseen t))
 

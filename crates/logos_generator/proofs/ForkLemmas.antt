@@ -70,7 +70,7 @@ Extends_same a = ([], sym (append-nil a))
 pub Extends_trans : {A : Type 0} (a b c : List A) → Extends a b → Extends b c → Extends a c
 Extends_trans a b c f g = (f.0 ++ g.0, g.1 ∙ ap (λ l. l ++ g.0) f.1 ∙ append_assoc a f.0 g.0)
 
--- what was there stays there
+-- existing tests stay
 slice_get-append : {A : Type 0} (xs ys : List A) (k : ℕ) (x : A) → slice_get xs k ≡ Some x → slice_get (xs ++ ys) k ≡ Some x
 slice_get-append [] ys k x e = absurd (cc)
 slice_get-append (z ∷ xs) ys zero x e = e

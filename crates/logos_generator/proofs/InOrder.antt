@@ -9,7 +9,7 @@ use Rattle.logos_code.specs.declared.action.Action.TheVariants.{Emit, Skip, Erro
 use Rattle.logos_code.specs.Items.{Callback, Item, token, error, skips, MayAnswer, items_of, over, match, fault, Items}
 use Rattle.logos_code.specs.Order.{AreInOrder, Parts, all_parted, token_part, error_part, part_left_out, uses_of, IsLeftOut}
 
--- what is in order from an offset on is so from an earlier one on
+-- items that are in order from an offset on are in order from an earlier one on
 pub in_order_earlier : (end at before : ℕ) (items : List Item) → before ≤ at → AreInOrder end at items → AreInOrder end before items
 in_order_earlier end at before [] l o = omega (arith, l, o)
 in_order_earlier end at before (token leaf from to slice ∷ rest) l o = (omega (arith, l, o.0), o.1, o.2)

@@ -32,7 +32,7 @@ some_none h = cc
 true_false : true ≡ false → ⊥
 true_false h = cc
 
--- what `find` finds, or does not
+-- the result of `find`
 found_at : {A : Type 0} (p : A → Bool) (xs : List A) (x : A) → find p xs ≡ Some x → (i : ℕ) × (slice_get xs i ≡ Some x) × (p x ≡ true)
 found_at p [] x e = absurd (some_none e)
 found_at {A = A} p (y ∷ xs) x e = go (p y) refl (found_at p xs x) e
@@ -100,7 +100,7 @@ late_made type late = go type.early type.accept late
     go None (Some leaf) h = (refl, refl)
     go None None h = absurd h
 
--- what the end leads to is the last state
+-- the end leads to the last state
 last_is : (graph : List GraphState) (t : ℕ) → IsSomeAnd (slice_get graph t) (λ last. IsLateType last.state_type × (last.eoi ≡ None)) → IsLast graph t
 last_is graph t last = go (slice_get graph t) refl last
   where

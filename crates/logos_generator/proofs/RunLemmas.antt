@@ -47,7 +47,7 @@ module _ (graph : List GraphState) (utf8 : Bool) (code : CodeValue) (is_made : I
     abbrev IsAt : Status → Type 0
     IsAt at = (state : GraphState) × (slice_get graph at.state ≡ Some state) × Bound code graph bytes are start starts state at.offset
 
-    -- what a state of the code does that is entered there
+    -- the turn of a state of the code that is entered there
     does : (at : Status) → IsAt at → (what : Turn) → Does code bytes start at what → Turns code graph bytes are start starts at what
     does at s what d =
         let m = is_made.states at.state s.0 s.1 in
@@ -120,7 +120,7 @@ module _ (graph : List GraphState) (utf8 : Bool) (code : CodeValue) (is_made : I
   returns_only from past is (is_over at d) = (refl, refl)
   returns_only from past is (acts_on at context offset found d a) = absurd (acts_returns context offset (sym (over from past at is _ d)))
 
-  -- the first stand, by state 0
+  -- the first status, by state 0
   first : (from : ℕ) (starts : from < length bytes) → IsAt from starts (record { state = 0; offset = from; context = None })
   first from starts = (is_made.first, is_made.has_first, inl (omega arith))
 

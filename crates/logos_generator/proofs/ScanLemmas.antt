@@ -196,7 +196,7 @@ module _ (graph : List GraphState) where
           later n f zero h k = absurd (not_before n h)
           later n f (suc m) h k = mark_n-suc s b rest at m t e ∙ f m (omega arith) (less m k)
 
-  -- exactly what is in reach can be followed
+  -- exactly the bytes in reach can be followed
   pub walk_reach : (s : ℕ) (rest : List ℕ) (n : ℕ) → n ≤ length rest → IsSome (walk graph s (take n rest) false) ↔ (n ≤ reach s rest)
   walk_reach s rest zero h = (λ g. omega arith, λ g. refl)
   walk_reach s [] (suc n) h = absurd (none n h)

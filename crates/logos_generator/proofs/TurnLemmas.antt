@@ -22,7 +22,7 @@ and_false true = refl
 and_false false = refl
 
 module _ (code : CodeValue) (graph : List GraphState) where
-  -- what stays true of the rest of the input after the bytes that the fast loop takes
+  -- the facts about the rest of the input after the bytes that the fast loop takes
   pub record Skips (p : ℕ → Bool) (s : ℕ) (rest : List ℕ) (at : ℕ) (context : Option (ℕ × ℕ)) (k : ℕ) : Type 0 where
     pub last : last_of graph s rest at context ≡ last_of graph s (drop k rest) (at + k) context
     pub reached : at + reach graph s rest ≡ at + k + reach graph s (drop k rest)

@@ -54,7 +54,7 @@ module _ (rules : List Rule) (dfa : Automaton) where
       go None ih = sym (nothing_after bytes)
       go (Some t) ih = ih t
 
-  -- what a state that lists leaves is
+  -- the parts of a state that lists leaves
   listed_at : (o : Option ℕ) (P : ℕ → Type 0) → Lists dfa o P → (t : ℕ) × (o ≡ Some t)
   listed_at None P h = absurd (cc (h.listed))
   listed_at (Some t) P h = (t, refl)

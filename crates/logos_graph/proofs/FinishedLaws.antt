@@ -52,7 +52,7 @@ walk_reach : (graph : List GraphState) (bytes : List ℕ) (s : ℕ) → walk gra
 walk_reach graph [] s = refl
 walk_reach graph (b ∷ bytes) s = ap (λ (f : ℕ → Option ℕ). option_and_then f (next_by graph s b)) (λ i t. walk_reach graph bytes t i)
 
--- what a state is goes by its entry
+-- a state is determined by its entry
 same_state : (graph : List GraphState) (s t : ℕ) → slice_get graph s ≡ slice_get graph t → (bytes : List ℕ) (ends : Bool) → type_after graph s bytes ends ≡ type_after graph t bytes ends
 same_state graph s t e [] false = ap (option_map (λ (state : GraphState). state.state_type)) e
 same_state graph s t e [] true =

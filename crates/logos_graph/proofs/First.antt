@@ -31,7 +31,7 @@ test_lt a b = go (cases_lt a b)
     go (inl l) = inl (grind (arith, nat_tests), l)
     go (inr l) = inr (grind (arith, nat_tests), l)
 
--- what a filter keeps
+-- the elements that pass a filter
 filter_cases : (p : ℕ → Bool) (xs : List ℕ) (x : ℕ) → Contains (filter p xs) x → Contains xs x × (p x ≡ true)
 filter_cases p [] x c = absurd (none_contained x c)
 filter_cases p (y ∷ xs) x c = go (p y) refl c (filter_cases p xs x)

@@ -13,7 +13,7 @@ pub none_listed : {X Y : Type 0} (f : X → Y) (xs : List X) (n : ℕ) (empty : 
 none_listed f [] n empty e is t = refl
 none_listed f (x ∷ xs) n empty e is t = let z : n ≡ 0 = eqb-true n 0 (sym is ∙ t) in absurd (omega (arith, e, z))
 
--- what was found of the same leaves
+-- the faults of the same leaves
 module _ (leaves xs : List Leaf) (dfa : Automaton) (faults : List Fault) (e : xs ≡ leaves) (found : AreFindings (rules_of xs) dfa faults) where
   findings_at : AreFindings (rules_of leaves) dfa faults
   findings_at = subst (λ zs. AreFindings (rules_of zs) dfa faults) e found

@@ -6,7 +6,7 @@ use Rattle.logos_automaton.proofs.munch.Unique.{rule_within}
 use Rattle.logos_graph.specs.Graph.{GraphState, walk}
 use Rattle.logos_graph.specs.Reduced.{HasType, IsReduced, IsSettled}
 
--- what a state has twice, it has together
+-- two facts about a state hold together
 settled_here : (rules : List Rule) (bytes : List ℕ) (leaf : ℕ) (state : Option GraphState) →
     IsSomeAnd state (λ state. (state.state_type.early ≡ Some leaf) ↔ IsSettled rules bytes leaf) →
     IsSomeAnd state (λ state. state.state_type.early ≡ Some leaf) → IsSettled rules bytes leaf

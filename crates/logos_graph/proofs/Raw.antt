@@ -55,7 +55,7 @@ module _ (rules : List Rule) (bytes : List ℕ) (from at : ℕ) (order : from �
       go other end o m (inl x) = best.longest other end o x m
       go other end o m (inr x) = absurd (none other (subst (MatchesHere other) x m))
 
--- where a rule matches does not depend on what lies around
+-- the matches of a rule do not depend on the bytes around them
 first_around : (rules : List Rule) → IsFalse (some_leads rules) → (pre w post : List ℕ) (k : ℕ) → (k < length w) ⊎ ((k ≡ length w) × (post ≡ [])) →
     (x : Option ℕ) → FirstOrNone rules x w 0 k → FirstOrNone rules x (pre ++ (w ++ post)) (length pre) (length pre + k)
 first_around rules free pre w post k l None none = λ leaf m. none leaf ((rule_within_text rules leaf pre w post k free l).0 m)
@@ -142,7 +142,7 @@ module _ {S : Type 0} (g : Edges S) where
       go None y z ih = absurd (cc)
       go (Some u) y z ih = onward c (first_byte c v ok) y (ih u z x m)
 
--- a beginning of what can still grow can
+-- a prefix of bytes that can still grow can still grow
 grows_front : (rules : List Rule) (u v : List ℕ) → IsBytes v → Grows rules (u ++ v) → Grows rules u
 grows_front rules u v ok h = record {
   more = v ++ h.more;

@@ -80,7 +80,7 @@ first_too rules P (x ∷ leaves) all = go (first_of rules leaves) (All-head P x 
     go None here rest = here
     go (Some best) here rest = pick best (nat_lt (priority_of rules x) (priority_of rules best)) here rest
 
--- a first leaf that is none of these many leaves
+-- a first leaf that is not among this number of leaves
 pub not_among : (rules : List Rule) (leaves leaf : ℕ) (listed : List ℕ) → first_of rules listed ≡ Some leaf → leaves ≤ leaf → All (λ leaf. leaf < leaves) listed → ⊥
 not_among rules leaves leaf listed e l all = let w = rw e at (first_too rules (λ leaf. leaf < leaves) listed all) in omega (arith, w, l)
 

@@ -274,7 +274,7 @@ module _ (graph : List GraphState) where
       },
     )
 
-    -- what a graph finds is what its walk finds
+    -- a graph finds the match that its walk finds
     pub finds_alike : (f : Found) → found.GraphFinds graph utf8 bytes from f ↔ GraphFindsByWalk graph utf8 bytes from f
     finds_alike ended = (λ x. x, λ x. x)
     finds_alike (matched leaf to) =

@@ -104,8 +104,8 @@ module _ (rules : List Rule) {S : Type 0} (g : Edges S) (root : S) (reads : Mark
               let here : q.0 ≡ s = cc (way, q.2) in
               (q.1, ap g.at_end (sym here) ∙ q.3, (accepted (g.type_of q.1) bytes 0 (length bytes) leaf q.4.first).1 h.at_end)
 
--- what can be followed in the finished graph can be followed in the automaton, to a state of the
--- same type
+-- bytes that can be followed in the finished graph can be followed in the automaton, to a state of
+-- the same type
 module _ {S T : Type 0} (g h : Edges S) (p : IsPruned g h) (IsIn : S → Type 0) (f : S → T) (k : Edges T) (m : IsMap IsIn f h k) where
   pub same_type : (bytes : List ℕ) → IsBytes bytes → (s : S) → IsIn s → (t : T) → reach k (f s) bytes ≡ Some t → (u : S) × (reach g s bytes ≡ Some u) × (k.type_of t ≡ g.type_of u)
   same_type [] ok s i t e = let q : f s ≡ t = cc in (s, refl, ap k.type_of (sym q) ∙ m.types s i ∙ p.types s)

@@ -1,4 +1,4 @@
--- The flags of leaves, state by state, and what a graph finds.
+-- The flags of leaves, state by state, and the matches that a graph finds.
 use Rattle.std.proofs.Common.{◌≡◌, ◌<◌, ◌+◌, ◌-◌, ◌⊎◌, ◌↔◌, ℕ, Bool, true, false, List, [], length, slice_get, Option, Some, None, option_map, refl, sym, ap, ◌∙◌, inl, inr, subst, slice_index_or, replicate, arith}
 use Rattle.std.specs.Option.{option_and_then}
 use Rattle.std.proofs.lemmas.List.{length-replicate}

@@ -81,7 +81,7 @@ next_put f xs k d {old} {middle} {new} l one rest = subst (λ lines. Puts lines 
 pub none_put : {X : Type 0} (f : X → List (List Token)) (xs : List X) (k : ℕ) (lines : LinesValue) → length xs ≤ k → Puts (flat_map f (drop k xs)) lines lines
 none_put f xs k lines l = subst (λ shown. Puts shown lines lines) (sym (at_drop_all (flat_map f) xs k l)) (puts_nothing lines)
 
--- What is printed of no tokens.
+-- The printed text of no tokens.
 pub printed_nothing : (before bytes : List ℕ) (shown : List Token) → bytes ≡ before ++ print shown → shown ≡ [] → bytes ≡ before
 unfolding print_from
 printed_nothing before bytes shown is e = is ∙ ap (λ tokens. before ++ print tokens) e ∙ append-nil before

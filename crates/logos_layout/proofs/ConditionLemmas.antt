@@ -7,7 +7,7 @@ use Rattle.logos_enum.specs.AttributeValues.{SplitAttribute, attribute_in, brack
 use Rattle.logos_enum.specs.Groups.{bracket_in}
 use Rattle.logos_layout.specs.Conditions.{attribute_condition, bracket_conditions, conditions_text}
 
--- what the conditions of a run are, by its first attribute
+-- the conditions of a run, by its first attribute
 abbrev pub by_first : Option SplitAttribute → List ℕ
 by_first None = []
 by_first (Some read) = attribute_condition read.attribute ++ conditions_text read.rest

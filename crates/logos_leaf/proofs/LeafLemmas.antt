@@ -38,7 +38,7 @@ module _ (d : DefinitionView) (kind : KindValue) where
         go (broken k at) reads is lists = absurd cc
         go too_deep reads is lists = absurd cc
 
-    -- it spells none, which was listed
+    -- it spells none, which was reported
     pub unread_whole : (old new : List Fault) → IsRead (is_string d.literal.held) d.ignore_case (chars text) d.literal.token.span None old new → IsWholeLeaf d kind text None old new
     unread_whole old new read = go read.reading read.reads read.is_tree read.adds
       where
@@ -73,7 +73,7 @@ module _ (d : DefinitionView) (kind : KindValue) where
               (n ∙ ap (λ t. mid ++ (text_report d kind whole.reading t).faults) e),
         )
 
-    -- one is missing, which was listed
+    -- one is missing, which was reported
     pub missing_is_regex : (old new : List Fault) → IsReport (whole_report d names) None old new → IsRegexLeaf d kind names None old new
     missing_is_regex old new put =
         let value : None ≡ (whole_report d names).value = put.0 in

@@ -288,7 +288,7 @@ module _ (bytes : List ℕ) (at : ℕ) where
   pub IsSuffix-boundary : IsUtf8 bytes → IsCharBoundary bytes at → (to : ℕ) → IsSuffix bytes at to → IsCharBoundary bytes to
   IsSuffix-boundary utf8 bound to p = suffix-boundary utf8 bound (name_at bytes at) refl to p
 
--- what opens at an offset has one end
+-- a lexeme that opens at an offset has one end
 
 IsRaw-one : (count : ℕ) (bytes : List ℕ) (body a b : ℕ) → IsRaw count bytes body a → IsRaw count bytes body b → a ≡ b
 IsRaw-one count bytes body a b p q = p.after ∙ ap (λ n. n + 1 + count) (IsFirst-one p.first q.first) ∙ sym q.after

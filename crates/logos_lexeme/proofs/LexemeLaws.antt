@@ -39,7 +39,7 @@ suffixed-one bytes (Punctuation spacing) end a b p q = p ∙ sym q
 suffixed-one bytes (Opening delimiter) end a b p q = p ∙ sym q
 suffixed-one bytes (Closing delimiter) end a b p q = p ∙ sym q
 
--- what is no literal has no suffix
+-- a lexeme that is not a literal has no suffix
 pub no_suffix : (bytes : List ℕ) (kind : LexemeKind) (end : ℕ) → (kind ≡ Literal → ⊥) → IsSuffixed bytes kind end end
 no_suffix bytes Literal end other = absurd (other refl)
 no_suffix bytes Gap end other = refl

@@ -29,7 +29,7 @@ module _ (bytes : List ℕ) (from : ℕ) where
             absurd (false≢true (sym stops ∙ ap (λ c. c == 35) (get_or-drop from bytes m 0) ∙ goes))
       ]
 
-  -- and no further one, where another byte stands
+  -- and no further one, where another byte is
   pub at_most : (n : ℕ) → get_or bytes (from + n) 0 ≢ 35 → hashes bytes from ≤ n
   unfolding hashes
   at_most n other = elim (cases_lt n (prefix_len (λ c. c == 35) (drop from bytes))) [
@@ -43,7 +43,7 @@ module _ (bytes : List ℕ) (from : ℕ) where
   pub hashes_full : (n : ℕ) → 256 ≤ n → n ≤ 256 → ((k : ℕ) → k < n → get_or bytes (from + k) 0 ≡ 35) → n ≡ min 256 (hashes bytes from)
   hashes_full n many few all = omega (arith, at_least n all)
 
--- a property of what opens, if anything does
+-- a property of an opening, if there is one
 abbrev Yields : (Opening → Type 0) → Option Opening → Type 0
 Yields P o = MatchOption o (Unit {0}) P
 
@@ -55,7 +55,7 @@ single-or : (P : Opening → Type 0) → ((kind : LexemeKind) → P (Single kind
 single-or P single nothing None = nothing
 single-or P single nothing (Some kind) = single kind
 
--- a property that holds of each opening, where it opens, holds of what opens at an offset
+-- a property that each opening has at its offset holds for the opening at an offset
 module _ (P : Opening → Type 0) (bytes : List ℕ) where
   raw-yields : (content : Content) (at : ℕ) → ((count : ℕ) → get_or bytes (at + count) 0 ≡ 34 → P (Raw content count)) → Yields P (raw_opening content bytes at)
   unfolding raw_opening

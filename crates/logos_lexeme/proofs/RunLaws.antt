@@ -11,7 +11,7 @@ module _ (Step : ℕ → ℕ → Type 0) where
   pub Steps-push : {a b c : ℕ} → Steps Step a b → Step b c → Steps Step a c
   Steps-push r s = Steps-join r (step s here)
 
-  -- what steps keep
+  -- properties that steps preserve
   pub Steps-keep : (P : ℕ → Type 0) → ((at next : ℕ) → P at → Step at next → P next) → {a b : ℕ} → Steps Step a b → P a → P b
   Steps-keep P keep here p = p
   Steps-keep P keep (step s r) p = Steps-keep P keep r (keep _ _ p s)

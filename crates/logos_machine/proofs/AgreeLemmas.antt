@@ -141,7 +141,7 @@ attempts_agree code bytes others start seen n found fits same whole t =
     let other : AttemptsWithin code others start seen found n = subst (λ (l : List ℕ). AttemptsWithin code l start seen found n) is_other (goes_agree code front (drop seen bytes) (drop seen others) start seen (omega (arith, long)) cut one) in
     (other, goes_within code others start seen other)
 
--- what was found in a part and depends on it alone is found there, regardless of the bytes after it
+-- a result that depends only on a part is found there, regardless of the bytes after it
 pub attempts_whatever_follows : (code : CodeValue) (part rest : List ℕ) (start n : ℕ) (found : Found) → MayFollow code rest → AttemptsWithin code part start (length part) found n → Attempts code (part ++ rest) start found n
 attempts_whatever_follows code part rest start n found follows t =
     let one : AttemptsWithin code (part ++ []) start (length part) found n = subst (λ (l : List ℕ). AttemptsWithin code l start (length part) found n) (sym (append-nil part)) t in

@@ -94,7 +94,7 @@ far_byte (suc (suc (suc (suc (suc (suc zero)))))) l = (refl, refl)
 far_byte (suc (suc (suc (suc (suc (suc (suc zero))))))) l = (refl, refl)
 far_byte (suc (suc (suc (suc (suc (suc (suc (suc k)))))))) l = absurd (omega (arith, l))
 
--- what is looked up for a byte
+-- the value that is looked up for a byte
 abbrev pub found : List ℕ → ℕ → ℕ
 found mask b = bit_or (bit_and (slice_index mask (0 + b % 16)) (slice_index NEAR (b / 16))) (bit_and (slice_index mask (16 + b % 16)) (slice_index FAR (b / 16)))
 
@@ -105,7 +105,7 @@ bare (suc zero) n lt pos = ne_eqb (1 * n) 0 (λ e. omega (arith, e, pos))
 bare (suc (suc bit)) n lt pos = absurd (omega (arith, lt))
 
 module _ (p : ℕ → Bool) (mask : List ℕ) (is : IsMask p mask) where
-  -- what is looked up is 0 where the byte does not pass
+  -- the value that is looked up is 0 if the byte does not pass
   pub found_describes : (b : ℕ) → b < 256 → eqb (found mask b) 0 ≡ not (p b)
   found_describes b lt =
       let k = b / 16 % 8 in

@@ -48,7 +48,7 @@ no_items callback other code input old new from items g c i back h =
     let here : Runs code callback input old.to [] = rw (c, i) at g.over in
     rw append-nil at (h [] (lexes_by code.leaves input (CodeFinds code input) callback other back here))
 
--- ---- what a loop knows
+-- ---- the facts in a loop
 
 module _ {C : Type 0} (calls : Shared C (LeafId × (Bor (List ℕ) × Unit {0})) Action) where
   pub next_added : NextAddsItem calls

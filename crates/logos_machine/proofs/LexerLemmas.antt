@@ -28,7 +28,7 @@ module _ {C : Type 0} (lexer : LexerValue C) (from to : ℕ) (starts : lexer.fro
   item_span uses callback bytes Skip leaf item e = absurd (cc)
   item_span uses callback bytes Error leaf item e = error_span (Some leaf) _ item e
 
--- what is not there is `None`
+-- an element that does not exist is `None`
 pub none_of : {A : Type 0} (o : Option A) → ((x : A) → o ≡ Some x → ⊥) → o ≡ None
 none_of None h = cc
 none_of (Some x) h = absurd (h x (cc))

@@ -51,7 +51,7 @@ module _ (code : CodeValue) (bytes : List ℕ) (start : ℕ) (s : ℕ) (there : 
       turns None e = rw (e, none, stale) refl
       turns (Some b) e = rw (e, none) refl
 
-  -- what is seen at a byte where the fast loop ends
+  -- the step at a byte where the fast loop ends
   pub sees_byte : (b : ℕ) (step : Step) → start ≤ offset → stop ≡ offset + looped code (state_at code s).fast_loop (drop offset bytes) → slice_get bytes stop ≡ Some b →
       Describes code (state_at code s) b step → Sees code bytes start s offset stop step
   sees_byte b (Leads next) h is at describes = λ context. (marked (state_at code s).mark stop context, (state_at code s, got, rw (← is, at, describes.1) refl))
@@ -82,7 +82,7 @@ module _ (code : CodeValue) (bytes : List ℕ) (start : ℕ) (s : ℕ) (there : 
   sees_byte b Stuck h is at describes = λ inside context. (marked (state_at code s).mark stop context, (state_at code s, got, rw (← is, at, describes.1) refl))
   sees_byte b Undescribed h is at describes = tt
 
-  -- what is seen at the end of the input
+  -- the step at the end of the input
   pub sees_end : IsSound code → (step : Step) → stop ≡ offset + looped code (state_at code s).fast_loop (drop offset bytes) → slice_get bytes stop ≡ None →
       DescribesEnd code (state_at code s) step → Sees code bytes start s offset stop step
   sees_end sound (Leads next) is at describes = absurd describes

@@ -42,7 +42,7 @@ pub past_mark : (mark : Option Mark) (offset : ℕ) → 0 < offset → IfSome ma
 past_mark None offset past = tt
 past_mark (Some mark) offset past = λ late. past
 
--- what a closed state does depends on no byte
+-- the turn of a closed state depends on no byte
 pub acts_closed : (code : CodeValue) (part : List ℕ) (start : ℕ) (at : Status) (state : CodeState) (context : Option (ℕ × ℕ)) → slice_get code.states at.state ≡ Some state → IsClosed state → start < at.offset →
     context ≡ marked state.mark at.offset at.context → StopsWithin code part start (length part) at × Does code part start at (acts context at.offset)
 acts_closed code part start at state context is closed past kept =

@@ -71,7 +71,7 @@ module _ (code : CodeValue) (sound : IsSound code) (bytes : List ℕ) (start : �
     context = tt;
   }
 
-  -- what a stand knows of its state
+  -- the facts that a status implies about its state
   module _ (at : Status) (s : IsAt at) (state : CodeState) (is : slice_get code.states at.state ≡ Some state) where
     names : NamesExisting code state
     names = All-slice_get (NamesExisting code) code.states at.state state sound.states is
@@ -201,7 +201,7 @@ module _ (code : CodeValue) (sound : IsSound code) (bytes : List ℕ) (start : �
             begun true e = absurd (cc)
             begun false e = on state.at_end refl e
 
-    -- what a match attempt can act on: a match, or nothing, and then there is a byte after the
+    -- the match on which an attempt can act, or none, and then there is a byte after the
     -- start
     record ActsWithin (context : Option (ℕ × ℕ)) (end : ℕ) : Type 0 where
       pub match : IsContext code bytes start context

@@ -27,7 +27,7 @@ module _ (code : CodeValue) (bytes : List ℕ) (start : ℕ) (at : Status) (stat
   abbrev Stops : ℕ → Type 0
   Stops offset = offset ≡ at.offset + looped code state.fast_loop (drop at.offset bytes)
 
-  -- what the byte there leads to, if one is there
+  -- the state to which the byte leads, if there is a byte
   abbrev Sees : ℕ → Option (Option ℕ) → Type 0
   Sees offset seen = seen ≡ option_map (target code state.fork) (slice_get bytes offset)
 
@@ -61,7 +61,7 @@ module _ (code : CodeValue) (bytes : List ℕ) (start : ℕ) (at : Status) (stat
   later : (offset : ℕ) → (at.state ≢ code.root) ⊎ (offset ≢ start) → (at.state == code.root && offset == start) ≡ false
   later offset h = ⊎_elim (λ other. other_and at.state code.root (offset == start) other) (λ other. and_other (at.state == code.root) offset start other) h
 
-  -- what the byte leads to, or the end
+  -- the state to which the byte or the end leads
   pub does_lead : (offset : ℕ) (seen : Option (Option ℕ)) (to : Option ℕ) (context : Option (ℕ × ℕ)) → Stops offset → Sees offset seen →
       (seen ≡ Some to) ⊎ ((seen ≡ None) × ((at.state ≢ code.root) ⊎ (offset ≢ start)) × (to ≡ state.at_end)) →
       context ≡ marked state.mark offset at.context →

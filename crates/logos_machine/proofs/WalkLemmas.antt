@@ -81,7 +81,7 @@ module _ (code : CodeValue) (sound : IsSound code) (bytes : List ℕ) (start : �
     continues = λ found n g. let e : 0 + n ≡ n = omega arith in rw e g;
   }
 
-  -- a look from a state on
+  -- an examination from a state on
   pub looks_on : (state offset before entry stop : ℕ) → Comes code bytes start state offset before → LooksAhead code bytes state offset entry stop →
       Reaches code bytes start state entry stop before
   looks_on state offset before entry stop comes looks = record {

@@ -106,7 +106,7 @@ module _ {C : Type 0} (callback : Callback) (old : LexerValue C) where
         } in
         subst (λ (l : LexerValue C). YieldsWithin callback old l item) (sym is_new) (subst (λ i. YieldsWithin callback old (moved old from to steps) i) (sym is) made)
 
-  -- what comes next depends on what follows
+  -- the next item depends on the bytes after the part
   pub waits_within : (from : ℕ) (new : LexerValue C) → new ≡ moved old from from old.steps → ContinuesWithin from → LooksPast old.code old.input from (first_status old.code from) → Waits callback old new
   waits_within from new is_new i looks =
       let made : Waits callback old (moved old from from old.steps) = record {

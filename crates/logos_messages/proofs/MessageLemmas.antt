@@ -73,7 +73,7 @@ nothing_mapped : {S : Type 0} (bytes : S → List ℕ) (text : Option S) → opt
 nothing_mapped bytes None e = refl
 nothing_mapped bytes (Some text) e = absurd (cc)
 
--- what was pushed with this report, and then ended, is a line
+-- the text that was pushed with this report, and then ended, is a line
 pub message_put : {S : Type 0} (bytes : S → List ℕ) (source : SourceValue) (begin : ℕ) (head : List Token) (span : Span) (also : Option Span) (texts : List (List ℕ)) {old middle new : LinesValue} (rendered : Option S)
     (text : Option (List ℕ)) → text ≡ option_map bytes rendered → IfSome rendered (λ t. OccurInOrder texts (bytes t)) → (rendered ≡ None → HasLongLine source begin span) → YieldsMessage source begin head span also text old middle → Ends middle new →
     (shown : Shown) × IsShown source begin span also texts shown × Puts (diagnostic_tokens source begin head span also shown ∷ []) old new

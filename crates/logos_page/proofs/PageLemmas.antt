@@ -33,7 +33,7 @@ shows_then {one} {other} {old} {middle} {new} a b = record {
   whole = λ w. let m = b.whole w in let f = a.whole m.0 in (f.0, adds_then one other old.text middle.text new.text f.1 m.1);
 }
 
--- what is pushed is shown
+-- text that is pushed is shown
 pub shown : {bytes : List ℕ} {old new : PageValue} → Gains bytes old new → Shows (bytes ∷ []) old new
 shown {bytes} {old} {new} g = record {
   colored = g.colored;
@@ -57,7 +57,7 @@ gains_then {one} {other} {old} {middle} {new} a b = record {
   whole = λ w. let m = b.whole w in let f = a.whole m.0 in (f.0, m.1 ∙ ap (λ x. x ++ other) f.1 ∙ append_assoc old.text one other);
 }
 
--- what is shown may be of no account
+-- the facts about shown text may be dropped
 pub unseen : {texts : List (List ℕ)} {old new : PageValue} → Shows texts old new → Shows [] old new
 unseen {texts} {old} {new} s = record {
   colored = s.colored;
@@ -85,10 +85,10 @@ painted_gained style text old begins middle new b t e =
 pub gains_as : (text : Bool → List ℕ) {is_colored : Bool} {middle new : PageValue} → middle.is_colored ≡ is_colored → Gains (text middle.is_colored) middle new → Gains (text is_colored) middle new
 gains_as text {is_colored} {middle} {new} e g = subst (λ c. Gains (text c) middle new) e g
 
--- the same of what is shown
+-- the same fact about shown text
 pub shows_as : (texts : Bool → List (List ℕ)) {is_colored : Bool} {middle new : PageValue} → middle.is_colored ≡ is_colored → Shows (texts middle.is_colored) middle new → Shows (texts is_colored) middle new
 shows_as texts {is_colored} {middle} {new} e s = subst (λ c. Shows (texts c) middle new) e s
 
--- what is shown first stays shown
+-- text that is shown first stays shown
 pub first_shown : {one other : List (List ℕ)} {old middle new : PageValue} → Shows one old middle → Shows other middle new → Shows one old new
 first_shown {one} {other} {old} {middle} {new} s t = subst (λ texts. Shows texts old new) (append-nil one) (shows_then s (unseen t))

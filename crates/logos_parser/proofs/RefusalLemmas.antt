@@ -62,7 +62,7 @@ pub result_ends : {T : Type 0} (source : List ℕ) (tokens : TokenList) (result 
 result_ends source tokens (Ok value) s shallow h = tt
 result_ends source tokens (Err error) s shallow h = refuses_by (EndsTokens tokens) (OneEnds source) (λ faults e. tokens_end source tokens faults s shallow e) error h
 
--- what spells tokens that nest no deeper than the limit spells no others
+-- a source that spells tokens within the limit of nesting spells no others
 pub shallow_result : {T E : Type 0} (source : List ℕ) (tokens : TokenList) (result : Result T E) → Spells source tokens → depth_of tokens ≤ 128 →
     IfOk result (λ read. IsShallow source)
 shallow_result source tokens (Ok value) s shallow = λ other t. rw (← spells-one source tokens other s t) shallow

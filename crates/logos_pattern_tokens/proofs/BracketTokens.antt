@@ -401,7 +401,7 @@ lone_is : (item : BracketItem) (rest : Text) → begins_range rest ≡ false →
 unfolding lone_at
 lone_is item rest e = rw e refl
 
--- what begins an item is read as one
+-- text that begins an item is read as one
 to_item : (t : Text) → begins_item t ≡ true → bracket_token_at t ≡ item_at t
 unfolding bracket_token_at
 to_item [] e = absurd cc

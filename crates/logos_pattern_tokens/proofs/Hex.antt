@@ -19,7 +19,7 @@ too_high n (c ∷ t) h = from (λ d. too_high (n * 16 + d) t (omega arith)) (hex
     from more None = refl
     from more (Some d) = more d
 
--- The digits up to a point are read: what comes of them all.
+-- The digits up to a point are read: the result for all of them.
 module _ (n : ℕ) (digits : Text) (i : ℕ) (so_far : hex_from n (drop i digits) ≡ hex_from 0 digits) where
   at_digit : (c : ℕ) (o : Option ℕ) → i < length digits → c ≡ get_or digits i c → hex_digit c ≡ o → hex_from 0 digits ≡ (o >>= λ d. hex_from (n * 16 + d) (drop (i + 1) digits))
   at_digit c o h e is =

@@ -108,7 +108,7 @@ letter_next s c next is = let other : eqb c 45 ≡ false = from (eqb c 45) refl 
     from true e = let h : with_letter s.change s.on c ≡ with_letter s.change s.on 45 = ap (with_letter s.change s.on) (eqb-true c 45 e) in absurd cc
     from false e = refl
 
--- what a step was
+-- the cases of a step
 pub data Step (s t : Letters) (c : ℕ) : Type 0 where
   by_dash : c ≡ 45 → s.on ≡ true → t ≡ record s { on = false; pending = true } → Step s t c
   by_letter : (next : Change) → with_letter s.change s.on c ≡ Some next → t ≡ record s { change = next; pending = false } → Step s t c
@@ -175,7 +175,7 @@ settings_of letters change k = from (on_state no_letters letters change refl k)
     from (all_on turns some) = only_on letters change (some refl) turns
     from (then_off front off half e turns offs some) = subst (λ x. Settings x change) (sym e) (some_off front off half change some turns offs)
 
--- the letters are read, and what follows them
+-- the letters are read, and the text after them
 letters_turn : (change last : Change) (on : Bool) (letters : Text) → Turns change on letters last → (pending : Bool) (tail : Text) (final : Change) →
     ((p : Bool) → ((0 < length letters) ⊎ (pending ≡ false) → p ≡ false) → Completes (record { change = last; on = on; pending = p }) tail final) →
     Completes (record { change = change; on = on; pending = pending }) (letters ++ tail) final

@@ -66,7 +66,7 @@ escaped_taken t = from (escape_at t) (escape_taken t)
     from None h = tt
     from (Some x) h = escaped x.0 t x.1 h
 
--- a character that is none of the bare ones
+-- a character that is not among the bare ones
 other_char : (c : ℕ) → eqb c 124 ≡ false → eqb c 40 ≡ false → eqb c 41 ≡ false → eqb c 42 ≡ false → eqb c 43 ≡ false → eqb c 63 ≡ false → eqb c 123 ≡ false → eqb c 92 ≡ false → eqb c 46 ≡ false → eqb c 94 ≡ false → eqb c 36 ≡ false → eqb c 91 ≡ false → is_meta c ≡ false
 other_char c a b d e f g h i j k l m =
     rw (sym_false c 92 i, sym_false c 46 j, sym_false c 43 f, sym_false c 42 e, sym_false c 63 g, sym_false c 40 b, sym_false c 41 d, sym_false c 124 a, sym_false c 91 m, sym_false c 123 h, sym_false c 94 k, sym_false c 36 l) refl

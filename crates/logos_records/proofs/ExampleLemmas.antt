@@ -1,4 +1,4 @@
--- The objects of leaves with what they find, one after another.
+-- The objects of leaves with their examples, one after another.
 use Rattle.std.proofs.Common.{◌≡◌, ◌≤◌, ◌<◌, ◌+◌, ◌-◌, ℕ, suc, Bool, List, [], ◌∷◌, sym, refl, subst, arith}
 use Rattle.logos_json.proofs.LineLemmas.{puts_nothing, puts_then}
 use Rattle.logos_json.specs.Lines.{LinesValue}

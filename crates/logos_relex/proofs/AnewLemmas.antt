@@ -32,7 +32,7 @@ module _ (code : CodeValue) (callback : Callback) (old new : Lexed) (former inpu
   front_long : length front ≡ replaced.from
   front_long = let order = edited.order in let within = edited.within in length-take-le replaced.from former (omega (arith, order, within))
 
-  -- what is before the edit
+  -- the items before the edit
   stays_before : (k : ℕ) → LookBelow replaced.from (take k old.chunks.items) → AreChunks code callback input (take k old.chunks.items) (drop (bytes_of (take k old.chunks.items)) input)
   stays_before k below =
       let made = lexed.made in
@@ -44,7 +44,7 @@ module _ (code : CodeValue) (callback : Callback) (old new : Lexed) (former inpu
       let now = chunks_front code callback front (drop replaced.from former) rest (drop (bytes_of chunks) former) chunks (subst (λ (n : ℕ). LookBelow n chunks) (sym front_long) below) was in
       subst (λ (l : List ℕ). AreChunks code callback l chunks (drop (bytes_of chunks) l)) (sym is) now
 
-  -- what is after it
+  -- the items after it
   stays_after : (k start : ℕ) (pre left : List ℕ) → input ≡ pre ++ left → IsMet old replaced.to left start k → left ≡ drop (bytes_of (take k old.chunks.items)) former
   stays_after k start pre left is met =
       let p = bytes_of (take k old.chunks.items) in
@@ -101,7 +101,7 @@ relexed code callback old new input replaced start made was border below anew pu
   length_is = puts.length_is;
 }
 
--- what the former input says of the numbers
+-- the facts about the numbers from the former input
 pub known : (code : CodeValue) (callback : Callback) (old : Lexed) (input : List ℕ) (replaced : Span) → WasLexed code callback replaced input old →
     (replaced.to ≤ old.length) × (bytes_of old.chunks.items ≤ old.length) × (replaced.from ≤ length input)
 known code callback old input replaced was =

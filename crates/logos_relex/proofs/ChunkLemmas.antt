@@ -32,7 +32,7 @@ module _ (code : CodeValue) (callback : Callback) where
       let less : chunk.window ≤ size = omega (arith, within, long) in
       chunk_front (take size bytes) bytes chunk c (omega (arith, less, fits)) (take-take chunk.window size bytes less)
 
-  -- what a lexer found in a part up to a point is a chunk
+  -- the items that a lexer found in a part up to a point are a chunk
   pub settled_chunk : (part : List ℕ) (chunk : Chunk) → SettlesUpTo code callback (take chunk.window part) chunk.items.items chunk.length → chunk.window ≤ length part → 0 < chunk.length →
       (IsTrue code.utf8 → IsUtf8 (take chunk.window part)) → IsChunk code callback part chunk
   settled_chunk part chunk s fits some text =

@@ -90,7 +90,7 @@ module _ (uses : List Use) (callback : Callback) (bytes : List ℕ) where
   run_slices (match from to leaf answer rest s m l) = match_slices answer leaf from to rest (run_slices l)
   run_slices (fault from to rest s l) = (refl, run_slices l)
 
--- what is stored of an item gives it again
+-- the stored form of an item determines the item
 pub stored : (bytes : List ℕ) (item : TheItem) → HasSlice bytes (item_of item) → item_at bytes (offset_of item) ≡ item_of item
 stored bytes (found.Token leaf span slice) h = ap (λ s. token leaf.0 span.from span.to s) (sym h)
 stored bytes (found.Error leaf span slice) h = ap (λ s. error (option_map (λ l. l.0) leaf) span.from span.to s) (sym h)

@@ -9,12 +9,12 @@ use Rattle.logos_relex.specs.declared.anew.After.TheVariants.{Former, Last}
 use Rattle.logos_relex.specs.declared.anew.Anew.{Anew}
 use Rattle.logos_relex.specs.declared.lexed.Lexed.{Lexed}
 
--- what holds holds after an error
+-- a property that holds is preserved after an error
 pub on_err : {T E : Type 0} (result : Result T E) (P : Type 0) → P → OnErr result P
 on_err (Ok x) P p = tt
 on_err (Err e) P p = p
 
--- what follows from a value's clause holds of it
+-- the consequences of a value's clause hold for the value
 pub from_ok : {T E : Type 0} (result : Result T E) (P Q : Type 0) → (P → Q) → OnOk result P → IfOk result (λ _. Q)
 from_ok (Ok x) P Q f p = f p
 from_ok (Err e) P Q f p = tt

@@ -31,7 +31,7 @@ utf8_joined bytes far window le fits front rest =
     let first : IsUtf8 (take far bytes) = subst IsUtf8 (take-take far window bytes le) (IsUtf8-take (take window bytes) far front inside) in
     subst IsUtf8 (take-append-drop far bytes) (IsUtf8-append (take far bytes) (drop far bytes) first rest)
 
--- what follows a front that is UTF-8 is UTF-8
+-- the bytes after a front that is UTF-8 are UTF-8
 pub window_rest : (bytes : List ℕ) (window : ℕ) → window ≤ length bytes → IsUtf8 bytes → IsUtf8 (take window bytes) → IsUtf8 (drop window bytes)
 window_rest bytes window fits whole front = IsUtf8-drop bytes window whole (IsCharBoundary-from_take bytes window whole fits front)
 

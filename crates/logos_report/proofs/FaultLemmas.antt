@@ -19,7 +19,7 @@ next_left faults i d l =
     let k : suc i ≡ i + 1 = omega arith in
     drop-cons faults i d l ∙ ap (λ n. get_or faults i d ∷ drop n faults) k
 
--- those in front with the next one, where `earlier` stand before all of them
+-- those in front with the next one, where `earlier` come before all of them
 pub next_front : (earlier : List Fault) (faults : List SpannedError) (i : ℕ) (d : SpannedError) → i < length faults →
     earlier ++ faults_of (take (i + 1) faults) ≡ (earlier ++ faults_of (take i faults)) ++ fault_of (get_or faults i d) ∷ []
 next_front earlier faults i d l = ap (λ list. earlier ++ list) (map_more fault_of faults i d l) ∙ sym (append_assoc earlier (faults_of (take i faults)) (fault_of (get_or faults i d) ∷ []))

@@ -83,7 +83,7 @@ seen_all p parts front (suc left) count is past =
     let most = past (omega arith) in
     omega (arith, is, below, some, all, most)
 
--- what is shown of the next part, and of those after it
+-- the shown faults of the next part, and of those after it
 pub part_then : (is_colored : Bool) (source : SourceValue) (parts : List Refused) (number : ℕ) (one : Refused) {old middle : PageValue} → number < length parts → one ≡ get_or parts number one →
     Shows (part_texts is_colored source (all_faults parts) (all_faults (take number parts)) one) old middle → (new : PageValue) → Shows (texts_from is_colored source parts (number + 1)) middle new → Shows (texts_from is_colored source parts number) old new
 part_then is_colored source parts number one {old} {middle} l e s new t =

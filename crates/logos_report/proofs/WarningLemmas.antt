@@ -14,7 +14,7 @@ next_warning warnings i d l =
     let k : suc i ≡ i + 1 = omega arith in
     drop-cons warnings i d l ∙ ap (λ n. get_or warnings i d ∷ drop n warnings) k
 
--- what is shown of the next warning, and of those after it
+-- the shown text of the next warning, and of those after it
 pub next_warned : (is_colored : Bool) (source : SourceValue) (begin : ℕ) (warnings : List Warning) (i : ℕ) (d : Warning) (old middle new : PageValue) → i < length warnings → d ≡ get_or warnings i d →
     Shows (warning_texts is_colored source begin d) old middle → Shows (all_texts is_colored source begin (drop (i + 1) warnings)) middle new → Shows (all_texts is_colored source begin (drop i warnings)) old new
 next_warned is_colored source begin warnings i d old middle new l same s t =

@@ -14,7 +14,7 @@ use Rattle.logos_rust_file.proofs.FrontLemmas.{item_of, Shape, another, a_module
 rest_cut : (text : List ℕ) (run rest : TokenList) → IsRestOf run rest → RunCut text run → RunCut text rest
 rest_cut text run rest r c = append_back text r.front rest (rw r.is at c)
 
--- what is inside a module, and what follows it
+-- the tokens inside a module, and the tokens after it
 module_cut : (text : List ℕ) (at inside rest : TokenList) → Shape at (is_module inside rest) → RunCut text at → RunCut text inside × RunCut text rest
 module_cut text _ inside rest (a_module) c = (c.1.1.0.1, c.1.1.1)
 

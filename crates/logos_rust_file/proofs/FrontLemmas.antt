@@ -1,4 +1,4 @@
--- What is left of a run after its first item.
+-- The rest of a run after its first item.
 use Rattle.std.proofs.Common.{◌≡◌, ◌==◌, ◌<◌, ◌≤◌, ℕ, Bool, true, false, List, refl, sym, ap, ◌∙◌, arith, subst, codes}
 use Rattle.std.specs.Str.{bytes_eq}
 use Rattle.logos_lexeme.specs.declared.lexeme.Span.{Span}
@@ -88,7 +88,7 @@ head_rest (also (group delimiter span inside) rest) = IsRestOf-self _
 enum_body_rest : (run : TokenList) → IsRestOf run (after_body (after_head run))
 enum_body_rest run = IsRestOf-join _ _ _ (head_rest run) (body_rest (after_head run))
 
--- what an item may be
+-- the kinds of an item
 pub data Shape : TokenList → KindValue → Type 0 where
   nothing : Shape none ends
   an_enum : {text : List ℕ} {span : Span} {more rest : TokenList} → rest ≡ after_body (after_head more) → Shape (also (identifier text span) more) (is_enum rest)
@@ -161,7 +161,7 @@ shaped_front run _ rest r (an_enum {text} {span} {more} e) =
 pub enum_front : (run rest : TokenList) → is_enum rest ≡ kind_of run → EnumFront run rest
 enum_front run rest e = let item = item_of run (is_enum rest) e in shaped_front run item.at rest item.front item.shape
 
--- what follows an enum
+-- the tokens after an enum
 abbrev pub enum_rest : (run rest : TokenList) → is_enum rest ≡ kind_of run → IsRestOf run rest
 enum_rest run rest e = record { front = also (enum_front run rest e).token (enum_front run rest e).tail; is = (enum_front run rest e).is }
 

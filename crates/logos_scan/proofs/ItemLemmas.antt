@@ -87,7 +87,7 @@ start_within code rows input run start at r =
     let within = c.within in
     omega (arith, past, begun, near, within)
 
--- what is skipped lies after
+-- the skipped matches lie after
 pub skips_le : (code : CodeValue) (bytes : List ℕ) (from to : ℕ) → SkipsTo code bytes from to → from ≤ to
 skips_le code bytes from to (skips_none at) = omega arith
 skips_le code bytes from to (skips_then first mid end leaf steps s attempted is) =
@@ -101,7 +101,7 @@ skips_within code bytes from to h (skips_then first mid end leaf steps s attempt
     let fits : IsMatch code bytes mid leaf end = attempted.within in
     fits.2
 
--- what is taken ends in the input, and after where it was looked for, or at the end
+-- the match that is taken ends in the input and after the start of its search, or at the end
 pub taken_past : (code : CodeValue) (bytes : List ℕ) (from : ℕ) (taken : Taken) (next : ℕ) → from ≤ length bytes → IsTaken code bytes from taken next →
     (next ≤ length bytes) × (from < length bytes → from < next)
 taken_past code bytes from (TakenEmits leaf span) next h t =

@@ -71,7 +71,7 @@ root_is_row_start code rows folded =
     let there = s.state in
     omega (arith, folded.count, there)
 
--- a run from what was loaded
+-- a run from the bytes that were loaded
 pub loaded_run : (code : CodeValue) (rows input : List ℕ) (run : WithChunk) (start base row_start : ℕ) (entries : List ℕ) (loaded : Loaded) → IsLoaded rows input base row_start entries loaded →
     run.chunk.entries ≡ entries → run.cursor.base ≡ base → run.count ≡ loaded.count → run.row_start ≡ loaded.row_start → run.low ≡ 0 → IsMarked run.chunk → IsAt run.chunk.entries run.cursor → HasRoom base →
     ComesTo code input start base row_start → IsRun code rows input run start 0
@@ -174,7 +174,7 @@ module _ (code : CodeValue) (rows : List ℕ) (folded : AreFolded code rows) (in
       }
 
   module _ (cur : ChunkCursor) (same_base : cur.base ≡ base) (is_at : IsAt entries cur) where
-    -- where a later match attempt stands, the run with the cursor there stands
+    -- the run with the cursor at a later match attempt is in its state
     later_run : (start from at now : ℕ) (r : IsRun code rows input run start from) → from ≤ at → at ≤ run.count → NoToken entries from at → StartsAt base entries from start at now →
         IsRun code rows input (moved run cur) now at × SkipsTo code input start now
     later_run start from at now r le near none starts =
@@ -248,7 +248,7 @@ module _ (code : CodeValue) (rows : List ℕ) (folded : AreFolded code rows) (in
       let w = r.walked in
       subst (λ (p : ℕ). ComesTo code input start (base + run.count) p) (sym (w.none refl)) r.is_at
 
-  -- what ends before a flagged entry
+  -- the match that ends before a flagged entry
   module _ (start at : ℕ) (r : IsRun code rows input run start at) (inside : at < run.count) (ended : end_bit entries at ≡ 1) where
     abbrev entry : ℕ
     entry = slice_index entries at
@@ -286,7 +286,7 @@ bytes_at bytes are k = elim (ways k (length bytes)) [
   | inr g ↦ let e = get_or-eq_default bytes 0 g in omega (arith, e)
 ]
 
--- what is taken after more that is skipped
+-- the match that is taken after more skipped matches
 pub taken_after : (code : CodeValue) (bytes : List ℕ) (from mid : ℕ) (taken : Taken) (next : ℕ) → SkipsTo code bytes from mid → IsTaken code bytes mid taken next → IsTaken code bytes from taken next
 taken_after code bytes from mid (TakenEmits leaf span) next s t = (skips_join code bytes from mid span.from s t.0, t.1, t.2, t.3)
 taken_after code bytes from mid (TakenCallsBack leaf span) next s t = (skips_join code bytes from mid span.from s t.0, t.1, t.2)

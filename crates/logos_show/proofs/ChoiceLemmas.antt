@@ -10,7 +10,7 @@ use Rattle.logos_show.specs.Choices.{IsLexerOf, IsSameOr, IsTaken, first_derivin
 abbrev pub AreAmong : List FoundEnum → Option FoundEnum → Type 0
 AreAmong found chosen = (one : FoundEnum) → chosen ≡ Some one → Contains found one × (one.derives ≡ true)
 
--- what is chosen already, or the first one of the rest
+-- the enum that is chosen already, or the first one of the rest
 abbrev pub first_of : Option FoundEnum → List FoundEnum → Option FoundEnum
 first_of (Some one) rest = Some one
 first_of None rest = first_deriving rest
@@ -70,7 +70,7 @@ pub no_name : (name : Option (Bor (List ℕ))) → option_map (λ text. text.now
 no_name None is = refl
 no_name (Some name) is = absurd (cc)
 
--- what is taken in the end
+-- the enum that is finally chosen
 pub is_taken : (found : List FoundEnum) (name : Option (List ℕ)) (exact first : Option FoundEnum) → AreAmong found exact → AreAmong found first →
     (name ≡ None → (exact ≡ None) × (first ≡ first_deriving found)) → IfSome (taken exact first) (IsTaken found name)
 is_taken found name (Some one) first here near unnamed = record { has = (here one refl).0; derives = (here one refl).1; first = λ none. let is : Some one ≡ None = (unnamed none).0 in absurd (cc) }

@@ -1,4 +1,4 @@
--- What a lexer at the start of some bytes finds there.
+-- The first result of a lexer at the start of some bytes.
 use denote.Param.Members.{Shared}
 use denote.Ref.{Bor}
 use Rattle.std.proofs.Common.{◌≡◌, ℕ, ◌≤◌, Bool, true, false, if◌then◌else◌, List, [], ◌∷◌, ◌++◌, length, Some, slice_range, refl, subst, sym, arith}

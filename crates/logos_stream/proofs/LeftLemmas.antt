@@ -26,7 +26,7 @@ not_both : {P : Type 0} (b : Bool) → IsFalse b → IsTrue b → P
 not_both true f t = absurd (cc)
 not_both false f t = absurd (cc)
 
--- ---- what was read is all that the reader had
+-- ---- the bytes that were read are all bytes of the reader
 
 none_left : (first rest all : List ℕ) → length rest ≡ 0 → first ≡ all → first ++ rest ≡ all
 none_left first [] all h e = append-nil first ∙ e

@@ -1,4 +1,4 @@
--- What comes next in a stream, from what comes first in the bytes that can be lexed.
+-- The next event of a stream, from the first event in the lexable bytes.
 use Rattle.std.proofs.Common.{◌≡◌, ◌⊎◌, inl, inr, ℕ, ◌<◌, false, List, ◌++◌}
 use Rattle.logos_code.specs.Code.{CodeValue}
 use Rattle.logos_code.specs.Items.{Callback}

@@ -1,4 +1,4 @@
--- The longest beginning that is UTF-8, and what is after it.
+-- The longest prefix that is UTF-8, and the bytes after it.
 use Rattle.std.proofs.Common.{◌≡◌, inr, ℕ, ◌+◌, Bool, IsTrue, List, take, drop, sym, subst, arith}
 use Rattle.std.proofs.Math.Seq.{take-add}
 use Rattle.std.proofs.lemmas.List.{length-drop}
@@ -15,7 +15,7 @@ rest_is_no_text bytes n v = record {
   longest = λ m some u. v.longest (n + m) (omega arith) (subst IsUtf8 (sym (take-add n m bytes)) (IsUtf8-append (take n bytes) (take m (drop n bytes)) v.front u));
 }
 
--- of a text, with what the standard library says of its fault
+-- of a text, with the standard library's contract about its fault
 pub text_front : (utf8 : Bool) (bytes : List ℕ) (valid : ℕ) (fault : Bool) → IsTrue utf8 → IsValidUpTo bytes valid → fault ≡ is_some (utf8_error_len (drop valid bytes)) →
     IsTail utf8 bytes (record { valid = valid; is_at_fault = fault })
 text_front utf8 bytes valid fault text v f = record {

@@ -16,7 +16,7 @@ use Rattle.logos_stream.specs.WindowValue.{GoesPast, ReadsOn, WindowValue}
 use Rattle.logos_stream.specs.declared.item.StreamItem.{StreamItem}
 
 module _ (code : CodeValue) (callback : Callback) where
-  -- what is so regardless of the bytes that follow is so if nothing follows
+  -- a fact that holds regardless of the bytes that follow holds if none follow
   closed : (last : Bool) (bytes : List ℕ) (items : List Item) (to : ℕ) → AreBegun code callback bytes items to → AreFound last code callback bytes items to
   closed false bytes items to h = h
   closed true bytes items to h = λ later r.

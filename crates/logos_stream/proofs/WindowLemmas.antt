@@ -34,7 +34,7 @@ module _ (part : List ℕ) (at ready : ℕ) (order : at ≤ ready) (within : rea
           ∙ sym (take-take (to - from) (ready - at - from) (drop from (drop at part)) short)
           ∙ ap (take (to - from)) (sym (drop-take from (ready - at - from) (drop at part)) ∙ ap (λ n. drop from (take n (drop at part))) (sym k))
 
-      -- what is before a slice, and the slice
+      -- the bytes before a slice, and the slice
       pub passed_are : slice_range part at (at + from) ++ slice_range part (at + from) (at + to) ≡ take to (slice_range part at ready)
       passed_are =
           let a : (at + from) - at ≡ from = omega arith in
@@ -112,7 +112,7 @@ module _ (utf8 : Bool) (part : List ℕ) (most : ℕ) (over : Bool) (before firs
     wanted = is.wanted;
   }
 
-  -- and what callers see of it
+  -- and the part of it that callers see
   pub moved_past : {R : Type 0} (reader : R) (offset next bound wanted : ℕ) → next ≡ min (offset + to) (2 ^ 64 - 1) →
       GoesPast {R = R} to
       (record {
@@ -157,7 +157,7 @@ module _ (utf8 : Bool) (part : List ℕ) (most : ℕ) (over : Bool) (before firs
   pub moved_slice : slice_range part (at + from) (at + to) ≡ slice_range (slice_range part at ready) from to
   moved_slice = slice_of part at ready is.order is.within to inside from ordered
 
--- what follows the last bytes
+-- the event after the last bytes
 pub torn_last : {R : Type 0} (window : WindowValue R) → HasEnded window.utf8 window.is_over window.after → 0 < length window.after → IsTorn window
 torn_last window ended some = ⊎_elim
     (λ e. absurd (let n : length window.after ≡ 0 = ap length e.0 in omega (arith, some, n)))
@@ -186,7 +186,7 @@ alone false b e h = h
 
 module _ (utf8 : Bool) (part : List ℕ) (most : ℕ) (was : Bool) (before first at ready : ℕ) (last : Bool) (limit least : ℕ)
     (is : IsWindow utf8 part most was before first at ready last limit least)
-    (added next : List ℕ) (grows : next ≡ drop at part ++ added) (tail : Tail) (tells : IsTail utf8 (drop (ready - at) next) tail) where
+    (added next : List ℕ) (grows : next ≡ drop at part ++ added) (tail : Tail) (is_tail : IsTail utf8 (drop (ready - at) next) tail) where
   kept : ready - at ≤ length (drop at part)
   kept = let o = is.order in let w = is.within in omega (arith, o, w, length-drop at part)
 
@@ -206,15 +206,15 @@ module _ (utf8 : Bool) (part : List ℕ) (most : ℕ) (was : Bool) (before first
   ends_now over h = subst (HasEnded utf8 over) (sym after_now) (⊎_elim
       (λ e. inl (e.0, alone tail.is_at_fault over e.1 h))
       (λ t. inr (t.0, (tail.is_at_fault, t.1, either tail.is_at_fault over h)))
-      tells.rest)
+      is_tail.rest)
 
   pub read_window : (over : Bool) (bound : ℕ) → bound ≡ most → IsWindow utf8 next bound over 0 0 0 (ready - at + tail.valid) (tail.is_at_fault || over) limit least
   read_window over bound same = record {
     skipped = omega arith;
     span = omega arith;
     order = omega arith;
-    within = let w = tells.within in let k = kept in omega (arith, w, k, length-drop (ready - at) next, ap length grows, length-append (drop at part) added);
-    text = λ t. subst IsUtf8 (sym lexed_now) (IsUtf8-append (slice_range part at ready) (take tail.valid (drop (ready - at) next)) (is.text t) (tells.text t));
+    within = let w = is_tail.within in let k = kept in omega (arith, w, k, length-drop (ready - at) next, ap length grows, length-append (drop at part) added);
+    text = λ t. subst IsUtf8 (sym lexed_now) (IsUtf8-append (slice_range part at ready) (take tail.valid (drop (ready - at) next)) (is.text t) (is_tail.text t));
     ended = ends_now over;
     bound = same ∙ is.bound;
     wanted = is.wanted;
@@ -262,7 +262,7 @@ module _ (utf8 : Bool) (part : List ℕ) (most : ℕ) (was : Bool) (before first
         ∙ ap (λ l. (slice_range part at ready ++ l) ++ added) (after_moved part at ready is.order is.within);
     grown = take tail.valid (drop (ready - at) next);
     lexed = lexed_now;
-    text = tells.text;
+    text = is_tail.text;
     last = λ h. absurd (let f : false ≡ true = sym begun ∙ h in cc);
     continues = λ h _. some h;
     over = λ h _. end h;

@@ -16,8 +16,8 @@ use std::marker::Model;
 
 /// A run of a code value on the bytes of a reader. Offsets and lengths count bytes.
 ///
-/// At most the bound is in memory, regardless of the length of the stream. In UTF-8 mode the bytes are
-/// validated as they are read.
+/// At most the bound is in memory, regardless of the length of the stream. In UTF-8 mode the bytes
+/// are validated as they are read.
 ///
 /// ```text
 /// let mut stream = Stream::new(alloc, &code, reader, bound, callback)?;

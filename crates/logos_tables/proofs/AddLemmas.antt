@@ -35,7 +35,7 @@ numbers_added {t0} {t1} {t2} {t3} {t4} {states} {runs} {states'} {runs'} entries
     first : t1 ≡ t0 ++ unpacked_text states runs
     first = a ∙ ap (λ n. t0 ++ unpacked_text n runs') e ∙ ap (λ n. t0 ++ unpacked_text states n) f
 
--- what is made of a code holds what it does
+-- the tables of a code hold its steps
 held : (code : CodeValue) (numbers symbols slots : List ℕ) (distinct : List (List ℕ)) (class_runs runs : List (ℕ × ℕ)) →
     AreMade code numbers symbols slots distinct class_runs runs →
     Hold code (record { classes = numbers; class_runs = class_runs; rows = map (by_classes symbols) distinct; runs = runs; slots = slots; width = length symbols })

@@ -36,7 +36,7 @@ wide_held symbols distinct i l =
     let row = slice_index_or distinct i [] in
     ap length (get_or-map (by_classes symbols) distinct i [] [] there) ∙ length-map symbols (λ symbol. slice_index row symbol)
 
--- what is inside the tables is read
+-- the entries inside the tables are read
 read : (tables : Tables) (state symbol step : ℕ) → state < length tables.slots → slice_index tables.slots state < length tables.rows →
     symbol < length tables.classes → slice_index tables.classes symbol < length (slice_index_or tables.rows (slice_index tables.slots state) []) →
     slice_index (slice_index_or tables.rows (slice_index tables.slots state) []) (slice_index tables.classes symbol) ≡ step → step_in tables state symbol ≡ Some step

@@ -13,7 +13,7 @@ use Rattle.logos_text.proofs.PieceLemmas.{prints_both, whole_text}
 use Rattle.logos_token.specs.declared.token.Ident.{Ident}
 use Rattle.logos_token.specs.Tokens.{TokenList}
 
--- what a front does that is stripped, or is not there
+-- the effect of a front that is stripped, or that is missing
 stripped_front : (name this : List ℕ) (rest : Bor (List ℕ)) → StripsPrefix (FindsTextPrefix name) this rest.now → (starts_with (λ one other. one == other) this name ≡ true) × (this ≡ name ++ rest.now)
 stripped_front name this rest h = (
   sym (starts_text true name this (h.0, h.1, subst (λ n. IsCharBoundary this n) (sym h.1.0) h.1.2)),

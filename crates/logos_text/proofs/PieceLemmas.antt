@@ -1,4 +1,4 @@
--- What a sink was given, step by step.
+-- The texts that a sink was given, step by step.
 use Rattle.std.proofs.Common.{◌≡◌, ◌<◌, ◌≤◌, ℕ, suc, ◌+◌, add-one, drop, drop-cons, get_or, List, [], ◌∷◌, ◌++◌, length, append-nil, arith, append_assoc, length-append, refl, sym, ◌∙◌, ap, string_bytes, subst}
 use Rattle.std.proofs.Math.ListN.{drop_of_length-le}
 use Rattle.std.specs.List.{flat_map}
@@ -146,7 +146,7 @@ runs_all f xs i start sink l so_far = so_far sink (subst (λ left. Notes (flat_m
 
 -- ---- a whole sink
 
--- what was given to an empty sink is all of it
+-- the texts given to an empty sink are its whole text
 pub whole_printed : {text : List ℕ} {runs : List TokenList} {a b : Sink} → IsEmptySink a → Prints text runs a b → ArePrinted runs 0 b.pieces.items (string_bytes b.text)
 whole_printed {text} {runs} {a} {b} empty p =
     subst (λ w. ArePrinted runs 0 b.pieces.items w) (sym (p.is_text ∙ ap (λ w. w ++ text) empty.text))

@@ -56,7 +56,7 @@ adds_nothing a = record { added = []; is = sym (append-nil a); occur = tt }
 pub grows_text : {a b : List ℕ} (text : List ℕ) → b ≡ a ++ text → Grows a b
 grows_text text e = record { added = text; is = e; occur = tt }
 
--- what is added to nothing is the whole
+-- a text added to the empty text is the whole
 pub occur_whole : {texts : List (List ℕ)} {old whole : List ℕ} → old ≡ [] → Adds texts old whole → OccurInOrder texts whole
 occur_whole {texts} {old} {whole} none p = subst (λ w. OccurInOrder texts w) (sym (p.is ∙ ap (λ w. w ++ p.added) none)) p.occur
 

@@ -148,7 +148,8 @@ module _ (params : List ParamValue) where
       either t true e h = inl e
       either t false e h = inr (rw e at h)
 
--- the parts of a type, one after another, where a result for the rest completes to a result for the whole
+-- the parts of a type, one after another, where a result for the rest completes to a result for the
+-- whole
 pub reaches_on : (params : List ParamValue) (Whole : List ℕ → Type 0) (items : List TypePart) (k : ℕ) (p : TypePart) (old mid : List ℕ) →
     ((new : List ℕ) → Reaches params (some_names (trees (map tree_of (drop k items)))) old new → Whole new) → k < length items → p ≡ get_or items k p →
     Reaches params (names (tree_of p)) old mid →
@@ -211,7 +212,7 @@ module _ (params : List ParamValue) (lists : List (List ℕ)) (reached : AreReac
       let g = f i (let w = occurs_within params t i s in omega (arith, w, same)) in
       (λ m. chain_of (g.0 m) t t s s, λ l. g.1 (path_of l i i s s))
 
--- what is marked where the lists have more than their items
+-- the marks if the lists have more than their items
 pub marked_by : (params : List ParamValue) {L : Type 0} (items : L → List ℕ) (lists : List L) → AreReached params params (map items lists) → (marks : List Bool) →
     ((i : ℕ) → i < length lists → IsTrue (slice_index_or marks i false) ↔ Path (map items lists) i i) → AreMarked params marks
 marked_by params items lists reached marks f =

@@ -20,7 +20,7 @@ among_keys t (k ∷ keys) = go (bytes_eq t k.now) refl (among_keys t keys)
     go true q rest = rw (eq_sym k.now t, q) refl
     go false q rest = rw (eq_sym k.now t, q) rest
 
--- what a name has, if an entry is searched and what is said of its type is taken
+-- the type of a name, if an entry is found and its property is used
 module _ {X : Type 0} (none : X) (some : TypeParam → X) (meant : Entries → Text → X) (empty : (t : Text) → meant [] t ≡ none)
     (front : (e : Bor Text × TypeParam) (es : Entries) (t : Text) → meant (e ∷ es) t ≡ (if bytes_eq e.0.now t then some e.1 else meant es t)) where
   abbrev chosen : Option TypeParam → X

@@ -10,7 +10,7 @@ use Rattle.logos_type_params.proofs.ChainLemmas.{declares}
 abbrev Text : Type 0
 Text = List ℕ
 
--- the names so far are held, and those that are held stand among them or are left
+-- the names so far are held, and those that are held are among them or remain
 pub record Needing (params : List ParamValue) (rest held : List Text) : Type 0 where
   pub lead_back : (text : Text) → Has held text → Leads params text text
   pub all : (text : Text) → Has (given_names params) text → Leads params text text → Has held text ⊎ Has rest text

@@ -156,7 +156,7 @@ copy_on types all_types all_faults all rest named keys keys' found old new befor
           ∙ sym (ap (λ names. before ++ missing_types types c.front names) e) ∙ c.faults_left;
     }
 
--- what follows from a fact about a success
+-- a consequence of a fact about a success
 pub on_ok_one : {T E P Q : Type 0} (r : Result T E) → (P → Q) → OnOk r P → OnOk r Q
 on_ok_one (Ok x) f p = f p
 on_ok_one (Err e) f p = tt
@@ -184,7 +184,7 @@ check_on params marks Whole all rest named keys keys' before after c e h are = r
   completes = λ faults r. c.completes faults (rw e (one_more (h.checked are c.front c.fronts) r));
 }
 
--- faults after those that stood in front already
+-- faults after those that were there before
 checked_after : {params : List ParamValue} {front : List Named} {named : Named} {old new : List Fault} (ahead : List Fault) → IsChecked params front named old new → IsChecked params front named (ahead ++ old) (ahead ++ new)
 checked_after ahead (declared_again d e) = declared_again d (ap (λ l. ahead ++ l) e)
 checked_after ahead (leads_on n e) = leads_on n (ap (λ l. ahead ++ l) e)

@@ -5,7 +5,7 @@ use Rattle.logos_type.specs.Depth.{some_exceed}
 use Rattle.logos_type.proofs.DepthLemmas.{some_deeper as some_over, some_within}
 use Rattle.logos_type_params.specs.Substitution.{Params, a_name, a_type, After, token, stays, named, put, inside, stays_still, AllAfter, none_after, also_after, Passes, name_here, type_here, put_inside, type_inside, still_here, SomePasses, first_passes, later_passes}
 
--- what exceeds some levels and not others is deeper than these
+-- a type that exceeds one number of levels is deeper than another number that it does not exceed
 still_deeper : (n m : ℕ) (ts : Trees) → some_exceed n ts ≡ true → some_exceed m ts ≡ false → n < m
 still_deeper n m ts e f = let h = some_over n ts e in let k = some_within m ts f in omega (arith, h, k)
 

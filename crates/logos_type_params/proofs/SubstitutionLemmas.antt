@@ -23,8 +23,8 @@ joined-push : (l : List Tree) (t : Tree) (ts : Trees) → joined (l ++ t ∷ [])
 joined-push [] t ts = refl
 joined-push (x ∷ rest) t ts = ap (also x) (joined-push rest t ts)
 
--- with what the parts so far became, what becomes of the rest completes the whole, and what passes
--- the limit in the rest does so in the whole
+-- with the results for the parts so far, the result for the rest completes the whole, and a type that
+-- passes the limit in the rest does so in the whole
 pub record Remains (params : Params) (levels : ℕ) (all : Trees) (now : List TypePart) (rest : Trees) : Type 0 where
   pub completes : (others : Trees) → AllAfter params levels rest others → AllAfter params levels all (joined (map tree_of now) others)
   pub passes : SomePasses params levels rest → SomePasses params levels all
@@ -64,7 +64,7 @@ pub rest_front : (items : List TypePart) (k : ℕ) (p : TypePart) → k < length
 rest_front items k p h e =
     at_drop_more (λ ps. trees (map tree_of ps)) items k p h ∙ ap (λ (q : TypePart). also (tree_of q) (trees (map tree_of (drop (k + 1) items)))) (sym e)
 
--- what stays as it is, within the levels or not
+-- parts that are unchanged, within the levels or not
 pub still_after : (params : Params) (levels : ℕ) (t : Tree) (ts : Trees) (result : Result TypePart TypeFault) → t ≡ still ts → IfOk result (λ after. (tree_of after ≡ t) × (exceeds levels t ≡ false)) →
     IfOk result (λ after. After params levels t (tree_of after))
 still_after params levels t ts (Ok after) e h =

@@ -33,7 +33,7 @@ all_own (part ∷ parts) = ap (also_part (own_lifetime (tree_of part))) (all_own
 pub whole_with_own : (parts : List TypePart) (after : Vec TypePart Global) → map tree_of after.items ≡ map (λ part. own_lifetime (tree_of part)) parts → tree_of (Whole after) ≡ whole (own_lifetimes (trees (map tree_of parts)))
 whole_with_own parts after each = tree-Whole after ∙ ap (λ (l : List Tree). whole (trees l)) each ∙ sym (ap whole (all_own parts))
 
--- what is read without a fault lists nothing
+-- a reading without a fault adds no fault
 read_same : {run : TokenList} {at : Span} {old new : List Fault} {tree : Tree} → ReadsValue run at old new (Some tree) → new ≡ old
 read_same (is_type t e) = e
 
@@ -49,12 +49,12 @@ pub set_given : (old new : Value) (named : Named) (run : TokenList) (before mid 
     after ≡ mid ++ given_faults (former old.types named.text) named → IsSet old named run before new after
 set_given old new named run before mid after tree part span r d p q n l t f = let s = read_same r in is_given (rw s at r) d n l (rw (p, q) at t) (rw s at f)
 
--- what holds, holds on an error
+-- a property that holds also holds on an error
 pub on_err_if : {T E P : Type 0} (r : Result T E) → P → OnErr r P
 on_err_if (Ok x) p = tt
 on_err_if (Err e) p = p
 
--- what follows from two facts about a success
+-- a consequence of two facts about a success
 pub on_ok_two : {T E P Q R : Type 0} (r : Result T E) → (P → Q → R) → OnOk r P → OnOk r Q → OnOk r R
 on_ok_two (Ok x) f p q = f p q
 on_ok_two (Err e) f p q = tt

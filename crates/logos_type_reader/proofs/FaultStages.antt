@@ -69,7 +69,7 @@ over_fixed P Q tokens r b fault k (inner_stage front left a s d) = inner_stage (
 over_fixed P Q tokens r b fault k (outer_stage rest front left e a s d) = outer_stage rest front left e a s
     (λ other l at h. k r (Some other) (fault_at fault l) (subst (λ (x : Option TokenList). SameOpen x (Some other)) (sym e) tt) (same_self r) (d other l at h))
 
--- a fault after what opens a group
+-- a fault after the opening of a group
 into_fixed : (P Q : TokenList → Option TokenList → Fault → Type 0) (d : Delimiter) (s : Span) (r after : TokenList) (fault : Fault) →
     ((t : Span) (inside other : TokenList) (f : Fault) → P inside (Some other) f → Q (also (group d t inside) other) None f) → FixedAt P r (Some after) fault → FixedAt Q (also (group d s r) after) None fault
 into_fixed P Q d s r after fault k (inner_stage front left a st decides) = inner_stage (within d front) left (in_group a) (occurs_within fault d front left st)
@@ -90,7 +90,7 @@ into_fixed P Q d s r after fault k (outer_stage rest front left e a st decides) 
     go other l None o q h = subst (λ (x : TokenList). Q x None (fault_at fault l)) (sym q.is) (k s r q.rest (fault_at fault l) h)
     go other l (Some x) o q h = absurd o
 
--- a fault after what closes a group
+-- a fault after the closing of a group
 out_fixed : (P Q : TokenList → Option TokenList → Fault → Type 0) (run r : TokenList) (fault : Fault) → ((other : TokenList) (f : Fault) → P other None f → Q run (Some other) f) → FixedAt P r None fault → FixedAt Q run (Some r) fault
 out_fixed P Q run r fault k (inner_stage front left a s d) = outer_stage r front left refl a s (λ other l at h. k other (fault_at fault l) (d other l None at tt h))
 out_fixed P Q run r fault k (outer_stage rest front left e a s d) = cc

@@ -315,7 +315,7 @@ not_not true e = cc
 or_false : (a b : Bool) → a ≡ false → b ≡ false → (a || b) ≡ false
 or_false a b e f = rw (e, f) refl
 
--- what ends in a name where nothing continues
+-- a type that ends in a name that nothing continues
 free_name : (kind : PathKind) (run : TokenList) → continues run ≡ false → begins_mark 33 run ≡ false → may_follow (name_ending kind) run ≡ true
 free_name Plain run e f = not_false (continues run || begins_mark 33 run) (or_false (continues run) (begins_mark 33 run) e f)
 free_name OfType run e f = not_false (continues run) e
@@ -425,7 +425,7 @@ self_type : {levels : ℕ} {run middle rest : TokenList} {self : Tree} {parts : 
 self_type w f (self_plain (self_closed l k)) = ending (of_type w l) k
 self_type w f (self_as (then_after l g (self_trait_closed (self_closed m k)))) = ending (of_trait w f l m) k
 
--- a path where one has to stand
+-- a path where one is required
 path_then : {levels : ℕ} {kind : PathKind} {After : Parts} {text : List ℕ} {s : Span} {run middle rest : TokenList} {front : List Tree} (back : List Tree) → APath levels kind (also (identifier text s) run) (sign (word text) ∷ front) middle → After middle back rest →
     Then (AnyPath levels kind) After (also (identifier text s) run) (sign (word text) ∷ (front ++ back)) rest
 path_then back (a_path w f) a = then_after (from_name w) f a
@@ -819,7 +819,7 @@ fits_trait_path_enclosed levels plus (also (group Bracket s inside) rest) after 
 fits_trait_path_enclosed levels plus (also (group Brace s inside) rest) after = tt
 fits_trait_path_enclosed levels plus none after = tt
 
--- what a move makes of one predicate, it makes of another that follows from it
+-- a move preserves an implication between predicates
 keeps_fit : (levels : ℕ) (p q : Stage) (run : TokenList) (b : Option TokenList) → ((parts : List Tree) (rest : TokenList) → Good levels p run b parts rest → Good levels q run b parts rest) → (m : Move) → Fits levels p run b m → Fits levels q run b m
 keeps_fit levels p q run b g ends h = g [] (outer run b) h
 keeps_fit levels p q run b g (takes s spot) h = λ parts rest k. g (sign s ∷ parts) rest (h parts rest k)
@@ -1283,7 +1283,7 @@ dyn_form (ending v f) = ending (trait_object v) f
 none_reserved : (a b c d f g h : Bool) → a ≡ false → b ≡ false → c ≡ false → d ≡ false → f ≡ false → g ≡ false → h ≡ false → (((a || b) || (c || d)) || ((f || g) || h)) ≡ false
 none_reserved a b c d f g h p q r s t u v = rw (p, q, r, s, t, u, v) refl
 
--- after a word, by what the word is
+-- after a name, by the kind of the name
 abbrev WordForm : ℕ → Bool → List ℕ → Span → TokenList → Type 0
 WordForm levels plus text s rest = (parts : List Tree) (r : TokenList) → Good levels (table.word_stage plus text) rest None parts r → Last (Form levels plus) (also (identifier text s) rest) (sign (word text) ∷ parts) r
 
@@ -1360,7 +1360,7 @@ form_written : {levels : ℕ} {plus : Bool} {run rest : TokenList} {s : Sign} {s
     Good levels spot.stage spot.run spot.outside parts rest → Last (Form levels plus) run (sign s ∷ parts) rest
 form_written {levels} {plus} {run} {rest} {s} {spot} {parts} n b g = let f : FitsFirst levels plus run (starts false s spot) = subst (FitsFirst levels plus run) b (fits_first levels plus run n) in f parts rest g
 
--- what is said of a type
+-- the property of a type
 abbrev IsWritten : ℕ → Bool → TokenList → Tree → TokenList → Type 0
 IsWritten levels plus run t rest = (e : Ending) × Written levels plus run t rest e × (may_follow e rest ≡ true)
 

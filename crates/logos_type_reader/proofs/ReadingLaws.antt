@@ -11,7 +11,7 @@ use Rattle.logos_type_reader.specs.Reading.{IsType, name_alone, formed, IsMove, 
 abbrev pub Same : Tree → TokenList → Tree → TokenList → Type 0
 Same t rest u other = (t ≡ u) × (rest ≡ other)
 
--- what moves there there can be, by what comes next
+-- the moves that are possible there, by the next token
 abbrev MoveOf : ℕ → Bool → Spot → List Tree → Spot → Move → Type 0
 MoveOf n b spot ps outside ends = ⊥
 MoveOf n b spot ps outside (takes s next) = (b ≡ false) × (ps ≡ sign s ∷ []) × (outside ≡ next)
@@ -33,7 +33,7 @@ move_of {n} {b} {spot} {outside} {ps} (a_nest e h) = subst (MoveOf n b spot ps o
 move_as : {n : ℕ} {b : Bool} {spot outside : Spot} {ps : List Tree} {m : Move} → IsMove n b spot ps outside → next_of spot ≡ m → MoveOf n b spot ps outside m
 move_as {n} {b} {spot} {outside} {ps} h e = subst (MoveOf n b spot ps outside) e (move_of h)
 
--- what parts there can be
+-- the possible parts
 data PartsOf (n : ℕ) (b : Bool) (spot : Spot) (ps : List Tree) (rest : TokenList) : Type 0 where
   none_follow : next_of spot ≡ ends → b ≡ false → ps ≡ [] → rest ≡ outer spot.run spot.outside → PartsOf n b spot ps rest
   some_follow : (now onward : Bool) (front others : List Tree) (outside : Spot) → b ≡ (now || onward) → ps ≡ front ++ others → IsMove n now spot front outside → AreParts n onward outside others rest → PartsOf n b spot ps rest
@@ -42,7 +42,7 @@ parts_of : {n : ℕ} {b : Bool} {spot : Spot} {ps : List Tree} {rest : TokenList
 parts_of (ended e) = none_follow e refl refl refl
 parts_of (further {now = now} {onward = onward} {next = outside} {front = front} {parts = others} m a e) = some_follow now onward front others outside e refl m a
 
--- what type there can be
+-- the possible type
 data TypeOf (n : ℕ) (plus : Bool) (run : TokenList) (t : Tree) (rest : TokenList) : Type 0 where
   of_word : (text : List ℕ) → name_of run ≡ Some text → t ≡ name text → rest ≡ rest_of run → TypeOf n plus run t rest
   of_form : (s : Sign) (spot : Spot) (ps : List Tree) → name_of run ≡ None → begin plus run ≡ starts false s spot → t ≡ whole (trees (sign s ∷ ps)) → AreParts (n - 1) false spot ps rest → TypeOf n plus run t rest
@@ -214,7 +214,7 @@ mutual
 pub not_less : {n : ℕ} {fault : Fault} → IsDeeper fault n n → ⊥
 not_less d = let h = d.1 in omega (arith, h)
 
--- what fault there can be
+-- the possible fault
 data FaultOf (n : ℕ) (plus : Bool) (run : TokenList) (fault : Fault) : Type 0 where
   of_name : (text : List ℕ) → n ≡ 0 → fault ≡ too_deep → name_of run ≡ Some text → FaultOf n plus run fault
   of_depth : (b : Bool) (s : Sign) (spot : Spot) → n ≡ 0 → fault ≡ too_deep → name_of run ≡ None → begin plus run ≡ starts b s spot → FaultOf n plus run fault
@@ -239,7 +239,7 @@ refuses_same e f = let k = sym e ∙ f in cc
 none_left : {n : ℕ} → n ≡ 0 → 0 < n → ⊥
 none_left z a = omega (arith, z, a)
 
--- what is in front of a rest is one thing
+-- the tokens before a rest are unique
 append_count : (front rest : TokenList) → count_of (append front rest) ≡ count_of front + count_of rest
 append_count no_token_left rest = omega arith
 append_count (and_token t front) rest = let h = append_count front rest in omega (arith, h)
@@ -296,7 +296,7 @@ bar_fault {n} {c = c} {rest = rest} {ps = ps} front a e k p i (of_bar b d s spot
     let m : append front rest ≡ append front' rest = sym i ∙ i' ∙ ap (λ (x : TokenList). append front' x) (sym l.2) in
     ap (λ (x : TokenList). unsupported (run_span x)) (one_front front front' rest m) ∙ sym j
 
--- what moves are refused there, by what comes next
+-- the moves that are refused there, by the next token
 abbrev NoMoveOf : ℕ → Spot → Fault → Move → Type 0
 NoMoveOf n spot fault (needs plus stage) = NoType n plus spot.run fault
 NoMoveOf n spot fault (keeps_type stage) = NoType n true spot.run fault

@@ -97,8 +97,8 @@ or_false : (a : Bool) → (a || false) ≡ a
 or_false true = refl
 or_false false = refl
 
--- with the parts so far, a result for the rest completes to a result for the whole, and what is wrong with the
--- rest is wrong with the whole
+-- with the parts so far, a result for the rest completes to a result for the whole, and a fault of
+-- the rest is a fault of the whole
 pub record Remains (levels : ℕ) (from : Spot) (old now : List Tree) (barred : Bool) (spot : Spot) : Type 0 where
   pub front : List Tree
   pub is : now ≡ old ++ front
@@ -125,7 +125,7 @@ pub finished : (levels : ℕ) (from : Spot) (old now : List Tree) (barred : Bool
 finished levels from old now barred spot r e =
     (r.front, r.is, rw (or_false barred, append-nil r.front) at (r.completes false [] (outer spot.run spot.outside) (ended e)))
 
--- what stops the reader is the fault
+-- the reason that stops the reader is the fault
 pub stop_move : (levels : ℕ) (spot : Spot) (stop : StepFault) → IsStep (Err stop) (next_of spot) → IfFault (NoMove levels spot) (fault_of stop)
 stop_move levels spot (Unsupported span) h = no_token h
 stop_move levels spot (Mismatch span) h = no_token h

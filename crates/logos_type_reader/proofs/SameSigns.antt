@@ -168,7 +168,7 @@ typing_same h = rw (mark_same 58 h, colons_same h) refl
 pub continues_same : {run other : TokenList} → SameSign run other → continues other ≡ continues run
 continues_same h = rw (mark_same 60 h, colons_same h, parenthesis_same h) refl
 
--- what is in front of the same rest is the same
+-- the tokens before equal rests are equal
 no_more : (t : Token) (front rest : TokenList) → rest ≡ also t (append front rest) → ⊥
 no_more t front rest e = let h = ap count_of e in let k = counted front rest in omega (arith, h, k, one_token t)
   where

@@ -26,8 +26,8 @@ SameOpen None None = Unit {0}
 SameOpen (Some a) (Some b) = Unit {0}
 SameOpen a b = ⊥
 
--- How a spot is reached from a run: over tokens, into a group, or out of one. What holds then holds
--- of all runs with these tokens in front.
+-- How a spot is reached from a run: over tokens, into a group, or out of one. The property then holds
+-- for all runs with these tokens in front.
 pub data Passes (Q : TokenList → Option TokenList → Spot → Type 0) (run : TokenList) (b : Option TokenList) (spot : Spot) : Type 0 where
   over : (front : TokenList) → run ≡ append front spot.run → b ≡ spot.outside →
       ((rest : TokenList) (c : Option TokenList) → SameOpen b c → SameSign spot.run rest → Q (append front rest) c (to spot.stage rest c)) → Passes Q run b spot
@@ -44,7 +44,7 @@ abbrev pub Stops : Moving → TokenList → Option TokenList → Fault → Type 
 Stops M run b f = (front : TokenList) × (left : TokenList) × (run ≡ append front left) × (f ≡ mismatch (first_span left))
     × ((l : TokenList) (c : Option TokenList) → SameOpen b c → SameSign left l → M (append front l) c ≡ stops (mismatch (first_span l)))
 
--- what a move hangs on
+-- the condition of a move
 abbrev pub Local : Moving → TokenList → Option TokenList → Move → Type 0
 Local M run b ends = ForSame run (λ (x : TokenList). (c : Option TokenList) → SameOpen b c → M x c ≡ ends)
 Local M run b (takes s spot) = Passes (λ x c z. M x c ≡ takes s z) run b spot

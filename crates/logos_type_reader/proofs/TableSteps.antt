@@ -24,7 +24,7 @@ pub record Onward (run : TokenList) (outside : Option TokenList) (spot : Spot) :
   pub rest : IsRestOf (outer run outside) (outer spot.run spot.outside)
   pub less : left spot.run spot.outside < left run outside
 
--- what a path or bounds inside are read from is after the run
+-- the tokens of a path or bounds inside come after the start of the run
 pub record Inward (run : TokenList) (spot : Spot) : Type 0 where
   pub rest : IsRestOf run spot.run
   pub less : count_of spot.run < count_of run
@@ -587,7 +587,7 @@ steps stage.OneTaken run b = one_taken run b
 steps stage.Variadic run b = variadic run b
 steps stage.VariadicEnd run b = variadic_end run b
 
--- what a type begins with is followed by less
+-- the beginning of a type is followed by fewer tokens
 pub record Begins (run : TokenList) (spot : Spot) : Type 0 where
   pub rest : IsRestOf run (outer spot.run spot.outside)
   pub less : left spot.run spot.outside < 2 * count_of run

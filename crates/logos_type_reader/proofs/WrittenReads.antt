@@ -602,7 +602,7 @@ typed_taken : (s : Span) (p : Spacing) (run after : TokenList) → next_at stage
 unfolding next_at
 typed_taken s p run after = refl
 
--- a token, a type, tokens that stay, or something inside, and what follows it
+-- a token, a type, tokens that stay, or something inside, and the tokens after it
 next_token : {levels : ℕ} {p : Stage} {run : TokenList} {b : Option TokenList} {s : Sign} {outside : Spot} {parts : List Tree} {rest : TokenList} →
     next_at p run b ≡ takes s outside → AreParts levels false outside parts rest → AreParts levels false (at p run b) (sign s ∷ parts) rest
 next_token e a = part (a_token e) a refl
@@ -626,7 +626,7 @@ next_nest e h a = part (a_nest e h) a refl
 no_part : {levels : ℕ} {p : Stage} {run : TokenList} → next_at p run None ≡ ends → AreParts levels false (at p run None) [] run
 no_part e = ended e
 
--- where two spots have the same next move, the same parts stand
+-- two spots with the same next move have the same parts
 same_next : {levels : ℕ} {c : Bool} {p q : Stage} {run : TokenList} {b : Option TokenList} {parts : List Tree} {rest : TokenList} → next_at q run b ≡ next_at p run b → AreParts levels c (at p run b) parts rest → AreParts levels c (at q run b) parts rest
 same_next k (ended e) = ended (k ∙ e)
 same_next k (part (a_token e) a f) = part (a_token (k ∙ e)) a f

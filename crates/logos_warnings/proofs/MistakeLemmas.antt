@@ -48,7 +48,7 @@ variants_turn variant more other = (λ h. go (split_variants h), λ h. more_have
 no_variants : ¬ VariantsHave []
 no_variants h = elim h [ ]
 
--- ---- Variants, one after another, as a slice pattern gives them
+-- ---- Variants, one after another, as a slice pattern splits them
 
 pub variants_step : (rest : List Variant) (item : Variant) → 1 ≤ length rest → item ≡ get_or rest 0 item → ¬ HasHelper (tokens_of item.attributes) →
     VariantsHave (map variant_value rest) ↔ VariantsHave (map variant_value (take (length rest - 1) (drop 1 rest)))

@@ -335,7 +335,8 @@ fn step<'s, T: Tables<'s>>(byte: u8, row_start: u32) -> u32 {
     T::entry_of(byte, row_start)
 }
 
-/// Guesses the row offsets of all parts of `size` bytes but the first, as [`guess_row_offsets`] does.
+/// Guesses the row offsets of all parts of `size` bytes but the first, as [`guess_row_offsets`]
+/// does.
 #[inline]
 fn guess_parts<'s, T: Tables<'s>>(rest: &[u8], size: usize, first: u32) -> [u32; BLOCKS] {
     let mut row_starts = [T::ROOT; BLOCKS];

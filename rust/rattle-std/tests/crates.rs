@@ -1,6 +1,5 @@
 //! The replacements of crates. Expected values are those of RFC 8259, of Unicode's data files, and
-//! of
-//! Rust's own formatting.
+//! of Rust's own formatting.
 
 use rattle_std::alloc::Global;
 use rattle_std::crates::itoa::write_digits;

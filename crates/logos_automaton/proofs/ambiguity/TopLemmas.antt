@@ -21,7 +21,7 @@ use Rattle.logos_automaton.proofs.munch.Window.{rule_within_text}
 abbrev pub IsTopBelow : List Rule → ℕ → List (List ℕ) → List ℕ → Type 0
 IsTopBelow rules n lists set = (s : ℕ) × (listed : List ℕ) × (s < n) × (slice_get lists s ≡ Some listed) × IsTopSet rules listed set
 
--- what a filter keeps
+-- the elements that pass a filter
 pub filter_only : (p : ℕ → Bool) (xs : List ℕ) (x : ℕ) → Has (filter p xs) x → Has xs x × (p x ≡ true)
 filter_only p [] x h = absurd h
 filter_only p (y ∷ xs) x h = go (p y) refl h (filter_only p xs x)
@@ -205,7 +205,7 @@ module _ (rules : List Rule) (dfa : Automaton) (reads : ReadsOneByteLate rules d
               let e' : dfa_after dfa (Some dfa.start) (front ++ b ∷ []) ≡ Some s = rw q at e in
               at_state s listed set (front ++ b ∷ []) 0 (length front) at ok' (subst (λ o. ListsSpan o (front ++ b ∷ []) 0 (length front)) e' (reads.by_byte front b ok')) t
 
-  -- what lists the rules that match the span has the set
+  -- a state that lists the rules that match the span has the set
   has_set : (set bytes w : List ℕ) (from to k : ℕ) → ((leaf : ℕ) → RuleMatches rules leaf bytes from to ↔ RuleMatches rules leaf w 0 k) → (o : Option ℕ) → ListsSpan o w 0 k →
       2 ≤ length set → IsStrictlyIncreasing set → ((leaf : ℕ) → Contains set leaf ↔ IsHighest rules bytes from to leaf) → IsTopIn rules dfa.matches set
   has_set set bytes w from to k same None l several rising exactly = absurd (cc (l.listed))

@@ -66,7 +66,7 @@ module _ (ts : List Core) (looks : Bool) where
       go true f (p ∷ positions) = f refl
 
   module _ (free : looks ≡ false → AreFree ts) where
-    -- which looks hold matters where there are looks
+    -- the assertions that hold matter if there are assertions
     tested_alike : (s next : State) (x y : ℕ) (b : Bool) → looks ≡ b → (IsTrue looks → kind_of_byte x ≡ kind_of_byte y) → IsNext ts looks s x next →
         ReadBy ts (test_at (record { before = s.kind; after = Some y })) x (Has s.positions) (IsTrue (is_start s.kind)) next.positions
         × LeftBy ts (test_at (record { before = s.kind; after = Some y })) (Has s.positions) (IsTrue (is_start s.kind)) next.matches

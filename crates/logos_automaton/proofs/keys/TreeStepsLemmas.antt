@@ -32,7 +32,7 @@ if_some (Some i) P Q f h = f i h
 
 module _ (nodes : List Node) (starts : List ℕ) (state : TreeView) where
   module _ (looks : Bool) (free : (node : Node) → node ≡ slice_index_or nodes state.tree node → looks ≡ false → IsFree (core_of node)) where
-    -- which looks hold matters where there are looks
+    -- the assertions that hold matter if there are assertions
     tested_alike : (x y : ℕ) (step : StepView) (node : Node) → node ≡ slice_index_or nodes state.tree node → (b : Bool) → looks ≡ b → (IsTrue looks → kind_of_byte x ≡ kind_of_byte y) →
         MakesFrom nodes starts state x step →
         IsStepOf (core_of node) (test_at (record { before = state.kind; after = Some y })) x state.positions (slice_index starts state.tree) step.positions step.left

@@ -92,7 +92,7 @@ star_b_stop = record {
     grows : Grows (plain star_b ∷ []) aaa
     grows = record { more = 98 ∷ []; after = []; are_bytes = are; leaf = 0; matches = (3, (3, (omega arith, tt), (1, a, (2, a', (3, a'', refl)))), (4, record { end = refl; here = refl }, refl)) }
 
--- what a key is made of: `a{2}` after `a` has read its first copy, and after `aa` its second
+-- the parts of a key: `a{2}` after `a` has read its first copy, and after `aa` its second
 pub first_copy : Reads (repetition 2 (Some 2) true (literal (97 ∷ []))) (97 ∷ []) 0 (within 1 (byte_of 0)) 0
 first_copy = (0, 0, byte_of 0, omega arith, refl, (0, omega arith, refl, refl, record { end = refl; here = refl }), refl)
 

@@ -70,7 +70,7 @@ neither : (a b : Bool) → (a || b) ≡ false → (a ≡ false) × (b ≡ false)
 neither true b e = absurd (cc)
 neither false b e = (refl, e)
 
--- what matches a span lies within the bytes
+-- a span that matches lies within the bytes
 pub rule_inside : (rules : List Rule) (leaf : ℕ) (bytes : List ℕ) (from to : ℕ) → IsFalse (list_any (λ rule. passable rule.tree) rules) →
     RuleMatches rules leaf bytes from to → (from ≤ to) × (to ≤ length bytes)
 rule_inside [] leaf bytes from to f m = absurd m

@@ -1,5 +1,5 @@
 -- A match depends on the bytes of its span and on the byte after them; on the byte before them only
--- where a look leads.
+-- where a look-around assertion leads.
 use Rattle.std.proofs.Common.{◌≡◌, ◌↔◌, ℕ, zero, suc, ◌+◌, ◌-◌, ◌≤◌, ◌<◌, ◌⊎◌, inl, inr, Bool, true, false, ◌&&◌, ◌||◌, List, [], ◌∷◌, ◌++◌, length, drop, slice_get, slice_range, ◌==◌, IsTrue, IsFalse, refl, sym, ◌∙◌, ap, subst, arith, encode_utf8, length-append, append-nil}
 use Rattle.std.proofs.lemmas.List.{drop-append-le, take-append-le, length-drop}
 use Rattle.std.proofs.lemmas.Bool.Decides.{nat_tests}

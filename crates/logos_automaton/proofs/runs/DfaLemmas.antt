@@ -23,7 +23,7 @@ contains_has xs q = (
   λ h. (h.at, h.within, get_or_default xs h.at q 0 h.within ∙ h.is),
 )
 
--- what is at a number
+-- the element at a number
 pub at_within : (ks : List Key) (i : ℕ) (s : State) → IsAt ks i s → i < length ks
 at_within ks i s h = go ks i h.key h.is
   where

@@ -249,13 +249,13 @@ module _ (w : List ℕ) where
         remembered false (p ∷ positions) e k f = inl (f refl)
         remembered true (p ∷ positions) e k f = inr (inr (k ∙ ap kind_before (sym (before_at w m ∙ is))))
 
-    -- what a state reached by a byte lists
+    -- the leaves that a state reached by a byte lists
     pub lists_by_byte : (rules : List Rule) (looks : Bool) (x : ℕ) (next : State) → AreRuleCores rules ts → slice_get w m ≡ Some x → IsNext ts looks s x next →
         (k : ℕ) → Has next.matches k ↔ RuleMatches rules k w 0 m
     lists_by_byte rules looks x next are is step k =
         iff_trans (step.matches.has k) (iff_trans (right_exits (Some x) k is) (leaves_match rules ts are k m))
 
-    -- what a state reached by the end lists
+    -- the leaves that a state reached by the end lists
     pub lists_at_end : (rules : List Rule) (next : State) → AreRuleCores rules ts → byte_after w m ≡ None → IsLast ts s next →
         (k : ℕ) → Has next.matches k ↔ RuleMatches rules k w 0 m
     lists_at_end rules next are is last k =

@@ -1,4 +1,4 @@
--- A machine with what has to follow goes where both go.
+-- A machine with the required rest of a character moves like both.
 use Rattle.std.proofs.Common.{◌≡◌, ℕ, ◌<◌, Bool, true, false, ◌&&◌, ◌==◌, List, [], ◌∷◌, Option, Some, None, All, IsTrue, refl, sym, ap, ◌∙◌, arith, option_map, option_and_then, eq-eqb}
 use Rattle.std.proofs.lemmas.Bool.{and_parts}
 use Rattle.std.proofs.lemmas.Bool.Decides.{nat_tests}
@@ -48,7 +48,7 @@ module _ (next : Point → ℕ → Option Point) (is_goal : Point → Bool) (utf
   rests true bytes h = h refl
   rests false bytes h = (more 0, bytes_are_done (more 0) bytes, refl)
 
-  -- an input leads to what is searched where the pending points do
+  -- an input leads to a goal exactly if the pending points do
   pub occurs_lead : (bytes : List ℕ) → Leads next is_goal utf8 start bytes →
       (s : PendingPoint) × (after (pending_next next utf8) (pending_at start (more 0)) bytes ≡ Some s) × (pending_goal is_goal s ≡ true)
   occurs_lead bytes leads =

@@ -1,4 +1,4 @@
--- What has to follow, read from the last three bytes, and when the bytes are UTF-8.
+-- The required rest of a character, read from the last three bytes, and when the bytes are UTF-8.
 use Rattle.std.proofs.Common.{◌≡◌, ℕ, suc, ◌-◌, ◌<◌, ◌≤◌, ◌⊎◌, ◌==◌, true, false, List, [], ◌∷◌, Option, Some, None, refl, sym, ap, ◌∙◌, subst, inl, inr, arith, lt-ltb, le-ltb, le-leb, option_and_then}
 use Rattle.std.proofs.lemmas.Bool.{cases_lt, lt-leb}
 use Rattle.std.proofs.lemmas.Bool.Decides.{nat_tests}
@@ -12,7 +12,7 @@ use Rattle.logos_evidence.specs.declared.search.utf8.Rest.{Rest}
 abbrev pub lead : ℕ → ℕ → Rest
 lead z n = record { low = least_after z; high = most_after z; count = n }
 
--- what has to follow after the bytes x, y and z
+-- the required rest of a character after the bytes x, y and z
 data Fits (rest : Rest) (x y z : ℕ) : Type 0 where
   closed : rest ≡ more 0 → IsClosed x y z → Fits rest x y z
   pair : rest ≡ more 1 → (x < 0xf0) × (y < 0xe0) → (0xc2 ≤ z) × (z < 0xe0) → Fits rest x y z

@@ -101,7 +101,7 @@ module _ (next : PendingPoint → ℕ → Option PendingPoint) (is_goal : Pendin
   IsFar bytes q = (j : ℕ) (t : PendingPoint) → All (λ x. x < 256) bytes → slice_get ks j ≡ Some t → after next t bytes ≡ Some q → is_goal q ≡ true →
       depth_at ws n ≤ depth_at ws j + length bytes
 
-  -- what is searched lies at least as far as the pending point with this number
+  -- each goal lies at least as far as the pending point with this number
   pub far : (bytes : List ℕ) (i : ℕ) (p q : PendingPoint) → n < length ks → All (λ x. x < 256) bytes → slice_get ks i ≡ Some p → after next p bytes ≡ Some q →
       is_goal q ≡ true → depth_at ws n ≤ depth_at ws i + length bytes
   far [] i p q l are at way goal = go (cases_lt i n)

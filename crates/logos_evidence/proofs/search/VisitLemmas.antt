@@ -124,7 +124,7 @@ module _ (next : PendingPoint → ℕ → Option PendingPoint) (ks : List Pendin
     met_new : IsMet more_points more_ways to w.depth
     met_new = record { number = length ks; occurs_there = got_last ks to; near = let e = depth_new (length ks) refl in omega (arith, e) }
 
--- what a step adds
+-- the points that a step adds
 pub record Added (next : PendingPoint → ℕ → Option PendingPoint) (ks : List PendingPoint) (ws : List Visit) (to : PendingPoint) (depth : ℕ) (ms : List PendingPoint) (vs : List Visit) : Type 0 where
   pub tree : IsTree next ms vs
   pub within : IsWithin next ms vs depth

@@ -170,7 +170,7 @@ is_empty : List ℕ → Bool
 is_empty [] = true
 is_empty (c ∷ cs) = false
 
--- what folds is a character, and so is what it folds to
+-- both members of a pair of case folding are characters
 folding_chars : (c : ℕ) → is_empty (simple_folding c) ≡ false → (scalar c && list_all scalar (simple_folding c)) ≡ true
 unfolding tables points_ok simple_folding_stepped is_empty
 folding_chars = Stepped-at_points simple_folding simple_folding_stepped is_empty (λ c v. scalar c && list_all scalar v) refl

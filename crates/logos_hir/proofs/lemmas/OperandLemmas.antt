@@ -29,7 +29,7 @@ complement_at set c h = rw (h, le-leb c 0x10_FFFF (char_bound c h)) refl
 
 -- ---- effects
 
--- what the function makes of members is in the second set, and what it adds is in the first
+-- the images of members are in the second set, and the added members are in the first
 abbrev pub IsMade : Set → Set → (Set → Set) → Type 0
 IsMade outside inside f = (before : Set) (c : ℕ) → scalar c ≡ true → f before c ≡ selection before inside outside c
 
@@ -81,7 +81,7 @@ pub effects_on-push : (es : List Effect) (e : Effect) (before : Set) → effects
 effects_on-push [] e before = refl
 effects_on-push (x ∷ es) e before = effects_on-push es e (selection before (set_of x.inside) (set_of x.outside))
 
--- numbers that are no characters are no members
+-- numbers that are not characters are not members
 no_character : (xs : List (ℕ × ℕ)) (c : ℕ) → scalar c ≡ false → members xs c ≡ false
 no_character xs c h = rw h refl
 

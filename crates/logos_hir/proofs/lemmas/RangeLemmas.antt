@@ -25,7 +25,7 @@ or_false false = refl
 
 -- ---- characters
 
--- what lies after a character lies at the next one or after it
+-- a number after a character is the next character or lies after it
 pub next_le : (a c : ℕ) → scalar a ≡ true → scalar c ≡ true → nat_le (next a) c ≡ nat_lt a c
 next_le a c ha hc =
     let pa = scalar_cases a ha in
@@ -91,7 +91,7 @@ gap_range first end last to c e ht hc =
 pub no_gap : (first end last c : ℕ) → end ≤ first → in_gap first end last c ≡ false
 no_gap first end last c h = grind (arith, nat_tests)
 
--- a range after a gap: what the gap and the rest leave out is what the range and the rest leave out
+-- a range after a gap: the gap and the rest leave out the same numbers as the range and the rest
 pub gap_step : (out rest : Bool) (first last c : ℕ) (r : ℕ × ℕ) → is_range r ≡ true → scalar c ≡ true → (rest ≡ true → r.0 ≤ c) →
     ((out || in_gap first r.0 last c) || (nat_le (max first (next r.1)) c && (nat_le c last && not rest)))
     ≡ (out || (nat_le first c && (nat_le c last && not (in_range r c || rest))))
@@ -275,7 +275,7 @@ members_are xs p h = same_chars (in_ranges xs) p h
 pub only_chars_members : (xs : List (ℕ × ℕ)) → only_chars (members xs) ≡ members xs
 only_chars_members xs = same_chars (members xs) (in_ranges xs) (λ c e. ap (λ b. b && in_ranges xs c) e)
 
--- what the gaps of the gaps are
+-- the gaps of the gaps
 pub twice_left_out : (c : ℕ) (b : Bool) → scalar c ≡ true → (nat_le c 0x10_FFFF && not (nat_le c 0x10_FFFF && not b)) ≡ b
 twice_left_out c b h = rw (le-leb c 0x10_FFFF (char_bound c h)) (twice b)
   where

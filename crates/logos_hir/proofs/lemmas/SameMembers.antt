@@ -159,7 +159,7 @@ with_number_has c d (x ∷ xs) hc hd h =
     at true e lt r = ap (λ b. b || in_ranges xs d) (longer c d x hc hd lt r.2 (eqb-true _ _ e)) ∙ sym (assoc (d == c) (in_range x d) (in_ranges xs d))
     at false e lt r = ap (λ b. b || (in_range x d || in_ranges xs d)) (alone c d)
 
--- what `ranges_from` lists is canonical
+-- the ranges that `ranges_from` returns are canonical
 pub ranges_from_rises : (c n : ℕ) (set : Set) → ((d : ℕ) → set d ≡ true → scalar d ≡ true) → rises_from c (ranges_from c n set) ≡ true
 unfolding ranges_from
 ranges_from_rises c zero set chars = refl

@@ -57,7 +57,7 @@ unfit f ts h = go (found_of (all_ranges f ts))
 none_have : (f : Tree → Ranges) (ts : List Tree) → all_ranges f ts ≡ None → all_have f ts ≡ false
 none_have f ts e = all_have-is f ts ∙ ap is_some e
 
--- ---- what branches fit together
+-- ---- the classes that branches fit together
 
 pub fits-append : (xs ys : List Tree) →
     fits_of (xs ++ ys) ≡ record { chars = (fits_of xs).chars && (fits_of ys).chars; bytes = (fits_of xs).bytes && (fits_of ys).bytes }
@@ -213,7 +213,7 @@ flat_alone (u ∷ ts) h = λ t e. go t h.0.choice (sym (flat_map-cons branches_o
 pub flat_simplest_alone : (ts : Trees) → IsFlatAlone (flat_map branches_of (all_simplest ts))
 flat_simplest_alone ts = flat_alone (all_simplest ts) (all_made ts)
 
--- branches that are added after others stand apart again
+-- branches that are added after others are apart again
 pub added_apart : (from : ℕ) (old all : List Hir) (added : List Tree) → from ≡ length old → map tree_of all ≡ map tree_of old ++ added →
     (from ≤ length all) × (map tree_of (take from all) ≡ map tree_of old) × (map tree_of (drop from all) ≡ added)
 added_apart from old all added size e =

@@ -18,8 +18,8 @@ use Rattle.logos_hir.specs.Passable.{passable, all_passable, some_passable}
 not_lf : (b : ℕ) → b ≢ 10 → (b == 10) ≡ false
 not_lf b lf = grind (arith, nat_tests)
 
--- a look-around assertion that holds before a byte that is neither a word byte nor CR nor LF also holds at the
--- end
+-- a look-around assertion that holds before a byte that is neither a word byte nor CR nor LF also
+-- holds at the end
 pub holds_at_end : (l : Look) (before : Option ℕ) (b : ℕ) → is_word (Some b) ≡ false → b ≢ 10 → b ≢ 13 →
     IsTrue (holds_between l before (Some b)) → IsTrue (holds_between l before None)
 holds_at_end Start before b w lf cr h = h
@@ -91,7 +91,7 @@ piece_there R size within n at ok (cut, first, rest) =
     rw e at first
 
 mutual
-  -- what matches an empty span can be passed
+  -- a tree that matches an empty span can be passed
   pub passes : (t : Tree) (bytes : List ℕ) (at : ℕ) → at ≤ length bytes → Matches t bytes at at → IsTrue (passable t)
   passes empty bytes at ok m = refl
   passes (literal text) bytes at ok m = let e : at ≡ at + length text = m.end in is_zero (length text) (omega (arith, e))

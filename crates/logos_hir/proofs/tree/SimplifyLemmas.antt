@@ -257,7 +257,7 @@ flat_simplest-push f ts t =
     ap (flat_map f) (all_simplest-push ts t) ∙ flat_map-append f (all_simplest (trees ts)) (simplest t ∷ [])
     ∙ ap (λ xs. flat_map f (all_simplest (trees ts)) ++ xs) (flat_map-cons f (simplest t) [] ∙ append-nil (f (simplest t)))
 
--- ---- trees that are put together as they stand
+-- ---- trees that are combined unchanged
 
 simplest_trees : (hs : List Hir) → all_simplest (trees (map tree_of hs)) ≡ map simplest_tree hs
 simplest_trees [] = refl

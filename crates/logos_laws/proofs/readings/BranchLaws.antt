@@ -1,4 +1,4 @@
--- What the builder of alternations makes matches what one of the branches does.
+-- The tree that the builder of alternations returns has the matches of the branches.
 use Rattle.std.proofs.Common.{◌≡◌, ◌↔◌, ◌==◌, ◌&&◌, ◌||◌, ℕ, ◌<◌, ◌⊎◌, inl, inr, Bool, true, false, List, [], ◌∷◌, ◌++◌, slice_get, flat_map, Option, Some, None, encode_utf8, nat_le, chars, refl, sym, ap, ◌∙◌, subst, arith, eqb-true}
 use Rattle.std.specs.Char.{IsScalar}
 use Rattle.std.specs.Str.{is_utf8}

@@ -226,7 +226,8 @@ brackets_left (also (identifier text span) rest) = go (bytes_eq text (codes "der
 
 -- ---- The attributes that come first in a run.
 
--- parts of an enum that may begin with attributes, and what stays of the brackets of these
+-- parts of an enum that may begin with attributes, and the remaining tokens in the brackets of
+-- these
 abbrev pub HasAttributes : Scope → Type 0
 HasAttributes Enum = Unit {0}
 HasAttributes Attribute = ⊥

@@ -1,4 +1,4 @@
--- What parts say of the tokens that stay.
+-- The facts that parts imply about the tokens that stay.
 use Rattle.std.proofs.Common.{◌≡◌, ◌==◌, ◌||◌, not, ℕ, Bool, true, false, IsTrue, List, ◌∷◌, ◌++◌, Option, Some, refl, sym, ap, ◌∙◌, subst, eqb-true}
 use Rattle.logos_lexeme.specs.declared.lexeme.Delimiter.TheVariants.{Parenthesis, Brace}
 use Rattle.logos_token.specs.Tokens.{Token, TokenList, identifier, punctuation, literal, doc, group, none, also, append}

@@ -37,11 +37,11 @@ and_then f g b = join (f b) (g false)
 and_comma : {s : Span} {p : Spacing} {run middle rest : TokenList} → Passes run (also (punctuation 44 p s) middle) → Passes middle rest → Passes run rest
 and_comma f g b = join (f b) (over refl (λ e. cc) (g true))
 
--- a token that is no comma, and then others
+-- a token other than a comma, and then others
 pub on : {token : Token} {rest end : TokenList} → IsPlain token → is_comma token ≡ false → Passes rest end → Passes (also token rest) end
 on p e k b = over p (λ _. e) (k _)
 
--- a token that is no comma
+-- a token other than a comma
 pub one : {token : Token} {rest : TokenList} → IsPlain token → is_comma token ≡ false → Passes (also token rest) rest
 one {token} {rest} p e b = over p (λ _. e) (rw e there)
 

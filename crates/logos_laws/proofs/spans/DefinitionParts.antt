@@ -166,7 +166,7 @@ skip_parts tokens name (beside text) o v p = skip_plain_parts tokens o (text_rep
 skip_parts tokens name (grouped run) o v p = skip_whole_parts tokens run o (definition_report run).value p (definition_parts tokens run v)
 skip_parts tokens name (keyed second run) o v p = p
 
--- the report of `utf8 = run`, by what is read
+-- the report of `utf8 = run`, by the value that is read
 abbrev mode_by : TokenList → OptionsView → Option Bool → Report OptionsView
 mode_by run o read = elim read [
   | Some value ↦ with_faults (record o { utf8 = Some (record { value = value; span = run_span run }) }) (utf8_twice (run_span run) (option_map (λ m. m.span) o.utf8))

@@ -30,7 +30,7 @@ attributes_keep tokens run outcome r (broken h) = tt
 
 -- ---- Groups, variants and the whole.
 
--- what is inside a group, and what follows it, are runs of the whole
+-- the tokens inside a group, and the tokens after it, are runs of the whole
 abbrev IfOpened : TokenList → Option Opened → Type 0
 IfOpened tokens None = Unit {0}
 IfOpened tokens (Some opened) = IsRunOf opened.inside tokens × IsRunOf opened.rest tokens
@@ -150,7 +150,7 @@ enum_parts tokens enum (reads {attributes} {rest} front h) =
 
 -- ---- The attributes of a run.
 
--- what is inside an attribute, and what follows it, are runs of the whole
+-- the tokens inside an attribute, and the tokens after it, are runs of the whole
 abbrev pub IfSplit : TokenList → Option SplitAttribute → Type 0
 IfSplit tokens None = Unit {0}
 IfSplit tokens (Some split) = IfRun (Part tokens) split.attribute.inside × IsRunOf split.rest tokens

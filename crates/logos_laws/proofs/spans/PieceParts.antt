@@ -27,7 +27,7 @@ after_comma_part tokens none r = r
 after_comma_part tokens (also token rest) r =
     let p = part_rest token rest r in if_run tokens (is_alone comma token) rest (after_comma rest) p (after_comma_part tokens rest p)
 
--- a run is its front and what is after that
+-- a run is its front and the tokens after that
 record Fronts (run front : TokenList) : Type 0 where
   back : TokenList
   is : run ≡ append front back
@@ -46,7 +46,7 @@ up_to_comma_part tokens run r =
 
 -- ---- Pieces.
 
--- what a piece has is a run of the whole
+-- the tokens of a piece are a run of the whole
 abbrev pub ValueParts : TokenList → PieceValue → Type 0
 ValueParts tokens (assigned run) = IsRunOf run tokens
 ValueParts tokens (beside text) = IsRunOf (also (literal text.text text.span) none) tokens
@@ -58,7 +58,7 @@ PieceParts tokens (unnamed run) = IsRunOf run tokens
 PieceParts tokens (named name value) = ValueParts tokens value
 PieceParts tokens (unexpected run) = IsRunOf run tokens
 
--- what is made of a front of the run is a piece of the whole
+-- a piece of a front of the run is a piece of the whole
 abbrev Makes : TokenList → (TokenList → Piece) → TokenList → Type 0
 Makes tokens piece run = (front back : TokenList) → run ≡ append front back → PieceParts tokens (piece front)
 
@@ -190,7 +190,7 @@ callback_parts tokens (also first rest) r =
     let s = run_spans tokens (also first rest) r in
     callback_if tokens (is_alone bar first) (parameter_in (run_span (also first rest)) rest) (Ok (label (also first rest))) (parameter_parts tokens (run_span (also first rest)) rest s) s
 
--- the report of a callback that has no name before it, by what is read
+-- the report of a callback without a name before it, by the value that is read
 abbrev reported : Result CallbackView Fault → Report (Option CallbackView)
 reported read = elim read [ Ok callback ↦ without_faults (Some callback) | Err cause ↦ with_faults None (only cause) ]
 
@@ -201,7 +201,7 @@ reported_parts tokens (Err cause) s = tt
 pub callback_report_parts : (tokens run : TokenList) → IsRunOf run tokens → CallbackParts tokens (callback_report run).value
 callback_report_parts tokens run r = reported_parts tokens (callback_in run) (callback_parts tokens run r)
 
--- the report of `callback = run`, by what is read
+-- the report of `callback = run`, by the value that is read
 abbrev set_by : Slice → TokenList → Option CallbackView → Result CallbackView Fault → Report (Option CallbackView)
 set_by name run former read = elim read [
   | Ok callback ↦ with_faults (Some callback) (callback_again name run former)

@@ -8,7 +8,7 @@ use Rattle.logos_enum.specs.Rules.{Outcome, Rule, mismatch, by, given, Then, aft
 use Rattle.logos_enum.specs.Rules.Then.{goes, stops}
 use Rattle.logos_enum.specs.Rules.Listed.{ended, further, unparted, stopped}
 
--- what a run has, its rest has
+-- a property of a run is one of its rest
 abbrev pub Rests : (TokenList → Type 0) → Type 0
 Rests In = (token : Token) (rest : TokenList) → In (also token rest) → In rest
 

@@ -1,10 +1,10 @@
--- Lists of faults that grow, and steps that list none.
+-- Growing lists of faults, and steps that add none.
 use Rattle.std.proofs.Common.{◌≡◌, Bool, true, false, Some, None, List, [], ◌∷◌, ◌++◌, ◌∙◌, ap, sym, refl, append_assoc}
 use Rattle.std.proofs.lemmas.List.{append-nil}
 use Rattle.logos_token.specs.Faults.{Fault}
 use Rattle.logos_attribute.specs.Reports.{Report, IsReport}
 
--- ---- what is not equal
+-- ---- unequal values
 
 pub no_some : {A : Type 0} {x : A} → Some x ≡ None → ⊥
 no_some e = cc

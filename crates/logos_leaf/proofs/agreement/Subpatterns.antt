@@ -32,7 +32,7 @@ module _ (utf8_mode : Bool) (sub : NamedLiteral) (names : List Stored) where
   text_same None reading other e r s = refl
   text_same (Some text) reading other e r s = tested_same text reading other e (r text refl) (s text refl)
 
-  -- what is added, where the name is one or not
+  -- the added subpattern, whether the name is that one or not
   abbrev report_by : Bool → Reading → Report (List Stored)
   report_by named reading = if named then and_then (test_report sub names) (text_report utf8_mode reading sub names) else with_faults names (only (subpattern_name sub.name))
 

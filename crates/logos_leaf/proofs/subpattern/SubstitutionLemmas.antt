@@ -7,7 +7,7 @@ split-one : (c : ℕ) (rest : List ℕ) (b : Bool) → is_word c ≡ b → rest 
 split-one c rest true e h = rw e (ap (λ (xs : List ℕ). c ∷ xs) h)
 split-one c rest false e h = rw e refl
 
--- a word and what is after it
+-- a name and the characters after it
 pub word_split : (text : List ℕ) → text ≡ word_front text ++ word_rest text
 word_split [] = refl
 word_split (c ∷ rest) = split-one c rest (is_word c) refl (word_split rest)
@@ -26,7 +26,7 @@ closed_some : (name after : List ℕ) → (name ≡ [] → ⊥) → closed name 
 closed_some [] after h = absurd (h refl)
 closed_some (x ∷ name) after h = refl
 
--- a subpattern's name, and what is after it
+-- a subpattern's name, and the characters after it
 pub reference_is : (text rest name close after : List ℕ) → text ≡ 40 ∷ 63 ∷ 38 ∷ rest → name ≡ word_front rest → close ≡ word_rest rest → close ≡ 41 ∷ after → (name ≡ [] → ⊥) →
     (reference text ≡ Some name) × (after ≡ drop (4 + length name) text)
 reference_is text rest name close after t n c b some =

@@ -64,7 +64,7 @@ start-2029 : is_start 0x2029 ≡ false
 unfolding is_start unicode_ident
 start-2029 = refl
 
--- what may begin an identifier is a letter or above ASCII
+-- a character that may begin an identifier is a letter or above ASCII
 pub start_large : (c : ℕ) → is_start c ≡ true → 65 ≤ c
 unfolding is_start
 start_large c e = elim (cases_lt c 65) [

@@ -29,7 +29,7 @@ use Rattle.logos_lexeme.proofs.again.PrintNames.{Names, raw, plain, nothing, nam
 use Rattle.logos_lexeme.proofs.again.PrintLifetimes.{no_lifetime, lifetime_parts, lifetime_from, literal_at-none, literal_at-plain, literal_at-some, name_no_literal}
 use Rattle.logos_lexeme.proofs.again.PrintBodies.{character_piece, raw_pieces, string_pieces, number_no_suffix, number_same, based_same}
 
--- what a literal opens with
+-- the characters with which a literal opens
 pub data IsLiteral (bytes : List ℕ) (at : ℕ) : Opening → Type 0 where
   number : is_ascii_digit (get_or bytes at 0) ≡ true → IsLiteral bytes at Number
   quotes : (content : Content) → IsLiteral bytes at (Quotes content)
@@ -112,7 +112,7 @@ opens_other : (bytes : List ℕ) (at : ℕ) (o : Opening) → literal_at bytes a
 unfolding opening_at
 opens_other bytes at o e f g = rw (e, f) g
 
--- a lexeme from what opens it
+-- a lexeme from its opening
 made : (bytes : List ℕ) (at : ℕ) (kind : LexemeKind) (o : Opening) (end to : ℕ) → opening_at bytes at ≡ o → Ends bytes at o end → IsSound bytes at o end → kind ≡ kind_of o → IsSuffixed bytes kind end to → to ≤ length bytes → IsNext bytes at kind to
 made bytes at kind o end to e ends sound is suffixed within = record {
   end = end;
@@ -408,7 +408,7 @@ module _ (a b : List ℕ) (p q k : ℕ) (w : Window a b p q k) (bound : IsCharBo
   unsuffixed (OpeningKind d) end to other r = r
   unsuffixed (Closing d) end to other r = r
 
-  -- an apostrophe that is no literal is joint
+  -- an apostrophe that does not begin a literal is joint
   quote_joint : (kind : LexemeKind) → kind ≢ Gap → single_kind a p ≡ Some kind → get_or a p 0 ≡ 39 → kind ≡ Punctuation Joint
   unfolding single_kind
   quote_joint kind no_gap e f =
@@ -441,7 +441,7 @@ module _ (a b : List ℕ) (p q k : ℕ) (w : Window a b p q k) (bound : IsCharBo
       (single_other kind (ap is_space same ∙ space) (no_name a b p q k w bound start) (single_there kind no_gap placed e)))
       refl tt refl (no_suffix b kind (past b q) no_literal_kind) (omega (arith, w.holds, spots))
 
-  -- what is no literal and no comment
+  -- lexemes that are neither literals nor comments
   pub data Others : Opening → Type 0 where
     space_there : is_space (character a p) ≡ true → Others Space
     word_opens : is_space (character a p) ≡ false → Others Word

@@ -18,7 +18,7 @@ use Rattle.logos_lexeme.proofs.EndLaws.{run-le}
 use Rattle.logos_lexeme.proofs.again.PrintWindows.{Window, blank_fails, blank_character, same_character, same_past}
 use Rattle.logos_lexeme.proofs.again.PrintEnds.{run_same}
 
--- what a space, a line feed and the end of a text are not
+-- a space, a line feed and the end of a text are not in these classes
 
 pub start-32 : is_start 32 ≡ false
 unfolding is_start
@@ -114,7 +114,7 @@ name-nothing : (bytes : List ℕ) (at : ℕ) → raw_name bytes at ≡ false →
 unfolding name_at
 name-nothing bytes at e f = cond-false (raw_name bytes at) (Some (at + 2)) (cond (is_start (character bytes at)) (Some at) None) e ∙ cond-false (is_start (character bytes at)) (Some at) None f
 
--- an identifier begins with `r#` or with what may begin one
+-- an identifier begins with `r#` or with a character that may begin one
 pub data Names (bytes : List ℕ) (at : ℕ) : Option ℕ → Type 0 where
   raw : raw_name bytes at ≡ true → Names bytes at (Some (at + 2))
   plain : is_start (character bytes at) ≡ true → Names bytes at (Some at)

@@ -44,7 +44,7 @@ cond_same : {A : Type 0} (t : Bool) (x y z v : A) → (t ≡ true → x ≡ z) �
 cond_same true x y z v f g = f refl
 cond_same false x y z v f g = g refl
 
--- where what a literal opens with ends, at most
+-- the greatest end of the characters with which a literal opens
 abbrev pub head_end : List ℕ → ℕ → Opening → ℕ
 head_end bytes from (Quotes content) = from + prefix_of content + 1
 head_end bytes from (Raw content count) = from + prefix_of content + 1 + count + 1
@@ -52,7 +52,7 @@ head_end bytes from (Apostrophes content) = from + prefix_of content + 2
 head_end bytes from Character = past bytes (from + 1) + 1
 head_end bytes from _ = from + 1
 
--- what opens, if anything does, opens in front of an offset
+-- an opening, if there is one, ends before an offset
 abbrev Heads : List ℕ → ℕ → ℕ → Option Opening → Type 0
 Heads bytes from to o = (opening : Opening) → o ≡ Some opening → head_end bytes from opening ≤ to
 

@@ -213,7 +213,7 @@ begun c small =
     (λ h3. record { byte = 0xF0 + c / 262144; by = _; leads = lead_four (0xF0 + c / 262144) (omega arith) (omega arith); offset = c % 262144; below = omega arith; floor = h3; is = omega arith })
     (cases_lt c 0x1_0000)) (cases_lt c 0x800)) (cases_lt c 0x80)
 
--- P may be replaced by what follows from it
+-- P may be replaced by a consequence of it
 pub After-map : (P Q : ℕ → (ℕ → Bool) → Type 0) → ((n : ℕ) (f : ℕ → Bool) → P n f → Q n f) →
     (left : ℕ) (has : ℕ → Bool) (bs : List ℕ) → After P left has bs → After Q left has bs
 After-map P Q g left has [] h = g left has h

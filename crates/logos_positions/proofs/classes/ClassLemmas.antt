@@ -52,7 +52,7 @@ Spells-one bytes (b ∷ text) (c ∷ other) i j f g =
     let t = Spells-one bytes text other (suc i) j f.1 g.1 in
     cc
 
--- the position where the reader stands is the one to which the bytes lead
+-- the position of the reader is the one to which the bytes lead
 Occurs-read : (r : Reader) (bytes : List ℕ) (i m p : ℕ) → Occurs r bytes i m p → (text : List ℕ) × Spells bytes text i m × (read_all r text ≡ Some p)
 Occurs-read r bytes i zero p h = absurd h
 Occurs-read r bytes i (suc m) p (x, is, le, inl (at, first)) =

@@ -148,7 +148,7 @@ pub FindsNext-grows : (old new : List CharacterRest) (r : Row) (left b : ℕ) (t
 FindsNext-grows old new r zero b to g h = h
 FindsNext-grows old new r (suc n) b to g h = Finds-grows old new n (after_byte n (in_ranges r.offsets) b) to g h
 
--- what follows a row
+-- the row after a row
 pub next_found : (ks : List CharacterRest) (rest : CharacterRest) (r : Row) (n part : ℕ) (f : ℕ → Bool) (to : Option ℕ) → row_of rest ≡ r → rest.left ≡ suc n →
     ((o : ℕ) → o < size n → f o ≡ from_floor (in_ranges rest.offsets.items) 0 (part * size n) o) → Finds ks n f to →
     FindsNext ks r r.left (0x80 + part) to

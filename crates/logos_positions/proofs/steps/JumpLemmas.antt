@@ -16,7 +16,7 @@ or_false : (t : Bool) → (t || false) ≡ t
 or_false true = refl
 or_false false = refl
 
--- what is neither entered nor marked is not left
+-- a tree that is neither entered nor marked is not left
 pub exits_nothing : (t : Core) (test : Look → Bool) (M : ℕ → Type 0) → ((q : ℕ) → q < width t → M q → ⊥) → IsTrue false ↔ Exits t test M (IsTrue false)
 exits_nothing t test M none = (λ e. absurd (out e), λ h. absurd (Exits-void t test (Exits-map t test M _ _ ⊥ none out h)))
 

@@ -24,7 +24,7 @@ before_it : (M : ℕ → Type 0) (r j : ℕ) → suc r ≡ j + 1 → M j → ((r
 before_it M r zero e m = inl (omega (arith, e), m)
 before_it M r (suc i) e m = inr (i, omega (arith, e), subst M (omega arith) m)
 
--- the position of a literal that reads a byte: it has this byte, and stands first or after a
+-- the position of a literal that reads a byte: it has this byte, and is first or after a
 -- position
 steps_spelled : (test : Look → Bool) (x : ℕ) (text : List ℕ) (M : ℕ → Type 0) (d : Type 0) (p : ℕ) →
     Steps (spelled text) test x M d p

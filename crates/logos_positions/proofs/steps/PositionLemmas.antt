@@ -20,7 +20,7 @@ Exits-map (alt a b) test M N d e f g h =
     (λ x. inr (Exits-map b test _ _ d e (λ q lt. f (width a + q) (omega arith)) g x)) h
 Exits-map (plus a) test M N d e f g h = Exits-map a test M N d e f g h
 
--- what a second way in adds is at most the way through
+-- entering in a second way adds at most the way through
 pub Exits-or : (t : Core) (test : Look → Bool) (M : ℕ → Type 0) (d e : Type 0) → Exits t test M (d ⊎ e) → Exits t test M d ⊎ e
 Exits-or void test M d e h = inl h
 Exits-or empty test M d e h = h

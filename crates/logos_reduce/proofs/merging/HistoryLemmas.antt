@@ -50,7 +50,7 @@ module _ (table : Table) (splits more : List Split) (old new : ℕ → ℕ) (x :
   old_left : (s : ℕ) → s < size table → length splits ≤ new s → old s ≡ (split_at more (new s)).parent
   old_left s hs l = x.before s hs ∙ before_new more (length splits) (new s) l
 
-  -- what a state was in before is known from any later time
+  -- the earlier block of a state is known from any later time
   mid_before : (j s : ℕ) → length splits ≤ j → s < size table → ((t : ℕ) → t < size table → old t < length splits) → old s ≡ block_before more (length splits) (mid j s)
   mid_before j s l hs within = go (cases_lt (new s) j)
     where

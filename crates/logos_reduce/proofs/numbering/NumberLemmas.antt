@@ -269,7 +269,7 @@ leader_read states leaders i x y e l q m =
     let a : x ≡ slice_index states i = e ∙ get_or_default_zero states i x l in
     q ∙ get_or_default_zero leaders x y (omega arith) ∙ ap (slice_index leaders) a
 
--- what one target adds
+-- the states that one target adds
 module _ (table : Table) (block : ℕ → ℕ) (s k : ℕ) (numbers states states' : List ℕ) (target : Option ℕ) (goes : target ≡ target_block table block s k)
     (found : (states' ≡ states) ⊎ ((b : ℕ) × (target ≡ Some b) × (slice_index numbers b ≡ 0) × (states' ≡ states ++ b ∷ []))) where
   pub met_by : (states' ≡ states) ⊎ ((b : ℕ) × (target_block table block s k ≡ Some b) × (slice_index numbers b ≡ 0) × (states' ≡ states ++ b ∷ []))

@@ -28,7 +28,7 @@ same_more row other a b c p q = λ k l m. go k l m (cases_lt k b)
 pub same_one : (row other : List ℕ) (b : ℕ) → slice_index row b ≡ slice_index other b → AreSame row other b (b + 1)
 same_one row other b e = λ k l m. let at : b ≡ k = omega arith in subst (λ (k : ℕ). slice_index row k ≡ slice_index other k) at e
 
--- what holds before a run and at its first symbol holds up to its end
+-- a property that holds before a run and at its first symbol holds up to its end
 pub run_more : (P : Option ℕ → Type 0) (row : List ℕ) (k e : ℕ) → HasOnly row k e (slice_index row k) →
     ((j : ℕ) → j < k → P (target_by row j)) → P (target_by row k) → (j : ℕ) → j < e → P (target_by row j)
 run_more P row k e same old here = λ j l. go j l (cases_lt j k)

@@ -36,7 +36,7 @@ parting_symbol table f k s t d = go (to table s k) refl (to table t k) refl
     go (Some a) e p q = edge_symbol table s k a e
     go None e (Some b) q = edge_symbol table t k b q
 
--- what one step more reaches
+-- the states that one more step reaches
 reached_on : (table : Table) (s left k : ℕ) (bytes : List ℕ) (o : Option ℕ) → state_after table (Some s) bytes ≡ Some left → to table left k ≡ o → state_after table (Some s) (bytes ++ k ∷ []) ≡ o
 reached_on table s left k bytes o way e =
     reached_append table bytes (k ∷ []) (Some s) ∙ ap (λ (o : Option ℕ). state_after table o (k ∷ [])) way ∙ ap (λ (o : Option ℕ). state_after table o []) e ∙ same o

@@ -33,7 +33,7 @@ module _ (table : Table) (splits : List Split) (block : ℕ → ℕ) (h : IsHist
       go (inl a) (inr b) = let w = h.below j s p (omega arith) hs in let z = b.0 in absurd (omega arith)
       go (inr a) (inl b) = let w = h.below j t p (omega arith) ht in let z = a.0 in absurd (omega arith)
 
-  -- what a step by a symbol needs
+  -- the conditions of a step by a symbol
   by_targets : (j n : ℕ) (o p : Option ℕ) → AllDistinguished j → count_blocks (size table) (h.at j) < n → 0 < count_blocks (size table) (h.at j) → ((t : ℕ) → o ≡ Some t → t < size table) → ((t : ℕ) → p ≡ Some t → t < size table) →
       option_map (h.at j) o ≢ option_map (h.at j) p → (word : List ℕ) × (length word + 1 < n) × (option_map (mark table) (state_after table o word) ≢ option_map (mark table) (state_after table p word))
   by_targets j n None None reported l some ho hp d = absurd (d refl)
@@ -112,7 +112,7 @@ module _ (table : Table) (splits : List Split) (block : ℕ → ℕ) (h : IsHist
       let few = blocks_few (size table) (h.at (length splits)) in
       (w.0, let m = w.1 in omega arith, w.2)
 
-  -- what block a state was in is known from any later one
+  -- the earlier block of a state is known from any later one
   pub known_before : (d j s t : ℕ) → j + d ≡ length splits → 0 < j → s < size table → t < size table → block s ≡ block t → h.at j s ≡ h.at j t
   known_before zero j s t q p hs ht e =
       let z : j ≡ length splits = omega arith in

@@ -39,7 +39,7 @@ read_adds remaining reader next items after held count before over fits same fro
       over = λ h. (no_bytes (held + count - held) (drop held after) (e ∙ none_read count h), end (none_read count h));
     }
 
--- what was passed is gone from the front
+-- the passed bytes are removed from the front
 front_gone : (items : List ℕ) (held bytes : ℕ) → held ≤ length items → bytes ≤ held → take (held - bytes) (copy_within items bytes held 0) ≡ drop bytes (take held items)
 front_gone items held bytes fits passed =
     let n : 0 + (held - bytes) ≡ held - bytes = omega arith in

@@ -36,7 +36,7 @@ first_text [] = []
 first_text (part ∷ rest) = part.text
 
 module _ (a : List ℕ) (utf8 : IsUtf8 a) (text : HasText a) where
-  -- the lexeme of a piece that is no gap
+  -- the lexeme of a piece that is not a gap
   lexeme_there : (kind : LexemeKind) (span : Span) → kind ≢ Gap → (l : Lexeme) × (lexeme_of a kind span ≡ l ∷ [])
   lexeme_there Gap span f = absurd (f refl)
   lexeme_there Identifier span f = (_, refl)

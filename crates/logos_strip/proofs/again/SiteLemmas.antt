@@ -28,7 +28,7 @@ use Rattle.logos_token.proofs.printing.PrintAgain.{IsBlankByte, gap_next, same_l
 use Rattle.logos_enum.specs.Marks.{comma}
 use Rattle.logos_strip.proofs.again.CommaLemmas.{comma_space, comma_next}
 
--- where a lexeme of the source stands that is the same, or a comma that is alone
+-- the position of the equal lexeme of the source, or of a comma that is alone
 pub data Site : Type 0 where
   same : (kind : LexemeKind) (from to : ℕ) → Site
   loose : (spacing : Spacing) (from to : ℕ) → Site
@@ -41,7 +41,7 @@ abbrev pub site_to : Site → ℕ
 site_to (same kind from to) = to
 site_to (loose spacing from to) = to
 
--- what it is in the source
+-- the lexeme in the source
 abbrev site_kind : Site → LexemeKind
 site_kind (same kind from to) = kind
 site_kind (loose spacing from to) = Punctuation spacing
@@ -62,7 +62,7 @@ module _ (a : List ℕ) where
   abbrev pub IsLexeme : LexemeKind → ℕ → ℕ → Type 0
   IsLexeme kind from to = IsCharBoundary a from × IsNext a from kind to × (kind ≢ Gap)
 
-  -- what makes it the site that it is
+  -- the facts that determine the site
   abbrev pub IsSite : Site → List Site → Type 0
   IsSite (same kind from to) ss = kind ≡ Punctuation Joint → Continues to ss
   IsSite (loose spacing from to) ss = slice_range a from to ≡ comma ∷ []

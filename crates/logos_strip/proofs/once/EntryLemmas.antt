@@ -15,7 +15,7 @@ pub data SameEntry : TokenList → TokenList → Type 0 where
   parted : (span : Span) (spacing other : Spacing) (rest next : TokenList) → SameEntry (also (punctuation comma spacing span) rest) (also (punctuation comma other span) next)
   further : (token : Token) {rest next : TokenList} → is_comma token ≡ false → SameEntry rest next → SameEntry (also token rest) (also token next)
 
--- what is after a word or a mark is the same
+-- the tokens after a name or a mark are the same
 module _ (test : TokenList → Bool) (same : (one other : TokenList) → SameEntry one other → test one ≡ test other) where
   if_same : (found : Bool) (one other : TokenList) → SameEntry one other → holds_after test (if found then Some one else None) ≡ holds_after test (if found then Some other else None)
   if_same true one other s = same one other s

@@ -29,12 +29,12 @@ left-kept none = refl
 left-kept (also token none) = refl
 left-kept (also token (also next rest)) = ap (also token) (left-kept (also next rest))
 
--- the spot where what goes ends
+-- the spot at which the removed tokens end
 abbrev settled : TokenSpot → TokenSpot
 settled Gone = Open
 settled spot = spot
 
--- no spot of an attribute's brackets is in what goes
+-- no spot of an attribute's brackets is among the removed tokens
 abbrev IsReached : Scope → TokenSpot → Type 0
 IsReached Attribute Gone = ⊥
 IsReached scope spot = Unit {0}
@@ -68,7 +68,7 @@ reached-after Derives spot gone token = tt
 reached-after Variants spot gone token = tt
 reached-after Fields spot gone token = tt
 
--- what stays is followed by no spot in what goes
+-- a token that stays is followed by no spot among the removed tokens
 
 if_settled : (found : Bool) (one other : TokenSpot) → settled one ≡ one → settled other ≡ other → settled (if found then one else other) ≡ (if found then one else other)
 if_settled found one other a b = if_spot (λ p. settled p ≡ p) found one other a b
@@ -189,7 +189,7 @@ path-left (also (literal text span) rest) = front_either (λ t. is_helper_path (
 path-left (also (doc text span) rest) = front_either (λ t. is_helper_path (also t (left (sorted Attribute Within rest))) ≡ false) (sorted Attribute Within rest) (doc text span) refl refl
 path-left (also (group delimiter span inside) rest) = front_either (λ t. is_helper_path (also t (left (sorted Attribute Within rest))) ≡ false) (sorted Attribute Within rest) (group delimiter span inside) refl refl
 
--- after the `#` of an attribute that stays, brackets hold what they held
+-- after the `#` of an attribute that stays, the tokens in brackets are unchanged
 
 brackets-left : (scope : Scope) (last : Bool) (span : Span) (inside rest more : TokenList) →
     holds_helper (also (thinned (scope_of scope Hash Bracket last) (group Bracket span inside)) more) ≡ holds_helper (also (group Bracket span inside) rest)
@@ -199,7 +199,7 @@ brackets-left Derives last span inside rest more = refl
 brackets-left Variants last span inside rest more = refl
 brackets-left Fields last span inside rest more = refl
 
--- a token that is no group, or one of another delimiter
+-- a token that is not a group, or a group with another delimiter
 abbrev IsOther : Token → Type 0
 IsOther (group Bracket span inside) = ⊥
 IsOther token = Unit {0}
@@ -252,7 +252,7 @@ holds-left scope (also token rest) =
     let next = sorted scope (spot_after scope Hash false token) rest in
     other-left next (scope_inside scope Hash token rest) token rest (left next) tt
 
--- no helper attribute begins with what stays
+-- no helper attribute begins with a token that stays
 
 mark-shape : (token : Token) (rest : TokenList) → begins_helper (also (shape token) rest) ≡ begins_helper (also token rest)
 mark-shape (identifier text span) rest = refl
@@ -314,7 +314,7 @@ entry-left : (rest : TokenList) → SameEntry rest (left (sorted Derives Within 
 entry-left none = ended
 entry-left (also token rest) = rw (no_scope Within token rest) (one-entry token rest (entry-left rest))
 
--- What is left of a token that stays, and of those after it.
+-- The rest of a token that stays, and of those after it.
 module _ (scope : Scope) (spot : TokenSpot) (token : Token) (rest : TokenList) where
   abbrev Next : TokenSpot
   Next = spot_after scope spot false token
@@ -379,7 +379,7 @@ scope-left : (scope : Scope) (spot : TokenSpot) (token : Token) (rest : TokenLis
 scope-left scope spot token rest =
     scope-front scope spot (sorted scope (spot_after scope spot false token) rest) (scope_inside scope spot token rest) token (rest_left scope spot token rest) ∙ scope-again scope spot token rest
 
--- and what it holds is left
+-- and its contents stay
 abbrev InsideOnce : Token → Type 0
 InsideOnce (group delimiter span inside) = (inner : Scope) → sorted inner Open (left (sorted inner Open inside)) ≡ kept (left (sorted inner Open inside))
 InsideOnce token = Unit {0}

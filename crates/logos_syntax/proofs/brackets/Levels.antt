@@ -44,7 +44,7 @@ abbrev pub before_set : Flags → Lead → Option (Operands × SetOperator) → 
 before_set flags lead None = None
 before_set flags lead (Some b) = Some (operands_set flags lead b.0, b.1)
 
--- what the last operand starts with
+-- the start of the last operand
 abbrev pub front_set : Lead → Option (Operands × SetOperator) → Set
 front_set lead None = lead_set lead
 front_set lead (Some b) = λ c. false
@@ -186,7 +186,7 @@ level_more l m (over k outer) ts n d e =
     ∙ ap (λ (x : List BracketToken). tokens_at outer k ++ Open l.negated l.lead ∷ x) e
     ∙ sym (append_assoc (tokens_at outer k) (Open l.negated l.lead ∷ operands_tokens (level_inside l)) ts)
 
--- the outermost bracket stays what it is
+-- the outermost bracket is unchanged
 abbrev pub outermost : Level → Stack → Bool × Lead
 outermost l bottom = (l.negated, l.lead)
 outermost l (over k outer) = outermost outer k

@@ -91,7 +91,7 @@ continues : (negated : Bool) (lead : Lead) (os : Operands) (ts front : List Brac
 continues negated lead os ts front p e w =
     sym (ap (option_and_then (λ q. walk q front)) w) ∙ sym (walk_more (starting negated lead bottom) ts front) ∙ ap (walk (starting negated lead bottom)) (sym e) ∙ operands_walk os negated lead bottom
 
--- ---- what a reader has read of a bracket, at a point inside of it
+-- ---- the part of a bracket that a reader has read, at a point inside of it
 
 pub record HasWalked (negated : Bool) (lead : Lead) (text here : Text) (p : Slot) : Type 0 where
   pub tokens : List BracketToken
@@ -180,7 +180,7 @@ one_bracket (bracket n d os) (bracket m e qs) text rest after h k =
 
 -- ---- refusals
 
--- what is said of each bracket that is written at the text, whose opening is read
+-- the property of each bracket that is written at the text and whose opening is read
 abbrev pub Refuted : (Bracket → Type 0) → Bool → Lead → Text → Type 0
 Refuted Claim negated lead text = (inside : Operands) (rest : Text) → BracketCuts text (operands_tokens inside ++ Close ∷ []) rest → Claim (bracket negated lead inside)
 
@@ -280,7 +280,7 @@ too_deep flags base negated lead text here after p n d h e deep inside rest k =
 pub too_deep_at_once : (base : ℕ) (b : Bracket) → 250 ≤ base → 250 < base + bracket_depth b
 too_deep_at_once base (bracket n d os) h = omega arith
 
--- ---- what a reader has read
+-- ---- the text that a reader has read
 
 -- the inside of the bracket up to a point, and the frames there
 pub record InBracket (flags : Flags) (base : ℕ) (negated : Bool) (lead : Lead) (text here : Text) (s : Frames) : Type 0 where

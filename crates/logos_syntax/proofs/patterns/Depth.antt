@@ -14,7 +14,7 @@ repeats_deep g op (Some q) p e h =
     let deep : q.1 ≡ p.1 = ap (λ (x : GroupPart). x.1) same in
     (_, refl, omega arith)
 
--- the step of an operator, by what becomes of the group
+-- the step of an operator, by the resulting group
 pub repeat_steps : (s : State) (op : Operator) (r : Result (Unit {0}) Stop) (g : Group) → Repeats r (repeat s.top op s.top.last) g → Steps s (repeats op) r (record s { top = g })
 repeat_steps s op (Ok x) g e = (tt, ap (option_map (λ h. record s { top = h })) e)
 repeat_steps s op (Err (stops.Syntax kind left)) g e = λ fit. ap (option_map (λ h. record s { top = h })) e

@@ -53,7 +53,7 @@ depth_around flags (over k l opening) =
     let d = depth_inside l.before l.items in
     omega arith
 
--- what is read, as a beginning of the text
+-- the text that is read, as a prefix of the text
 abbrev front_of : (flags : Flags) (text rest : Text) (ts : List Token) (p : Slot) → tokens_of p ≡ ts → StackFits flags p.stack → BranchesFit (levels.front_flags flags p.stack) (level_inside p.level) →
     Cuts text ts rest → NamesDiffer [] ts → Front flags text rest
 front_of flags text rest ts p is stack_fits fits cut differ =

@@ -18,7 +18,8 @@ pub record Level : Type 0 where
   pub before : Option Branches
   pub items : Items
 
--- the groups around a level, the innermost outside: what is read of it, and how the next one opens
+-- the groups around a level, the innermost outside: its part that is read, and how the next one
+-- opens
 pub data Stack : Type 0 where
   bottom : Stack
   over : Stack → Level → Opening → Stack

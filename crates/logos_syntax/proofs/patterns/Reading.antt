@@ -38,7 +38,7 @@ runs_after s t u xs ys (goes v w last token tokens fit moves k) r =
     let same : f.then ≡ w = (let h = f.moves in cc) in
     runs_after w last u tokens ys k (subst (λ z. Runs z (tokens ++ ys) u) same f.others)
 
--- ---- what is read is a pattern
+-- ---- a text that is read is a pattern
 
 -- the tokens that the groups around were read from, with the next opening
 abbrev pub stack_tokens : Stack → List Token
@@ -73,7 +73,7 @@ inside_fits flags (Some bs) its jts g f = (f.0, g f.1)
 piece_fits : (flags : Flags) (l : Level) (p : Piece) → PieceFits (level_flags flags l) p → BranchesFit flags (level_inside l) → BranchesFit flags (level_inside (with_piece l p))
 piece_fits flags l p g f = inside_fits flags l.before l.items (piece l.items p) (λ h. (h, g)) f
 
--- how a step continues with what is read
+-- how a step continues with the text that is read
 record Adds (flags : Flags) (p : Slot) (t : Token) (z : Slot) : Type 0 where
   tokens : tokens_of z ≡ tokens_of p ++ t ∷ []
   fits : SlotFits flags p → TokenFits (state_of flags p).top.flags t → SlotFits flags z
@@ -134,7 +134,7 @@ advance_adds flags p (repeats op) z e = from (repeated_items p.level.items op) r
           fits = λ f g. (f.0, inside_fits (front_flags flags p.stack) p.level.before p.level.items jts r.1 f.1);
         }) h
 
--- what the parser has read
+-- the text that the parser has read
 pub record IsRead (flags : Flags) (ts : List Token) (s : State) : Type 0 where
   pub slot : Slot
   pub state : s ≡ state_of flags slot

@@ -109,7 +109,7 @@ differ_after : (seen : List Text) (ts us : List Token) → NamesDiffer seen (ts 
 differ_after seen [] us h = h
 differ_after seen (t ∷ ts) us h = differ_after (with_name seen t) ts us h.1
 
--- ---- what the parser has read
+-- ---- the text that the parser has read
 
 pub nothing_read : (flags : Flags) (text : Text) (s : State) (names : GroupNames) → s ≡ start flags → HasNames names [] → HasRead flags text text s names
 nothing_read flags text s names is has = record { tokens = []; cut = refl; run = subst (Runs (start flags) []) (sym is) (stays (start flags)); differ = tt; has = has }
@@ -206,7 +206,7 @@ one flags text a b m n p q =
     let depths : branches_depth p.written ≡ branches_depth q.written = sym (whole_depth flags p.written) ∙ ap deepest states ∙ whole_depth flags q.written in
     (sym p.is_tree ∙ trees ∙ q.is_tree, sym p.is_depth ∙ depths ∙ q.is_depth)
 
--- ---- what reading a bracket says
+-- ---- the facts from reading a bracket
 
 pub bracket_stops : (s : State) (seen : List Text) (text : Text) (flags : Flags) (base : ℕ) (stop : Stop) → flags ≡ s.top.flags → base ≡ length s.below → ((b : Bracket) (rest : Text) → Encloses b text rest → Denies flags base stop b) → (t : Token) (rest : Text) → Starts t (91 ∷ text) rest → StopsAt stop s seen t
 bracket_stops s seen text flags base stop set is h t rest (taken u x r k) = absurd (no_simple u text r k)
@@ -225,7 +225,7 @@ bracket_goes s u seen names text rest flags base f set is has b h = record {
   has = has;
 }
 
--- ---- what reading another token says
+-- ---- the facts from reading another token
 
 pub faulted : {X : Type 0} (view : X → Taken) (s : State) (seen : List Text) (text : Text) (fault : Fault) (stop : Stop) → Yields view (Err fault) (token_at text) → IsStopOf fault stop → (t : Token) (rest : Text) → Takes t text rest → StopsAt stop s seen t
 faulted view s seen text (faults.Syntax kind) (stops.Syntax other left) none is t rest h = let e = taken_is t text rest h in absurd cc

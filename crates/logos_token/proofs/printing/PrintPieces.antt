@@ -15,7 +15,7 @@ use Rattle.logos_token.proofs.reading.PieceLemmas.{piece-advances, piece-boundar
 use Rattle.logos_lexeme.proofs.again.PrintWindows.{Window}
 use Rattle.logos_token.proofs.printing.PrintParts.{parts, parts-append, after}
 
--- what is printed after a lexeme of this kind
+-- the text printed after a lexeme of this kind
 abbrev pub gap_of : List ℕ → LexemeKind → ℕ → ℕ → List ℕ
 gap_of bytes (Punctuation spacing) from to = gap_after spacing
 gap_of bytes Doc from to = cond (is_line_comment (slice_range bytes from to)) (10 ∷ []) (32 ∷ [])
@@ -72,7 +72,7 @@ module _ (b front rest : List ℕ) (q n : ℕ) (long : length front ≡ n) (insi
   pub byte_afterward : get_or b (q + n) 0 ≡ get_or rest 0 0
   byte_afterward = let f : q + n + 0 ≡ q + n = omega arith in sym (ap (λ i. get_or b i 0) f) ∙ sym (get_or-drop (q + n) b 0 0) ∙ ap (λ (xs : List ℕ). get_or xs 0 0) drop_on
 
--- what begins with a gap begins with its byte
+-- a text that begins with a gap begins with its byte
 pub gap_first : (ps : List Part) (gap : List ℕ) (c : ℕ) → gap ≡ c ∷ [] → (get_or (after gap ps) 0 0 ≡ c) ⊎ (after gap ps ≡ [])
 gap_first [] gap c e = inr refl
 gap_first (part ∷ ps) gap c e = inl (ap (λ g. get_or (g ++ (part.text ++ after part.gap ps)) 0 0) e)
@@ -88,7 +88,7 @@ abbrev pub Follows : List Piece → Type 0
 Follows [] = ⊥
 Follows (piece ∷ rest) = piece.kind ≢ Gap
 
--- what is printed of a lexeme
+-- the printed text of a lexeme
 abbrev pub HasText : List ℕ → Type 0
 HasText a = (kind : LexemeKind) (from to : ℕ) → IsCharBoundary a from → IsNext a from kind to → kind ≢ Gap → parts (lexeme_of a kind (record { from = from; to = to })) ≡ (record { text = slice_range a from to; gap = gap_of a kind from to }) ∷ []
 

@@ -73,7 +73,7 @@ no_joint_last (also token rest) other = elim (cases_Bool (joint_end (joint_token
   | inr e ↦ joint_last-lexemes false (also token rest) ∙ e
 ]
 
--- where the lexemes of a run stand among those of the tokens
+-- the position of the lexemes of a run among those of the tokens
 record Lies (middle whole : List Lexeme) : Type 0 where
   front : List Lexeme
   back : List Lexeme

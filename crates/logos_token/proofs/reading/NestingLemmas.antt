@@ -74,7 +74,7 @@ closed-most_open : (front back : List Lexeme) (around afterward : List (Delimite
 closed-most_open front back around afterward n true e goes is = rw e (goes is)
 closed-most_open front back around afterward n false e goes is = cc
 
--- most delimiters are open in the front or in what is after
+-- most delimiters are open in the front or in the tokens after it
 pub most_open-append : (front back : List Lexeme) (around afterward : List (Delimiter × ℕ)) → opened around front ≡ Some afterward →
     most_open (length around) (front ++ back) ≡ max (most_open (length around) front) (most_open (length afterward) back)
 most_open-append [] back around afterward is = let e : around ≡ afterward = cc in rw e (omega (arith, most_open-least (length afterward) back))
@@ -91,7 +91,7 @@ most_open-append (closes delimiter to ∷ front) back (innermost ∷ around) aft
 -- The tokens of lexemes: a stack of groups that are begun, innermost first, and the tokens read
 -- after them.
 
--- a group that is begun: the tokens in front of it, its delimiter, and the offset where it stands
+-- a group that is begun: the tokens before it, its delimiter, and its offset
 record OpenGroup : Type 0 where
   before : TokenList
   delimiter : Delimiter

@@ -65,7 +65,7 @@ unreadable-excludes bytes kind span tokens (unclosed u) s =
     let f : Some ((u.delimiter, span.from) ∷ u.around) ≡ Some [] = sym u.front.nested ∙ ap (λ ps. opened [] (seen bytes ps)) e ∙ spells-closed bytes tokens s in
     cc
 
--- where more delimiters open than may be, the tokens stand deeper
+-- if more delimiters are open than allowed, the tokens are nested deeper
 pub deep-excludes : (bytes : List ℕ) (span : Span) (tokens : TokenList) → IsTooDeep bytes span → Spells bytes tokens → 128 < depth_of tokens
 deep-excludes bytes span tokens d s =
     let rest = part bytes span.from d.around d.front tokens s in

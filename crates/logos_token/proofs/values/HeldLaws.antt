@@ -35,7 +35,7 @@ record Closing (escapes : Bool) (content : Content) (bytes : List ℕ) (closes :
   pub back : (at next to : ℕ) (stated : List ℕ) → closes at ≡ false → Represents escapes content bytes at next stated → Close at to → Close next to
   pub on : (at next to : ℕ) (stated : List ℕ) → closes at ≡ false → Represents escapes content bytes at next stated → Close next to → Close at to
 
--- what is held up to the offset that closes is what the pieces hold that fill the span
+-- the bytes up to the closing offset are those of the pieces that fill the span
 module _ (escapes : Bool) (content : Content) (bytes : List ℕ) (closes : ℕ → Bool) (Close : ℕ → ℕ → Type 0) (closing : Closing escapes content bytes closes Close) where
   abbrev Filled : ℕ → List ℕ → Type 0
   Filled at held = (to : ℕ) × Close at to × Holds escapes content bytes at to held

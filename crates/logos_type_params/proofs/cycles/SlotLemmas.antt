@@ -88,7 +88,7 @@ module _ (g : List (List ℕ)) (ps : List Membership) (ev : IsEvidence g ps) whe
       (inr (one s.edge)))
       (ev.placed node p is).from
 
-  -- what a node leads to is of its component or of a later one
+  -- a node to which a node leads is of its component or of a later one
   later : (from to : ℕ) (p q : Membership) → slice_get ps from ≡ Some p → slice_get ps to ≡ Some q → Leads g from to → Follows p q
   later from to p q ip iq (one h) = (ev.placed from p ip).follow to h q iq
   later from to p q ip iq (on {over = over} h l) =

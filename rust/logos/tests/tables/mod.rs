@@ -74,9 +74,9 @@ const fn padded<const N: usize>(table: &[u8; 8]) -> [u8; N] {
     padded
 }
 
-/// The tokens of the lexers. The number identifies a lexer: with 8 or 301 it is the number of states
-/// of its tables, which determines whether a row has an entry for each byte or for each class. A
-/// lexer with 0 has no tables.
+/// The tokens of the lexers. The number identifies a lexer: with 8 or 301 it is the number of
+/// states of its tables, which determines whether a row has an entry for each byte or for each
+/// class. A lexer with 0 has no tables.
 #[derive(Clone, Debug, PartialEq)]
 pub enum Token<'s, const STATES: usize> {
     Word,

@@ -4,7 +4,7 @@ use Rattle.logos_answers.specs.Matches.{last_of, longest_from}
 use Rattle.logos_answers.proofs.LongestLemmas.{last_more, last_none, longest_is}
 use Rattle.logos_answers.proofs.matches.longest_of.Goals as goal
 
--- what is read past the end
+-- the value read past the end
 abbrev nothing : Match
 nothing = record { leaf = 0; end = 0; priority = 0 }
 

@@ -5,8 +5,8 @@ use Rattle.logos_scan.specs.walk.Cursors.{start_of}
 use Rattle.logos_commands.proofs.LexingLemmas.{Continues}
 use Rattle.logos_commands.proofs.item_lines.write_by_chunks.Given as goal
 
--- the run has its chunk and stands in the input, the block has room for a line, and what completes
--- the rest completes the whole
+-- the run has its chunk and is in the input, the block has room for a line, and a result for the
+-- rest completes to a result for the whole
 abbrev pub invariant-loop-item : goal.invariant-loop-item
 invariant-loop-item g l = record {
   ready : IsReady l.reading (with_chunk l.chunk l.run);

@@ -5,7 +5,7 @@ use Rattle.logos_graph.specs.View.{rules_of}
 use Rattle.logos_evidence.specs.inside.Listed.{listed}
 use Rattle.logos_evidence.proofs.matches.matches_from.Given as goal
 
--- what the rest lists completes what the whole lists
+-- the matches of the rest complete the matches of the whole
 abbrev pub invariant-loop-end : goal.invariant-loop-end
 invariant-loop-end l = record {
   within : l.state.0 < length (dfa_of l.dfa).matches;

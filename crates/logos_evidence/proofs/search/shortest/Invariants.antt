@@ -4,7 +4,8 @@ use Rattle.logos_evidence.specs.search.inside.PendingPoints.{pending_at, pending
 use Rattle.logos_evidence.specs.search.inside.Visits.{IsTree, IsWithin, IsClosed, NoGoal, depth_at}
 use Rattle.logos_evidence.proofs.search.shortest.Given as goal
 
--- the pending points with lower numbers are not looked for, and what they lead to was met
+-- the pending points with lower numbers are not goals, and the points to which they lead were
+-- visited
 abbrev pub invariant-loop-number : goal.invariant-loop-number
 invariant-loop-number g l = record {
   passed : l.number ≤ length l.visits.points.keys;

@@ -5,8 +5,8 @@ use Rattle.logos_hir.specs.Sets.{AreCanonical, in_ranges}
 use Rattle.logos_hir.specs.inside.SetSteps.{IsLimit, free_from}
 use Rattle.logos_hir.proofs.sets.gaps.Given as goal
 
--- the result, with what the ranges that are left leave out from here on, is all that the ranges
--- leave out
+-- the result, with the numbers that the remaining ranges leave out from here on, is all that the
+-- ranges leave out
 abbrev pub invariant-loop-range : goal.invariant-loop-range
 invariant-loop-range l = record {
   limit : IsLimit l.first;

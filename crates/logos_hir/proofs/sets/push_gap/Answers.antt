@@ -7,7 +7,7 @@ use Rattle.logos_hir.proofs.lemmas.RangeLemmas.{gap_pushed, pairs-push}
 use Rattle.logos_hir.proofs.sets.push_gap.Goals as goal
 use Rattle.logos_hir.proofs.sets.push_gap.Goals.{In_ok-push}
 
--- what the pushed range makes of the list
+-- the list after the range is pushed
 pushed : (c : In_ok-push) →
     AreCanonical (pairs c.push.new.self.items) × ((n : ℕ) → c.args.first ≤ n → c.args.end < n → free_from 0 (pairs c.push.new.self.items) ≤ n)
     × ((x : ℕ) → scalar x ≡ true → in_ranges (pairs c.push.new.self.items) x ≡ (in_ranges (pairs c.args.out.now.items) x || in_gap c.args.first c.args.end c.args.last x))

@@ -4,7 +4,7 @@ use Rattle.logos_type.specs.TypeTrees.{type_tree}
 use Rattle.logos_parser.specs.EnumTypes.{arguments}
 use Rattle.logos_parser.proofs.enum_type.push_arguments.Given as goal
 
--- what is added and the rest to add
+-- the added text and the rest to add
 abbrev pub invariant-loop-argument : goal.invariant-loop-argument
 invariant-loop-argument l =
     map tree_of l.parts.items ++ arguments l.is_first (map type_tree l.argument-iterator.rest.items)

@@ -8,7 +8,7 @@ use Rattle.logos_relex.specs.declared.chunk.ItemAt.{ItemAt}
 use Rattle.logos_relex.proofs.ItemLemmas.{all_stored, run_slices}
 use Rattle.logos_relex.proofs.chunk.last_items.Goals as goal
 
--- what is stored of the items gives them again
+-- the stored form of the items determines the items
 pub returns-clause-items : goal.returns-clause-items
 returns-clause-items g c =
     let code = c.args.code.now in

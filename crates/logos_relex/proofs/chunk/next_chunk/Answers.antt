@@ -3,7 +3,7 @@ use Rattle.logos_machine.specs.LexerValue.{answers_of}
 use Rattle.logos_relex.proofs.ChunkLemmas.{chunk_by, chunk_of_front}
 use Rattle.logos_relex.proofs.chunk.next_chunk.Goals as goal
 
--- what was found in a window is found in all of the bytes
+-- the items that were found in a window are found in all of the bytes
 pub returns-in-Some : goal.returns-in-Some
 returns-in-Some g c =
     let answers = answers_of g.C.Fn c.args.callback.now in

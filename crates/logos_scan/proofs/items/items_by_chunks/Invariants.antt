@@ -6,7 +6,7 @@ use Rattle.logos_scan.specs.Runs.{IsReady, with_chunk}
 use Rattle.logos_scan.specs.walk.Cursors.{start_of}
 use Rattle.logos_scan.proofs.items.items_by_chunks.Given as goal
 
--- What completes the run after the items so far completes the whole run.
+-- A result for the run after the items so far completes to a result for the whole run.
 abbrev pub invariant-loop-item : goal.invariant-loop-item
 invariant-loop-item g l = record {
   ready : IsReady l.reading (with_chunk l.chunk l.run);

@@ -3,7 +3,7 @@ use Rattle.logos_show.specs.Choices.{first_deriving}
 use Rattle.logos_show.proofs.ChoiceLemmas.{AreAmong, first_of}
 use Rattle.logos_show.proofs.choice.enum_meant.Given as goal
 
--- what is chosen is among the enums, and without a name those that are left complete the first one
+-- the chosen enum is among the enums, and without a name the remaining ones complete the first one
 abbrev pub invariant-loop-one : goal.invariant-loop-one
 invariant-loop-one l = record {
   same_name : l.choice.name ≡ l.name;

@@ -4,7 +4,7 @@ use Rattle.logos_token.specs.Views.{tokens_of}
 use Rattle.logos_warnings.specs.Mistakes.{MistakeValue, RunAdds, mistake_value}
 use Rattle.logos_warnings.proofs.mistakes.report_run.Given as goal
 
--- what the rest adds completes what the run adds
+-- the warnings of the rest complete the warnings of the run
 abbrev pub invariant-loop-attribute : goal.invariant-loop-attribute
 invariant-loop-attribute l = (after : List MistakeValue) → RunAdds l.site (tokens_of l.rest) (map mistake_value l.warnings.items) after →
     RunAdds l.site (tokens_of l.run) (map mistake_value l.initial.warnings.items) after

@@ -5,7 +5,7 @@ use Rattle.logos_codegen.specs.Tokenizing.{token_value}
 use Rattle.logos_codegen.proofs.ExprLemmas.{Continues}
 use Rattle.logos_codegen.proofs.expr.Language.tokens.Given as goal
 
--- what is read after the tokens is read from the start
+-- the items that are read after the tokens are read from the start
 abbrev pub invariant-loop-item : goal.invariant-loop-item
 invariant-loop-item l = record {
   same_code : l.lexer.code ≡ l.fn.self.code;

@@ -4,7 +4,7 @@ use Rattle.logos_evidence.specs.search.inside.PendingPoints.{pending_at, pending
 use Rattle.logos_evidence.specs.search.inside.Visits.{IsTree, IsWithin, IsClosed, depth_at}
 use Rattle.logos_evidence.proofs.search.cover.explore.Given as goal
 
--- what the pending points with lower numbers lead to was met
+-- the points to which those with lower numbers lead were visited
 abbrev pub invariant-loop-number : goal.invariant-loop-number
 invariant-loop-number g l = record {
   passed : l.number ≤ length l.visits.points.keys;

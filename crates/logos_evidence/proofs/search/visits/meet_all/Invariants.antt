@@ -5,7 +5,7 @@ use Rattle.logos_evidence.specs.search.inside.Visits.{IsTree, IsWithin, Grows, I
 use Rattle.logos_evidence.specs.declared.search.visits.PendingPoint.{PendingPoint}
 use Rattle.logos_evidence.proofs.search.visits.meet_all.Given as goal
 
--- what the bytes so far lead to was met
+-- the points to which the bytes so far lead were visited
 abbrev pub invariant-loop-site : goal.invariant-loop-site
 invariant-loop-site g l = record {
   tree : IsTree (pending_next (g.M.Machine.leads l.machine) l.utf8) l.visits.points.keys l.visits.ways.items;

@@ -4,7 +4,7 @@ use Rattle.logos_code.specs.Runs.{Runs}
 use Rattle.logos_machine.specs.LexerValue.{answers_of, item_of}
 use Rattle.logos_machine.proofs.machine.Lexer.items.Given as goal
 
--- What completes the run after the items so far completes the whole run.
+-- A result for the run after the items so far completes to a result for the whole run.
 abbrev pub invariant-loop-item : goal.invariant-loop-item
 invariant-loop-item g l = record {
   same_code : l.lexer.code ≡ l.fn.self.code;

@@ -6,7 +6,7 @@ use Rattle.logos_scan.specs.Runs.{IsReady, with_chunk}
 use Rattle.logos_scan.specs.walk.Cursors.{start_of}
 use Rattle.logos_scan.proofs.run.Run.next_item.Given as goal
 
--- a continuation after the matches that gave no item continues from where the run stood
+-- a continuation after the matches without an item continues from the former start of the run
 abbrev pub invariant-loop-leaf : goal.invariant-loop-leaf
 invariant-loop-leaf g l = record {
   ready : IsReady l.reading (with_chunk l.chunk l.self);
