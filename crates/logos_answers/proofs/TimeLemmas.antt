@@ -102,7 +102,7 @@ cut_at b rest start is =
     let none : NoneFrom (b ∷ rest) start = λ k l m. is.one k l (omega (arith, m)) in
     cut true (b ∷ rest) start (omega (arith, is.before)) none (begins_at (b ∷ rest) (length (b ∷ rest) - 1) start is)
 
--- The last line says how long something took, or it does not.
+-- The last line is the one with the time, or it is not.
 pub time_cut : (answer : List ℕ) (start : ℕ) → IsLineStart answer (length answer - 1) start → shows_time (drop start answer) ≡ true → take start answer ≡ timeless answer
 time_cut [] start is e = none_taken start
 time_cut (b ∷ rest) start is e = sym (cut_at b rest start is ∙ ap (λ t. if t then take start (b ∷ rest) else b ∷ rest) e)

@@ -15,7 +15,7 @@ is_one_line (byte ∷ next ∷ rest) = not (byte == 10) && is_one_line (next ∷
 abbrev pub is_time : List ℕ → Bool
 is_time text = starts_with (λ one other. one == other) text (codes "milliseconds: ") && is_one_line text
 
--- A text without its last line, if that is the line with the time. A flag says whether a line
+-- A text without its last line, if that is the line with the time. The flag is whether a line
 -- begins with the text.
 abbrev pub timeless_from : Bool → List ℕ → List ℕ
 timeless_from begins [] = []

@@ -32,7 +32,7 @@ pub struct Loss {
 
 /// Appends a line for each leaf of a graph without faults: a shortest input on which a lexer finds
 /// a match of the leaf first, and a shortest one on which the leaf matches and another leaf is
-/// found first, with that leaf. If a leaf is never found, the line says that it is not.
+/// found first, with that leaf. If a leaf is never found, the line states that.
 ///
 /// # Errors
 ///

@@ -64,7 +64,7 @@ fn one_leads(next: Option<usize>, twin: Option<usize>) -> bool
 }
 
 impl GraphPair<'_> {
-    /// Returns whether the last matches differ after one more step with these marks. `parts` says
+    /// Returns whether the last matches differ after one more step with these marks. `parts` is
     /// whether errors may end at different offsets.
     fn differs_after(
         &self,

@@ -6,7 +6,7 @@ use Rattle.logos_enum.specs.Marks.{hash}
 use Rattle.logos_token.specs.First.{after_word}
 use Rattle.logos_strip.specs.Helpers.{is_comma, is_macro_entry, holds_after}
 
--- Whether an entry names the derive macro. A flag says whether an entry may begin at the first
+-- Whether an entry names the derive macro. The flag is whether an entry may begin at the first
 -- token.
 abbrev pub lists_macro : Bool → TokenList → Bool
 lists_macro begins none = false

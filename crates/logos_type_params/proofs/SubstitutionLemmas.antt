@@ -23,8 +23,8 @@ joined-push : (l : List Tree) (t : Tree) (ts : Trees) → joined (l ++ t ∷ [])
 joined-push [] t ts = refl
 joined-push (x ∷ rest) t ts = ap (also x) (joined-push rest t ts)
 
--- with the results for the parts so far, the result for the rest completes the whole, and a type that
--- passes the limit in the rest does so in the whole
+-- with the results for the parts so far, the result for the rest completes the whole, and a type
+-- that exceeds the limit in the rest does so in the whole
 pub record Remains (params : Params) (levels : ℕ) (all : Trees) (now : List TypePart) (rest : Trees) : Type 0 where
   pub completes : (others : Trees) → AllAfter params levels rest others → AllAfter params levels all (joined (map tree_of now) others)
   pub passes : SomePasses params levels rest → SomePasses params levels all

@@ -57,8 +57,8 @@ is_cut utf8 b = not utf8 || (nat_lt b 0x80 || nat_le 0xc0 b)
 abbrev pub one_leads : Option ℕ → Option ℕ → Bool
 one_leads next twin = (is_some next && not (is_some twin)) || (not (is_some next) && is_some twin)
 
--- Whether the last matches differ after one more step with these marks. A flag says whether errors
--- may end at different offsets.
+-- Whether the last matches differ after one more step with these marks. The last flag is whether
+-- errors may end at different offsets.
 abbrev pub differs_after : List ℕ → List ℕ → Bool → Bool → Option ℕ → Option ℕ → Bool → Bool
 differs_after names others met last None None parts = if met then last else last || parts
 differs_after names others met last None (Some k) parts = true

@@ -16,7 +16,7 @@ IsPlain (literal text span) = Unit {0}
 IsPlain (doc text span) = ⊥
 IsPlain (group delimiter span inside) = Unit {0}
 
--- Such tokens from a run to its rest, with no comma directly after another one. The flags say
+-- Such tokens from a run to its rest, with no comma directly after another one. The flags are
 -- whether the token before is a comma.
 pub data Goes : Bool → TokenList → Bool → TokenList → Type 0 where
   there : {b : Bool} {run : TokenList} → Goes b run b run
