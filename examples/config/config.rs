@@ -36,7 +36,7 @@ enum Config {
     Text,
     #[regex(r"[a-zA-Z0-9_\-]+", priority = 1)]
     Name,
-    // What is close to a token.
+    // Malformed tokens.
     #[regex(r#""([^"\\\n]|\\[^\n])*"#)]
     #[regex("'[^'\n]*")]
     Unclosed,

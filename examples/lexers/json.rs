@@ -33,7 +33,7 @@ pub enum Token {
     String,
 }
 
-/// What a parser of JSON makes of tokens.
+/// A JSON value, as a parser makes it of tokens.
 #[derive(Debug, Clone, PartialEq)]
 pub enum Value {
     Null,

@@ -21,7 +21,7 @@ enum Log {
     Name,
     #[token("\n")]
     LineEnd,
-    // What is close to a token.
+    // Malformed tokens.
     #[regex(br#""([^"\\\n]|\\[^\n])*"#)]
     Unclosed,
     #[regex(r"\[[^\]\n]*\]", priority = 1)]

@@ -42,7 +42,7 @@ enum Query {
     Close,
     #[token(";")]
     Last,
-    // What is close to a token.
+    // Malformed tokens.
     #[regex("'([^']|'')*")]
     #[regex(r#""([^"]|"")*"#)]
     Unclosed,

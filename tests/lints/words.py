@@ -5,9 +5,9 @@ words: words.py
 Read for words are the comments and the names in `src`, `specs` and `proofs` of each crate, the
 names of these files, the sentences of its wrong bodies, the comments of tests/calls, of the
 packages in `rust` and of the examples, and the pages that people read first. Quoted text is left
-out, and so are blocks of code on pages. `docs/GLOSSARY.md` has the words that are not used, with their
-replacements; each of them has its patterns here. Each word of that page has a home, which must
-exist.
+out, and so are blocks of code on pages. `docs/GLOSSARY.md` has the words that are not used, with
+their replacements; each of them has its patterns here. Each word of that page has a home, which
+must exist.
 
 Comments have a form, too. In a crate there is a blank line after `# Errors`, and after the first
 comment of a file in `src`; "if memory runs out" where memory can; and in `specs` a capital letter
@@ -31,7 +31,7 @@ GLOSSARY = "docs/GLOSSARY.md"
 # The pages outside of `docs`, `rust` and `examples` that are read for words.
 PAGES = ("README.md", "CONTRIBUTING.md", "CHANGELOG.md", "tests/README.md", "bench/README.md", "crates/README.md")
 # With fewer that pass, files or rows were lost, or are no longer read.
-LEAST = 250
+LEAST = 400
 COLUMNS = 100
 # The endings of other files that have comments, of those among them that begin with `//`, and the
 # names of lists that have some.
@@ -82,6 +82,8 @@ UNUSED = {
 MESSAGES = ("again what may stand there", "for what gives no token")
 # The comments of crates have no "what": they name the thing.
 IN_COMMENTS = {"what, for a thing": re.compile(r"\bwhat\b", re.I)}
+# The entries for which proofs are not read: their names of facts, and their lists.
+NOT_IN_PROOFS = {"kept, as a name", "list, for report"}
 # The file in `rust` that a program prints.
 MADE = {"rust/rattle-std/src/crates/unicode_tables.rs"}
 WHOLE_NAMES = {"kept": "kept, as a name", "Reached": "reached, work, as names of types", "Work": "reached, work, as names of types"}
@@ -192,9 +194,9 @@ def units():
     return found
 
 
-def read_for_words_alone():
-    """Returns further files that are read for words: the proofs and the wrong bodies of each crate, the
-    packages in `rust`, and each example."""
+def further_units():
+    """Returns further files that are read for words only: the proofs and the wrong bodies of each
+    crate, the packages in `rust`, and each example."""
     found = {}
     for name in sorted(os.listdir(f"{ROOT}/crates")):
         found[f"{name}/proofs"] = below(f"crates/{name}/proofs", ".antt")
@@ -202,12 +204,13 @@ def read_for_words_alone():
     for room in ("rust", "examples"):
         for name in sorted(os.listdir(f"{ROOT}/{room}")):
             if os.path.isdir(f"{ROOT}/{room}/{name}"):
-                found[f"{room}/{name}"] = [path for path in below(f"{room}/{name}", (".rs", ".rt.in")) if path not in MADE and "/target/" not in path]
+                paths = below(f"{room}/{name}", (".rs", ".rt.in"))
+                found[f"{room}/{name}"] = [path for path in paths if path not in MADE and "/target/" not in path]
     return {unit: paths for unit, paths in found.items() if paths}
 
 
 def in_comments(path):
-    """Yields the line and the entry of each word in the comments of a file in Rust that is not used."""
+    """Yields the line and the entry of each word in the comments of a Rust file that is not used."""
     text = read(path)
     for it in RATTLE.finditer(text):
         if it["comment"]:
@@ -223,7 +226,7 @@ def unused(path, listing):
     elif path.startswith(("rust/", "examples/")):
         yield from in_comments(path)
     elif "/proofs/" in path:
-        yield from ((line, entry) for line, entry in in_code(path, listing) if entry != "kept, as a name")
+        yield from ((line, entry) for line, entry in in_code(path, listing) if entry not in NOT_IN_PROOFS)
     else:
         for name in path.split("/")[2:]:
             yield from ((0, entry) for entry in in_name(name.split(".")[0], listing))
@@ -368,7 +371,7 @@ def word_faults(found):
 def main():
     has_option()
     found = units()
-    checked = [*word_faults({**found, **read_for_words_alone()})]
+    checked = [*word_faults({**found, **further_units()})]
     for crate in (it for it in found if "." not in it):
         checked.append([f"{path}:{line}: {why}" for path in found[crate] for line, why in form_faults(path)])
     for paths in others(found).values():

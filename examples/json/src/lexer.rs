@@ -38,7 +38,7 @@ pub enum Token {
     #[regex(r#""(?&piece)*""#)]
     String,
 
-    // What is close to a token.
+    // Malformed tokens.
     #[regex(r"-?0[0-9]+")]
     LeadingZero,
     #[regex(r"-?(?&whole)\.")]

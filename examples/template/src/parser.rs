@@ -56,7 +56,7 @@ struct Reader<'t> {
     open: Vec<Open<'t>>,
 }
 
-/// What a tag is.
+/// The kinds of tags.
 #[derive(PartialEq)]
 enum Kind {
     Value { is_raw: bool },

@@ -1,4 +1,4 @@
-//! Frames of bytes, some of which say how long they are.
+//! Frames of bytes, some of which contain their own length.
 
 use logos::{Lexer, Logos};
 
