@@ -7,13 +7,13 @@ use std::io;
 use std::path::Path;
 use std::process::{Command, ExitCode};
 
-/// What the module of the program `logos` needs besides: its command is private there.
+/// An addition to the module of the program `logos`, in which its command is private.
 const RUN_LOGOS: &str = "\
 /// Runs the command of `logos` that the arguments name. Returns the exit status.
 pub fn run_logos_program(rt: &HostRuntime) -> u8 { run_logos(rt) }
 ";
 
-/// What `logos_build` needs of the module of `logos_cli`, where it is private.
+/// The re-export that `logos_build` needs from the module of `logos_cli`, where it is private.
 const RUN_LOGOS_CLI: &str = "pub(crate) use self::program::run as run_command;\n";
 
 fn erase() -> io::Result<()> {

@@ -1,4 +1,4 @@
-//! Tells the crate by a variable whether the compiler vectorizes loops, which it does only at some
+//! Sets a variable that states whether the compiler vectorizes loops, which it does only at some
 //! levels of optimization.
 
 fn main() {

@@ -18,7 +18,7 @@ const PROGRAMS: [(&str, &str); 10] = [
     ("first", "../../docs/guide/first.rt.in"),
 ];
 
-/// What runs a program from outside of its module.
+/// The function that runs a program from outside of its module.
 const START: &str = "\
 pub fn start() -> std::process::ExitCode {
     std::process::Termination::report(main(HostRuntime))

@@ -2,8 +2,8 @@
 
 use rattle_erase::{Paths, erase};
 
-/// Erases a source that may name the crate `logos_token` and the toolchain's `json`. Returns what
-/// comes out without the line that each file gets at its end.
+/// Erases a source that may name the crate `logos_token` and the toolchain's `json`. Returns the
+/// output without the line that each file gets at its end.
 fn erased(text: &str) -> String {
     let libraries = vec![("logos_token", "crate"), ("json", "std::crates")];
     let paths = Paths { module: "logos_hir", libraries };

@@ -14,8 +14,8 @@ const RENAMED: [(&str, &str); 6] = [
     ("cloned", "clones"),
 ];
 
-/// Returns the sources below a folder of the repository, without what builds leave in folders
-/// `out`.
+/// Returns the sources below a folder of the repository, without the files that builds leave in
+/// folders `out`.
 fn sources(folder: &str) -> Vec<PathBuf> {
     let mut left = vec![Path::new(env!("CARGO_MANIFEST_DIR")).join("../..").join(folder)];
     let mut found = Vec::new();

@@ -1,4 +1,4 @@
-//! The library behind `#[derive(Logos)]`: from the source of an enum to its lexer.
+//! The library that `#[derive(Logos)]` calls: from the source of an enum to its lexer.
 //!
 //! The items at the root are those of the crate `logos_codegen` of the repository. The modules
 //! `logos_*` are its crates. Their sources are written in Rattle, which is Rust with contracts, and

@@ -74,9 +74,9 @@ use question::Question;
 /// A variant may have several. After the literal both take:
 ///
 /// - a callback, or `callback = ..`: a path, or a closure of one parameter. It is called with the
-///   lexer at each match. A variant without a field has no value; the value of a field is what the
-///   callback returns, and the slice without a callback. A callback may also return `bool`,
-///   `Option` or `Result` of the value, `Skip`, `Filter`, `FilterResult` or the token.
+///   lexer at each match. A variant without a field has no value; the value of a field is the one
+///   that the callback returns, and the slice without a callback. A callback may also return
+///   `bool`, `Option` or `Result` of the value, `Skip`, `Filter`, `FilterResult` or the token.
 /// - `priority = 3`: among matches of the same length the one with the highest priority is taken.
 ///   By default it grows with the minimum number of bytes that the pattern matches.
 /// - `ignore(case)`: letters match in both cases.

@@ -3,14 +3,14 @@
 //! An enum implements [`Logos`] by the derive macro, or by generated code that the program
 //! `logos_cli` prints. [`Logos::lexer`] begins a run over an input, and the run is an iterator over
 //! tokens. Where the lexer is tables, the run looks ahead by chunks of the input where that pays.
-//! A `for` loop is as fast as `for_each` if the run stays in registers: where `next` is called from
-//! one place, and no function that is not inlined takes the run.
+//! A `for` loop is as fast as `for_each` if the run stays in registers: if there is one call of
+//! `next`, and each function that takes the run is inlined.
 //!
 //! # Features
 //!
 //! - `export_derive`, on by default: the derive macro.
-//! - `std`, on by default: a [`Lexer`] looks ahead, and keeps what it found in a box. Nothing else
-//!   needs more than `core`.
+//! - `std`, on by default: a [`Lexer`] looks ahead, and stores the items that it found in a box.
+//!   Everything except this needs only `core`.
 //! - `state_machine_codegen`: the derive macro prints the shape `state_machine`, not `tables`.
 //! - `debug`: the derive macro prints the implementations on standard error.
 //! - `forbid_unsafe`: [`Source`] has no unsafe methods. This crate has no unsafe code either way.

@@ -46,7 +46,7 @@ fn growth_past_the_budget_is_refused() {
     assert_eq!(left(), 64 * KIB);
     sets_are_counted();
     assert_eq!(left(), 64 * KIB);
-    // What was allocated before may be released without making the budget larger for long.
+    // Earlier allocations may be released without enlarging the budget for long.
     set_budget(None);
     drop(before);
     assert!(Vec::<u8>::with_capacity(Global, KIB * KIB).is_ok());
