@@ -210,7 +210,7 @@ def further_units():
 
 
 def in_comments(path):
-    """Yields the line and the entry of each word in the comments of a Rust file that is not used."""
+    """Yields the line and the entry of each word in a Rust file's comments that is not used."""
     text = read(path)
     for it in RATTLE.finditer(text):
         if it["comment"]:

@@ -21,8 +21,8 @@ type Step<'source, Token, Next> =
 #[cold]
 fn away() {}
 
-/// The loop and its steps. These are functions of the enum, so that the compiler places them next
-/// to its `lex` and can inline that into its caller.
+/// The loop and its steps. These are functions of the enum, so that the compiler puts them next to
+/// its `lex` and can inline that into its caller.
 pub(crate) trait Run<'source>: Loops<'source> {
     /// Whether a row has an entry for each byte instead of for each class.
     const BY_BYTES: bool = Self::DATA.by_bytes();
