@@ -23,7 +23,8 @@ time, CLI a `logos_cli`, SIZE the bytes of a text, and BEFORE words in front of 
 measured, such as `chrt -f 1 taskset -c 3`. JOBS is how many compilers run at once, two without it.
 
 It needs rustc, cargo and gcc; flex, re2c and ragel where they are found. A shape for which rustc
-takes more than 60 processor seconds is left out."""
+takes more than 60 processor seconds, or as many as the variable SECONDS says, is left out. What
+takes longest is compiling: with KEEP, `python3 bench/held.py 0` does that alone."""
 import os
 import random
 import shutil
@@ -57,7 +58,7 @@ RATIOS = {
     "parser by its parser": ("parser", ["other_parser"]),
 }
 BY_OTHER = list(RATIOS)[-2:]
-SECONDS = 60
+SECONDS = int(os.environ.get("SECONDS", 60))
 
 
 def logos_cli():
@@ -144,6 +145,8 @@ def main(count=6, *kinds):
     for _ in range(int(count)):
         for name, ways in all_ways.items():
             measure(runs, name, ways, paths[name])
+    if not runs.best:
+        return
     shown_ways = [it for it in [*TABLES, *OTHER, *SHAPES, *IN_C] if any(it in ways for ways in all_ways.values())]
     first = ["lexer by the faster shape", "lexer by the fastest in C"]
     rows = []

@@ -5,6 +5,9 @@ MB that it lexes in a second, the fastest of some runs.
 
   python3 bench/shapes.py [RUNS]
 
+The last rows are of programs with ten lexers of the shape `tables`: those with Unicode identifiers
+in turns, and that of JSON; and of one without a lexer.
+
 The lexers are like those of Rust, SQL and Python, with Unicode identifiers, and that of JSON. Each
 reads a text of its kind, made by bench/inputs/made.py; all shapes have to find as many tokens and
 errors in it. SIZE says how many bytes a text has, 16 MiB without it. CLI names a `logos_cli`: see
@@ -36,6 +39,32 @@ def compiled(room, cli, library, name, shape):
     return f"{folder}/lexer", os.path.getsize(f"{folder}/lexer.rs"), seconds
 
 
+def of_several(room, cli, library, names):
+    """Compiles a program with a lexer of the shape `tables` for each name, in modules. Returns the
+    bytes of its texts, the seconds of rustc and its path."""
+    folder, text, calls = f"{room.folder}/several.{len(names)}.{'.'.join(sorted(set(names)))}", 0, ""
+    with open(f"{BENCH}/lexer/rust/main.rs", encoding="utf-8") as main:
+        whole = main.read()
+    parts = "#![allow(warnings)]\n"
+    for number, name in enumerate(names):
+        scanners.lay_out(f"{folder}/lexer{number}", cli, f"{BENCH}/{RULES[name]}/{name}.rs", "tables")
+        text += os.path.getsize(f"{folder}/lexer{number}/lexer.rs")
+        write(f"{folder}/lexer{number}/main.rs", whole.replace("#![allow(warnings)]", "").replace("fn main", "pub fn main", 1))
+        parts += f'#[path = "lexer{number}/main.rs"]\nmod lexer{number};\n'
+        calls += f"lexer{number}::main();\n"
+    write(f"{folder}/main.rs", f"{parts}fn main() {{\n{calls}}}\n")
+    words = ["rustc", "--edition", "2021", "-C", "opt-level=3", "--extern", f"logos={library}"]
+    status, seconds, _ = used([*words, "-o", f"{folder}/lexers", f"{folder}/main.rs"])
+    if status:
+        sys.exit("rustc refuses several lexers")
+    return text, seconds, f"{folder}/lexers"
+
+
+def size_of(path):
+    """Returns the bytes of the machine code and tables of a program."""
+    return said_by(["size", path]).split("\n")[1].split()[0]
+
+
 def main(count=5):
     room, runs = Room(), Runs()
     cli = programs.logos(room.folder, "CLI")
@@ -49,8 +78,11 @@ def main(count=5):
     print(f"{machine()}, {said_by(['rustc', '--version'])}", end="")
     rows = []
     for (name, shape), (path, text, seconds) in there.items():
-        code = said_by(["size", path]).split("\n")[1].split()[0]
-        rows.append([name, shape, text, f"{seconds:.2f}", code, runs.speed(name, shape, SIZE)])
+        rows.append([name, shape, text, f"{seconds:.2f}", size_of(path), runs.speed(name, shape, SIZE)])
+    turns = [name for name in RULES if RULES[name] == "text"]
+    for what, names in {"ten with Unicode": (4 * turns)[:10], "ten of json": ["json"] * 10, "none": []}.items():
+        text, seconds, path = of_several(room, cli, library, names)
+        rows.append([what, "tables", text, f"{seconds:.2f}", size_of(path), "-"])
     print_table(["Lexer", "Shape", "Bytes of the text", "Seconds of rustc", "Bytes of the program", "MB/s"], rows)
     runs.end()
 

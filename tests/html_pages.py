@@ -8,10 +8,14 @@ The lexers are those of examples/lexers and four others, which have patterns, ca
 of files with markup, quotes and invisible characters. In each page are looked up its elements and
 their nesting, headings, names of parts, identifiers and links; each item of the input with its
 span, its leaf and its shown text; each leaf, and each state with its edges. Texts with markup must
-have the elements of harmless texts. Where `chromium` is found, its own parser has to find the same
-items. Each of these is one count. The last line is `html_pages: N passed, M failed`."""
+have the elements of harmless texts. Where `chromium` is found, the pages of all lexers with all
+texts, or the first bytes of the texts of others, are opened there: their elements must have the
+items of `logos lex`. The pages of the pictures in docs/handbook/see.md must have the texts that the
+page quotes beside them. Each of these is one count. The last line is `html_pages: N passed, M
+failed`."""
 import glob
 import html.parser
+import itertools
 import json
 import os
 import re
@@ -22,6 +26,13 @@ import tempfile
 import unicodedata
 
 ROOT = os.path.dirname(os.path.dirname(os.path.realpath(__file__)))
+sys.path.insert(0, f"{ROOT}/tests/playground")
+sys.path.insert(0, f"{ROOT}/tools")
+from browser import Browser
+from pictures import FOLDER, PICTURES
+
+# The bytes of the largest picture.
+LARGEST = 150_000
 # The elements and the attributes of a page. Nothing else may occur.
 ELEMENTS = {"html", "head", "meta", "title", "style", "body", "header", "h1", "h2", "p", "nav", "ul", "li", "a", "main", "section", "div", "table",
             "thead", "tbody", "tr", "th", "td", "code", "pre", "span", "i", "strong", "footer", "svg", "defs", "marker", "path", "circle", "text"}
@@ -30,6 +41,8 @@ ATTRIBUTES = {"lang", "charset", "name", "content", "id", "class", "href", "role
               "cy", "r"}
 ALONE = {"meta"}
 SHOWN = 65536
+# The length of the texts with which a browser opens the pages of other lexers.
+SHORT = 600
 DRAWN = 60
 LISTED = 1000
 # The characters that may not stand in a page, as in tests/terminal.py: controls, formats and
@@ -243,14 +256,19 @@ def items_of(page):
     return found
 
 
+def front_of(data):
+    """Returns the part of an input that is shown: the end cuts no character."""
+    if len(data) <= SHOWN:
+        return data
+    end = SHOWN
+    while data[end] & 0xC0 == 0x80 and SHOWN - end < 3:
+        end -= 1
+    return data[:end]
+
+
 def look_at_items(page, data, source, text, name):
     """Compares the items of a page with those of `logos_show FILE INPUT`."""
-    wanted, labels, front = [], [], data
-    if len(data) > SHOWN:
-        end = SHOWN
-        while data[end] & 0xC0 == 0x80 and SHOWN - end < 3:
-            end -= 1
-        front = data[:end]
+    wanted, labels, front = [], [], front_of(data)
     for record in records(SHOW, source, text):
         start, slice_ = record["from"], slice_of(record)
         if start >= len(front):
@@ -320,7 +338,7 @@ def look_at_diagram(states, source, name):
     """Compares the edges of the states with those of `logos mermaid`."""
     chart = run(LOGOS, "mermaid", source).decode()
     wanted = {(int(a), int(b)) for a, b in re.findall(r"^n(\d+)-->en\1n(\d+)$", chart, re.M)}
-    edges = {(number, int(link.attributes["href"].removeprefix("#state-"))) for number, (_, cells) in enumerate(states) for link in cells[2].every("a")}
+    edges = {(number, int(link.attributes["href"].removeprefix("#state-"))) for number, (_, cells) in enumerate(states) for link in cells[-1].every("a")}
     check(edges == wanted, f"{name}: the edges differ from those of the diagram")
 
 
@@ -401,36 +419,125 @@ def look_at_files(room):
     check(ran.returncode == 0 and b"<title>Lexer Other</title>" in ran.stdout, "the page of an enum by its name")
 
 
-def look_by_browser(room):
-    """Compares the items that Chromium's parser finds."""
-    chromium = shutil.which("chromium")
-    if not chromium:
+def look_at_entries(room):
+    """Looks at how often states are entered. `ab`, a blank, and `c` with another byte are three
+    match attempts: they enter the root three times, and the states of leaves once for each byte."""
+    source, text = write(f"{room}/bytes.rs", BYTES), write(f"{room}/i", b"ab c\xff")
+    page, _ = page_of(source, text, f"{room}/page.html")
+    found = {cells[1].text(): cells[2].text() for _, cells in rows_of(page, "states")}
+    check(found == {"": "3", "early: Blank (leaf 1)": "1", "early: Word (leaf 0)": "4"}, f"states are entered otherwise: {found}")
+    section, = [it for it in page.every("section") if it.attributes["id"] == "states"]
+    check("in the first 5 bytes of the text" in section.text(), "the counted bytes")
+    page, _ = page_of(source, write(f"{room}/i", b"a" * 70000), f"{room}/page.html")
+    found = {cells[1].text(): cells[2].text() for _, cells in rows_of(page, "states")}
+    check(found == {"": "1", "early: Blank (leaf 1)": "0", "early: Word (leaf 0)": str(SHOWN)}, f"a long item: {found}")
+    page, _ = page_of(source, None, f"{room}/page.html")
+    check(all(len(cells) == 3 for _, cells in rows_of(page, "states")), "counts without a text")
+
+
+def look_at_pictures(room):
+    """Compares the pictures of the handbook, and the texts in their place, with their pages."""
+    with open(f"{ROOT}/docs/handbook/see.md", encoding="utf-8") as it:
+        shown = it.read()
+    found = re.findall(r"^    logos_show (.*) --html page.html\n\n!\[([^]]*(?:\[[^]]*\][^]]*)*)\]\(pictures/([\w-]+)\.png\)$", shown, re.M)
+    check([it[2] for it in found] == list(PICTURES) and shown.count("![") == len(found), f"the pictures of the handbook are {[it[2] for it in found]}")
+    check(sorted(os.listdir(f"{ROOT}/{FOLDER}")) == sorted(f"{name}.png" for name in PICTURES), "other pictures")
+    for words, text, name in found:
+        with open(f"{ROOT}/{FOLDER}/{name}.png", "rb") as it:
+            data = it.read()
+        check(data.startswith(b"\x89PNG\r\n\x1a\n") and data.endswith(b"IEND\xaeB`\x82") and len(data) <= LARGEST, f"the picture {name} has {len(data)} bytes")
+        wanted, part, _ = PICTURES[name]
+        paths = [f"{ROOT}/{it}" for it in wanted.split()]
+        page, _ = page_of(paths[0], paths[1] if paths[1:] else None, f"{room}/page.html")
+        section, = [it for it in page.every("section") if it.attributes["id"] == part]
+        quoted = [re.sub(r"\s+", " ", it) for it in re.findall(r'"([^"]+)"', text)]
+        missing = [it for it in quoted if it not in re.sub(r"\s+", " ", section.text())]
+        check(words == wanted and len(quoted) >= 2 and not missing, f"the part of the picture {name} has no {missing}")
+
+
+def lexed(source, text, data, room):
+    """Returns the items of a shown text that `logos lex` finds with the first lexer of a file, as
+    `items_of` does, or `None` if the text is refused."""
+    with open(source, encoding="utf-8") as it:
+        enum = re.search(r"^( *)#\[derive\(Logos.*?^\1\}$", it.read(), re.M | re.S)[0]
+    ran = subprocess.run([LOGOS, "lex", write(f"{room}/enum.rs", enum), text], stdin=subprocess.DEVNULL, capture_output=True)
+    if ran.returncode == 1 and ran.stderr.startswith(b"NotUtf8"):
+        return None
+    front, items = front_of(data), []
+    for line in ran.stdout.decode().splitlines():
+        kind, *leaf, span = line.split(" ")
+        start, end = (int(it) for it in span.split(".."))
+        if start < len(front):
+            items.append((span, int(leaf[0]) if kind == "token" else None, shown(front[start:end])))
+        if end >= SHOWN:
+            break
+    check(ran.returncode == 0, f"logos lex {os.path.basename(source)}: {ran.stderr.decode()}")
+    return items
+
+
+def short_of(data):
+    """Returns the first bytes of a text, up to the end of a character."""
+    end = min(SHORT, len(data))
+    while end < len(data) and data[end] & 0xC0 == 0x80:
+        end += 1
+    return data[:end]
+
+
+def opened(browser, path):
+    """Returns the items that a browser finds in a page."""
+    browser.open(f"file://{path}")
+    if not browser.until(f"location.pathname === {json.dumps(path)} && document.readyState === 'complete'"):
+        return "the page does not open"
+    found = "[...document.querySelectorAll('span[data-span]')].map((it) => [it.dataset.span, it.dataset.leaf ?? null, it.textContent])"
+    return [(span, None if leaf is None else int(leaf), text) for span, leaf, text in browser.value(found)]
+
+
+def look_by_browser(room, sources, texts):
+    """Opens the pages of all lexers with all texts in Chromium, and compares their items."""
+    if not shutil.which("chromium"):
         print("html_pages: skipped: chromium is not there, which parses pages in another way")
         return
-    source, data = write(f"{room}/lines.rs", LINES), (NASTY + "\n" + NASTY + "\n").encode()
-    page, _ = page_of(source, write(f"{room}/i", data), f"{room}/page.html")
-    words = [chromium, "--headless=new", "--no-sandbox", "--disable-gpu", f"--user-data-dir={room}/profile", "--dump-dom", f"file://{room}/page.html"]
-    ran = subprocess.run(words, stdin=subprocess.DEVNULL, stdout=subprocess.PIPE, stderr=subprocess.DEVNULL, timeout=300)
-    dumped, wrong = parsed(ran.stdout.decode().replace("<!DOCTYPE html>", "<!DOCTYPE html>\n", 1))
-    check(not wrong and items_of(dumped) == items_of(page) and len(items_of(page)) == 4, f"chromium finds other items: {wrong}")
-    check([it for it in skeleton(dumped)] == [it for it in skeleton(page)], "chromium finds other elements")
+    check((len(sources), len(texts)) == (12, 20), f"there are {len(sources)} lexers and {len(texts)} texts")
+    browser, number = Browser(), 0
+    try:
+        for source, (own, whole) in itertools.product(sources, texts):
+            number, data = number + 1, whole
+            is_own = os.path.splitext(own)[0] == os.path.splitext(source)[0]
+            text = own if is_own else write(f"{room}/short", data := short_of(whole))
+            wanted, to = lexed(source, text, data, room), f"{room}/page{number}.html"
+            if wanted is not None:
+                run(SHOW, source, text, "--html", to)
+                check(opened(browser, to) == wanted, f"chromium finds other items of {os.path.basename(source)} in {os.path.basename(own)}")
+                os.remove(to)
+        source, text = write(f"{room}/lines.rs", LINES), write(f"{room}/i", NASTY + "\n" + NASTY + "\n")
+        page, _ = page_of(source, text, f"{room}/page.html")
+        check(opened(browser, f"{room}/page.html") == items_of(page) and len(items_of(page)) == 4, "chromium finds other items of a text with markup")
+        dumped, wrong = parsed(browser.value("document.documentElement.outerHTML"))
+        check(not wrong and skeleton(dumped) == skeleton(page), f"chromium finds other elements: {wrong}")
+    finally:
+        browser.end()
 
 
 def main():
     with tempfile.TemporaryDirectory(prefix="html-") as room:
         room = os.path.realpath(room)
-        for source in sorted(glob.glob(f"{ROOT}/examples/lexers/*.rs")):
+        sources, given = sorted(glob.glob(f"{ROOT}/examples/lexers/*.rs")), []
+        for source in sources:
             text = source.removesuffix(".rs") + ".input"
             with open(text, "rb") as it:
-                look_at(source, text, it.read(), room, True)
+                given.append((text, it.read()))
+            look_at(source, *given[-1], room, True)
         for name, (source, texts) in TEXTS.items():
-            at = write(f"{room}/{name}.rs", source)
-            look_at(at, None, None, room, True)
+            sources.append(write(f"{room}/{name}.rs", source))
+            look_at(sources[-1], None, None, room, True)
             for number, data in enumerate(texts):
-                look_at(at, write(f"{room}/{number}", data), data, room, False)
+                given.append((write(f"{room}/{name}.{number}", data), data))
+                look_at(sources[-1], *given[-1], room, False)
         look_at_markup(room)
         look_at_files(room)
-        look_by_browser(room)
+        look_at_entries(room)
+        look_at_pictures(room)
+        look_by_browser(room, sources, given)
     print(f"html_pages: {counts[True]} passed, {counts[False]} failed")
     sys.exit(counts[False] > 0)
 

@@ -36,6 +36,17 @@ refuses_word() {
     done
 }
 
+# Where a folder has the name of a program, nothing is moved into it.
+refuses_folder() {
+    mkdir -p "$room/in_the_way/bin/logos_cli"
+    ! bash "$root/tools/install.sh" --built "$1" "$room/in_the_way" > /dev/null 2>&1 && rmdir "$room/in_the_way/bin/logos_cli"
+}
+
+# Without HOME a prefix has to be given.
+refuses_homeless() {
+    ! env -u HOME bash "$root/tools/install.sh" --built "$1" > /dev/null 2> "$room/said" && grep -q 'name a PREFIX' "$room/said"
+}
+
 rows() {
     python3 "$root/tests/rows/run.py" commands "$bin/$1" "$root/tests/rows/$1"/*.rows > "$room/rows" && return
     grep -v ' passed' "$room/rows" | head -n 20
@@ -47,6 +58,8 @@ if [ "$1" = rattle ]; then
     expect 'the programs are installed' bash "$root/tools/install.sh" --built "$2" "$room/prefix"
     expect 'the help has each word' shows_help
     expect 'another word is refused' refuses_word
+    expect 'a folder in the place of a program stays empty' refuses_folder "$2"
+    expect 'a prefix is needed without HOME' refuses_homeless "$2"
 else
     expect 'the programs are installed' bash "$root/tests/erased.sh" install --path rust/logos-cli --root "$room/prefix"
 fi

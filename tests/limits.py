@@ -43,6 +43,19 @@ def empty_match(place, count):
     return f'{place} EmptyMatch: The pattern #[regex("{shown}")] ::A can match the empty string, which is unsupported by logos.'
 
 
+def equal_tokens(count):
+    """Returns the enum of tokens with one text, and its faults: each token names all others."""
+    fields = [f'#[token("a")] V{number}' for number in range(count)]
+    leaves = [field.replace(" ", " ::") for field in fields]
+    faults, at = [], len("enum E { #[token(")
+    for leaf, field in zip(leaves, fields):
+        others = "".join(f"\\n  {other}" for other in leaves if other != leaf)
+        text = f"The pattern {leaf} can match simultaneously with the following variants:{others}"
+        faults.append(f"{at}..{at + 3} Disambiguation: {text}\\n\\n(all at the priority 2)")
+        at += len(field) + 2
+    return f"enum E {{ {', '.join(fields)} }}", "\n".join(faults)
+
+
 GREAT = "(?:(?:a{4294967295}){4294967295}){4294967295}"
 HOLDING = '#[logos(type T = Vec<U>, type U = Option<T>)] enum E<T, U> { #[token("a")] A(T) }'
 HELD = "53..54 TypeHoldsItself: Type parameter T holds itself\n56..57 TypeHoldsItself: Type parameter U holds itself"
@@ -72,10 +85,12 @@ CASES = [
 # their states: the first of these took 25 seconds and 2.7 GB when each block of states was looked
 # at as often as it was split.
 SMALL = [
-    ("at most 12800 letters", regex("[a-z]{1,12800}x"), "error 0..2", "", 200000, 10),
-    ("4000 optional letters", regex("(?:a?){4000}b"), "error 0..2", "", 200000, 10),
-    ("at most 1600 characters", regex(".{0,1600}z"), "error 0..2", "", 200000, 10),
-    ("300 optional characters", regex(r"(?:\\w?){300}!"), "", passed("0..39", "LimitStates"), 300000, 20),
+    ("at most 12800 letters", regex("[a-z]{1,12800}x"), "error 0..2", "", 140000, 10),
+    ("4000 optional letters", regex("(?:a?){4000}b"), "error 0..2", "", 120000, 10),
+    ("at most 1600 characters", regex(".{0,1600}z"), "error 0..2", "", 100000, 10),
+    ("300 optional characters", regex(r"(?:\\w?){300}!"), "", passed("0..39", "LimitStates"), 250000, 20),
+    ("nested counts", regex("((?:_*c{3,5}){75}|_)*0"), "", passed("0..47", "LimitStates"), 130000, 20),
+    ("1000 equal tokens", equal_tokens(1000)[0], "", equal_tokens(1000)[1], 80000, 10),
 ]
 # Sources that outgrow any memory; the program has little of it here. Each of the subpatterns names
 # the one in front of it twice, and each of the types has the next one in it twice.

@@ -52,6 +52,12 @@ has_playground() {
     cmp "$room/one/out/playground/page/COMMIT" "$room/release/share/logos/playground/COMMIT"
 }
 
+# A shell completes an option by what is installed.
+has_completions() {
+    local words=". '$room/release/share/logos/completions/logos.bash'; COMP_WORDS=(logos_show --exa) COMP_CWORD=1; _logos_show; echo \"\${COMPREPLY[*]}\""
+    [ "$(bash -c "$words")" = --examples ]
+}
+
 # A package uses the runtime that is installed.
 builds_with_it() {
     cargo new --quiet --vcs none --name uses "$room/uses" || return
@@ -98,6 +104,7 @@ expect 'two clones of one commit pack the same bytes' packs_the_same
 expect 'what is packed is installed, and shows the items in README.md' shows_items
 expect 'what is installed names its commit' names_commit
 expect 'the playground that was built of this commit is installed' has_playground
+expect 'the completions for shells are installed' has_completions
 expect 'a package uses what is installed' builds_with_it
 expect 'a release takes the place of another one' replaces_itself
 expect 'other files stay, and nothing is installed' refuses_other_files

@@ -7,7 +7,8 @@ of an answer, and looks for it in what is printed.
 The places of a report are a comment and a pattern in the lines of a source, the message of a fault
 that quotes a pattern, the line of a warning, the text on which ambiguous leaves meet, and the path
 of the file. The answers are those of `logos_show` about a pattern or an input that holds the
-character, and the paths that they name. What `--inputs` prints must also read back as the
+character, and the paths that they name. The messages about invalid arguments and about paths of
+both programs follow. What `--inputs` prints must also read back as the
 character. Each character in each place counts as one. The last line is
 `terminal: N passed, M failed`."""
 import os
@@ -52,6 +53,14 @@ PATHS = {
     "the path of an input": (["t.rs", "i{}", "--at", "9:9"], "has no column", {"t.rs": ANY, "i{}": "b"}),
     "the path of a stored answer": (["t.rs", "i", "--expect", "l{}"], "is another", {"t.rs": ANY, "i": "b", "l{}": ""}),
     "a file without a lexer": (["t{}.rs", "i"], "derives `Logos`", {"t{}.rs": "", "i": ""}),
+}
+# Arguments that a program refuses, and what it prints about them.
+REFUSED = {
+    "an unknown option": (["-{}"], "unknown option"),
+    "a missing path": (["no{}.rs"], "cannot read"),
+    "a path below a file": (["t.rs/{}"], "a part of the path is not a folder"),
+    "the path of a result": (["t.rs", "-o", "t.rs/{}"], "cannot write"),
+    "another shape": (["t.rs", "--shape", "x{}"], "`--shape` is"),
 }
 ESCAPES = {"n": "\n", "r": "\r", "t": "\t", '"': '"', "\\": "\\"}
 
@@ -107,6 +116,11 @@ def main():
                 look("a path", c, printed(program, room, [path], {path: "#[derive(Logos)]\nenum E { #[regex] A }\n"}), "error[")
                 for place, question in PATHS.items():
                     ask(place, question, c)
+                for place, (words, wanted) in REFUSED.items():
+                    words = [word.format(chr(c)) for word in words]
+                    look(place, c, printed(program, room, words, {"t.rs": FOUND.format("b")}), wanted)
+                    if len(words) == 1:
+                        look(f"{place} of logos_show", c, printed(show, room, words, {"t.rs": ANY}), wanted)
     for line in failed:
         print(f"terminal: {line}")
     print(f"terminal: {passed} passed, {len(failed)} failed")

@@ -39,7 +39,7 @@ case ${1-} in
         exit 2 ;;
 esac
 shift
-bin=${1:-$HOME/.local}/bin
+bin=${1:-${HOME:?is not set: name a PREFIX}/.local}/bin
 names=(logos_cli logos_show logos)
 room=$(mktemp -d)
 trap 'rm -rf "$room"' EXIT
@@ -62,7 +62,7 @@ for name in "${names[@]}"; do
     [ -z "$built" ] || program=$built/$name
     cat "$program" "$room/commit" > "$bin/$name.part"
     chmod 755 "$bin/$name.part"
-    mv "$bin/$name.part" "$bin/$name"
+    mv -T "$bin/$name.part" "$bin/$name"
 done
 echo "Installed in $bin, ${built:+from }${built:-proved}: ${names[*]}"
 case :$PATH: in *:$bin:*) ;; *) echo "$bin is not on your PATH: export PATH=\"$bin:\$PATH\" adds it." ;; esac

@@ -2,10 +2,10 @@
 # Installs the programs of a release: bash install.sh [PREFIX]
 #
 # PREFIX is ~/.local if it is not given. The programs are put into PREFIX/bin, and the Rust
-# packages, the playground, the pages and the licences into PREFIX/share/logos, where FILES lists
-# all of them with their sums. They take the place of what FILES of another release lists. Nothing
-# is installed where any other file is in the way, or one that has changed since, or where a file of
-# this release is not as SHA256SUMS says.
+# packages, the completions for shells, the playground, the pages and the licences into
+# PREFIX/share/logos, where FILES lists all of them with their sums. They take the place of what
+# FILES of another release lists. Nothing is installed where any other file is in the way, or one
+# that has changed since, or where a file of this release is not as SHA256SUMS says.
 set -euo pipefail
 export LC_ALL=C
 
@@ -40,7 +40,7 @@ beside=$(mktemp -d "$share.XXXXXX")
 trap 'rm -rf "$beside"' EXIT
 mkdir "$beside/new" "$beside/bin"
 cp "${names[@]/#/$here/bin/}" "$beside/bin"
-for it in README.md CHANGELOG.md LICENSE-APACHE LICENSE-MIT COMMIT docs rust playground; do
+for it in README.md CHANGELOG.md LICENSE-APACHE LICENSE-MIT COMMIT completions docs rust playground; do
     [ ! -e "$here/$it" ] || cp -R "$here/$it" "$beside/new"
 done
 { sums "$beside/bin" bin; sums "$beside/new" share/logos; } > "$beside/FILES"

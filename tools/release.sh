@@ -3,10 +3,11 @@
 # tools/release.sh [--built FOLDER] FOLDER
 #
 # It writes FOLDER/logos-VERSION-x86_64-linux.tar.gz, with the programs; in `rust/` the packages as
-# tools/package.py makes them; the playground; the pages and the licences; the file COMMIT, which
-# names the commit; and the file SHA256SUMS, with the sum of each other file. Its `install.sh`
-# compares the sums, and puts the programs into PREFIX/bin and the rest into PREFIX/share/logos. The
-# programs need x86-64 Linux with glibc 2.34 or later.
+# tools/package.py makes them; in `completions/` those of tools/completions.py for shells; the
+# playground; the pages and the licences; the file COMMIT, which names the commit; and the file
+# SHA256SUMS, with the sum of each other file. Its `install.sh` compares the sums, and puts the
+# programs into PREFIX/bin and the rest into PREFIX/share/logos. The programs need x86-64 Linux with
+# glibc 2.34 or later.
 #
 # The playground is that of out/playground/page. It is left out, with a message, if it was not built
 # of this commit, as by rust/playground/build.sh out/playground/page.
@@ -67,6 +68,7 @@ done
 "${git[@]}" archive HEAD README.md CHANGELOG.md LICENSE-APACHE LICENSE-MIT docs rust/README.md | tar -xf - -C "$room/$name"
 python3 "$root/tools/package.py" --sources "$room/made" > /dev/null
 cp -R "$room/made/packages/." "$room/$name/rust"
+python3 "$root/tools/completions.py" "$room/$name/completions" > /dev/null
 page=$root/out/playground/page
 if [ "$(cat "$page/COMMIT" 2> /dev/null)" = "$commit" ]; then
     cp -R "$page" "$room/$name/playground"

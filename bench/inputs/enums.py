@@ -138,6 +138,11 @@ def characters_up_to(rng, count):
     return regexes([".{0,%d}z" % count])
 
 
+def equal_tokens(rng, count):
+    """Tokens with one text, so that all of them are ambiguous."""
+    return tokens(["a"] * count)
+
+
 def overlapping(rng, count):
     """Rules of the same letters, each without one of them, so that any two or more meet."""
     letters = LETTERS[:count]
@@ -148,7 +153,8 @@ KINDS = {
     kind.__name__: kind
     for kind in (
         keywords, beside_names, short, one_regex, repeated, plain, unicode_names, sql, sql_unicode, rust_like, class_sets, beginnings, log_lines, groups,
-        optional_words, optional_letters, letters_up_to, characters_up_to, overlapping,
+        optional_words, optional_letters, letters_up_to, characters_up_to, equal_tokens,
+        overlapping,
     )
 }
 

@@ -115,6 +115,14 @@ feature() {
     lay_out_small <<< '#[derive(Logos, Debug)] enum Token { #[regex("[a-z]+")] Word }'
     small run --features logos/debug,logos/state_machine_codegen
     expect 'a package in the shape that a feature chooses' says '[logos] state_machine: impl'
+    expect 'nothing about a path that is not there' says_no 'export_dir'
+    lay_out_small <<< '#[derive(Logos, Debug)] #[logos(skip " ", export_dir = "diagrams")] enum Token { #[regex("[a-z]+")] Word }'
+    small run
+    compare 'export_dir changes nothing' <(echo 'Some(Ok(Word))') "$room/found"
+    small run --features logos/debug
+    expect 'what the macro does about export_dir' says '[logos] export_dir: the macro writes no file; `logos export FILE` writes the state diagram'
+    expect 'the lexer is made' says 'Some(Ok(Word))'
+    expect 'no folder is made' test ! -e "$room/small/diagrams" -a ! -e diagrams
     target=$(rustc --print target-libdir --target i686-unknown-linux-gnu 2> /dev/null)
     if [ -d "$target" ]; then
         prints 'the runtime for 32 bits' /dev/null "${check[@]}" --target i686-unknown-linux-gnu
@@ -272,7 +280,7 @@ for shape in tailcall state_machine tables; do
     group "users_$shape" 210 use "$shape"
 done
 group refused 42 refuse
-group features 4 feature
+group features 9 feature
 group scripted 7 script
 group variables 14 set_variables
 group answers 9 keep_answers

@@ -106,7 +106,7 @@ def words_and_files(files):
 def too_long(files):
     """No more is read of a file than shows that it is too long: so a device has an end, and the
     last character may be cut off there."""
-    message = "error[LimitSource]: limit LimitSource passed\n --> {}:1:1\n  = help: split the enum\n\nerror: aborting due to 1 previous error"
+    message = "error[LimitSource]: limit LimitSource passed\n --> {}:1:1\n  = help: a source has at most 16,777,216 bytes: split the enum\n\nerror: aborting due to 1 previous error"
     files.gives(1, message.format("/dev/zero"), "/dev/zero", memory=400000)
     # A comment of blanks, a character of four bytes, and another character.
     for blanks, more in [(BYTES - 6, ""), *((BYTES + it, "x") for it in range(-5, 3))]:

@@ -17,8 +17,7 @@ its first paragraph ends with a full stop; a law, which has no body, states a fa
 
 Each crate and each page counts as one for its words, each crate as one for its form, the proofs of
 each crate and the other files of each folder as one for the width of their comments, and each home
-as one. `tests/lints/names_left.txt` has the names of crates that still have such words; each must
-be there, and counts for none. The last line is `words: N passed, M failed`."""
+as one. The last line is `words: N passed, M failed`."""
 import collections
 import io
 import os
@@ -95,8 +94,6 @@ PUBLIC = {
 }
 # Names of the laws of a run, which users of the library call.
 LAWS = {"RunsGoOver", "RunsGoLater", "ItemsGoOver", "runs_go_over", "runs_go_later", "items_go_over"}
-# The names that still have such words. No other may join them, and each must still be there.
-LEFT = set(read("tests/lints/names_left.txt").split())
 # Pairs of words in names that are not used.
 NAME_PAIRS = {("go", "on"): "go on, for continue", ("goes", "on"): "go on, for continue", ("going", "on"): "go on, for continue",
               ("so", "many"): "so many", ("hand", "on"): "hand on, for re-export", ("handed", "on"): "hand on, for re-export"}
@@ -108,16 +105,12 @@ PART = re.compile(r"[A-Z]?[a-z0-9]+|[A-Z]+(?![a-z])")
 # A text, a byte text, a raw text, a character, or a comment of a source file.
 RATTLE = re.compile(r'(?P<comment>//[^\n]*)|b?r(?P<hashes>#*)".*?"(?P=hashes)|b?"(?:\\.|[^"\\])*"|b?\'(?:\\[^\n]*?|[^\\\n])\'', re.S)
 DEFINITION = re.compile(r'(?P<comment>--[^\n]*)|"(?:\\.|[^"\\])*"', re.S)
-# The names of `LEFT` that were read.
-MET = set()
 LISTS_A_FAULT = re.compile(r"\bfn (list_\w+)")
 
 
 def in_name(name, listing):
     """Yields the entry of each word in a name that is not used."""
-    if name in LEFT:
-        MET.add(name)
-    if name in PUBLIC or name in LAWS or name in LEFT:
+    if name in PUBLIC or name in LAWS:
         return
     if name in WHOLE_NAMES:
         yield WHOLE_NAMES[name]
@@ -384,7 +377,6 @@ def main():
     for paths in others(found).values():
         checked.append([f"{path}:{line}: {why}" for path in paths for line, why in width_faults(path)])
     checked += [[missing] if missing else [] for missing in homes()]
-    checked.append([f"tests/lints/names_left.txt: {name} is in no file" for name in sorted(LEFT - MET)])
     for faults in checked:
         print("".join(f"words: {line}\n" for line in faults), end="")
     passed = sum(not faults for faults in checked)

@@ -43,7 +43,7 @@ EXPORTED = "whole"
 CLI = ["whole.rs", "right.rs --output written", "right.rs --output folder/", "whole.rs --output written", "whole.rs --output faults.rs --check", "whole.rs --output whole.rs", "whole.rs --shape tailcall", "faults.rs", "--help", "--version"]
 SHOW = ["whole.rs", "whole.rs input", "whole.rs input --enum Digits", "faults.rs", "faults.rs input", "whole.rs --json", "whole.rs input --json",
         "right.rs --inputs 5", "right.rs --inputs 5 --json", "right.rs --examples --json", "right.rs input --at 1:1 --json", "right.rs whole.rs --compare",
-        "right.rs whole.rs --compare --json", "--version"]
+        "right.rs whole.rs --compare --json", "right.rs input --color always", "right.rs input --at 1:7", "texts.rs input --at 3:1", "--version"]
 
 
 # Where Rust's library asks for memory of its own: when a program begins, for its words, for the

@@ -146,7 +146,7 @@ def test_ambiguous(test):
     test.expect("their count", test.text("fault-count"), "Faults: 2. Warnings: 0.")
     test.expect("their code", test.texts("#faults .message strong"), ["error[Disambiguation]"] * 2)
     test.expect("their spans", test.texts("#faults button"), ["Line 6, column 13", "Line 8, column 13"])
-    test.expect("their helps", test.texts("#faults .help"), ["help: give the one that is to have the text a higher `priority`"] * 2)
+    test.expect("their helps", test.texts("#faults .help"), ["help: give the pattern that should win a higher `priority`"] * 2)
     test.expect("a note", 'note: both match "a" with priority 2, so 3 would decide' in test.texts("#faults .note"), True)
     test.expect("no tokens", [test.painted("text-editor"), test.rows("tokens"), test.rows("leaves")], [[], [], []])
     test.browser.value("document.querySelector('#faults button').click()")

@@ -4,8 +4,8 @@ use Rattle.std.proofs.lemmas.Bool.{ne_eqb}
 use Rattle.std.specs.List.{starts_with}
 use Rattle.logos_answers.specs.Expecting.{IsLineStart, is_one_line, is_time, timeless, timeless_from}
 
-abbrev pub says_time : List ℕ → Bool
-says_time text = starts_with (λ one other. one == other) text (codes "milliseconds: ")
+abbrev pub shows_time : List ℕ → Bool
+shows_time text = starts_with (λ one other. one == other) text (codes "milliseconds: ")
 
 -- LF does not occur from an offset on, except possibly at the end.
 abbrev NoneFrom : List ℕ → ℕ → Type 0
@@ -65,19 +65,19 @@ cons_case true b one other = refl
 cons_case false b one other = refl
 
 cut : (begins : Bool) (text : List ℕ) (start : ℕ) → start + 1 ≤ length text → NoneFrom text start → Begins begins text start →
-    timeless_from begins text ≡ (if says_time (drop start text) then take start text else text)
+    timeless_from begins text ≡ (if shows_time (drop start text) then take start text else text)
 cut begins [] start l h e = absurd (omega (arith, l))
 cut begins (b ∷ rest) zero l h e =
     let some = b ∷ timeless_from (b == 10) rest in
     let one = one_line (b ∷ rest) h in
-    (λ i. if e i && (says_time (b ∷ rest) && one i) then [] else some) ∙ first_case (says_time (b ∷ rest)) [] some (b ∷ rest) (same_line (b ∷ rest) h)
+    (λ i. if e i && (shows_time (b ∷ rest) && one i) then [] else some) ∙ first_case (shows_time (b ∷ rest)) [] some (b ∷ rest) (same_line (b ∷ rest) h)
 cut begins (b ∷ rest) (suc k) l h e =
     let some = b ∷ timeless_from (b == 10) rest in
     let many = not_one (b ∷ rest) k e (omega (arith, l)) in
-    (λ i. if begins && (says_time (b ∷ rest) && many i) then [] else some)
-    ∙ never begins (says_time (b ∷ rest)) [] some
+    (λ i. if begins && (shows_time (b ∷ rest) && many i) then [] else some)
+    ∙ never begins (shows_time (b ∷ rest)) [] some
     ∙ ap (λ xs. b ∷ xs) (cut (b == 10) rest k (omega (arith, l)) (later b rest k h) (before b rest k e))
-    ∙ cons_case (says_time (drop k rest)) b (take k rest) rest
+    ∙ cons_case (shows_time (drop k rest)) b (take k rest) rest
 
 begins_at : (text : List ℕ) (at start : ℕ) → IsLineStart text at start → Begins true text start
 begins_at text at zero is = refl
@@ -97,16 +97,16 @@ none_taken zero = refl
 none_taken (suc k) = refl
 
 cut_at : (b : ℕ) (rest : List ℕ) (start : ℕ) → IsLineStart (b ∷ rest) (length (b ∷ rest) - 1) start →
-    timeless (b ∷ rest) ≡ (if says_time (drop start (b ∷ rest)) then take start (b ∷ rest) else b ∷ rest)
+    timeless (b ∷ rest) ≡ (if shows_time (drop start (b ∷ rest)) then take start (b ∷ rest) else b ∷ rest)
 cut_at b rest start is =
     let none : NoneFrom (b ∷ rest) start = λ k l m. is.one k l (omega (arith, m)) in
     cut true (b ∷ rest) start (omega (arith, is.before)) none (begins_at (b ∷ rest) (length (b ∷ rest) - 1) start is)
 
 -- The last line is the one with the time, or it is not.
-pub time_cut : (answer : List ℕ) (start : ℕ) → IsLineStart answer (length answer - 1) start → says_time (drop start answer) ≡ true → take start answer ≡ timeless answer
+pub time_cut : (answer : List ℕ) (start : ℕ) → IsLineStart answer (length answer - 1) start → shows_time (drop start answer) ≡ true → take start answer ≡ timeless answer
 time_cut [] start is e = none_taken start
 time_cut (b ∷ rest) start is e = sym (cut_at b rest start is ∙ ap (λ t. if t then take start (b ∷ rest) else b ∷ rest) e)
 
-pub time_kept : (answer : List ℕ) (start : ℕ) → IsLineStart answer (length answer - 1) start → says_time (drop start answer) ≡ false → answer ≡ timeless answer
+pub time_kept : (answer : List ℕ) (start : ℕ) → IsLineStart answer (length answer - 1) start → shows_time (drop start answer) ≡ false → answer ≡ timeless answer
 time_kept [] start is e = refl
 time_kept (b ∷ rest) start is e = sym (cut_at b rest start is ∙ ap (λ t. if t then take start (b ∷ rest) else b ∷ rest) e)

@@ -24,8 +24,8 @@ is_same_name (Some one) None = false
 is_same_name None other = false
 
 -- The next leaf is of the same variant.
-abbrev pub goes_on : List CodeLeaf → ℕ → Bool
-goes_on leaves leaf = is_same_name (code_variant leaves leaf) (code_variant leaves (leaf + 1))
+abbrev pub next_shares_variant : List CodeLeaf → ℕ → Bool
+next_shares_variant leaves leaf = is_same_name (code_variant leaves leaf) (code_variant leaves (leaf + 1))
 
 -- A name and a number.
 abbrev pub count_line : List ℕ → ℕ → List ℕ
@@ -38,11 +38,11 @@ variant_line (Some name) count = if count == 0 then [] else codes "  " ++ count_
 
 -- The line of a variant, at its last leaf.
 abbrev pub line_after : List CodeLeaf → ℕ → ℕ → List ℕ
-line_after leaves leaf sum = if goes_on leaves leaf then [] else variant_line (code_variant leaves leaf) sum
+line_after leaves leaf sum = if next_shares_variant leaves leaf then [] else variant_line (code_variant leaves leaf) sum
 
 -- The sum for the next leaf.
 abbrev pub sum_after : List CodeLeaf → ℕ → ℕ → ℕ
-sum_after leaves leaf sum = if goes_on leaves leaf then sum else 0
+sum_after leaves leaf sum = if next_shares_variant leaves leaf then sum else 0
 
 module _ (leaves : List CodeLeaf) (counts : List ℕ) where
   -- The number of items of the leaves of a variant up to this leaf, from the sum of those before

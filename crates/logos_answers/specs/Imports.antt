@@ -7,7 +7,7 @@ pub use Rattle.logos_graph.specs.View.{rules_of}
 pub use Rattle.logos_hir.specs.Text.{IsBytes}
 pub use Rattle.logos_page.specs.Pages.{Gains}
 pub use Rattle.std.specs.List.{flat_map}
-pub use Rattle.logos_answers.specs.Counts.{CountsItem, code_variant, count_line, ends_text, goes_on, is_same_name, line_after, lines_from, one_more, sum_after, time_line, title_line, totals_text, variant_line, variant_lines}
+pub use Rattle.logos_answers.specs.Counts.{CountsItem, code_variant, count_line, ends_text, next_shares_variant, is_same_name, line_after, lines_from, one_more, sum_after, time_line, title_line, totals_text, variant_line, variant_lines}
 pub use Rattle.logos_answers.specs.Differences.{difference_line, mode_line}
 pub use Rattle.logos_answers.specs.Expecting.{IsLineStart, ShowsAgreement, line_text, timeless}
 pub use Rattle.logos_answers.specs.Inputs.{ShowsInputs, input_line}

@@ -1,7 +1,7 @@
 //! Counts the items of each kind. Used by `notes` and `logos_items`.
 
 ghost use Rattle.std.specs.Prelude.{◌≡◌, ◌<◌, length, option_map};
-ghost use Rattle.logos_answers.specs.Imports.{Gains, code_variant, count_line, goes_on, is_same_name, line_after, sum_after, time_line, title_line, variant_line};
+ghost use Rattle.logos_answers.specs.Imports.{Gains, code_variant, count_line, next_shares_variant, is_same_name, line_after, sum_after, time_line, title_line, variant_line};
 
 use crate::names::variant_of;
 use logos_code::code::CodeLeaf;
@@ -123,7 +123,7 @@ fn push_sum(page: &mut Page, leaves: &[CodeLeaf<'_>], number: usize, sum: usize)
     ensures line { Gains (line_after leaves.now number sum) page.old page.new }
     ensures rest { result ≡ sum_after leaves.now number sum }
 {
-    if goes_on(leaves, number) {
+    if next_shares_variant(leaves, number) {
         return sum;
     }
     push_variant(page, code_name_at(leaves, number), sum);
@@ -131,9 +131,9 @@ fn push_sum(page: &mut Page, leaves: &[CodeLeaf<'_>], number: usize, sum: usize)
 }
 
 /// Returns whether the next leaf is of the same variant.
-fn goes_on(leaves: &[CodeLeaf<'_>], number: usize) -> bool
+fn next_shares_variant(leaves: &[CodeLeaf<'_>], number: usize) -> bool
     requires { number < length leaves.now }
-    ensures { result ≡ goes_on leaves.now number }
+    ensures { result ≡ next_shares_variant leaves.now number }
 {
     is_same_name(
         code_name_at(leaves, number),

@@ -19,4 +19,4 @@ pub use Rattle.logos_attribute.specs.Reports.{AddsFault, IsReport, fault, fault_
 pub use Rattle.logos_attribute.specs.Slices.{Slice, ident_slice, literal_slice}
 pub use Rattle.logos_attribute.specs.Values.{boolean_in, boolean_named, decimal, number_in}
 pub use Rattle.logos_attribute.specs.inside.Cutting.{after_mark, first_run}
-pub use Rattle.logos_attribute.specs.inside.FlagSteps.{GoesOn, HasCase}
+pub use Rattle.logos_attribute.specs.inside.FlagSteps.{Continues, HasCase}

@@ -1,7 +1,7 @@
 //! Reads the flags in `ignore(..)`. The reader of definitions calls it.
 
 ghost use Rattle.std.specs.Prelude.{◌≡◌, OnOk, OnErr, IfOk, false, string_bytes};
-ghost use Rattle.logos_attribute.specs.Views.{also, none, tokens_of, tree_of, printed, Slice, ident_slice, IsReport, AddsFault, flags_report, ignore_ascii, other_flag, ignore_empty, ignore_token, GoesOn, HasCase, IsSplit};
+ghost use Rattle.logos_attribute.specs.Views.{also, none, tokens_of, tree_of, printed, Slice, ident_slice, IsReport, AddsFault, flags_report, ignore_ascii, other_flag, ignore_empty, ignore_token, Continues, HasCase, IsSplit};
 
 use crate::nested::split;
 use crate::reports::{report_form, report_named};
@@ -92,7 +92,7 @@ fn after_flag<'t, 's>(
     errors: &mut Errors,
 ) -> Result<Option<Tokens<'t, 's>>, Memory>
     ensures { IfOk result (λ next.
-        (name : Slice) → GoesOn name (tokens_of tokens.entry) errors.old errors.new next) }
+        (name : Slice) → Continues name (tokens_of tokens.entry) errors.old errors.new next) }
 {
     let Some((tree, rest)) = split(tokens) else {
         return Ok(None);

@@ -1,1 +1,2 @@
 pub mod SetLemmas
+pub mod WarnedLemmas

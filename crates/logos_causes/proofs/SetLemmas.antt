@@ -34,7 +34,7 @@ analysis_has : (source : List ℕ) (item : EnumValue) (span : Span) (analysis : 
     LeavesHaveSets analysis.leaves.items sizes → HasSets source sizes
 analysis_has source item span analysis sizes given is sets =
     read {analysis = analysis_view analysis} {leaves = analysis.leaves.items}
-    (record { enum = item; says = subst (λ (at : Span). YieldsEnum source item at) is.is_span given; is_name = is.is_name; enum_says = is.says; is_type = is.is_type })
+    (record { enum = item; reads_as = subst (λ (at : Span). YieldsEnum source item at) is.is_span given; is_name = is.is_name; enum_reads = is.reads_as; is_type = is.is_type })
     refl sets
 
 pub analysis_all : {A E : Type 0} (f : A → List ℕ) (result : Result A E) (source : List ℕ) (item : EnumValue) (span : Span) (analysis : Analysis) → YieldsEnum source item span → IsEnumAnalysis item span (analysis_view analysis) →

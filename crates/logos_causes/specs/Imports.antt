@@ -12,3 +12,5 @@ pub use Rattle.logos_token.specs.Spelling.{Spells}
 pub use Rattle.logos_token.specs.Tokens.{depth_of, run_span}
 pub use Rattle.logos_token.specs.Views.{tokens_of}
 pub use Rattle.logos_causes.specs.Sets.{HasSets, LeavesHaveSets, set_size, set_sizes}
+pub use Rattle.logos_warnings.specs.Shown.{AddsEach}
+pub use Rattle.logos_inspect.specs.Marks.{AreMarks, IsMarked, IsSet}

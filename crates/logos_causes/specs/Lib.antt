@@ -1,2 +1,4 @@
 pub mod Sets
+pub mod Warned
 pub mod Imports
+pub mod Views

@@ -1,6 +1,9 @@
 //! Warnings for callbacks: tokens that a callback loses, and tokens that were probably not meant as
 //! a callback. Used by `explanation`.
 
+ghost use Rattle.std.specs.Prelude.{◌≡◌, OnOk};
+ghost use Rattle.logos_causes.specs.Views.{AddsEach, IsOfCallback, callback_text};
+
 use crate::closures::{closure_start, closure_starts, runs_at};
 use logos_pattern::leaf::{Callback, InlineCallback, Leaf};
 use logos_report::Warning;
@@ -17,13 +20,42 @@ pub(crate) enum CallbackOwner {
     ErrorType,
 }
 
+/// A probable mistake in a callback.
+#[derive(Clone, Copy)]
+pub(crate) enum CallbackMistake {
+    /// It is the name of an option.
+    OptionName,
+    /// It is neither the path of a function nor a closure.
+    NoFunction,
+    /// A closure ends before the end of its argument.
+    Dropped,
+    /// The body of a closure loses its brackets.
+    NoBrackets,
+    /// A closure has the type of its value.
+    TypeInBody,
+    /// A closure has a `return`.
+    Return,
+    /// A closure has a `?`.
+    Question,
+}
+
+/// A mistake in a callback, with its span and a help.
+#[derive(Clone, Copy)]
+struct FoundMistake {
+    mistake: CallbackMistake,
+    span: Span,
+    help: &'static str,
+}
+
 /// Adds the warnings of the callbacks of these leaves of a source with these tokens.
 pub(crate) fn add_callbacks(
     alloc: Global,
     tokens: Tokens<'_, '_>,
     leaves: &[Leaf<'_>],
     warnings: &mut Vec<Warning>,
-) -> Result<(), Memory> {
+) -> Result<(), Memory>
+    ensures { OnOk result (AddsEach IsOfCallback warnings.old.items warnings.new.items) }
+{
     let starts = closure_starts(alloc, leaves)?;
     let runs = runs_at(alloc, tokens, &starts)?;
     let mut next = 0;
@@ -55,7 +87,9 @@ pub(crate) fn add_error_callback(
     tokens: Tokens<'_, '_>,
     callback: Option<&Callback<'_>>,
     warnings: &mut Vec<Warning>,
-) -> Result<(), Memory> {
+) -> Result<(), Memory>
+    ensures { OnOk result (AddsEach IsOfCallback warnings.old.items warnings.new.items) }
+{
     let mut starts = Vec::new(alloc);
     if let Some(start) = closure_start(callback) {
         starts.push(start)?;
@@ -75,52 +109,74 @@ fn add_callback(
     callback: Option<&Callback<'_>>,
     run: Option<Tokens<'_, '_>>,
     warnings: &mut Vec<Warning>,
-) -> Result<(), Memory> {
+) -> Result<(), Memory>
+    ensures { OnOk result (AddsEach IsOfCallback warnings.old.items warnings.new.items) }
+{
     match callback {
-        Some(Callback::Label(label)) => add_label(owner, label.run(), warnings),
+        Some(Callback::Label(label)) => add_found(label_mistake(owner, label.run()), warnings),
         Some(Callback::Inline(closure)) => add_closure(closure, run, warnings),
-        None => Ok(()),
+        None => add_found(None, warnings),
     }
 }
 
-/// Adds a warning.
-fn add(
-    span: Span,
-    message: &str,
-    help: &'static str,
-    warnings: &mut Vec<Warning>,
-) -> Result<(), Memory> {
+/// Adds the warning for a mistake, if there is one.
+fn add_found(found: Option<FoundMistake>, warnings: &mut Vec<Warning>) -> Result<(), Memory>
+    ensures { OnOk result (AddsEach IsOfCallback warnings.old.items warnings.new.items) }
+{
+    let Some(found) = found else {
+        return Ok(());
+    };
     let alloc = *warnings.allocator();
-    warnings.push(fixed_warning(alloc, message, span, Some(help))?)?;
+    let message = callback_text(found.mistake);
+    warnings.push(fixed_warning(alloc, message, found.span, Some(found.help))?)?;
     Ok(())
+}
+
+/// Returns the message about a mistake in a callback.
+fn callback_text(mistake: CallbackMistake) -> &'static str
+    ensures { result.now ≡ callback_text mistake }
+{
+    match mistake {
+        CallbackMistake::OptionName => "an option without a value is a callback of this name",
+        CallbackMistake::NoFunction => {
+            "this callback is neither the path of a function nor a closure"
+        }
+        CallbackMistake::Dropped => {
+            "the body of this closure ends before this, which is dropped"
+        }
+        CallbackMistake::NoBrackets => "the body of this closure loses its outer brackets",
+        CallbackMistake::TypeInBody => {
+            "the type in front of the body of this closure becomes a part of the body"
+        }
+        CallbackMistake::Return => {
+            "`return` leaves the function into which this closure is written, not the closure"
+        }
+        CallbackMistake::Question => {
+            "`?` leaves the function into which this closure is written, not the closure"
+        }
+    }
 }
 
 const PATH: &str = "write the path of a function, or a closure with one parameter, as `|lex| ..`";
 
-/// Adds the warning for a callback that is not a closure, if it has one.
-fn add_label(
-    owner: CallbackOwner,
-    label: Tokens<'_, '_>,
-    warnings: &mut Vec<Warning>,
-) -> Result<(), Memory> {
+/// Returns the mistake of a callback that is not a closure, if it has one.
+fn label_mistake(owner: CallbackOwner, label: Tokens<'_, '_>) -> Option<FoundMistake> {
     let span = label.span();
     if names_option(label) {
-        return add(
+        return Some(FoundMistake {
+            mistake: CallbackMistake::OptionName,
             span,
-            "an option without a value is a callback of this name",
-            help_for_option(owner, label),
-            warnings,
-        );
+            help: help_for_option(owner, label),
+        });
     }
-    if !is_path(label) {
-        return add(
-            span,
-            "this callback is neither the path of a function nor a closure",
-            help_for_label(owner, label),
-            warnings,
-        );
+    if is_path(label) {
+        return None;
     }
-    Ok(())
+    Some(FoundMistake {
+        mistake: CallbackMistake::NoFunction,
+        span,
+        help: help_for_label(owner, label),
+    })
 }
 
 /// Returns the help for an option without a value.
@@ -215,11 +271,19 @@ fn add_closure(
     closure: &InlineCallback<'_>,
     run: Option<Tokens<'_, '_>>,
     warnings: &mut Vec<Warning>,
-) -> Result<(), Memory> {
+) -> Result<(), Memory>
+    ensures { OnOk result (AddsEach IsOfCallback warnings.old.items warnings.new.items) }
+{
     add_escapes(closure.body.run(), warnings)?;
+    add_found(closure_mistake(closure.span.to, run), warnings)
+}
+
+/// Returns the mistake of the body of a closure, which ends at an offset and with which `run`
+/// begins, if it has one.
+fn closure_mistake(to: usize, run: Option<Tokens<'_, '_>>) -> Option<FoundMistake> {
     match run {
-        Some(run) => add_body(closure.span.to, after_bars(run), warnings),
-        None => Ok(()),
+        Some(run) => body_mistake(to, after_bars(run)),
+        None => None,
     }
 }
 
@@ -228,42 +292,35 @@ fn after_bars<'t, 's>(closure: Tokens<'t, 's>) -> Tokens<'t, 's> {
     closure.rest().rest().rest()
 }
 
-/// Adds the warnings of the body of a closure, which ends at an offset.
-fn add_body(to: usize, body: Tokens<'_, '_>, warnings: &mut Vec<Warning>) -> Result<(), Memory> {
+/// Returns the mistake of the body of a closure, which ends at an offset, if it has one.
+fn body_mistake(to: usize, body: Tokens<'_, '_>) -> Option<FoundMistake> {
     match body.first() {
-        Some(TokenTree::Group(group)) => add_group(to, group, body.rest(), warnings),
-        Some(TokenTree::Punct(punct)) => add_type(to, punct, body.rest(), warnings),
-        _ => Ok(()),
+        Some(TokenTree::Group(group)) => group_mistake(to, group, body.rest()),
+        Some(TokenTree::Punct(punct)) => type_mistake(to, punct, body.rest()),
+        _ => None,
     }
 }
 
 const BRACES: &str = "put all of the body in braces";
 
-/// Adds the warning of a body that begins with a group and ends at an offset, if more follows the
-/// group there or its brackets matter.
-fn add_group(
-    to: usize,
-    group: Group<'_, '_>,
-    rest: Tokens<'_, '_>,
-    warnings: &mut Vec<Warning>,
-) -> Result<(), Memory> {
+/// Returns the mistake of a body that begins with a group and ends at an offset, if more follows
+/// the group there or its brackets matter.
+fn group_mistake(to: usize, group: Group<'_, '_>, rest: Tokens<'_, '_>) -> Option<FoundMistake> {
     if let Some(span) = dropped(to, rest) {
-        return add(
+        return Some(FoundMistake {
+            mistake: CallbackMistake::Dropped,
             span,
-            "the body of this closure ends before this, which is dropped",
-            BRACES,
-            warnings,
-        );
+            help: BRACES,
+        });
     }
     if loses_brackets(group.delimiter, group.run()) {
-        return add(
-            group.span,
-            "the body of this closure loses its outer brackets",
-            BRACES,
-            warnings,
-        );
+        return Some(FoundMistake {
+            mistake: CallbackMistake::NoBrackets,
+            span: group.span,
+            help: BRACES,
+        });
     }
-    Ok(())
+    None
 }
 
 /// Returns the span of the tokens of a run up to an offset, if there are some.
@@ -297,51 +354,44 @@ fn has_comma(run: Tokens<'_, '_>) -> bool {
     false
 }
 
-/// Adds the warning of a body that begins with this punctuation and ends at an offset, if the type
-/// of its value is in front of it.
-fn add_type(
-    to: usize,
-    first: Punct,
-    rest: Tokens<'_, '_>,
-    warnings: &mut Vec<Warning>,
-) -> Result<(), Memory> {
+/// Returns the mistake of a body that begins with this punctuation and ends at an offset, if the
+/// type of its value is in front of it.
+fn type_mistake(to: usize, first: Punct, rest: Tokens<'_, '_>) -> Option<FoundMistake> {
     let from = first.span.from;
     if (first.character == '-') & begins_with('>', rest) {
-        return add(
-            Span { from, to },
-            "the type in front of the body of this closure becomes a part of the body",
-            "leave the type out, or write a function and name it",
-            warnings,
-        );
+        return Some(FoundMistake {
+            mistake: CallbackMistake::TypeInBody,
+            span: Span { from, to },
+            help: "leave the type out, or write a function and name it",
+        });
     }
-    Ok(())
+    None
 }
 
 /// Adds a warning for each token of a body that exits the function around the closure.
-fn add_escapes(body: Tokens<'_, '_>, warnings: &mut Vec<Warning>) -> Result<(), Memory> {
+fn add_escapes(body: Tokens<'_, '_>, warnings: &mut Vec<Warning>) -> Result<(), Memory>
+    ensures { OnOk result (AddsEach IsOfCallback warnings.old.items warnings.new.items) }
+{
     let mut rest = body;
     while let Some(tree) = rest.first() {
-        add_escape(tree, warnings)?;
+        add_found(escape(tree), warnings)?;
         rest = rest.rest();
     }
     Ok(())
 }
 
-/// Adds a warning for a token of a body, if it exits the function around the closure.
-fn add_escape(tree: TokenTree<'_, '_>, warnings: &mut Vec<Warning>) -> Result<(), Memory> {
-    match tree {
-        TokenTree::Ident(name) if name.text == "return" => add(
-            name.span,
-            "`return` leaves the function into which this closure is written, not the closure",
-            "write a function and name it, as in `callback = parse`",
-            warnings,
-        ),
-        TokenTree::Punct(punct) if punct.character == '?' => add(
-            punct.span,
-            "`?` leaves the function into which this closure is written, not the closure",
-            "write a function and name it, as in `callback = parse`",
-            warnings,
-        ),
-        _ => Ok(()),
-    }
+/// Returns the mistake of a token of a body, if it exits the function around the closure.
+fn escape(tree: TokenTree<'_, '_>) -> Option<FoundMistake> {
+    let (mistake, span) = match tree {
+        TokenTree::Ident(name) if name.text == "return" => (CallbackMistake::Return, name.span),
+        TokenTree::Punct(punct) if punct.character == '?' => {
+            (CallbackMistake::Question, punct.span)
+        }
+        _ => return None,
+    };
+    Some(FoundMistake {
+        mistake,
+        span,
+        help: "write a function and name it, as in `callback = parse`",
+    })
 }

@@ -1,7 +1,7 @@
 //! Explains the faults of a refused source, and warns about a lexer.
 
-ghost use Rattle.std.specs.Prelude.{◌≡◌, ◌≢◌, ◌≤◌, [], IfOk};
-ghost use Rattle.logos_causes.specs.Imports.{YieldsEnum, HasSets, IsRefusal, LeavesHaveSets, Spells, delimiter_limit, depth_of, enum_value, run_span, set_sizes, sizes_of, tokens_of};
+ghost use Rattle.std.specs.Prelude.{◌≡◌, ◌≢◌, ◌≤◌, [], IfOk, OnOk};
+ghost use Rattle.logos_causes.specs.Views.{AddsEach, AreOfLexer, IsOfLexer, YieldsEnum, HasSets, IsRefusal, LeavesHaveSets, Spells, delimiter_limit, depth_of, enum_value, run_span, set_sizes, sizes_of, tokens_of};
 
 use crate::callbacks::{add_callbacks, add_error_callback};
 use crate::leading_looks::starts_of;
@@ -245,12 +245,29 @@ pub fn accepted_warnings(
     tokens: Tokens<'_, '_>,
     lexer: Lexer<'_, '_>,
     origin: Origin,
-) -> Result<Vec<Warning>, Memory> {
+) -> Result<Vec<Warning>, Memory>
+    ensures { IfOk result (λ warnings.
+        AreOfLexer (tokens_of tokens.entry) lexer.entry.graph.now origin warnings.items) }
+{
     let mut warnings = token_warnings(alloc, tokens, true, origin)?;
-    add_error_callback(alloc, tokens, lexer.error, &mut warnings)?;
-    add_callbacks(alloc, tokens, lexer.graph.leaves(), &mut warnings)?;
-    add_hidden(alloc, lexer.graph, &mut warnings)?;
+    add_of_lexer(alloc, tokens, lexer, &mut warnings)?;
     Ok(warnings)
+}
+
+/// Adds the warnings of the callbacks of a lexer, and those of leaves that are never found.
+fn add_of_lexer(
+    alloc: Global,
+    tokens: Tokens<'_, '_>,
+    lexer: Lexer<'_, '_>,
+    warnings: &mut Vec<Warning>,
+) -> Result<(), Memory>
+    ensures { OnOk result (AddsEach (IsOfLexer lexer.entry.graph.now) warnings.old.items
+        warnings.new.items) }
+{
+    add_error_callback(alloc, tokens, lexer.error, warnings)?;
+    add_callbacks(alloc, tokens, lexer.graph.leaves(), warnings)?;
+    add_hidden(alloc, lexer.graph, warnings)?;
+    Ok(())
 }
 
 /// The lexer that warnings are about.

@@ -1,5 +1,8 @@
 //! Leaves that are never found, with the leaves that hide them. Used by `explanation`.
 
+ghost use Rattle.std.specs.Prelude.{◌≡◌, ◌<◌, IfOk, IsTrue, OnOk, length};
+ghost use Rattle.logos_causes.specs.Views.{AddsEach, AreMarks, IsHidden, IsMarked, IsSet};
+
 use crate::names::{name_of, text_with};
 use crate::quotes::push_quoted;
 use logos_automaton::dfa::{Dfa, Matches, StateId};
@@ -20,16 +23,46 @@ pub(crate) fn add_hidden(
     alloc: Global,
     graph: &Graph<'_>,
     warnings: &mut Vec<Warning>,
-) -> Result<(), AllocError> {
+) -> Result<(), AllocError>
+    ensures { OnOk result (AddsEach (IsHidden graph.now) warnings.old.items warnings.new.items) }
+{
     let marked = marked_leaves(alloc, graph)?;
     let mut count: usize = 0;
     for number in 0..graph.leaves().len() {
-        if marked.get(number) == Some(&false) {
-            add_leaf(graph, number, count < SEARCHED, warnings)?;
-            count = count.saturating_add(1);
-        }
+        count = add_if_hidden(graph, &marked, number, count, warnings)?;
     }
     Ok(())
+}
+
+/// Adds the warning for a leaf if its flag is not set, which means that it is never found. Returns
+/// how many leaves have a warning, if `count` leaves before it do.
+fn add_if_hidden(
+    graph: &Graph<'_>,
+    marked: &[bool],
+    number: usize,
+    count: usize,
+    warnings: &mut Vec<Warning>,
+) -> Result<usize, AllocError>
+    requires marks { AreMarks graph.now marked.now }
+    requires inside { number < length graph.now.leaves }
+    ensures { IfOk result (λ next.
+        AddsEach (IsHidden graph.now) warnings.old.items warnings.new.items) }
+{
+    if is_unmarked(marked, number) {
+        add_leaf(graph, number, count < SEARCHED, warnings)?;
+        return Ok(count.saturating_add(1));
+    }
+    Ok(count)
+}
+
+/// Returns whether the flag of a leaf is not set.
+fn is_unmarked(marked: &[bool], number: usize) -> bool
+    ensures { IsTrue result → ¬ IsSet marked.now number }
+{
+    if number < marked.len() {
+        return !marked[number];
+    }
+    false
 }
 
 /// Adds the warning for a leaf that is never found.
@@ -38,21 +71,40 @@ fn add_leaf(
     number: usize,
     is_searched: bool,
     warnings: &mut Vec<Warning>,
-) -> Result<(), AllocError> {
+) -> Result<(), AllocError>
+    requires { ¬ IsMarked graph.now.states number }
+    ensures { OnOk result (AddsEach (IsHidden graph.now) warnings.old.items warnings.new.items) }
+{
     let alloc = *warnings.allocator();
     let Some(leaf) = graph.leaves().get(number) else {
         return Ok(());
     };
-    let mut warning = warning_of(alloc, leaf)?;
-    if is_searched {
-        explain(alloc, graph, number, &mut warning)?;
-    }
+    let warning = hidden_warning(alloc, graph, (number, leaf), is_searched)?;
     warnings.push(warning)?;
     Ok(())
 }
 
+/// Returns the warning for the leaf of a graph with this number, which is never found.
+fn hidden_warning(
+    alloc: Global,
+    graph: &Graph<'_>,
+    hidden: (usize, &Leaf<'_>),
+    is_searched: bool,
+) -> Result<Warning, AllocError>
+    ensures { IfOk result (λ warning. warning.span ≡ hidden.entry.1.now.span) }
+{
+    let mut warning = warning_of(alloc, hidden.1)?;
+    if !is_searched {
+        return Ok(warning);
+    }
+    explain(alloc, graph, hidden.0, &mut warning)?;
+    Ok(warning)
+}
+
 /// Returns the warning for a leaf that is never found.
-fn warning_of(alloc: Global, leaf: &Leaf<'_>) -> Result<Warning, AllocError> {
+fn warning_of(alloc: Global, leaf: &Leaf<'_>) -> Result<Warning, AllocError>
+    ensures { IfOk result (λ warning. warning.span ≡ leaf.now.span) }
+{
     let message = text_with(
         alloc,
         "this pattern of `",
@@ -68,7 +120,9 @@ fn explain(
     graph: &Graph<'_>,
     number: usize,
     warning: &mut Warning,
-) -> Result<(), AllocError> {
+) -> Result<(), AllocError>
+    ensures { warning.new.span ≡ warning.old.span }
+{
     let Some(bytes) = loses(alloc, graph, number)? else {
         return Ok(());
     };

@@ -12,9 +12,9 @@ use Rattle.logos_cli.specs.inside.BatchFiles.{batch_file_order, orders_of, outpu
 use Rattle.logos_cli.specs.Runs.{AreCarriedOut, AreDenied, AreEnded, IsApart, IsCarriedOut, IsDelivered, IsDeniedOrder, IsNoInput, IsOwnOutput, has_twins, output_of}
 
 -- texts occur in a text that follows another one
-occur_behind : (front : List ℕ) (texts : List (List ℕ)) (whole : List ℕ) → OccurInOrder texts whole → OccurInOrder texts (front ++ whole)
-occur_behind front [] whole s = tt
-occur_behind front (text ∷ texts) whole s = (front ++ s.0, s.1, ap (λ w. front ++ w) s.2 ∙ sym (append_assoc front s.0 (text ++ s.1)), s.3)
+occur_afterward : (front : List ℕ) (texts : List (List ℕ)) (whole : List ℕ) → OccurInOrder texts whole → OccurInOrder texts (front ++ whole)
+occur_afterward front [] whole s = tt
+occur_afterward front (text ∷ texts) whole s = (front ++ s.0, s.1, ap (λ w. front ++ w) s.2 ∙ sym (append_assoc front s.0 (text ++ s.1)), s.3)
 
 -- texts occur in some text
 occur_somewhere : (texts : List (List ℕ)) → (whole : List ℕ) × OccurInOrder texts whole
@@ -97,9 +97,9 @@ module _ {F : Type 0} (same : F → List ℕ → List ℕ → Bool → Type 0) (
   )
 
 -- The texts of refusals that were written, so that the texts of later ones follow.
-abbrev pub Said : List (List ℕ) → Option (List ℕ) → Option (List ℕ) → Type 0
-Said texts old new =
-    (said : List ℕ) × Appends old new said × ((more : List (List ℕ)) (rest : List ℕ) → OccurInOrder more rest → OccurInOrder (texts ++ more) (said ++ rest))
+abbrev pub IsReported : List (List ℕ) → Option (List ℕ) → Option (List ℕ) → Type 0
+IsReported texts old new =
+    (reported : List ℕ) × Appends old new reported × ((more : List (List ℕ)) (rest : List ℕ) → OccurInOrder more rest → OccurInOrder (texts ++ more) (reported ++ rest))
 
 module _ {F : Type 0} (yields makes : F → List ℕ → List ℕ → F → Type 0) (finds : F → List ℕ → List ℕ → Occurrence → F → Type 0) where
   -- How the runs of files so far ended: a result for the rest completes to a result for the whole.
@@ -111,7 +111,7 @@ module _ {F : Type 0} (yields makes : F → List ℕ → List ℕ → F → Type
   IsEndedSoFar orders left status is_written first now old new =
       status ≤ 1 → (texts : List (List ℕ)) × (status ≡ 1 → texts ≢ [])
       × ((after : F) (more : List (List ℕ)) → AreEnded yields makes finds left now after more → AreEnded yields makes finds orders first after (texts ++ more))
-      × (IsTrue is_written → Said texts old new)
+      × (IsTrue is_written → IsReported texts old new)
 
   -- the clauses of the run of one file
   abbrev pub EndsDone : OrderValue → ℕ → F → F → Option (List ℕ) → Option (List ℕ) → Type 0
@@ -121,8 +121,8 @@ module _ {F : Type 0} (yields makes : F → List ℕ → List ℕ → F → Type
   EndsDenied order status is_written files after old new =
       status ≡ 1 → (shown : List ℕ) × IsDeniedOrder yields makes finds order files after shown × (IsTrue is_written → (front : List ℕ) × Appends old new (front ++ shown))
 
-  abbrev pub EndsSaid : Bool → Option (List ℕ) → Option (List ℕ) → Type 0
-  EndsSaid is_written old new = IsTrue is_written → (text : List ℕ) × Appends old new text
+  abbrev pub EndsReported : Bool → Option (List ℕ) → Option (List ℕ) → Type 0
+  EndsReported is_written old new = IsTrue is_written → (text : List ℕ) × Appends old new text
 
   -- a result that goes into a file leaves standard output as it is
   pub carried_keeps : (order : OrderValue) (files after : F) (old new : Option (List ℕ)) → (path : List ℕ) → order.output ≡ Some path → IsCarriedOut yields makes finds order files after old new → Keeps old new
@@ -140,26 +140,26 @@ module _ {F : Type 0} (yields makes : F → List ℕ → List ℕ → F → Type
     next_done old middle new so done e after last h = so (omega (arith, least, e)) after last (next, new, done (omega (arith, most, e)), h)
 
     pub next_ended : (is_written is_next : Bool) (old middle new was out : Option (List ℕ)) → IsEndedSoFar orders (order ∷ left) one is_written first now old middle →
-        EndsDone order other now next was out → EndsDenied order other is_next now next middle new → EndsSaid is_next middle new →
+        EndsDone order other now next was out → EndsDenied order other is_next now next middle new → EndsReported is_next middle new →
         (w : Bool) → (IsTrue w → IsTrue is_written × IsTrue is_next) → IsEndedSoFar orders left both w first next old new
-    next_ended is_written is_next old middle new was out so done denied said w parts l =
+    next_ended is_written is_next old middle new was out so done denied reported w parts l =
         let before = so (omega (arith, least, l)) in
         go before (zero_or_one other (omega (arith, most, l)))
       where
         go : ((texts : List (List ℕ)) × (one ≡ 1 → texts ≢ [])
             × ((after : F) (more : List (List ℕ)) → AreEnded yields makes finds (order ∷ left) now after more → AreEnded yields makes finds orders first after (texts ++ more))
-            × (IsTrue is_written → Said texts old middle)) → (other ≡ 0) ⊎ (other ≡ 1) →
+            × (IsTrue is_written → IsReported texts old middle)) → (other ≡ 0) ⊎ (other ≡ 1) →
             (texts : List (List ℕ)) × (both ≡ 1 → texts ≢ [])
             × ((after : F) (more : List (List ℕ)) → AreEnded yields makes finds left next after more → AreEnded yields makes finds orders first after (texts ++ more))
-            × (IsTrue w → Said texts old new)
+            × (IsTrue w → IsReported texts old new)
         go before (inl e) = (
           before.0,
           (λ b. before.1 (elim is [ inl i ↦ omega (arith, b, i) | inr i ↦ absurd (omega (arith, b, i, e)) ])),
           (λ after more h. before.2 after more (next, [], more, refl, inl (was, out, done e, refl), h)),
-          (λ t. let p = parts t in let s = before.3 p.0 in let u = said p.1 in (
+          (λ t. let p = parts t in let s = before.3 p.0 in let u = reported p.1 in (
             s.0 ++ u.0,
             Appends-trans old middle new s.0 u.0 s.1 u.1,
-            λ more rest st. subst (λ x. OccurInOrder (before.0 ++ more) x) (sym (append_assoc s.0 u.0 rest)) (s.2 more (u.0 ++ rest) (occur_behind u.0 more rest st)),
+            λ more rest st. subst (λ x. OccurInOrder (before.0 ++ more) x) (sym (append_assoc s.0 u.0 rest)) (s.2 more (u.0 ++ rest) (occur_afterward u.0 more rest st)),
           )),
         )
         go before (inr e) =

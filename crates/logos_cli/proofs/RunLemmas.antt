@@ -93,7 +93,7 @@ module _ {F : Type 0} (yields makes : F → List ℕ → List ℕ → F → Type
       IfErr result (FailsFor order.format order.denies order.shape (record { path = order.input; text = shown })) → IfErr result (FailsBy (IsRefusedFor (IsDeniedOrder yields makes finds order files after)))
   denied_faults (Ok done) files after text shown g e h = tt
   denied_faults (Err failure) files after text shown g e h =
-      fails_also (IsCause order.format order.denies order.shape (record { path = order.input; text = shown })) (IsDeniedOrder yields makes finds order files after) failure (λ says faults. record { bytes = text; after = after; given = g; holds = inl (refl, subst (λ t. IsCause order.format order.denies order.shape (record { path = order.input; text = t }) says) e faults) }) h
+      fails_also (IsCause order.format order.denies order.shape (record { path = order.input; text = shown })) (IsDeniedOrder yields makes finds order files after) failure (λ reads_as faults. record { bytes = text; after = after; given = g; holds = inl (refl, subst (λ t. IsCause order.format order.denies order.shape (record { path = order.input; text = t }) reads_as) e faults) }) h
 
   -- the file was read and expanded, and the result delivered
   pub carried_out : (files between after : F) (bytes : List ℕ) (old new : Option (List ℕ)) →

@@ -8,6 +8,7 @@ mod options;
 mod program;
 
 use logos_host::{SourceDisk, arguments};
+use logos_screen::ColorOutput;
 use program::run_with;
 
 /// Runs `logos_cli` with the arguments of the process. Returns the exit status.
@@ -17,6 +18,6 @@ pub fn run_logos_cli(rt: &HostRuntime) -> u8 {
         arguments(rt),
         &mut SourceDisk { rt },
         &mut rt.stdout(),
-        &mut rt.stderr(),
+        &mut ColorOutput::new(rt, rt.stderr()),
     )
 }

@@ -10,7 +10,7 @@ use Rattle.std.proofs.Math.Pow.{pow-lt}
 use Rattle.logos_code.specs.Bytes.{passes_test}
 use Rattle.std.proofs.Math.ListN.{get_or-eq_default}
 use Rattle.logos_code.specs.Code.{CodeValue, CodeState}
-use Rattle.logos_code.specs.Headline.{IsSound, IsRoot, NamesWhatIsThere, NamesFork}
+use Rattle.logos_code.specs.Headline.{IsSound, IsRoot, NamesExisting, NamesFork}
 use Rattle.logos_code.specs.CodeView.{has_mask, jumps_of, fork_of, state_of, code_of}
 use Rattle.logos_code.specs.declared.code.CodeState.{CodeState as TheState}
 use Rattle.logos_code.specs.declared.code.Fork.TheVariants.{Table}
@@ -44,9 +44,9 @@ All-map P f xs i x all h is =
 
 -- the tables and states that a state names exist
 pub state_names : (code : CodeParts) (s : ℕ) (state : TheState) → IsSound (code_of code) → s < length (code_of code).states →
-    state ≡ get_or code.states.items s state → NamesWhatIsThere (code_of code) (state_of code.jump_tables.items state)
+    state ≡ get_or code.states.items s state → NamesExisting (code_of code) (state_of code.jump_tables.items state)
 state_names code s state sound l is =
-    All-map (NamesWhatIsThere (code_of code)) (state_of code.jump_tables.items) code.states.items s state sound.states (rw length-map at l) is
+    All-map (NamesExisting (code_of code)) (state_of code.jump_tables.items) code.states.items s state sound.states (rw length-map at l) is
 
 -- a jump table that a fork names is there
 pub table_there : (code : CodeValue) (tables : List (List ℕ)) (k : ℕ) → NamesFork code (fork_of tables (Table k)) → k < length tables

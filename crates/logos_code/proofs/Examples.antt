@@ -2,7 +2,7 @@
 use Rattle.std.proofs.Common.{ℕ, zero, suc, ◌<◌, true, false, List, [], ◌∷◌, ◌++◌, None, Some, refl, arith}
 use Rattle.logos_automaton.specs.Munch.{matched, failed}
 use Rattle.logos_code.specs.Code.{CodeValue, by_comparisons, by_conditions}
-use Rattle.logos_code.specs.Runs.{Attempts, goes_on, acts_on}
+use Rattle.logos_code.specs.Runs.{Attempts, continues, acts_on}
 use Rattle.logos_code.specs.declared.code.Header.{Header}
 
 abbrev pub aaa : List ℕ
@@ -40,4 +40,4 @@ star_b_code_fails header = acts_on _ None 3 (failed 3) (_, refl, refl) record {
 
 -- on `aab` it finds the match 0..3, in two states
 pub star_b_code_matches : (header : Header) → Attempts (star_b_code header) (97 ∷ 97 ∷ 98 ∷ []) 0 (matched 0 3) 2
-star_b_code_matches header = goes_on _ _ (matched 0 3) 1 (_, refl, refl) (acts_on _ (Some (0, 3)) 3 (matched 0 3) (_, refl, refl) refl)
+star_b_code_matches header = continues _ _ (matched 0 3) 1 (_, refl, refl) (acts_on _ (Some (0, 3)) 3 (matched 0 3) (_, refl, refl) refl)

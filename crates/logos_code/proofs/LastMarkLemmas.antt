@@ -5,8 +5,8 @@ use Rattle.std.proofs.lemmas.Option.{slice_get-get_or, get_or_from_slice_get}
 use Rattle.std.proofs.Math.ListN.{get_or-eq_default}
 use Rattle.logos_code.specs.Code.{CodeValue, CodeState, Condition, Mark, by_conditions, by_table}
 use Rattle.logos_code.specs.CodeView.{state_at, no_state, state_of, code_of, mark_of, fork_of, jumps_of, entry_of}
-use Rattle.logos_code.specs.Headline.{IsSound, IsRoot, IsEnd, IsLate, NamesWhatIsThere}
-use Rattle.logos_code.specs.LastMarks.{Stood, first_status, next_status, Holds, AreLastMarks, last_mark_at}
+use Rattle.logos_code.specs.Headline.{IsSound, IsRoot, IsEnd, IsLate, NamesExisting}
+use Rattle.logos_code.specs.LastMarks.{IsOfAttempt, first_status, next_status, Holds, AreLastMarks, last_mark_at}
 use Rattle.logos_code.specs.Runs.{Status, Turn, enters, acts, returns, led, forked, turn, Does, passes, target, looped, marked}
 use Rattle.logos_code.specs.inside.LastMarks.{IsOwn, Follows, BeginsUnmarked, FollowsAt, ForkAgrees, StateAgrees, Agree}
 use Rattle.logos_code.specs.declared.code.last_marks.LastMark.{LastMark}
@@ -105,8 +105,8 @@ module _ (code : CodeValue) (sound : IsSound code) (marks : List LastMark) (agre
     got : slice_get code.states at.state ≡ Some state
     got = slice_get-get_or code.states at.state no_state k.there
 
-    names : NamesWhatIsThere code state
-    names = All-slice_get (NamesWhatIsThere code) code.states at.state state sound.states got
+    names : NamesExisting code state
+    names = All-slice_get (NamesExisting code) code.states at.state state sound.states got
 
     -- the turn of the state
     turns : (what : Turn) → Does code bytes start at what → turn code bytes start state at ≡ what
@@ -186,19 +186,19 @@ module _ (code : CodeValue) (sound : IsSound code) (marks : List LastMark) (agre
           go (Some b) e = by_lead (target code state.fork b) e
           go None e = by_over fresh e
 
-  knows : {at : Status} → Stood code bytes start at → Knows at
+  knows : {at : Status} → IsOfAttempt code bytes start at → Knows at
   knows first_status = knows_first
   knows (next_status at next s d) = knows_next at (knows s) next d
 
 -- last marks that agree are right
 pub are_last_marks : (code : CodeValue) → IsSound code → (marks : List LastMark) → Agree code marks → AreLastMarks code marks
-are_last_marks code sound marks agree s bytes start at passed offset are stood e d =
+are_last_marks code sound marks agree s bytes start at passed offset are of_attempt e d =
     subst (λ (n : ℕ). Holds (last_mark_at marks n) passed offset) e
-    (holds_there code sound marks agree bytes start at (knows code sound marks agree bytes start stood) passed offset d)
+    (holds_there code sound marks agree bytes start at (knows code sound marks agree bytes start of_attempt) passed offset d)
 
 -- none are right
 pub no_last_marks : (code : CodeValue) → AreLastMarks code []
-no_last_marks code s bytes start at passed offset are stood e d =
+no_last_marks code s bytes start at passed offset are of_attempt e d =
     let none : last_mark_at [] s ≡ Unseen = get_or-eq_default [] Unseen {n = s} (omega arith) in
     subst (λ (m : LastMark). Holds m passed offset) (sym none) tt
 

@@ -45,8 +45,8 @@ module _ (p : ℕ → Bool) (first n : ℕ) (a b c d e f g h : Bool)
   flag (suc (suc (suc (suc (suc (suc (suc zero))))))) l = is_h ∙ ap p (omega arith)
   flag (suc (suc (suc (suc (suc (suc (suc (suc k)))))))) l = absurd (omega (arith, l))
 
-  pub entry_says : (k : ℕ) → k < 8 → (bit_at n k == 1) ≡ p (first + 16 * k)
-  entry_says k l = bit_of_digits flags n k (sum ∙ digits a b c d e f g h) ∙ flag k l
+  pub entry_describes : (k : ℕ) → k < 8 → (bit_at n k == 1) ≡ p (first + 16 * k)
+  entry_describes k l = bit_of_digits flags n k (sum ∙ digits a b c d e f g h) ∙ flag k l
 
 -- one more mask
 pub masks_turn : (tables masks new : List (List ℕ)) (mask : List ℕ) (s : ℕ) → length masks ≡ s → new ≡ masks ++ mask ∷ [] → IsMask (passes_test tables s) mask →

@@ -14,12 +14,12 @@ use Rattle.logos_code.specs.Headline.{NamesFork, NamesState}
 use Rattle.logos_code.specs.CodeView.{state_at, state_of, code_of, no_state}
 use Rattle.logos_code.specs.Runs.{stays, looped, target}
 use Rattle.logos_code.specs.inside.Alike.{EndsRun}
-use Rattle.logos_code.specs.Rows.{IsStepOf, Says, SaysAtEnd, IsHalting, IsEntry, IsLastEntry, IsRow, AreRows, IsFirstOf, IsFirstRow, LeadsToRowStart}
+use Rattle.logos_code.specs.Rows.{IsStepOf, Describes, DescribesEnd, IsHalting, IsEntry, IsLastEntry, IsRow, AreRows, IsFirstOf, IsFirstRow, LeadsToRowStart}
 use Rattle.logos_code.proofs.TargetLemmas.{target_there}
 use Rattle.logos_code.specs.declared.code.rows.MatchUse.{MatchUse}
 use Rattle.logos_code.specs.declared.code.rows.MatchUse.TheVariants.{Emits, Skips, CallsBack}
 use Rattle.logos_code.specs.declared.code.rows.Step.{Step}
-use Rattle.logos_code.specs.declared.code.rows.Step.TheVariants.{Leads, Stays, Halts, Looks, Closes, Stuck, Unsaid}
+use Rattle.logos_code.specs.declared.code.rows.Step.TheVariants.{Leads, Stays, Halts, Looks, Closes, Stuck, Undescribed}
 use Rattle.logos_code.specs.declared.code.CodeParts.{CodeParts}
 use Rattle.logos_code.specs.declared.code.CodeState.{CodeState as TheState}
 
@@ -112,7 +112,7 @@ decoded (suc (suc (suc (suc (suc zero))))) n = Closes (record { 0 = n }) Skips
 decoded (suc (suc (suc (suc (suc (suc zero)))))) n = before_byte CallsBack (n / 134217728) (n % 134217728)
 decoded (suc (suc (suc (suc (suc (suc (suc zero))))))) n = Closes (record { 0 = n }) CallsBack
 decoded (suc (suc (suc (suc (suc (suc (suc (suc zero)))))))) n = Stuck
-decoded (suc (suc (suc (suc (suc (suc (suc (suc (suc k))))))))) n = Unsaid
+decoded (suc (suc (suc (suc (suc (suc (suc (suc (suc k))))))))) n = Undescribed
 
 decodes : (entry : ℕ) (step : Step) → IsStepOf entry step → step ≡ decoded (entry / 268435456) (entry % 268435456)
 decodes entry (Leads s) f = let k : entry / 268435456 ≡ 0 = omega (arith, f.0, f.1) in let n : entry % 268435456 / 272 ≡ s = omega (arith, f.0, f.1) in rw (k, n) refl
@@ -151,21 +151,21 @@ decodes entry (Looks s CallsBack) f =
     rw (k, l, n) refl
 decodes entry (Closes s CallsBack) f = let k : entry / 268435456 ≡ 7 = omega (arith, f.0, f.1) in let n : entry % 268435456 ≡ s.0 = omega (arith, f.0, f.1) in rw (k, n) refl
 decodes entry Stuck f = let k : entry / 268435456 ≡ 8 = omega (arith, f.0, f.1) in rw k refl
-decodes entry Unsaid f = past (entry / 268435456) (omega (arith, f))
+decodes entry Undescribed f = past (entry / 268435456) (omega (arith, f))
   where
-    past : (k : ℕ) → 9 ≤ k → Unsaid ≡ decoded k (entry % 268435456)
+    past : (k : ℕ) → 9 ≤ k → Undescribed ≡ decoded k (entry % 268435456)
     past k h =
         let e : k ≡ suc (suc (suc (suc (suc (suc (suc (suc (suc (k - 9))))))))) = omega (arith, h) in
-        subst (λ j. Unsaid ≡ decoded j (entry % 268435456)) (sym e) refl
+        subst (λ j. Undescribed ≡ decoded j (entry % 268435456)) (sym e) refl
 
 -- an entry represents one step
 pub same_step : (entry : ℕ) (a b : Step) → IsStepOf entry a → IsStepOf entry b → b ≡ a
 same_step entry a b f g = decodes entry b g ∙ sym (decodes entry a f)
 
 -- a property of one step that an entry represents holds of each; the entry may represent none
-only_step : (P : Step → Type 0) (entry : ℕ) (step : Step) → (IsStepOf entry step ⊎ IsStepOf entry Unsaid) → P step → P Unsaid → (other : Step) → IsStepOf entry other → P other
-only_step P entry step (inl f) said none other g = subst P (sym (same_step entry step other f g)) said
-only_step P entry step (inr f) said none other g = subst P (sym (same_step entry Unsaid other f g)) none
+only_step : (P : Step → Type 0) (entry : ℕ) (step : Step) → (IsStepOf entry step ⊎ IsStepOf entry Undescribed) → P step → P Undescribed → (other : Step) → IsStepOf entry other → P other
+only_step P entry step (inl f) described none other g = subst P (sym (same_step entry step other f g)) described
+only_step P entry step (inr f) described none other g = subst P (sym (same_step entry Undescribed other f g)) none
 
 -- an entry that leads is a row offset
 step_row_start : (entry : ℕ) (step : Step) → IsStepOf entry step → LeadsToRowStart entry
@@ -181,29 +181,29 @@ step_row_start entry (Closes s Emits) f h = absurd (omega (arith, f.0, h))
 step_row_start entry (Closes s Skips) f h = absurd (omega (arith, f.0, h))
 step_row_start entry (Closes s CallsBack) f h = absurd (omega (arith, f.0, h))
 step_row_start entry Stuck f h = absurd (omega (arith, f.0, h))
-step_row_start entry Unsaid f h = absurd (omega (arith, f, h))
+step_row_start entry Undescribed f h = absurd (omega (arith, f, h))
 
 module _ (code : CodeValue) (state : CodeState) where
   -- the entry of a step
-  pub entry_says : (b entry : ℕ) (step : Step) → (IsStepOf entry step ⊎ IsStepOf entry Unsaid) → Says code state b step → IsEntry code state b entry
-  entry_says b entry step is said = record {
-    says = only_step (Says code state b) entry step is said tt;
-    row_start = ⊎_elim (step_row_start entry step) (step_row_start entry Unsaid) is;
+  pub entry_describes : (b entry : ℕ) (step : Step) → (IsStepOf entry step ⊎ IsStepOf entry Undescribed) → Describes code state b step → IsEntry code state b entry
+  entry_describes b entry step is described = record {
+    describes = only_step (Describes code state b) entry step is described tt;
+    row_start = ⊎_elim (step_row_start entry step) (step_row_start entry Undescribed) is;
   }
 
   -- the entry of a byte is that of one which does the same
   same_entry : (b k entry : ℕ) → stays code state.fast_loop k ≡ stays code state.fast_loop b → target code state.fork k ≡ target code state.fork b → IsEntry code state b entry →
       IsEntry code state k entry
-  same_entry b k entry loop leads is = record { says = λ step h. says step (is.says step h); row_start = is.row_start }
+  same_entry b k entry loop leads is = record { describes = λ step h. describes step (is.describes step h); row_start = is.row_start }
     where
-      says : (step : Step) → Says code state b step → Says code state k step
-      says (Leads next) h = (loop ∙ h.0, leads ∙ h.1)
-      says (Stays test) h = (loop ∙ h.0, h.1)
-      says (Halts leaf used) h = (loop ∙ h.0, leads ∙ h.1, h.2, h.3)
-      says (Looks leaf used) h = (loop ∙ h.0, record { next = h.1.next; leads = leads ∙ h.1.leads; closes = h.1.closes }, h.2)
-      says (Closes leaf used) h = (loop ∙ h.0, record { next = h.1.next; leads = leads ∙ h.1.leads; closes = h.1.closes }, h.2)
-      says Stuck h = (loop ∙ h.0, leads ∙ h.1)
-      says Unsaid h = tt
+      describes : (step : Step) → Describes code state b step → Describes code state k step
+      describes (Leads next) h = (loop ∙ h.0, leads ∙ h.1)
+      describes (Stays test) h = (loop ∙ h.0, h.1)
+      describes (Halts leaf used) h = (loop ∙ h.0, leads ∙ h.1, h.2, h.3)
+      describes (Looks leaf used) h = (loop ∙ h.0, record { next = h.1.next; leads = leads ∙ h.1.leads; closes = h.1.closes }, h.2)
+      describes (Closes leaf used) h = (loop ∙ h.0, record { next = h.1.next; leads = leads ∙ h.1.leads; closes = h.1.closes }, h.2)
+      describes Stuck h = (loop ∙ h.0, leads ∙ h.1)
+      describes Undescribed h = tt
 
   -- the entries of one more run
   pub run_turn : (row new : List ℕ) (b end entry : ℕ) → EndsRun (stays code state.fast_loop) b 256 end → EndsRun (target code state.fork) b 256 end → IsEntry code state b entry →
@@ -221,28 +221,28 @@ module _ (code : CodeValue) (state : CodeState) where
       now l = rw (inside k l h) (same_entry b k entry (loop.2 k l h) (leads.2 k l h) is)
 
   -- the entry of a first byte
-  first_says : (b entry first : ℕ) → IsEntry code state b entry → ((first ≡ entry) ⊎ (2415919104 ≤ first)) → IsEntry code state b first
-  first_says b entry first is (inl e) = subst (IsEntry code state b) (sym e) is
-  first_says b entry first is (inr h) = entry_says b first Unsaid (inl h) tt
+  first_describes : (b entry first : ℕ) → IsEntry code state b entry → ((first ≡ entry) ⊎ (2415919104 ≤ first)) → IsEntry code state b first
+  first_describes b entry first is (inl e) = subst (IsEntry code state b) (sym e) is
+  first_describes b entry first is (inr h) = entry_describes b first Undescribed (inl h) tt
 
   -- the step of a state if no byte leads on
-  pub halting_says : (b : ℕ) (step : Step) → stays code state.fast_loop b ≡ false → target code state.fork b ≡ None → IsHalting code state.mark step → Says code state b step
-  halting_says b (Leads s) out none is = absurd is
-  halting_says b (Stays s) out none is = absurd is
-  halting_says b (Halts leaf used) out none is = (out, none, is.0, is.1)
-  halting_says b (Looks leaf used) out none is = absurd is
-  halting_says b (Closes leaf used) out none is = absurd is
-  halting_says b Stuck out none is = (out, none)
-  halting_says b Unsaid out none is = absurd is
+  pub halting_describes : (b : ℕ) (step : Step) → stays code state.fast_loop b ≡ false → target code state.fork b ≡ None → IsHalting code state.mark step → Describes code state b step
+  halting_describes b (Leads s) out none is = absurd is
+  halting_describes b (Stays s) out none is = absurd is
+  halting_describes b (Halts leaf used) out none is = (out, none, is.0, is.1)
+  halting_describes b (Looks leaf used) out none is = absurd is
+  halting_describes b (Closes leaf used) out none is = absurd is
+  halting_describes b Stuck out none is = (out, none)
+  halting_describes b Undescribed out none is = absurd is
 
-  ends_say : (step : Step) → state.at_end ≡ None → IsHalting code state.mark step → SaysAtEnd code state step
-  ends_say (Leads s) none is = absurd is
-  ends_say (Stays s) none is = absurd is
-  ends_say (Halts leaf used) none is = (none, is.0, is.1)
-  ends_say (Looks leaf used) none is = absurd is
-  ends_say (Closes leaf used) none is = absurd is
-  ends_say Stuck none is = tt
-  ends_say Unsaid none is = absurd is
+  ends_describe : (step : Step) → state.at_end ≡ None → IsHalting code state.mark step → DescribesEnd code state step
+  ends_describe (Leads s) none is = absurd is
+  ends_describe (Stays s) none is = absurd is
+  ends_describe (Halts leaf used) none is = (none, is.0, is.1)
+  ends_describe (Looks leaf used) none is = absurd is
+  ends_describe (Closes leaf used) none is = absurd is
+  ends_describe Stuck none is = tt
+  ends_describe Undescribed none is = absurd is
 
   last_named : (entry : ℕ) (step : Step) → IsHalting code state.mark step → IsStepOf entry step → 536870912 ≤ entry
   last_named entry (Leads s) is f = absurd is
@@ -253,18 +253,18 @@ module _ (code : CodeValue) (state : CodeState) where
   last_named entry (Looks leaf used) is f = absurd is
   last_named entry (Closes leaf used) is f = absurd is
   last_named entry Stuck is f = omega (arith, f.0)
-  last_named entry Unsaid is f = absurd is
+  last_named entry Undescribed is f = absurd is
 
   -- the entry of the end of the input
-  pub last_says : (entry : ℕ) (step : Step) → (IsStepOf entry step ⊎ IsStepOf entry Unsaid) → state.at_end ≡ None → IsHalting code state.mark step → IsLastEntry code state entry
-  last_says entry step is none halts = record {
-    says = only_step (SaysAtEnd code state) entry step is (ends_say step none halts) tt;
+  pub last_describes : (entry : ℕ) (step : Step) → (IsStepOf entry step ⊎ IsStepOf entry Undescribed) → state.at_end ≡ None → IsHalting code state.mark step → IsLastEntry code state entry
+  last_describes entry step is none halts = record {
+    describes = only_step (DescribesEnd code state) entry step is (ends_describe step none halts) tt;
     last = ⊎_elim (last_named entry step halts) (λ h. omega (arith, h)) is;
   }
 
   -- if the end leads on, the entry does not describe the step
-  pub last_unsaid : IsLastEntry code state 2415919104
-  last_unsaid = record { says = only_step (SaysAtEnd code state) 2415919104 Unsaid (inl (omega arith)) tt tt; last = omega arith }
+  pub last_undescribed : IsLastEntry code state 2415919104
+  last_undescribed = record { describes = only_step (DescribesEnd code state) 2415919104 Undescribed (inl (omega arith)) tt tt; last = omega arith }
 
   -- the entry of a byte that does not stay leads on or ends the attempt
   pub entry_moves : (b entry : ℕ) → IsEntry code state b entry → stays code state.fast_loop b ≡ false → (entry < 268435456) ⊎ (536870912 ≤ entry)
@@ -275,23 +275,23 @@ module _ (code : CodeValue) (state : CodeState) where
 
       clash : (268435456 ≤ entry) × (entry < 536870912) → ⊥
       clash h =
-          let said : Says code state b (Stays (entry - 268435456)) = is.says (Stays (entry - 268435456)) (omega (arith, h.0), omega (arith, h.0, h.1)) in
-          let e : true ≡ false = sym said.0 ∙ out in
+          let described : Describes code state b (Stays (entry - 268435456)) = is.describes (Stays (entry - 268435456)) (omega (arith, h.0), omega (arith, h.0, h.1)) in
+          let e : true ≡ false = sym described.0 ∙ out in
           cc
 
   -- the meaning of an entry that leads for its byte
   pub entry_leads : (b entry : ℕ) → IsEntry code state b entry → entry < 268435456 → target code state.fork b ≡ Some (entry / 272)
   entry_leads b entry is h =
       let row_start = is.row_start h in
-      let said : Says code state b (Leads (entry / 272)) = is.says (Leads (entry / 272)) (sym row_start, omega (arith, h)) in
-      said.1
+      let described : Describes code state b (Leads (entry / 272)) = is.describes (Leads (entry / 272)) (sym row_start, omega (arith, h)) in
+      described.1
 
   -- and one of a byte that leads nowhere
   pub entry_stuck : (b entry : ℕ) → IsEntry code state b entry → 2147483648 ≤ entry → entry < 2415919104 → target code state.fork b ≡ None
-  entry_stuck b entry is low high = let said : Says code state b Stuck = is.says Stuck (low, high) in said.1
+  entry_stuck b entry is low high = let described : Describes code state b Stuck = is.describes Stuck (low, high) in described.1
 
 -- the row for first bytes, from that of the root
-pub first_row_says : (code : CodeValue) (rows first : List ℕ) → AreRows code rows → code.root < length code.states → IsFirstOf rows code.root first → IsFirstRow code first
-first_row_says code rows first are there firsts b h =
+pub first_row_describes : (code : CodeValue) (rows first : List ℕ) → AreRows code rows → code.root < length code.states → IsFirstOf rows code.root first → IsFirstRow code first
+first_row_describes code rows first are there firsts b h =
     let one = firsts.1 b h in
-    (first_says code (state_at code code.root) b (slice_index rows (272 * code.root + b)) (slice_index first b) (are.each code.root b there h) one.0, one.1)
+    (first_describes code (state_at code code.root) b (slice_index rows (272 * code.root + b)) (slice_index first b) (are.each code.root b there h) one.0, one.1)

@@ -31,7 +31,7 @@ abbrev pub NamesFork : CodeValue → Fork → Type 0
 NamesFork code (by_conditions edges) = All (λ edge. NamesCondition code edge.0 × NamesState code edge.1) edges
 NamesFork code (by_table entries) = (length entries ≡ 256) × All (λ target. IfSome target (NamesState code)) entries
 
-pub record NamesWhatIsThere (code : CodeValue) (state : CodeState) : Type 0 where
+pub record NamesExisting (code : CodeValue) (state : CodeState) : Type 0 where
   pub fast_loop : IfSome state.fast_loop (NamesTest code)
   pub mark : IfSome state.mark (λ mark. mark.leaf < length code.leaves)
   pub fork : NamesFork code state.fork
@@ -58,6 +58,6 @@ IsEnd code at_end = IfSome at_end (λ t. IsLate code t × IsSomeAnd (slice_get c
 
 -- The invariant of a code value.
 pub record IsSound (code : CodeValue) : Type 0 where
-  pub states : All (NamesWhatIsThere code) code.states
+  pub states : All (NamesExisting code) code.states
   pub root : IsSomeAnd (slice_get code.states code.root) (IsRoot code)
   pub ends : All (λ state. IsEnd code state.at_end) code.states

@@ -8,9 +8,9 @@ use Rattle.logos_code.specs.declared.code.last_marks.LastMark.TheVariants.{Unsee
 
 module _ (code : CodeValue) (bytes : List ℕ) (start : ℕ) where
   -- The statuses of an attempt: the first one, and each status to which one leads.
-  pub data Stood : Status → Type 0 where
-    first_status : Stood (record { state = code.root; offset = start; context = None })
-    next_status : (at next : Status) → Stood at → Does code bytes start at (enters next) → Stood next
+  pub data IsOfAttempt : Status → Type 0 where
+    first_status : IsOfAttempt (record { state = code.root; offset = start; context = None })
+    next_status : (at next : Status) → IsOfAttempt at → Does code bytes start at (enters next) → IsOfAttempt next
 
 -- The value of the last mark passed, which is its leaf and the end of its match, for an attempt
 -- that ends at the offset.
@@ -23,7 +23,7 @@ Holds (Back leaf bytes) passed offset = passed ≡ Some (leaf.0, offset - bytes)
 -- This is the last mark of each attempt that ends in the state.
 abbrev pub IsLastMark : CodeValue → ℕ → LastMark → Type 0
 IsLastMark code s mark = (bytes : List ℕ) (start : ℕ) (at : Status) (passed : Option (ℕ × ℕ)) (offset : ℕ) →
-    IsBytes bytes → Stood code bytes start at → at.state ≡ s → Does code bytes start at (acts passed offset) → Holds mark passed offset
+    IsBytes bytes → IsOfAttempt code bytes start at → at.state ≡ s → Does code bytes start at (acts passed offset) → Holds mark passed offset
 
 -- The last mark in the state with this number.
 abbrev pub last_mark_at : List LastMark → ℕ → LastMark

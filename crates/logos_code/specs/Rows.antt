@@ -7,7 +7,7 @@ use Rattle.logos_code.specs.Runs.{stays, target}
 use Rattle.logos_code.specs.declared.code.rows.MatchUse.{MatchUse}
 use Rattle.logos_code.specs.declared.code.rows.MatchUse.TheVariants.{Emits, Skips, CallsBack}
 use Rattle.logos_code.specs.declared.code.rows.Step.{Step}
-use Rattle.logos_code.specs.declared.code.rows.Step.TheVariants.{Leads, Stays, Halts, Looks, Closes, Stuck, Unsaid}
+use Rattle.logos_code.specs.declared.code.rows.Step.TheVariants.{Leads, Stays, Halts, Looks, Closes, Stuck, Undescribed}
 
 -- A state that has this mark and no other step.
 abbrev pub closing : Mark → CodeState
@@ -33,7 +33,7 @@ IsStepOf entry (Halts leaf used) = (entry ≡ first_halting used + leaf.0) × (l
 IsStepOf entry (Looks leaf used) = (entry ≡ first_halting used + 134217728 + leaf.0) × (leaf.0 < 134217728)
 IsStepOf entry (Closes leaf used) = (entry ≡ first_closing used + leaf.0) × (leaf.0 < 268435456)
 IsStepOf entry Stuck = (2147483648 ≤ entry) × (entry < 2415919104)
-IsStepOf entry Unsaid = 2415919104 ≤ entry
+IsStepOf entry Undescribed = 2415919104 ≤ entry
 
 -- The row offset of a state: 272 times its number.
 abbrev pub IsRowStart : CodeValue → ℕ → Type 0
@@ -58,15 +58,15 @@ pub record LeadsToClosing (code : CodeValue) (state : CodeState) (b : ℕ) (mark
   pub closes : slice_get code.states next ≡ Some (closing mark)
 
 -- The meaning of a step for a byte.
-abbrev pub Says : CodeValue → CodeState → ℕ → Step → Type 0
-Says code state b (Leads next) = (stays code state.fast_loop b ≡ false) × (target code state.fork b ≡ Some next)
-Says code state b (Stays test) = (stays code state.fast_loop b ≡ true) × (state.fast_loop ≡ Some test)
-Says code state b (Halts leaf used) =
+abbrev pub Describes : CodeValue → CodeState → ℕ → Step → Type 0
+Describes code state b (Leads next) = (stays code state.fast_loop b ≡ false) × (target code state.fork b ≡ Some next)
+Describes code state b (Stays test) = (stays code state.fast_loop b ≡ true) × (state.fast_loop ≡ Some test)
+Describes code state b (Halts leaf used) =
     (stays code state.fast_loop b ≡ false) × (target code state.fork b ≡ None) × (state.mark ≡ Some (record { leaf = leaf.0; late = false })) × IsUse code leaf.0 used
-Says code state b (Looks leaf used) = (stays code state.fast_loop b ≡ false) × LeadsToClosing code state b (record { leaf = leaf.0; late = true }) × IsUse code leaf.0 used
-Says code state b (Closes leaf used) = (stays code state.fast_loop b ≡ false) × LeadsToClosing code state b (record { leaf = leaf.0; late = false }) × IsUse code leaf.0 used
-Says code state b Stuck = (stays code state.fast_loop b ≡ false) × (target code state.fork b ≡ None)
-Says code state b Unsaid = Unit {0}
+Describes code state b (Looks leaf used) = (stays code state.fast_loop b ≡ false) × LeadsToClosing code state b (record { leaf = leaf.0; late = true }) × IsUse code leaf.0 used
+Describes code state b (Closes leaf used) = (stays code state.fast_loop b ≡ false) × LeadsToClosing code state b (record { leaf = leaf.0; late = false }) × IsUse code leaf.0 used
+Describes code state b Stuck = (stays code state.fast_loop b ≡ false) × (target code state.fork b ≡ None)
+Describes code state b Undescribed = Unit {0}
 
 -- A step of a state with this mark if there is no transition.
 abbrev pub IsHalting : CodeValue → Option Mark → Step → Type 0
@@ -76,17 +76,17 @@ IsHalting code mark (Halts leaf used) = (mark ≡ Some (record { leaf = leaf.0; 
 IsHalting code mark (Looks leaf used) = ⊥
 IsHalting code mark (Closes leaf used) = ⊥
 IsHalting code mark Stuck = Unit {0}
-IsHalting code mark Unsaid = ⊥
+IsHalting code mark Undescribed = ⊥
 
 -- The meaning of a step for the end of the input.
-abbrev pub SaysAtEnd : CodeValue → CodeState → Step → Type 0
-SaysAtEnd code state (Leads next) = ⊥
-SaysAtEnd code state (Stays test) = ⊥
-SaysAtEnd code state (Halts leaf used) = (state.at_end ≡ None) × (state.mark ≡ Some (record { leaf = leaf.0; late = false })) × IsUse code leaf.0 used
-SaysAtEnd code state (Looks leaf used) = ⊥
-SaysAtEnd code state (Closes leaf used) = ⊥
-SaysAtEnd code state Stuck = Unit {0}
-SaysAtEnd code state Unsaid = Unit {0}
+abbrev pub DescribesEnd : CodeValue → CodeState → Step → Type 0
+DescribesEnd code state (Leads next) = ⊥
+DescribesEnd code state (Stays test) = ⊥
+DescribesEnd code state (Halts leaf used) = (state.at_end ≡ None) × (state.mark ≡ Some (record { leaf = leaf.0; late = false })) × IsUse code leaf.0 used
+DescribesEnd code state (Looks leaf used) = ⊥
+DescribesEnd code state (Closes leaf used) = ⊥
+DescribesEnd code state Stuck = Unit {0}
+DescribesEnd code state Undescribed = Unit {0}
 
 -- An entry that leads to a state is a multiple of 272.
 abbrev pub LeadsToRowStart : ℕ → Type 0
@@ -94,12 +94,12 @@ LeadsToRowStart entry = entry < 268435456 → 272 * (entry / 272) ≡ entry
 
 -- The entry of a byte, which represents its step.
 pub record IsEntry (code : CodeValue) (state : CodeState) (b entry : ℕ) : Type 0 where
-  pub says : (step : Step) → IsStepOf entry step → Says code state b step
+  pub describes : (step : Step) → IsStepOf entry step → Describes code state b step
   pub row_start : LeadsToRowStart entry
 
 -- The entry of the end of the input, which leads nowhere.
 pub record IsLastEntry (code : CodeValue) (state : CodeState) (entry : ℕ) : Type 0 where
-  pub says : (step : Step) → IsStepOf entry step → SaysAtEnd code state step
+  pub describes : (step : Step) → IsStepOf entry step → DescribesEnd code state step
   pub last : 536870912 ≤ entry
 
 -- An entry for each byte.
@@ -113,19 +113,19 @@ pub record AreRows (code : CodeValue) (rows : List ℕ) : Type 0 where
 
 -- An entry that leads to a state, or whose kind comes after those of matches that end before the
 -- byte.
-abbrev pub BeginsTry : ℕ → Type 0
-BeginsTry entry = (entry < 268435456) ⊎ (1073741824 ≤ entry)
+abbrev pub BeginsAttempt : ℕ → Type 0
+BeginsAttempt entry = (entry < 268435456) ⊎ (1073741824 ≤ entry)
 
 -- The entry itself if it can begin an attempt, and one of the kind `UNDESCRIBED` otherwise.
 abbrev pub IsFirstEntry : ℕ → ℕ → Type 0
-IsFirstEntry entry first = ((first ≡ entry) ⊎ (2415919104 ≤ first)) × BeginsTry first
+IsFirstEntry entry first = ((first ≡ entry) ⊎ (2415919104 ≤ first)) × BeginsAttempt first
 
 abbrev pub IsFirstOf : List ℕ → ℕ → List ℕ → Type 0
 IsFirstOf rows root first = (length first ≡ 256) × ((b : ℕ) → b < 256 → IsFirstEntry (slice_index rows (272 * root + b)) (slice_index first b))
 
 -- The entry of the first byte of an attempt.
 abbrev pub IsFirst : CodeValue → ℕ → ℕ → Type 0
-IsFirst code b entry = IsEntry code (state_at code code.root) b entry × BeginsTry entry
+IsFirst code b entry = IsEntry code (state_at code code.root) b entry × BeginsAttempt entry
 
 abbrev pub IsFirstRow : CodeValue → List ℕ → Type 0
 IsFirstRow code row = (b : ℕ) → b < 256 → IsFirst code b (slice_index row b)

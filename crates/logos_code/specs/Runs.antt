@@ -81,15 +81,15 @@ module _ (code : CodeValue) where
     Acts None offset (failed to) = EndsError offset to
 
     -- From this status on, the attempt has this result, and enters this number of states.
-    pub data Goes : Status → Found → ℕ → Type 0 where
-      goes_on : (at next : Status) (found : Found) (n : ℕ) → Does at (enters next) → Goes next found n → Goes at found (suc n)
-      is_over : (at : Status) → Does at returns → Goes at ended 1
+    pub data AttemptsFrom : Status → Found → ℕ → Type 0 where
+      continues : (at next : Status) (found : Found) (n : ℕ) → Does at (enters next) → AttemptsFrom next found n → AttemptsFrom at found (suc n)
+      is_over : (at : Status) → Does at returns → AttemptsFrom at ended 1
       acts_on : (at : Status) (context : Option (ℕ × ℕ)) (offset : ℕ) (found : Found) →
-          Does at (acts context offset) → Acts context offset found → Goes at found 1
+          Does at (acts context offset) → Acts context offset found → AttemptsFrom at found 1
 
     -- A match attempt from the start has this result, and enters this number of states.
     abbrev pub Attempts : Found → ℕ → Type 0
-    Attempts = Goes (record { state = code.root; offset = start; context = None })
+    Attempts = AttemptsFrom (record { state = code.root; offset = start; context = None })
 
 -- The result of a code value at a point.
 abbrev pub CodeFinds : CodeValue → List ℕ → ℕ → Found → Type 0

@@ -18,7 +18,7 @@ use logos_hir::leaf::LeafId;
 use logos_pattern::leaf::{Callback, VariantKind};
 use logos_token::token::Ident;
 use logos_type::TypeExpr;
-use rows::{STAYS, STUCK, UNSAID, WIDTH, entry_of_step};
+use rows::{STAYS, STUCK, UNDESCRIBED, WIDTH, entry_of_step};
 use signs::Sign;
 use std::marker::Model;
 use uses::LeafUse;
@@ -285,7 +285,7 @@ impl Code<'_> {
         if entry < STAYS {
             return Some(entry as usize / WIDTH);
         }
-        if entry >= STUCK && entry < UNSAID {
+        if entry >= STUCK && entry < UNDESCRIBED {
             return None;
         }
         self.parts.target(&self.parts.states[state].fork, byte)
@@ -300,7 +300,7 @@ impl Code<'_> {
     {
         let state = &self.parts.states[row_start / WIDTH];
         if state.at_end.is_some() {
-            return UNSAID;
+            return UNDESCRIBED;
         }
         entry_of_step(self.parts.halting_step(state.mark))
     }

@@ -52,8 +52,8 @@ pub enum_once : (enum : EnumValue) (leaves others : List LeafView) (options othe
     ReadsEnum enum leaves options [] → ReadsEnum enum others other faults → (faults ≡ []) × (rules_of_views leaves ≡ rules_of_views others) × (options ≡ other)
 enum_once enum leaves others options other faults a b =
     let none = silent enum leaves options a in
-    let says : ReadsSource enum a.read.options leaves [] = rw none.parts at a.read.says in
-    let once = source_once says b.read.says in
+    let reads_as : ReadsSource enum a.read.options leaves [] = rw none.parts at a.read.reads_as in
+    let once = source_once reads_as b.read.reads_as in
     let same : options ≡ other = a.read.same ∙ ap without_skips once.1 ∙ sym b.read.same in
     let text : utf8_faults (utf8_mode other) others ≡ [] = sym (same_faults (utf8_mode other) leaves others once.2) ∙ rw same at none.text in
     let types : type_faults other ≡ [] = rw same at none.types in (
@@ -67,8 +67,8 @@ enum_once enum leaves others options other faults a b =
 kinds_alike : (enum : EnumValue) (leaves others : List LeafView) (options other : OptionsView) → ReadsEnum enum leaves options [] → ReadsEnum enum others other [] → kinds_of_views leaves ≡ kinds_of_views others
 kinds_alike enum leaves others options other a b =
     let none = silent enum leaves options a in
-    let says : ReadsSource enum a.read.options leaves [] = rw none.parts at a.read.says in
-    same_kinds leaves others (source_once says b.read.says).2
+    let reads_as : ReadsSource enum a.read.options leaves [] = rw none.parts at a.read.reads_as in
+    same_kinds leaves others (source_once reads_as b.read.reads_as).2
 
 -- ---- a source is one enum at most
 
@@ -87,15 +87,15 @@ tokens_exclude tokens value faults reads ends =
 
 -- the reading of an enum within the limits is not ended by a fault
 ends_excludes : (source : List ℕ) (rules : List Rule) (value : EnumValue) (item : Span) (fault : SourceFault) → YieldsEnum source value item → IsWithinLimits source rules → EndsReading source fault → ⊥
-ends_excludes source rules value item fault says limits (source_limit l is) = let s = limits.sizes.short in omega arith
-ends_excludes source rules value item fault says limits (nesting_limit deep is) =
-    let more = deep-excludes source _ says.tokens deep says.spelled in
-    let most = limits.sizes.shallow says.tokens says.spelled in
+ends_excludes source rules value item fault reads_as limits (source_limit l is) = let s = limits.sizes.short in omega arith
+ends_excludes source rules value item fault reads_as limits (nesting_limit deep is) =
+    let more = deep-excludes source _ reads_as.tokens deep reads_as.spelled in
+    let most = limits.sizes.shallow reads_as.tokens reads_as.spelled in
     omega arith
-ends_excludes source rules value item fault says limits (unreadable u is) = unreadable-excludes source _ _ says.tokens u says.spelled
-ends_excludes source rules value item fault says limits (misread {tokens} s shallow m) =
-    let same = spells-one source says.tokens tokens says.spelled s in
-    tokens_exclude tokens value _ (rw same at says.reads) m
+ends_excludes source rules value item fault reads_as limits (unreadable u is) = unreadable-excludes source _ _ reads_as.tokens u reads_as.spelled
+ends_excludes source rules value item fault reads_as limits (misread {tokens} s shallow m) =
+    let same = spells-one source reads_as.tokens tokens reads_as.spelled s in
+    tokens_exclude tokens value _ (rw same at reads_as.reads) m
 
 -- the graph of leaves without faults, within the limits, has no fault
 graph_reports_none : (source : List ℕ) (leaves : List NamedRule) (item : Span) (faults : List SourceFault) → AreFaults (rules_in leaves) [] → IsWithinLimits source (rules_in leaves) → GraphReports leaves item faults → faults ≡ []
@@ -108,30 +108,30 @@ graph_reports_none source leaves item faults none limits (states_limit small sta
 -- a source is accepted in one way
 pub accepted_once : (source : List ℕ) (rules rules' : List Rule) (utf8 utf8' : Bool) → IsAccepted source rules utf8 → IsAccepted source rules' utf8' → (rules ≡ rules') × (utf8 ≡ utf8')
 accepted_once source rules rules' utf8 utf8' a b =
-    let same = one_value source a.enum b.enum a.item b.item a.says b.says in
-    let says : ReadsEnum b.enum a.leaves a.options [] = rw same.0 at a.enum_says in
-    let once = enum_once b.enum a.leaves b.leaves a.options b.options [] says b.enum_says in
+    let same = one_value source a.enum b.enum a.item b.item a.reads_as b.reads_as in
+    let reads_as : ReadsEnum b.enum a.leaves a.options [] = rw same.0 at a.enum_reads in
+    let once = enum_once b.enum a.leaves b.leaves a.options b.options [] reads_as b.enum_reads in
     (a.same_rules ∙ once.1 ∙ sym b.same_rules, a.same_mode ∙ ap utf8_mode once.2 ∙ sym b.same_mode)
 
 -- a source without faults has tokens of the kinds of its leaves
 pub kinds_as_analyzed : (source : List ℕ) (rules : List Rule) (utf8 : Bool) (enum : EnumValue) (item : Span) (leaves : List LeafView) (options : OptionsView) → YieldsEnum source enum item → ReadsEnum enum leaves options [] →
     (a : IsAccepted source rules utf8) → kinds_of_views leaves ≡ kinds_of_views a.leaves
-kinds_as_analyzed source rules utf8 enum item leaves options says enum_says a =
-    let same = one_value source enum a.enum item a.item says a.says in
-    let own : ReadsEnum a.enum leaves options [] = rw same.0 at enum_says in
-    kinds_alike a.enum leaves a.leaves options a.options own a.enum_says
+kinds_as_analyzed source rules utf8 enum item leaves options reads_as enum_reads a =
+    let same = one_value source enum a.enum item a.item reads_as a.reads_as in
+    let own : ReadsEnum a.enum leaves options [] = rw same.0 at enum_reads in
+    kinds_alike a.enum leaves a.leaves options a.options own a.enum_reads
 
 -- a source that is accepted has tokens of one list of kinds
 pub kinds_once : (source : List ℕ) (rules rules' : List Rule) (utf8 utf8' : Bool) (a : IsAccepted source rules utf8) (b : IsAccepted source rules' utf8') → kinds_of_views a.leaves ≡ kinds_of_views b.leaves
-kinds_once source rules rules' utf8 utf8' a b = kinds_as_analyzed source rules' utf8' a.enum a.item a.leaves a.options a.says a.enum_says b
+kinds_once source rules rules' utf8 utf8' a b = kinds_as_analyzed source rules' utf8' a.enum a.item a.leaves a.options a.reads_as a.enum_reads b
 
 -- a source without faults within the limits is not refused
 accepted_or_refused : (source : List ℕ) (rules : List Rule) (utf8 : Bool) (faults : List SourceFault) → IsAccepted source rules utf8 → IsWithinLimits source rules → IsRefused source faults → ⊥
-accepted_or_refused source rules utf8 faults a limits (unread ends is) = ends_excludes source rules a.enum a.item _ a.says limits ends
-accepted_or_refused source rules utf8 faults a limits (faulty {enum} {item} {leaves} short shallow says reported some) =
-    let same = one_value source a.enum enum a.item item a.says says in
-    let own : ReadsEnum enum a.leaves a.options [] = rw same.0 at a.enum_says in
-    let once = enum_once enum a.leaves leaves a.options reported.options reported.enum_faults own reported.says in
+accepted_or_refused source rules utf8 faults a limits (unread ends is) = ends_excludes source rules a.enum a.item _ a.reads_as limits ends
+accepted_or_refused source rules utf8 faults a limits (faulty {enum} {item} {leaves} short shallow reads_as reported some) =
+    let same = one_value source a.enum enum a.item item a.reads_as reads_as in
+    let own : ReadsEnum enum a.leaves a.options [] = rw same.0 at a.enum_reads in
+    let once = enum_once enum a.leaves leaves a.options reported.options reported.enum_faults own reported.reads_as in
     let rules_are : rules_in (map named_of_view leaves) ≡ rules_of_views a.leaves = rules_of_named leaves ∙ sym once.1 in
     let faultless : AreFaults (rules_in (map named_of_view leaves)) [] = rw rules_are a.faultless in
     let limits' : IsWithinLimits source (rules_in (map named_of_view leaves)) = rw (rules_are, sym a.same_rules) limits in

@@ -45,16 +45,16 @@ one_given t u e = cc
 
 module _ (kinds : List ExprKind) (rules : List Rule) (utf8 : Bool) (text : List ℕ) where
   -- the tokens, and those that are read from the offset on, are those that are read from the start
-  pub record GoesOn (tokens : List Token) (at : ℕ) : Type 0 where
+  pub record Continues (tokens : List Token) (at : ℕ) : Type 0 where
     pub on : (rest : List Item) → AreRead rules utf8 text at rest →
         (items : List Item) × AreRead rules utf8 text 0 items × (outcome_of kinds items ≡ in_front tokens (outcome_of kinds rest))
 
-  pub begins : GoesOn [] 0
+  pub begins : Continues [] 0
   begins = record { on = λ rest r. (rest, r, sym (in_front_none (outcome_of kinds rest))) }
 
   -- one token more
-  pub token_on : (tokens : List Token) (at next : ℕ) (item : Item) (t : Token) → GoesOn tokens at → IsNext rules emits utf8 text at item next →
-      outcome_of kinds (item ∷ []) ≡ yields (t ∷ []) → GoesOn (tokens ++ t ∷ []) next
+  pub token_on : (tokens : List Token) (at next : ℕ) (item : Item) (t : Token) → Continues tokens at → IsNext rules emits utf8 text at item next →
+      outcome_of kinds (item ∷ []) ≡ yields (t ∷ []) → Continues (tokens ++ t ∷ []) next
   token_on tokens at next (token leaf from to slice) t goes n e = record {
     on = λ rest r.
         let u : Token = record { kind = kind_at kinds leaf; from = from; to = to; slice = slice } in
@@ -66,7 +66,7 @@ module _ (kinds : List ExprKind) (rules : List Rule) (utf8 : Bool) (text : List 
   token_on tokens at next (error leaf from to slice) t goes n e = absurd (cc)
 
   -- the first error
-  pub error_on : (tokens : List Token) (at next start end : ℕ) (item : Item) → GoesOn tokens at → IsNext rules emits utf8 text at item next →
+  pub error_on : (tokens : List Token) (at next start end : ℕ) (item : Item) → Continues tokens at → IsNext rules emits utf8 text at item next →
       outcome_of kinds (item ∷ []) ≡ bad start end → (items : List Item) × AreRead rules utf8 text 0 items × (outcome_of kinds items ≡ bad start end)
   error_on tokens at next start end (token leaf from to slice) goes n e = absurd (cc)
   error_on tokens at next start end (error leaf from to slice) goes n e =
@@ -74,7 +74,7 @@ module _ (kinds : List ExprKind) (rules : List Rule) (utf8 : Bool) (text : List 
       (read.0, read.1, read.2 ∙ ap (in_front tokens) e)
 
   -- no more items
-  pub end_on : (tokens : List Token) (at : ℕ) → GoesOn tokens at → Items rules emits utf8 text at [] →
+  pub end_on : (tokens : List Token) (at : ℕ) → Continues tokens at → Items rules emits utf8 text at [] →
       (items : List Item) × AreRead rules utf8 text 0 items × (outcome_of kinds items ≡ yields tokens)
   end_on tokens at goes o =
       let read = goes.on [] (all_read at o) in
@@ -207,7 +207,7 @@ error_outcome kinds (error leaf from to slice) span e = rw (e.0, e.1) refl
 
 module _ {C : Type 0} (callback : Callback) (answers : (leaf : ℕ) (slice : List ℕ) (answer : Action) → callback leaf slice answer → answer ≡ Emit)
     (code : CodeValue) (kinds : List ExprKind) (text : List ℕ) (bytes : IsBytes text) (valid : IsUtf8 text) (old new : LexerValue C) (same_code : old.code ≡ code) (same_input : old.input ≡ text)
-    (tokens : List Token) (goes_on : (rules : List Rule) (utf8 : Bool) → IsLexer rules utf8 code → GoesOn kinds rules utf8 text tokens old.to) where
+    (tokens : List Token) (continues : (rules : List Rule) (utf8 : Bool) → IsLexer rules utf8 code → Continues kinds rules utf8 text tokens old.to) where
   next_read : (rules : List Rule) (utf8 : Bool) → IsLexer rules utf8 code → (item : Item) → Yields callback old new item → IsNext rules emits utf8 text old.to item new.to
   next_read rules utf8 lexer item g =
       let is : RunsOn code callback text old.to item new.to = rw (same_code, same_input) at g.is in
@@ -215,20 +215,20 @@ module _ {C : Type 0} (callback : Callback) (answers : (leaf : ℕ) (slice : Lis
 
   -- one token more
   pub token_more : (item : Item) (t : Token) → Yields callback old new item → outcome_of kinds (item ∷ []) ≡ yields (t ∷ []) →
-      (rules : List Rule) (utf8 : Bool) → IsLexer rules utf8 code → GoesOn kinds rules utf8 text (tokens ++ t ∷ []) new.to
-  token_more item t g e rules utf8 lexer = token_on kinds rules utf8 text tokens old.to new.to item t (goes_on rules utf8 lexer) (next_read rules utf8 lexer item g) e
+      (rules : List Rule) (utf8 : Bool) → IsLexer rules utf8 code → Continues kinds rules utf8 text (tokens ++ t ∷ []) new.to
+  token_more item t g e rules utf8 lexer = token_on kinds rules utf8 text tokens old.to new.to item t (continues rules utf8 lexer) (next_read rules utf8 lexer item g) e
 
   -- the first error
   pub tokenized_bad : IsLanguage (record { code = code; kinds = kinds }) → (item : Item) (start end : ℕ) → Yields callback old new item → outcome_of kinds (item ∷ []) ≡ bad start end → Tokenizes text (bad start end)
   tokenized_bad l item start end g e =
-      let read = error_on kinds l.rules l.utf8 text tokens old.to new.to start end item (goes_on l.rules l.utf8 l.lexer) (next_read l.rules l.utf8 l.lexer item g) e in
+      let read = error_on kinds l.rules l.utf8 text tokens old.to new.to start end item (continues l.rules l.utf8 l.lexer) (next_read l.rules l.utf8 l.lexer item g) e in
       record { rules = l.rules; utf8 = l.utf8; accepted = l.accepted; items = read.0; read = read.1; is = sym read.2 ∙ ap (λ k. outcome_of k read.0) l.kinds }
 
   -- no more items
   pub tokenized_all : IsLanguage (record { code = code; kinds = kinds }) → Ends callback old new → Tokenizes text (yields tokens)
   tokenized_all l g =
       let over : Runs code callback text old.to [] = rw (same_code, same_input) at g.over in
-      let read = end_on kinds l.rules l.utf8 text tokens old.to (goes_on l.rules l.utf8 l.lexer) (none_emitted l.rules l.utf8 code text l.lexer (bytes, λ t. valid) callback answers old.to over) in
+      let read = end_on kinds l.rules l.utf8 text tokens old.to (continues l.rules l.utf8 l.lexer) (none_emitted l.rules l.utf8 code text l.lexer (bytes, λ t. valid) callback answers old.to over) in
       record { rules = l.rules; utf8 = l.utf8; accepted = l.accepted; items = read.0; read = read.1; is = sym read.2 ∙ ap (λ k. outcome_of k read.0) l.kinds }
 
 -- why there is no tokenizer

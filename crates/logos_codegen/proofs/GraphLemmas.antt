@@ -140,7 +140,7 @@ rules_view leaves = sym (rules_of_named (map leaf_view leaves)) ∙ ap rules_in 
 -- ---- an enum, and the graph of its leaves
 
 module _ (source : List ℕ) (enum : EnumValue) (item : Span) (leaves : List Leaf) (options : OptionsView) (before : List SourceFault)
-    (says : YieldsEnum source enum item) (enum_says : ReadsEnum enum (map leaf_view leaves) options before) where
+    (reads_as : YieldsEnum source enum item) (enum_reads : ReadsEnum enum (map leaf_view leaves) options before) where
   -- all faults
   abbrev AllReported : List SourceFault → Type 0
   AllReported faults = AreReported enum item faults (map leaf_view leaves)
@@ -150,7 +150,7 @@ module _ (source : List ℕ) (enum : EnumValue) (item : Span) (leaves : List Lea
     options = options;
     enum_faults = before;
     graph_faults = found.faults;
-    says = enum_says;
+    reads_as = enum_reads;
     graph = rw (named_are leaves) at found.reports;
     all = found.all;
   }
@@ -158,7 +158,7 @@ module _ (source : List ℕ) (enum : EnumValue) (item : Span) (leaves : List Lea
   -- some faults up to those of the graph refuse the source
   pub graph_refuses : length source ≤ 16777216 → IsShallow source → (error : Refusal) → RefusesSource (AreGraphFaults leaves (utf8_mode options) item before) error → RefusesSource (IsRefused source) error
   graph_refuses short shallow error r =
-      refuses_by (AreGraphFaults leaves (utf8_mode options) item before) (IsRefused source) (λ faults f. faulty short shallow says (all_reported faults f.1.0 f.1.1) f.0) error r
+      refuses_by (AreGraphFaults leaves (utf8_mode options) item before) (IsRefused source) (λ faults f. faulty short shallow reads_as (all_reported faults f.1.0 f.1.1) f.0) error r
 
   -- where nothing is reported, the graph is that of an accepted source
   pub graph_made : (name : Slice) (graph : GraphValue) → length source ≤ 16777216 → IsShallow source → enum.name ≡ name →
@@ -167,7 +167,7 @@ module _ (source : List ℕ) (enum : EnumValue) (item : Span) (leaves : List Lea
       let both = both_empty before found.faults (sym found.all) in
       let held = found.is graph refl in
       let made = held.0 in
-      let none : ReadsEnum enum (map leaf_view leaves) options [] = rw both.0 at enum_says in
+      let none : ReadsEnum enum (map leaf_view leaves) options [] = rw both.0 at enum_reads in
       let reports : GraphReports (map named_rule leaves) item found.faults = found.reports in
       let rules : rules_in (map named_rule leaves) ≡ rules_of leaves = rules_are leaves in
       let faultless : AreFaults (rules_of leaves) [] = rw rules at (graph_faultless (map named_rule leaves) item found.faults both.1 reports) in
@@ -176,10 +176,10 @@ module _ (source : List ℕ) (enum : EnumValue) (item : Span) (leaves : List Lea
         accepted = record {
           enum = enum;
           item = item;
-          says = says;
+          reads_as = reads_as;
           leaves = map leaf_view leaves;
           options = options;
-          enum_says = none;
+          enum_reads = none;
           faultless = rw (rules_view leaves) faultless;
           same_rules = ap rules_of made.leaves_are ∙ sym (rules_view leaves);
           same_mode = made.mode;
@@ -187,9 +187,9 @@ module _ (source : List ℕ) (enum : EnumValue) (item : Span) (leaves : List Lea
         of_source = record {
           enum = enum;
           item = item;
-          says = says;
+          reads_as = reads_as;
           is_name = is_name;
-          enum_says = rw (sym made.leaves_are) at none;
+          enum_reads = rw (sym made.leaves_are) at none;
           same_mode = made.mode;
           of_leaves = subst (λ (given : List Leaf). IsGraphOf given graph.utf8 graph) (sym made.leaves_are) (subst (λ (mode : Bool). IsGraphOf leaves mode graph) (sym made.mode) made);
           faultless = held.1 both.1;

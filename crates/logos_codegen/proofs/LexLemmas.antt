@@ -47,7 +47,7 @@ texts_are (leaf ∷ leaves) e =
 
 pub accepted_texts : (source : List ℕ) (rules : List Rule) → IsAccepted source rules true → All (λ rule. is_text rule.tree ≡ true) rules
 accepted_texts source rules a =
-    let text : utf8_faults true a.leaves ≡ [] = rw (sym a.same_mode) at (silent a.enum a.leaves a.options a.enum_says).text in
+    let text : utf8_faults true a.leaves ≡ [] = rw (sym a.same_mode) at (silent a.enum a.leaves a.options a.enum_reads).text in
     rw a.same_rules (texts_are a.leaves text)
 
 -- a result that is not a refusal of the source is not one of lexing

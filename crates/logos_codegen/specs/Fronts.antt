@@ -1,5 +1,5 @@
 -- The texts around the body of a lexer, determined by the options of its source.
-use Rattle.std.specs.Prelude.{ℕ, Bool, List, option_map}
+use Rattle.std.specs.Prelude.{ℕ, Bool, List, [], option_map}
 use Rattle.logos_token.specs.Views.{stream_tokens}
 use Rattle.logos_type.specs.Printed.{printed_type}
 use Rattle.logos_type.specs.TypeTrees.{type_tree}
@@ -26,7 +26,7 @@ around_made made = around_options made.options made.graph.utf8
 -- The text begins an implementation of `Logos` for the type of the enum: its head and the imports
 -- of its function.
 abbrev pub BeginsImplementation : Generated → List ℕ → Type 0
-BeginsImplementation made = BeginsWith (opening_text short_core (around_made made) (printed_type (type_tree made.code.header.this)))
+BeginsImplementation made = BeginsWith (opening_text [] short_core (around_made made) (printed_type (type_tree made.code.header.this)))
 
 -- The text is the beginning of an implementation by tables, up to the functions for errors, matches
 -- and tokens.

@@ -27,9 +27,9 @@ use Rattle.logos_code.specs.declared.code.Config.{Config}
 pub record IsGraphOfSource (source : List ℕ) (name : Slice) (options : OptionsView) (graph : GraphValue) : Type 0 where
   pub enum : EnumValue
   pub item : Span
-  pub says : YieldsEnum source enum item
+  pub reads_as : YieldsEnum source enum item
   pub is_name : enum.name ≡ name
-  pub enum_says : ReadsEnum enum (map leaf_view graph.leaves) options []
+  pub enum_reads : ReadsEnum enum (map leaf_view graph.leaves) options []
   pub same_mode : graph.utf8 ≡ utf8_mode options
   pub of_leaves : IsGraphOf graph.leaves graph.utf8 graph
   pub faultless : graph.faults ≡ []

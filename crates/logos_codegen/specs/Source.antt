@@ -19,7 +19,7 @@ pub record AreReported (enum : EnumValue) (item : Span) (faults : List SourceFau
   pub options : OptionsView
   pub enum_faults : List SourceFault
   pub graph_faults : List SourceFault
-  pub says : ReadsEnum enum leaves options enum_faults
+  pub reads_as : ReadsEnum enum leaves options enum_faults
   pub graph : GraphReports (map named_of_view leaves) item graph_faults
   pub all : faults ≡ enum_faults ++ graph_faults
 
@@ -28,10 +28,10 @@ pub record AreReported (enum : EnumValue) (item : Span) (faults : List SourceFau
 pub record IsAccepted (source : List ℕ) (rules : List Rule) (utf8 : Bool) : Type 0 where
   pub enum : EnumValue
   pub item : Span
-  pub says : YieldsEnum source enum item
+  pub reads_as : YieldsEnum source enum item
   pub leaves : List LeafView
   pub options : OptionsView
-  pub enum_says : ReadsEnum enum leaves options []
+  pub enum_reads : ReadsEnum enum leaves options []
   pub faultless : AreFaults (rules_of_views leaves) []
   pub same_rules : rules ≡ rules_of_views leaves
   pub same_mode : utf8 ≡ utf8_mode options

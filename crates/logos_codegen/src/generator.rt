@@ -1,5 +1,4 @@
-//! From graphs to code values and to their text: the names of a generator, of its code and of its
-//! text.
+//! Re-exports the generator of code values, the code values, and the printer of their Rust text.
 
 pub use logos_generator::code::Code;
 pub use logos_generator::generator::{

@@ -59,11 +59,11 @@ module _ (source input : List ℕ) (rules : List Rule) (utf8 : Bool) (code : Cod
 
 -- A result for the run from an offset on, and the lines after a block, completes the whole run
 -- and all lines.
-abbrev pub GoesOn : CodeValue → Callback → List ℕ → ℕ → List ℕ → Option (List ℕ) → ℕ → List ℕ → Option (List ℕ) → Type 0
-GoesOn code callback input from before old to block now =
+abbrev pub Continues : CodeValue → Callback → List ℕ → ℕ → List ℕ → Option (List ℕ) → ℕ → List ℕ → Option (List ℕ) → Type 0
+Continues code callback input from before old to block now =
     (rest : List Item) (new : Option (List ℕ)) → Runs code callback input to rest → Appends now new (block ++ lines_of rest) → WritesLines code callback input from before old new
 
-pub begun : (code : CodeValue) (callback : Callback) (input : List ℕ) (from : ℕ) (before : List ℕ) (old : Option (List ℕ)) → GoesOn code callback input from before old from before old
+pub begun : (code : CodeValue) (callback : Callback) (input : List ℕ) (from : ℕ) (before : List ℕ) (old : Option (List ℕ)) → Continues code callback input from before old from before old
 begun code callback input from before old rest new r a = record { items = rest; runs = r; appends = a }
 
 -- one item more, whose line is pushed to the block, of which a front is written
@@ -71,8 +71,8 @@ pub one_more : {C : Type 0} (callback other : Callback) (code : CodeValue) (inpu
     Yields callback old new item → old.code ≡ code → old.input ≡ input → new.code ≡ code → new.input ≡ input →
     ((leaf : ℕ) (slice : List ℕ) (answer : Action) → other leaf slice answer → callback leaf slice answer) →
     ((leaf : ℕ) (slice : List ℕ) (answer : Action) → callback leaf slice answer → other leaf slice answer) →
-    GoesOn code other input from before was old.to block now → filled ≡ block ++ line_of item → AppendsFront now then filled left →
-    GoesOn code other input from before was new.to left then
+    Continues code other input from before was old.to block now → filled ≡ block ++ line_of item → AppendsFront now then filled left →
+    Continues code other input from before was new.to left then
 one_more callback other code input old new from before was now then block filled left item g c i d j to_it back h e f rest end r a =
     let here : Runs new.code callback new.input new.to rest = rw (d, j) (lexes_by code.leaves input (CodeFinds code input) other callback to_it r) in
     let whole : Runs code callback input old.to (item ∷ rest) = rw (c, i) at (g.next rest here) in
@@ -85,7 +85,7 @@ one_more callback other code input old new from before was now then block filled
 pub all_done : {C : Type 0} (callback other : Callback) (code : CodeValue) (input : List ℕ) (old new : LexerValue C) (from : ℕ) (before : List ℕ) (was now then : Option (List ℕ)) (block : List ℕ) →
     Ends callback old new → old.code ≡ code → old.input ≡ input →
     ((leaf : ℕ) (slice : List ℕ) (answer : Action) → callback leaf slice answer → other leaf slice answer) →
-    GoesOn code other input from before was old.to block now → {T : Type 0} (result : Result T Failure) → OnOk result (Appends now then block) →
+    Continues code other input from before was old.to block now → {T : Type 0} (result : Result T Failure) → OnOk result (Appends now then block) →
     OnOk result (WritesLines code other input from before was then)
 all_done callback other code input old new from before was now then block g c i back h (Ok x) a =
     let here : Runs code callback input old.to [] = rw (c, i) at g.over in

@@ -14,9 +14,9 @@ pub(super) enum Command<'w> {
     Text { file: &'w str, config: Config },
     /// `lex`: print the items of the input, found with the lexer of the enum in the file.
     Items(LexRequest<'w>),
-    /// `mermaid`: print the state diagram of that lexer.
+    /// `mermaid`: print the state diagram of the lexer of the enum in the file.
     Diagram { file: &'w str },
-    /// `export`: write that diagram to the file that the source names.
+    /// `export`: write the state diagram to the file that the source names.
     Export { file: &'w str },
     /// `strip`: print the enum in the file without the attributes of the derive macro.
     Strip { file: &'w str },

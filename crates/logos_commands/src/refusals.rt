@@ -58,13 +58,40 @@ fn export_line(why: ExportRefusal) -> &'static str
     }
 }
 
-/// Returns the lines of all faults.
+/// Returns the lines of all faults. Makes room for them at once: the faults of thousands of equal
+/// leaves have hundreds of megabytes, and a text that grows by doubling takes up to twice as much.
 fn fault_lines(errors: &Errors) -> Result<String, Memory>
     ensures { IfOk result (λ text. string_bytes text ≡ fault_lines errors.now) }
 {
     let mut text = String::new(errors.alloc());
+    text.reserve(size_of_lines(errors.list()))?;
     push_lines(&mut text, errors.list())?;
     Ok(text)
+}
+
+/// The number of bytes that a line has beside its message: two numbers, a code, and the signs
+/// between them. Most lines have fewer.
+const BESIDE_MESSAGE: usize = 80;
+
+/// Returns about the number of bytes of the lines of these faults. No proof depends on it.
+fn size_of_lines(faults: &[SpannedError]) -> usize {
+    let mut size: usize = 0;
+    for fault in faults {
+        let line = size_on_one_line(fault.message.as_bytes());
+        size = size.saturating_add(line).saturating_add(BESIDE_MESSAGE);
+    }
+    size
+}
+
+/// Returns the number of bytes of a message with `\n` in place of each LF.
+fn size_on_one_line(message: &[u8]) -> usize {
+    let mut size = message.len();
+    for byte in message {
+        if *byte == b'\n' {
+            size = size.saturating_add(1);
+        }
+    }
+    size
 }
 
 /// Appends the lines of these faults.

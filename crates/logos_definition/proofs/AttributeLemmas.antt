@@ -12,6 +12,6 @@ use Rattle.logos_definition.specs.Metas.{arguments_view, meta_view}
 use Rattle.logos_definition.specs.Options.{OptionsView}
 
 -- the meaning of the pieces in the arguments is the meaning of the attribute
-pub says_arguments : {o : OptionsView} {o' : OptionsView} {old new : List Fault} {span : Span} (meta : Meta) (run : Tokens) (left : List Piece) →
+pub has_arguments : {o : OptionsView} {o' : OptionsView} {old new : List Fault} {span : Span} (meta : Meta) (run : Tokens) (left : List Piece) →
     meta.arguments ≡ Some run → left ≡ pieces (tokens_of run) → ReadsPieces o o' old new left → ReadsMeta o o' old new (meta_view meta) span
-says_arguments meta run left e f s = with_arguments (ap arguments_view e) (rw f at s)
+has_arguments meta run left e f s = with_arguments (ap arguments_view e) (rw f at s)

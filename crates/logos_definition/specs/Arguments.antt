@@ -51,8 +51,8 @@ pub data ReadsType (name : Slice) (o : OptionsView) (o' : OptionsView) (old new 
 
 -- The result of an argument, and whether the arguments after it are read.
 pub data ReadsPiece (o : OptionsView) (o' : OptionsView) (old new : List Fault) : Piece → Bool → Type 0 where
-  on_error : {name : Slice} {value : PieceValue} {goes_on : Bool} → bytes_eq name.text (codes "error") ≡ true → ReadsError name o o' old new value goes_on →
-      ReadsPiece o o' old new (named name value) goes_on
+  on_error : {name : Slice} {value : PieceValue} {continues : Bool} → bytes_eq name.text (codes "error") ≡ true → ReadsError name o o' old new value continues →
+      ReadsPiece o o' old new (named name value) continues
   on_type : {name : Slice} {value : PieceValue} → bytes_eq name.text (codes "error") ≡ false → bytes_eq name.text (codes "type") ≡ true → ReadsType name o o' old new value →
       ReadsPiece o o' old new (named name value) true
   on_other : {name : Slice} {value : PieceValue} → bytes_eq name.text (codes "error") ≡ false → bytes_eq name.text (codes "type") ≡ false → IsReport (option_report name value o) o' old new →

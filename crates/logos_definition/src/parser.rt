@@ -115,7 +115,7 @@ impl<'s> Parser<'s> {
         ensures ok { OnOk result (ReadsPieces
             (parser_view self.old) (parser_view self.new) self.old.errors self.new.errors
             (pieces (tokens_of tokens.entry))) }
-        ensures going { OnOk result (HasNotFailed self.old self.new) }
+        ensures not_failed { OnOk result (HasNotFailed self.old self.new) }
         ensures err { OnErr result (self.new.failed ≡ true) }
     {
         unless_failed!(self, self.add_pieces(AttributeParser::new(tokens)))
@@ -130,7 +130,7 @@ impl<'s> Parser<'s> {
         ensures ok { OnOk result
             (AddsFault (fault code message.now span) self.old.errors self.new.errors) }
         ensures options { OnOk result (parser_view self.new ≡ parser_view self.old) }
-        ensures going { OnOk result (HasNotFailed self.old self.new) }
+        ensures not_failed { OnOk result (HasNotFailed self.old self.new) }
         ensures err { OnErr result (self.new.failed ≡ true) }
     {
         unless_failed!(self, self.errors.err(code, message, span))
@@ -150,7 +150,7 @@ impl<'s> Parser<'s> {
             (text_report (literal_slice literal.entry)) (option_map literal_view read)
             self.old.errors self.new.errors) }
         ensures options { OnOk result (parser_view self.new ≡ parser_view self.old) }
-        ensures going { OnOk result (HasNotFailed self.old self.new) }
+        ensures not_failed { OnOk result (HasNotFailed self.old self.new) }
         ensures err { OnErr result (self.new.failed ≡ true) }
     {
         unless_failed!(self, read_text(self.alloc, literal, &mut self.errors))
@@ -170,7 +170,7 @@ impl<'s> Parser<'s> {
             (definition_report (tokens_of tokens.entry)) (option_map definition_view definition)
             self.old.errors self.new.errors) }
         ensures options { OnOk result (parser_view self.new ≡ parser_view self.old) }
-        ensures going { OnOk result (HasNotFailed self.old self.new) }
+        ensures not_failed { OnOk result (HasNotFailed self.old self.new) }
         ensures err { OnErr result (self.new.failed ≡ true) }
     {
         unless_failed!(self, read_definition(tokens, &mut self.errors))
@@ -197,7 +197,7 @@ impl<'s> Definition<'s> {
             (definition_view self.old))
             (definition_view self.new) parser.old.errors parser.new.errors) }
         ensures options { OnOk result (parser_view parser.new ≡ parser_view parser.old) }
-        ensures going { OnOk result (HasNotFailed parser.old parser.new) }
+        ensures not_failed { OnOk result (HasNotFailed parser.old parser.new) }
         ensures err { OnErr result (parser.new.failed ≡ true) }
         ensures unchanged { OnErr result (self.new ≡ self.old) }
     {
@@ -224,7 +224,7 @@ impl<'s> ErrorType<'s> {
             (error_view self.old))
             (error_view self.new) parser.old.errors parser.new.errors) }
         ensures options { OnOk result (parser_view parser.new ≡ parser_view parser.old) }
-        ensures going { OnOk result (HasNotFailed parser.old parser.new) }
+        ensures not_failed { OnOk result (HasNotFailed parser.old parser.new) }
         ensures err { OnErr result (parser.new.failed ≡ true) }
         ensures unchanged { OnErr result (self.new ≡ self.old) }
     {
@@ -253,7 +253,7 @@ impl IgnoreFlags {
             (tokens_of tokens.entry))
             self.new.ignore_case parser.old.errors parser.new.errors) }
         ensures options { OnOk result (parser_view parser.new ≡ parser_view parser.old) }
-        ensures going { OnOk result (HasNotFailed parser.old parser.new) }
+        ensures not_failed { OnOk result (HasNotFailed parser.old parser.new) }
         ensures err { OnErr result (parser.new.failed ≡ true) }
         ensures unchanged { OnErr result (self.new ≡ self.old) }
     {

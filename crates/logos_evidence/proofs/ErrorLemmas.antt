@@ -60,8 +60,8 @@ module _ (utf8 : Bool) (bytes : List ℕ) (from : ℕ) where
 
   pub ends_apart : (g h : List GraphState) (at : ℕ) → 0 < at → at < length rest → is_cut utf8 (slice_index rest at) ≡ true →
       alive g 0 rest (suc at) ≡ true → alive h 0 rest (suc at) ≡ false → (to end : ℕ) → IsUnmarked g utf8 bytes from to → IsUnmarked h utf8 bytes from end → end < to
-  ends_apart g h at p l cut goes_on stops to end x y =
-      let far = x.covers.covers (suc at) (omega arith) goes_on in
+  ends_apart g h at p l cut continues stops to end x y =
+      let far = x.covers.covers (suc at) (omega arith) continues in
       let size = length-drop from bytes in
       let near = y.least (from + at) (record { nonempty = omega arith; covers = λ n m s. all n s (cases_lt at n); boundary = boundary_at at (omega (arith, l, size)) cut }) in
       omega (arith, far, near)

@@ -121,12 +121,12 @@ module _ (rules : List Rule) (dfa : Automaton) (late : ReadsOneByteLate rules df
   lists_is site None = refl
   lists_is site (Some leaves) = any_map site leaves
 
-  abbrev GoesOn : Point → ℕ → List ℕ → Type 0
-  GoesOn p site rest = (q : Point) × (after next p rest ≡ Some q)
+  abbrev Continues : Point → ℕ → List ℕ → Type 0
+  Continues p site rest = (q : Point) × (after next p rest ≡ Some q)
       × (goal q ≡ ((p.met || met_on site (Some p.here) rest) && not (won graph leaf (last_from graph p.there site rest) p.last)))
 
   -- a result for the rest completes to a result for the whole
-  goes : (rest u : List ℕ) (p : Point) (site : ℕ) → IsBytes (u ++ rest) → IsState dfa u p.here → GoesOn p site rest
+  goes : (rest u : List ℕ) (p : Point) (site : ℕ) → IsBytes (u ++ rest) → IsState dfa u p.here → Continues p site rest
   goes [] u p site bytes is =
       let own = front_bytes u [] bytes in
       let ends = last_lists rules dfa late u p.here own is in
@@ -169,7 +169,7 @@ module _ (rules : List Rule) (dfa : Automaton) (late : ReadsOneByteLate rules df
     all : (bytes : List ℕ) → IsBytes bytes → AreMatches rules bytes 0 (listed dfa (priority_of rules) 0 (Some dfa.start) bytes)
     all bytes are = matches_are rules dfa late starts 0 bytes (omega arith) are
 
-    run : (bytes : List ℕ) → IsBytes bytes → GoesOn start 0 bytes
+    run : (bytes : List ℕ) → IsBytes bytes → Continues start 0 bytes
     run bytes are = goes bytes [] start 0 are (record { after = refl; within = within })
 
     is_number : (m n : ℕ) → (m == n) ≡ true → m ≡ n
@@ -181,7 +181,7 @@ module _ (rules : List Rule) (dfa : Automaton) (late : ReadsOneByteLate rules df
     leads_loss : (bytes : List ℕ) → Leads next goal utf8 start bytes → IsLoss rules utf8 leaf bytes
     leads_loss bytes leads = go (last_from graph 0 0 bytes) refl (not_is _ parts.1)
       where
-        r : GoesOn start 0 bytes
+        r : Continues start 0 bytes
         r = run bytes leads.input.0
 
         end : r.0 ≡ leads.end

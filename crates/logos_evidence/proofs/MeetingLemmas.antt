@@ -53,14 +53,14 @@ module _ (rules : List Rule) (dfa : Automaton) (late : ReadsOneByteLate rules df
   stays (b ∷ rest) = stays rest
 
   -- a result for the rest completes to a result for the whole
-  abbrev GoesOn : ℕ → List ℕ → Type 0
-  GoesOn s rest = (q : Point) × (after next (meeting_at s false) rest ≡ Some q) × (goal q ≡ met_from (Some s) rest)
+  abbrev Continues : ℕ → List ℕ → Type 0
+  Continues s rest = (q : Point) × (after next (meeting_at s false) rest ≡ Some q) × (goal q ≡ met_from (Some s) rest)
 
   unfold_met : (s b t : ℕ) (rest : List ℕ) → dfa_next dfa (Some s) b ≡ Some t → met_from (Some s) (b ∷ rest) ≡ (tops_are rules set (slice_get dfa.matches t) || met_from (Some t) rest)
   unfold_met s b t rest e = ap (λ (o : Option ℕ). tops_are rules set (option_and_then (slice_get dfa.matches) o) || met_from o rest) e
 
   one_more : (s b t : ℕ) (rest : List ℕ) → step_by dfa s b ≡ Some t → dfa_next dfa (Some s) b ≡ Some t → (met : Bool) → tops_are rules set (slice_get dfa.matches t) ≡ met →
-      GoesOn t rest → GoesOn s (b ∷ rest)
+      Continues t rest → Continues s (b ∷ rest)
   one_more s b t rest step to true met ih = (
     meeting_at 0 true,
     ap (λ (o : Option ℕ). option_and_then (λ q. after next q rest) (option_map (meeting_on dfa rules set) o)) step ∙ ap (λ (m : Bool). after next (meeting_at t m) rest) met ∙ stays rest,
@@ -73,7 +73,7 @@ module _ (rules : List Rule) (dfa : Automaton) (late : ReadsOneByteLate rules df
   )
 
   -- a result for the rest completes to a result for the whole
-  goes : (rest u : List ℕ) (s : ℕ) → IsBytes (u ++ rest) → IsState dfa u s → GoesOn s rest
+  goes : (rest u : List ℕ) (s : ℕ) → IsBytes (u ++ rest) → IsState dfa u s → Continues s rest
   goes [] u s bytes is = (meeting_at s false, refl, refl)
   goes (b ∷ rest) u s bytes is =
       let moved = moved_bytes u b rest bytes in

@@ -65,9 +65,9 @@ impl Machine for Losses<'_> {
     }
 }
 
-/// Returns a shortest input with which a leaf matches from the beginning and on which a lexer finds
-/// a match of another leaf first, or `None` if and only if there is none. Of inputs of the same
-/// length it is the one with letters, digits and punctuation first.
+/// Returns a shortest input that begins with a match of the leaf, but in which a lexer finds a
+/// match of another leaf first. Returns `None` if and only if there is no such input. Among inputs
+/// of the same length, it prefers letters, then digits, then punctuation.
 ///
 /// The graph must have no faults.
 ///

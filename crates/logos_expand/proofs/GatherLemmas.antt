@@ -17,13 +17,13 @@ use Rattle.logos_report.specs.declared.file_report.Refused.{Refused}
 use Rattle.logos_expand.specs.Expanding.{IsExpansion, IsExpanded, IsFileOf, IsUnreadable, Replaces, text_at}
 use Rattle.logos_tables.specs.Shapes.{config_of}
 use Rattle.logos_text.specs.Fronts.{AroundValue}
-use Rattle.logos_expand.specs.Expanding.Replaces.{ended as r_ended, stays as r_stays, yields as r_gives}
+use Rattle.logos_expand.specs.Expanding.Replaces.{ended as r_ended, stays as r_stays, yields as r_yields}
 use Rattle.logos_expand.specs.Heads.{headed}
 use Rattle.logos_layout.specs.Inner.{IsWithoutInner}
 use Rattle.logos_expand.specs.inside.Steps.{AddsRefusal, AreFaultsOf, GathersOne, IsExpansionBy}
 use Rattle.logos_expand.specs.Gathering.{AreRefused, Gathers, GathersAll, errors_in, errors_of}
 use Rattle.logos_expand.specs.Gathering.AreRefused.{whole, lexers}
-use Rattle.logos_expand.specs.Gathering.Gathers.{ended as g_ended, stays as g_stays, yields as g_gives, refuses as g_refuses}
+use Rattle.logos_expand.specs.Gathering.Gathers.{ended as g_ended, stays as g_stays, yields as g_yields, refuses as g_refuses}
 use Rattle.logos_rust_file.specs.declared.finder.FoundEnum.{FoundEnum}
 use Rattle.logos_rust_file.specs.declared.replacement.Replacement.{Replacement}
 use Rattle.logos_rust_file.specs.Files.{AreEnumsOf}
@@ -104,7 +104,7 @@ yields_one shape text one part old new source k e s x p r = record {
   refused = [];
   parts_are = p;
   refused_are = r ∙ sym (append-nil old.refused.items);
-  completes = λ rest more worse g. g_gives e s (subst (λ bytes. IsExpansion shape bytes (string_bytes part.text)) k x) g;
+  completes = λ rest more worse g. g_yields e s (subst (λ bytes. IsExpansion shape bytes (string_bytes part.text)) k x) g;
 }
 
 -- a refusal has faults of which this holds
@@ -128,7 +128,7 @@ refuses_one shape text one refusal clues old new source k e h s a p = record {
 replaces_all : (shape : Shape) (text : List ℕ) (found : List FoundEnum) (parts : List Replacement) (refused : List Refused) → Gathers shape text found parts refused → refused ≡ [] → Replaces shape text found parts
 replaces_all shape text _ _ _ g_ended e = r_ended
 replaces_all shape text _ _ _ (g_stays d g) e = r_stays d (replaces_all shape text _ _ _ g e)
-replaces_all shape text _ _ _ (g_gives d s x g) e = r_gives d s x (replaces_all shape text _ _ _ g e)
+replaces_all shape text _ _ _ (g_yields d s x g) e = r_yields d s x (replaces_all shape text _ _ _ g e)
 replaces_all shape text _ _ _ (g_refuses d s x k g) e = absurd cc
 
 -- the result of a file without faults
@@ -173,7 +173,7 @@ order_parts : (shape : Shape) (text : List ℕ) (found : List FoundEnum) (parts 
 order_parts shape text _ _ _ from to g_ended o = o
 order_parts shape text _ _ _ from to (g_stays {one} {rest} {parts} {refused} d g) o =
     earlier from one.span.to (map part_span parts) to (omega (arith, o.0, o.1)) (order_parts shape text rest parts refused one.span.to to g o.2)
-order_parts shape text _ _ _ from to (g_gives {one} {part} {rest} {parts} {refused} d s x g) o =
+order_parts shape text _ _ _ from to (g_yields {one} {part} {rest} {parts} {refused} d s x g) o =
     rw s (o.0, o.1, order_parts shape text rest parts refused one.span.to to g o.2)
 order_parts shape text _ _ _ from to (g_refuses {one} {bad} {rest} {parts} {refused} d s x k g) o =
     earlier from one.span.to (map part_span parts) to (omega (arith, o.0, o.1)) (order_parts shape text rest parts refused one.span.to to g o.2)
@@ -201,12 +201,12 @@ expansion_made shape around source shown graph code name export g o b = record {
 -- a source without faults spells an enum
 pub spells_enum : (source : List ℕ) (rules : List Rule) (utf8 : Bool) → IsAccepted source rules utf8 → IsWithinSizes source rules → SpellsEnum source
 spells_enum source rules utf8 a within = record {
-  tokens = a.says.tokens;
+  tokens = a.reads_as.tokens;
   enum = a.enum;
-  spelled = a.says.spelled;
-  reads = a.says.reads;
+  spelled = a.reads_as.spelled;
+  reads = a.reads_as.reads;
   short = within.short;
-  shallow = within.shallow a.says.tokens a.says.spelled;
+  shallow = within.shallow a.reads_as.tokens a.reads_as.spelled;
 }
 
 -- ---- refusals

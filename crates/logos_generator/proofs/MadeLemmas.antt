@@ -14,7 +14,7 @@ use Rattle.logos_hir.specs.ByteRanges.{is_in}
 use Rattle.logos_code.specs.Bytes.{passes_test}
 use Rattle.logos_code.specs.Code.{CodeValue, CodeState}
 use Rattle.logos_code.specs.Runs.{target, stays}
-use Rattle.logos_code.specs.Headline.{IsSound, IsRoot, IsEnd, IsLate, NamesWhatIsThere, NamesState}
+use Rattle.logos_code.specs.Headline.{IsSound, IsRoot, IsEnd, IsLate, NamesExisting, NamesState}
 use Rattle.logos_generator.specs.Makes.{mark_by, mark_made, Makes, IsLast, IsMade}
 use Rattle.logos_graph.specs.FinishedGraph.{Edge, edge_leads, NamesLeaves, IsUnmarked, IsFinishedState, IsFirstState, IsFinished, IsLate as IsLateType}
 use Rattle.logos_generator.specs.Numbering.{HasNodesOf, bit_tables_of, jump_tables_of, tests_of}
@@ -217,7 +217,7 @@ module _ (code : CodeValue) (tests : List (List Bool)) (realised : (k b : ℕ) �
       unmarked = not_marked first_state.0.state_type first_state.2.unmarked;
     }
 
-    state_named : (s : ℕ) (made : CodeState) → slice_get code.states s ≡ Some made → NamesWhatIsThere code made
+    state_named : (s : ℕ) (made : CodeState) → slice_get code.states s ≡ Some made → NamesExisting code made
     state_named s made e =
         let g = graph_at s made e in
         let f = finished_at s g.0 g.1 in

@@ -6,7 +6,7 @@ use Rattle.std.proofs.lemmas.Bool.Decides.{eqb_tells}
 use Rattle.logos_hir.specs.Text.{IsBytes}
 use Rattle.logos_automaton.specs.Munch.{Found, ended, matched, failed}
 use Rattle.logos_code.specs.Code.{CodeValue, CodeState}
-use Rattle.logos_code.specs.Runs.{Status, Turn, enters, acts, returns, looped, turn, Does, Acts, Goes, goes_on, is_over, acts_on, Attempts, CodeFinds}
+use Rattle.logos_code.specs.Runs.{Status, Turn, enters, acts, returns, looped, turn, Does, Acts, AttemptsFrom, continues, is_over, acts_on, Attempts, CodeFinds}
 use Rattle.logos_graph.specs.Graph.{GraphState}
 use Rattle.logos_graph.specs.Found.{GraphFinds}
 use Rattle.logos_generator.specs.Runs.{RunsAs}
@@ -58,8 +58,8 @@ module _ (graph : List GraphState) (utf8 : Bool) (code : CodeValue) (is_made : I
     early : (at : Status) → IsAt at → at.offset ≤ length bytes + 1
     early at s = ⊎_elim (λ h. omega (arith, h)) (λ h. omega (arith, h.0)) s.2
 
-    pub goes_finds : {at : Status} {found : Found} {n : ℕ} → Goes code bytes start at found n → IsAt at → Finds at found × (n + at.offset ≤ length bytes + 2)
-    goes_finds (goes_on at next found n d g) s = go (goes_finds g) (does at s (enters next) d)
+    pub goes_finds : {at : Status} {found : Found} {n : ℕ} → AttemptsFrom code bytes start at found n → IsAt at → Finds at found × (n + at.offset ≤ length bytes + 2)
+    goes_finds (continues at next found n d g) s = go (goes_finds g) (does at s (enters next) d)
       where
         go : (IsAt next → Finds next found × (n + next.offset ≤ length bytes + 2)) → Turns code graph bytes are start starts at (enters next) → Finds at found × (suc n + at.offset ≤ length bytes + 2)
         go later (inl v) =
@@ -78,19 +78,19 @@ module _ (graph : List GraphState) (utf8 : Bool) (code : CodeValue) (is_made : I
         (acts_by code bytes start _ _ _ _ found e.0 (λ n. e.1 ∙ sym v.reached) a, omega (arith, f)))
         (does at s (acts context offset) d)
 
-    pub finds_goes : (fuel : ℕ) (at : Status) (found : Found) → IsAt at → length bytes + 2 ≤ at.offset + fuel → Finds at found → (n : ℕ) × Goes code bytes start at found n
+    pub finds_goes : (fuel : ℕ) (at : Status) (found : Found) → IsAt at → length bytes + 2 ≤ at.offset + fuel → Finds at found → (n : ℕ) × AttemptsFrom code bytes start at found n
     finds_goes zero at found s h f = absurd (let k = early at s in omega (arith, k, h))
     finds_goes (suc fuel) at found s h f = go (finds_goes fuel) (turns code graph bytes are start starts at s.0 m.0 s.1 m.2 (is_made.closed at.state s.0 s.1) s.2)
       where
         m : (made : CodeState) × (slice_get code.states at.state ≡ Some made) × Makes code at.state s.0 made
         m = is_made.states at.state s.0 s.1
 
-        go : ((at : Status) (found : Found) → IsAt at → length bytes + 2 ≤ at.offset + fuel → Finds at found → (n : ℕ) × Goes code bytes start at found n) →
-            Turns code graph bytes are start starts at (turn code bytes start m.0 at) → (n : ℕ) × Goes code bytes start at found n
+        go : ((at : Status) (found : Found) → IsAt at → length bytes + 2 ≤ at.offset + fuel → Finds at found → (n : ℕ) × AttemptsFrom code bytes start at found n) →
+            Turns code graph bytes are start starts at (turn code bytes start m.0 at) → (n : ℕ) × AttemptsFrom code bytes start at found n
         go later (inl v) =
             let moves = v.moves in
             let g = later v.next found (v.state, v.has, v.bound) (omega (arith, h, moves)) (acts_by code bytes start _ _ _ _ found v.last v.reached f) in
-            (suc g.0, goes_on at v.next found g.0 (m.0, m.1, v.is) g.1)
+            (suc g.0, continues at v.next found g.0 (m.0, m.1, v.is) g.1)
         go later (inr v) = (1, acts_on at _ v.offset found (m.0, m.1, v.is) (subst (λ o. Acts code bytes start _ o found) v.reached f))
 
   -- at the end of the input
@@ -115,8 +115,8 @@ module _ (graph : List GraphState) (utf8 : Bool) (code : CodeValue) (is_made : I
   over : (from : ℕ) → length bytes ≤ from → (at : Status) → at ≡ begin from → (what : Turn) → Does code bytes from at what → what ≡ returns
   over from past at is what d = sym d.2 ∙ ap (λ t. turn code bytes from d.0 t) is ∙ at_end from past d.0
 
-  returns_only : (from : ℕ) → length bytes ≤ from → {at : Status} {found : Found} {n : ℕ} → at ≡ begin from → Goes code bytes from at found n → (found ≡ ended) × (n ≡ 1)
-  returns_only from past is (goes_on at next found n d g) = absurd (enters_returns next (sym (over from past at is _ d)))
+  returns_only : (from : ℕ) → length bytes ≤ from → {at : Status} {found : Found} {n : ℕ} → at ≡ begin from → AttemptsFrom code bytes from at found n → (found ≡ ended) × (n ≡ 1)
+  returns_only from past is (continues at next found n d g) = absurd (enters_returns next (sym (over from past at is _ d)))
   returns_only from past is (is_over at d) = (refl, refl)
   returns_only from past is (acts_on at context offset found d a) = absurd (acts_returns context offset (sym (over from past at is _ d)))
 
@@ -125,7 +125,7 @@ module _ (graph : List GraphState) (utf8 : Bool) (code : CodeValue) (is_made : I
   first from starts = (is_made.first, is_made.has_first, inl (omega arith))
 
   inside : (from : ℕ) → from < length bytes → (found : Found) → CodeFinds code bytes from found ↔ GraphFinds graph utf8 bytes from found
-  inside from starts found = subst (λ r. ((n : ℕ) × Goes code bytes from (record { state = r; offset = from; context = None }) found n) ↔ GraphFinds graph utf8 bytes from found) (sym is_made.root) (
+  inside from starts found = subst (λ r. ((n : ℕ) × AttemptsFrom code bytes from (record { state = r; offset = from; context = None }) found n) ↔ GraphFinds graph utf8 bytes from found) (sym is_made.root) (
     λ g. iff.1 (goes_finds from starts g.1 (first from starts)).0,
     λ f. finds_goes from starts (length bytes + 2) _ found (first from starts) (omega arith) (iff.0 f),
   )
@@ -154,7 +154,7 @@ module _ (graph : List GraphState) (utf8 : Bool) (code : CodeValue) (is_made : I
 
   pub few_steps : (from n : ℕ) (found : Found) → from ≤ length bytes → Attempts code bytes from found n → n ≤ (length bytes - from) + 2
   few_steps from n found fits g = ⊎_elim
-      (λ h. let b = (goes_finds from h (subst (λ r. Goes code bytes from (record { state = r; offset = from; context = None }) found n) is_made.root g) (first from h)).1 in omega (arith, b, fits))
+      (λ h. let b = (goes_finds from h (subst (λ r. AttemptsFrom code bytes from (record { state = r; offset = from; context = None }) found n) is_made.root g) (first from h)).1 in omega (arith, b, fits))
       (λ h. let e = (returns_only from h refl g).1 in omega (arith, e))
       (either from (length bytes))
 

@@ -106,7 +106,7 @@ module _ (code : CodeValue) (graph : List GraphState) where
     Bound state at = (at ≤ length bytes) ⊎ ((at ≡ length bytes + 1) × (state.eoi ≡ None))
 
     -- the attempt continues, and finds the same there
-    pub record GoesOn (at : Status) (what : Turn) : Type 0 where
+    pub record ContinuesAt (at : Status) (what : Turn) : Type 0 where
       pub next : Status
       pub is : what ≡ enters next
       pub state : GraphState
@@ -124,7 +124,7 @@ module _ (code : CodeValue) (graph : List GraphState) where
       pub reached : at.offset + reach graph at.state (drop at.offset bytes) ≡ offset
 
     abbrev pub Turns : Status → Turn → Type 0
-    Turns at what = GoesOn at what ⊎ IsDone at what
+    Turns at what = ContinuesAt at what ⊎ IsDone at what
 
     -- a byte, or the end of the input
     byte_cases : (at : ℕ) → ((b : ℕ) × (at < length bytes) × (slice_get bytes at ≡ Some b) × (b < 256) × (drop at bytes ≡ b ∷ drop (at + 1) bytes)) ⊎ ((length bytes ≤ at) × (slice_get bytes at ≡ None) × (drop at bytes ≡ []))

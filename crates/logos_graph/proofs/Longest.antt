@@ -35,14 +35,14 @@ rule_order (rule ∷ rules) zero bytes from to m = matches_order rule.tree bytes
 rule_order (rule ∷ rules) (suc leaf) bytes from to m = rule_order rules leaf bytes from to m
 
 -- the meaning of the last mark for maximal munch
-abbrev Says : List Rule → List ℕ → ℕ → Option (ℕ × ℕ) → Type 0
-Says rules bytes from None = NoMatch rules bytes from
-Says rules bytes from (Some m) = IsBest rules bytes from m.1 m.0
+abbrev Describes : List Rule → List ℕ → ℕ → Option (ℕ × ℕ) → Type 0
+Describes rules bytes from None = NoMatch rules bytes from
+Describes rules bytes from (Some m) = IsBest rules bytes from m.1 m.0
 
 module _ (rules : List Rule) (start : AllStart rules) (bytes : List ℕ) (from : ℕ) (inside : from ≤ length bytes) where
-  says : (last : Option (ℕ × ℕ)) → BestBelow rules bytes from (length bytes + 1) last → Says rules bytes from last
-  says None none = λ leaf to l m. let w = rule_within rules leaf bytes from to m inside in none leaf to (omega arith) (omega arith) m
-  says (Some p) best = record {
+  describes : (last : Option (ℕ × ℕ)) → BestBelow rules bytes from (length bytes + 1) last → Describes rules bytes from last
+  describes None none = λ leaf to l m. let w = rule_within rules leaf bytes from to m inside in none leaf to (omega arith) (omega arith) m
+  describes (Some p) best = record {
     nonempty = not_empty (cases_lt from p.1);
     longest = λ other end m. long other end m (cases_lt end from);
     chosen = best.first;
@@ -59,9 +59,9 @@ module _ (rules : List Rule) (start : AllStart rules) (bytes : List ℕ) (from :
       long other end m (inl l) = let o = best.order in omega arith
       long other end m (inr l) = let w = rule_within rules other bytes from end m inside in best.longest other end l (omega arith) m
 
-  said_best : (last : Option (ℕ × ℕ)) → Says rules bytes from last → (leaf to : ℕ) → (last ≡ Some (leaf, to)) ↔ IsBest rules bytes from to leaf
-  said_best None none leaf to = (λ e. absurd (cc), λ b. absurd (none leaf to b.nonempty b.matches))
-  said_best (Some p) best leaf to = (there, back)
+  stated_best : (last : Option (ℕ × ℕ)) → Describes rules bytes from last → (leaf to : ℕ) → (last ≡ Some (leaf, to)) ↔ IsBest rules bytes from to leaf
+  stated_best None none leaf to = (λ e. absurd (cc), λ b. absurd (none leaf to b.nonempty b.matches))
+  stated_best (Some p) best leaf to = (there, back)
     where
       there : Some p ≡ Some (leaf, to) → IsBest rules bytes from to leaf
       there e =
@@ -75,19 +75,19 @@ module _ (rules : List Rule) (start : AllStart rules) (bytes : List ℕ) (from :
           let y : p.1 ≡ to = cc (e) in
           rw (← x, ← y) refl
 
-  said_none : (last : Option (ℕ × ℕ)) → Says rules bytes from last → (last ≡ None) ↔ NoMatch rules bytes from
-  said_none None none = (λ e. none, λ n. refl)
-  said_none (Some p) best = (λ e. absurd (cc), λ n. absurd (n p.0 p.1 best.nonempty best.matches))
+  stated_none : (last : Option (ℕ × ℕ)) → Describes rules bytes from last → (last ≡ None) ↔ NoMatch rules bytes from
+  stated_none None none = (λ e. none, λ n. refl)
+  stated_none (Some p) best = (λ e. absurd (cc), λ n. absurd (n p.0 p.1 best.nonempty best.matches))
 
 module _ (rules : List Rule) (start : AllStart rules) {S : Type 0} (g : Edges S) (root : S) (reads : MarksOneByteLate rules g root) where
   -- the last mark of the automaton is the longest match
-  pub raw_says : (bytes : List ℕ) (from : ℕ) → from ≤ length bytes → IsBytes bytes → Says rules bytes from (last_mark g root (drop from bytes) from None)
-  raw_says bytes from inside ok =
+  pub raw_describes : (bytes : List ℕ) (from : ℕ) → from ≤ length bytes → IsBytes bytes → Describes rules bytes from (last_mark g root (drop from bytes) from None)
+  raw_describes bytes from inside ok =
       let len : length (take from bytes) ≡ from = length-take-le from bytes inside in
       let none : BestBelow rules bytes (length (take from bytes)) from None = λ leaf to o l m. omega arith in
       let zero_more : from ≡ length (take from bytes) + length {A = ℕ} [] = omega arith in
       let b = raw_marks rules start.0 g root reads bytes (take from bytes) (drop from bytes) [] root from None (sym (take-append-drop from bytes)) zero_more (All-nil (λ b. b < 256)) (All-drop (λ b. b < 256) from bytes ok) refl none in
-      says rules start bytes from inside _ (subst (λ (x : ℕ). BestBelow rules bytes x (length bytes + 1) (last_mark g root (drop from bytes) from None)) len b)
+      describes rules start bytes from inside _ (subst (λ (x : ℕ). BestBelow rules bytes x (length bytes + 1) (last_mark g root (drop from bytes) from None)) len b)
 
   -- the root is not early
   pub late_root : (new : S → StateType) → AreSettled g.next g.at_end g.type_of new → (new root).early ≡ None
@@ -163,32 +163,32 @@ module _ (rules : List Rule) (start : AllStart rules) {S T : Type 0}
           boundary = m.boundary;
         }
 
-    says_here : from < length bytes → Says rules bytes from (last_mark k (f root) (drop from bytes) from None)
-    says_here l = rw (same_marks (drop from bytes) rest_ok from) (raw_says rules start g root reads bytes from (omega arith) ok)
+    describes_here : from < length bytes → Describes rules bytes from (last_mark k (f root) (drop from bytes) from None)
+    describes_here l = rw (same_marks (drop from bytes) rest_ok from) (raw_describes rules start g root reads bytes from (omega arith) ok)
 
     pub finds_the_longest : (found : Found) → WalkFinds k (f root) utf8 bytes from found ↔ Finds rules utf8 bytes from found
     finds_the_longest ended = (λ x. x, λ x. x)
     finds_the_longest (matched leaf to) = (there, back)
       where
         there : WalkFinds k (f root) utf8 bytes from (matched leaf to) → IsBest rules bytes from to leaf
-        there x = (said_best rules start bytes from (let l = x.0 in omega arith) _ (says_here x.0) leaf to).0 x.1
+        there x = (stated_best rules start bytes from (let l = x.0 in omega arith) _ (describes_here x.0) leaf to).0 x.1
 
         back : IsBest rules bytes from to leaf → WalkFinds k (f root) utf8 bytes from (matched leaf to)
         back x = go (cases_lt from (length bytes))
           where
             go : (from < length bytes) ⊎ (length bytes ≤ from) → WalkFinds k (f root) utf8 bytes from (matched leaf to)
-            go (inl l) = (l, (said_best rules start bytes from (omega arith) _ (says_here l) leaf to).1 x)
+            go (inl l) = (l, (stated_best rules start bytes from (omega arith) _ (describes_here l) leaf to).1 x)
             go (inr l) = let o = (rule_order rules leaf bytes from to x.matches).1 in let n = x.nonempty in absurd (omega arith)
     finds_the_longest (failed to) = (there, back)
       where
         there : IsUnmarked k (f root) utf8 bytes from to → Finds rules utf8 bytes from (failed to)
         there x = (
           x.starts,
-          (said_none rules start bytes from (let l = x.starts in omega arith) _ (says_here x.starts)).0 x.unmarked,
+          (stated_none rules start bytes from (let l = x.starts in omega arith) _ (describes_here x.starts)).0 x.unmarked,
           record { may_stop = (may to x.unmarked).0 x.may_end; least = λ other m. x.least other ((may other x.unmarked).1 m) },
         )
 
         back : Finds rules utf8 bytes from (failed to) → IsUnmarked k (f root) utf8 bytes from to
         back x =
-            let none = (said_none rules start bytes from (let l = x.0 in omega arith) _ (says_here x.0)).1 x.1 in
+            let none = (stated_none rules start bytes from (let l = x.0 in omega arith) _ (describes_here x.0)).1 x.1 in
             record { starts = x.0; unmarked = none; may_end = (may to none).1 x.2.may_stop; least = λ other m. x.2.least other ((may other none).0 m) }

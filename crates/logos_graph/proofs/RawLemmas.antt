@@ -135,7 +135,7 @@ known_rule rules leaf bytes from to m = go (slice_get rules leaf) refl m
 module _ (leaves : List Leaf) (dfa : Automaton) (total : IsTotal dfa) (starts : dfa.start ≡ 0) (table : Table) (states : size table ≡ length dfa.matches)
     (r : AreRawRows dfa (rows_of table.rows) (length dfa.matches))
     (marks : (s : ℕ) → s < length dfa.matches → IsMarkOf (rules_of leaves) (length leaves) dfa s (mark table s))
-    (behind : (s : ℕ) → size table ≤ s → mark table s ≡ record { accept = None; early = None }) where
+    (afterward : (s : ℕ) → size table ≤ s → mark table s ≡ record { accept = None; early = None }) where
   abbrev g : Edges ℕ
   g = edges table
 
@@ -144,7 +144,7 @@ module _ (leaves : List Leaf) (dfa : Automaton) (total : IsTotal dfa) (starts : 
     where
       go : (s < size table) ⊎ (size table ≤ s) → (mark table s).early ≡ None
       go (inl l) = (marks s (omega (arith, l, states))).2.early
-      go (inr l) = ap (λ (m : StateMarks). m.early) (behind s l)
+      go (inr l) = ap (λ (m : StateMarks). m.early) (afterward s l)
 
   -- a state that lists nothing has no mark
   none_listed : (s : ℕ) → slice_get dfa.matches s ≡ Some [] → (mark table s).accept ≡ None

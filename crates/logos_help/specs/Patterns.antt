@@ -32,13 +32,13 @@ abbrev pub looks_back : PatternFront → Bool
 looks_back front = opens_with front 60 && ((front.fourth == 61) || (front.fourth == 33))
 
 abbrev pub reference_help : List ℕ
-reference_help = codes "write again what may stand there: nothing refers back"
+reference_help = codes "repeat the pattern of the group: there are no backreferences"
 
 -- The help for a group that does not begin with a flag: `(?P=` refers back, and `(?#` is a comment.
 abbrev pub flag_help : PatternFront → List ℕ
 flag_help front =
     if opens_with front 80 && (front.fourth == 61) then reference_help
-    else if opens_with front 35 then codes "leave the comment out"
+    else if opens_with front 35 then codes "remove the comment"
     else codes "write one of `i m s U u R`, as in `(?i)`, or `(?:..)` for a group"
 
 -- The help for an escape that does not exist: `\k` and a number refer back, and `\h`, `\R`, `\Z`
@@ -49,30 +49,30 @@ escape_help front =
     else if escapes front 104 then codes "write `[ \\t]` for a blank"
     else if escapes front 82 then codes "write `\\r?\\n` for a line end"
     else if escapes front 90 then codes "write `\\z` for the end of the input"
-    else if escapes front 81 then codes "write a backslash in front of each special character"
+    else if escapes front 81 then codes "write a backslash before each special character"
     else codes "write the character alone or by its number, as in `\\x1B`"
 
 -- The help for a word boundary at this byte of a pattern.
 abbrev pub boundary_help : ℕ → List ℕ
 boundary_help at =
-    if at == 0 then codes "leave it out: a match begins where the one before it ended"
+    if at == 0 then codes "remove it: a match begins where the previous one ended"
     else codes "write `(?-u:\\b)`, the boundary of ASCII words"
 
 -- The help for a group that is neither plain nor named.
 abbrev pub group_help : PatternFront → List ℕ
 group_help front =
-    if looks_ahead front || looks_back front then codes "write a longer pattern and a priority in place of look-around"
+    if looks_ahead front || looks_back front then codes "write a longer pattern and a priority instead of look-around"
     else codes "write a name once, as in `(?<name>..)`, or `(?:..)` without one"
 
 -- The help for a fault of this kind in a pattern.
 abbrev pub kind_help : PatternKind → PatternDetail → List ℕ
 kind_help Unclosed detail = codes "close it, or write `\\(`, `\\[` or `\\{` for the character"
 kind_help Unopened detail = codes "remove it, or write `\\)` for the character"
-kind_help NothingToRepeat detail = codes "write something in front of it, or a backslash for the character, as in `\\*`"
+kind_help NothingToRepeat detail = codes "write what it repeats before it, or escape the character, as in `\\*`"
 kind_help CountSyntax detail = codes "write `{2}`, `{2,}` or `{0,3}` without blanks, or `\\{` for the character"
 kind_help CountOrder detail = codes "write the smaller count first"
 kind_help CountTooLarge detail = codes "write a count below 4,294,967,296"
-kind_help FlagUnsupported detail = codes "drop the flag `x`, and write the pattern without blanks and comments"
+kind_help FlagUnsupported detail = codes "remove the flag `x`, and write the pattern without blanks and comments"
 kind_help FlagSyntax detail = flag_help detail.front
 kind_help GroupSyntax detail = group_help detail.front
 kind_help EscapeUnknown detail = escape_help detail.front

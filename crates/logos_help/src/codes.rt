@@ -15,11 +15,9 @@ use logos_token::token::LexicalKind;
 
 const TWICE: &str = "keep one of them";
 
-const DOUBLE: &str = "put it in double quotes, as in `\"..\"`";
+const DOUBLE: &str = "write it in double quotes, as in `\"..\"`";
 
-const NEST: &str = "nest less deep";
-
-const RENAME: &str = "rename it: a name has ASCII letters, digits and `_`";
+const RENAME: &str = "rename it: a name contains only ASCII letters, digits and `_`";
 
 /// Returns the help for a fault, chosen by its detail, by its code and by the text at its span, if
 /// there is one.
@@ -79,20 +77,36 @@ fn help_for_escapes(sight: Sight<'_>) -> &'static str {
 /// Returns the help for a fault with this code, whatever the text at its span is.
 fn help_for_code(code: FaultCode) -> &'static str {
     match code {
-        FaultCode::NotAnEnum => "derive `Logos` for an enum alone",
-        FaultCode::Grammar => "often a comma is missing in front of this token",
-        FaultCode::LimitSource => "split the enum",
-        FaultCode::LimitTokenNesting => NEST,
-        FaultCode::LimitPatternNesting => NEST,
-        FaultCode::LimitTypeNesting => "use a type alias",
-        FaultCode::LimitSize => "write smaller counts",
-        FaultCode::LimitStates => "write smaller counts, or smaller classes",
+        FaultCode::NotAnEnum => "derive `Logos` only for an enum",
+        FaultCode::Grammar => "a comma may be missing before this token",
         FaultCode::VariantFields => {
             "give the variant one field or none, as in `Name(Type)`, where the type may be a tuple"
         }
         FaultCode::NamedFields => "write the field without its name, as in `Name(Type)`",
         FaultCode::ErrorVariant => {
             "remove the variant: an error is `Err`, and `#[logos(error = ..)]` sets its type"
+        }
+        _ => help_for_limit(code),
+    }
+}
+
+/// Returns the help for a source that exceeds a limit: the number, the unit that it counts, and a
+/// way to stay within it.
+fn help_for_limit(code: FaultCode) -> &'static str {
+    match code {
+        FaultCode::LimitSource => "a source has at most 16,777,216 bytes: split the enum",
+        FaultCode::LimitTokenNesting => {
+            "at most 128 delimiters are open at once: name a part by a constant or a type alias"
+        }
+        FaultCode::LimitPatternNesting => {
+            "groups, brackets and repetitions are nested at most 250 deep: drop groups around a single group"
+        }
+        FaultCode::LimitTypeNesting => "types are nested at most 128 deep: use a type alias",
+        FaultCode::LimitSize => {
+            "all patterns together have at most the size 1,048,576: write smaller counts, or let a callback count"
+        }
+        FaultCode::LimitStates => {
+            "the automaton has at most 65,536 states: write smaller counts or classes, or one pattern for many keywords, with a callback that looks them up"
         }
         _ => help_for_type(code),
     }
@@ -101,16 +115,16 @@ fn help_for_code(code: FaultCode) -> &'static str {
 /// Returns the help for a fault in parameters and types.
 fn help_for_type(code: FaultCode) -> &'static str {
     match code {
-        FaultCode::ManyLifetimes => "use one lifetime, that of the input",
+        FaultCode::ManyLifetimes => "keep only one lifetime, that of the input",
         FaultCode::ConstGeneric => "write the number where it is used",
-        FaultCode::NoConcreteType => "write `#[logos(type T = ..)]` in front of the enum",
+        FaultCode::NoConcreteType => "write `#[logos(type T = ..)]` before the enum",
         FaultCode::NotTypeParameter => {
-            "declare the parameter after the enum's name, or drop the option"
+            "declare the parameter after the enum's name, or remove the option"
         }
         FaultCode::TypeTwice => TWICE,
         FaultCode::TypeHoldsItself => "write the whole type",
         FaultCode::TypeUnsupported => "name the type",
-        FaultCode::TypeSyntax => "write a type, and an alias for a type with a comma in it",
+        FaultCode::TypeSyntax => "write a type; if it contains a comma, write an alias for it",
         FaultCode::TypeForm => "name the parameter, as in `type T = u8`",
         _ => help_for_option(code),
     }
@@ -119,20 +133,20 @@ fn help_for_type(code: FaultCode) -> &'static str {
 /// Returns the help for a fault in the options of an enum.
 fn help_for_option(code: FaultCode) -> &'static str {
     match code {
-        FaultCode::LogosForm => "write `#[logos(..)]`, or drop it",
+        FaultCode::LogosForm => "write `#[logos(..)]`, or remove it",
         FaultCode::CrateForm => "write `crate = path::to::logos`",
         FaultCode::ErrorTwice => TWICE,
         FaultCode::ErrorEmpty => "write `error(SomeType)`, or `error(SomeType, callback)`",
         FaultCode::ErrorForm => "write `error = SomeType`, or `error(SomeType, callback)`",
         FaultCode::ExportTwice => TWICE,
-        FaultCode::ExportBytes => "drop the `b`",
+        FaultCode::ExportBytes => "remove the `b`",
         FaultCode::ExportForm => "write the `=`, as in `export_dir = \"..\"`",
         FaultCode::ExtrasTwice =>
-            "keep one of them, and write an alias for a type with a comma in it",
+            "keep one of them, and write an alias for a type that contains a comma",
         FaultCode::ExtrasForm => "write the `=`, as in `extras = SomeType`",
         FaultCode::SkipForm => "write `skip \"..\"`, without `=`",
         FaultCode::SkipGroup => "write the pattern first, as in `skip(\"..\", callback)`",
-        FaultCode::SourceOld => "drop it, or write `utf8 = false` for inputs of bytes",
+        FaultCode::SourceOld => "remove it, or write `utf8 = false` for inputs of bytes",
         FaultCode::Utf8Twice => TWICE,
         FaultCode::Utf8Value => "write `utf8 = false` for inputs of bytes",
         FaultCode::Utf8Form => "write the `=`, as in `utf8 = false`",
@@ -146,7 +160,7 @@ fn help_for_argument(code: FaultCode) -> &'static str {
         FaultCode::TokenForm => "write `#[token(\"..\")]`",
         FaultCode::RegexForm => "write `#[regex(\"..\")]`",
         FaultCode::NotText => DOUBLE,
-        FaultCode::UnexpectedToken => "remove it, or write the comma in front of it",
+        FaultCode::UnexpectedToken => "remove it, or write the comma before it",
         FaultCode::PriorityValue => {
             "write a whole number, as in `priority = 3`, without `_` and without a suffix"
         }
@@ -182,9 +196,9 @@ fn help_for_callback(code: FaultCode) -> &'static str {
             "define it before its use, as in `#[logos(subpattern name = \"..\")]`"
         }
         FaultCode::SubpatternTwice => "rename one of them",
-        FaultCode::Disambiguation => "give the one that is to have the text a higher `priority`",
+        FaultCode::Disambiguation => "give the pattern that should win a higher `priority`",
         FaultCode::NoUniversalStart => {
-            "take away the `^`, `$` or `\\b` with which a pattern can begin"
+            "remove the `^`, `$` or `\\b` from the start of the pattern"
         }
         _ => "match whole characters, or write `#[logos(utf8 = false)]` for inputs of bytes",
     }

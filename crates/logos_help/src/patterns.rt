@@ -34,13 +34,13 @@ pub(crate) fn help_for_pattern(detail: PatternDetail) -> &'static str
 }
 
 const NOTHING_TO_REPEAT: &str =
-    "write something in front of it, or a backslash for the character, as in `\\*`";
+    "write what it repeats before it, or escape the character, as in `\\*`";
 
 const COUNT_SYNTAX: &str =
     "write `{2}`, `{2,}` or `{0,3}` without blanks, or `\\{` for the character";
 
 const FLAG_UNSUPPORTED: &str =
-    "drop the flag `x`, and write the pattern without blanks and comments";
+    "remove the flag `x`, and write the pattern without blanks and comments";
 
 const HEX_SYNTAX: &str = "write two digits, as in `\\x0A`, or put them in braces, as in `\\x{A}`";
 
@@ -79,13 +79,13 @@ fn help_for_flag(front: PatternFront) -> &'static str
     if opens_with(front, b'P') & (front.fourth == b'=') {
         REFERENCE
     } else if opens_with(front, b'#') {
-        "leave the comment out"
+        "remove the comment"
     } else {
         "write one of `i m s U u R`, as in `(?i)`, or `(?:..)` for a group"
     }
 }
 
-const REFERENCE: &str = "write again what may stand there: nothing refers back";
+const REFERENCE: &str = "repeat the pattern of the group: there are no backreferences";
 
 /// Returns the help for an escape that does not exist, chosen by its first bytes.
 fn help_for_escape(front: PatternFront) -> &'static str
@@ -100,7 +100,7 @@ fn help_for_escape(front: PatternFront) -> &'static str
     } else if escapes(front, b'Z') {
         "write `\\z` for the end of the input"
     } else if escapes(front, b'Q') {
-        "write a backslash in front of each special character"
+        "write a backslash before each special character"
     } else {
         "write the character alone or by its number, as in `\\x1B`"
     }
@@ -127,7 +127,7 @@ fn help_for_boundary(at: usize) -> &'static str
     ensures { result.now ≡ boundary_help at }
 {
     if at == 0 {
-        "leave it out: a match begins where the one before it ended"
+        "remove it: a match begins where the previous one ended"
     } else {
         "write `(?-u:\\b)`, the boundary of ASCII words"
     }
@@ -138,7 +138,7 @@ fn help_for_group(front: PatternFront) -> &'static str
     ensures { result.now ≡ group_help front }
 {
     if looks_ahead(front) | looks_back(front) {
-        "write a longer pattern and a priority in place of look-around"
+        "write a longer pattern and a priority instead of look-around"
     } else {
         "write a name once, as in `(?<name>..)`, or `(?:..)` without one"
     }
@@ -167,9 +167,9 @@ pub(crate) fn help_for_dot(sight: Sight<'_>) -> &'static str {
     } else if is_to_line_end(pattern) {
         "for a comment to the end of its line add `allow_greedy = true`, as in `skip(\"..\", allow_greedy = true)`"
     } else if is_delimited(pattern) {
-        "write a class without the delimiter in place of the dot, as in `\"[^\"\\n]*\"`"
+        "replace the dot with a class that excludes the delimiter, as in `\"[^\"\\n]*\"`"
     } else {
-        "write a class without what ends it, as in `a[^b]*b`, or add `allow_greedy = true`"
+        "replace the dot with a class that excludes the end, as in `a[^b]*b`, or add `allow_greedy = true`"
     }
 }
 

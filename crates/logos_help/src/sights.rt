@@ -9,15 +9,15 @@ pub(crate) fn help_for_nested(sight: Sight<'_>) -> &'static str {
     if text.is_empty() | text.starts_with(',') {
         "remove it: one comma between options is enough"
     } else if text.contains('>') {
-        "write an alias for a type with a comma in it: a comma cuts, also between `<` and `>`"
+        "write an alias for a type that contains a comma: a comma ends an option, even between `<` and `>`"
     } else if has_colon(text) {
-        "write `=` for the `:`"
+        "write `=` instead of `:`"
     } else if text == "skip" {
         "write the pattern after it, as in `skip \"..\"`"
     } else if text.ends_with('"') & !text.contains('=') {
-        "write `skip \"..\"` for what gives no token"
+        "write `skip \"..\"` for text that is not a token"
     } else if text.starts_with('-') {
-        "write the name with ASCII letters, digits and `_` alone"
+        "use only ASCII letters, digits and `_` in the name"
     } else {
         "write an option with its value, as in `utf8 = false`"
     }
@@ -31,7 +31,7 @@ fn has_colon(text: &str) -> bool {
 /// Returns the help for tokens that are not a literal.
 pub(crate) fn help_for_literal(sight: Sight<'_>) -> &'static str {
     if sight.text.contains("\" | ") {
-        "write an attribute for each of them"
+        "write an attribute for each pattern"
     } else {
         "write a string or a byte string, as `\"..\"`, `r\"..\"` or `b\"..\"`"
     }
@@ -65,7 +65,7 @@ fn is_argument(name: &str) -> bool {
 pub(crate) fn help_for_named(sight: Sight<'_>) -> &'static str {
     let text = sight.text;
     if text.contains('>') {
-        "put the body of the closure in braces: a comma cuts it, also between `<` and `>`"
+        "put the body of the closure in braces: a comma ends it, even between `<` and `>`"
     } else if text.contains('|') {
         "write a closure with one parameter, as `|lex| ..`"
     } else {
@@ -79,7 +79,7 @@ pub(crate) fn help_for_closure(sight: Sight<'_>) -> &'static str {
         return "write the name of a function, or a closure with one parameter, as `|lex| ..`";
     };
     if rest.contains('|') {
-        "write the parameter as a bare name, without a type and without `mut`, as `|lex| ..`"
+        "write only the name of the parameter, without a type and without `mut`, as in `|lex| ..`"
     } else {
         "write a closure with one parameter, as `|lex| ..`"
     }
@@ -90,7 +90,7 @@ pub(crate) fn help_for_body(sight: Sight<'_>) -> &'static str {
     if sight.text.ends_with('|') {
         "write the body, as in `|lex| lex.slice().len()`"
     } else {
-        "write one parameter alone: a comma ends the callback"
+        "write only one parameter: a comma ends the callback"
     }
 }
 
@@ -100,12 +100,12 @@ pub(crate) fn help_for_empty(sight: Sight<'_>) -> &'static str {
     if pattern.is_empty() {
         "write the text that it matches"
     } else if pattern.ends_with('*') {
-        "write `+` for `*`"
+        "write `+` instead of `*`"
     } else if pattern.ends_with('?') {
-        "take the last `?` away, so that it matches one byte at least"
+        "remove the last `?`, so that the pattern matches at least one byte"
     } else if pattern.contains("{0") | pattern.contains("{,") {
-        "write a count of 1 at least"
+        "write a count of at least 1"
     } else {
-        "let each of its alternatives match one byte at least"
+        "write alternatives that each match at least one byte"
     }
 }

@@ -2,9 +2,10 @@
 //! reason.
 
 ghost use Rattle.std.specs.Prelude.{◌++◌, OnOk, codes, decimal};
-ghost use Rattle.logos_host.specs.Views.{Appends, hint_line, message_of, misuse_line};
+ghost use Rattle.logos_host.specs.Views.{Appends, hint_line, message_of, misuse_line, path_line, shown_char, shown_text};
 
 use crate::failure::Failure;
+use logos_page::occur_in;
 use std::io;
 use std::io::Write;
 
@@ -30,19 +31,22 @@ fn write_message<E: Write>(failure: &Failure<'_>, usage: &str, err: &mut E) -> i
     match failure {
         Failure::Misuse { what, word } => write_misuse(what, word, usage, err),
         Failure::UnknownOption { word, nearest } => write_unknown(word, nearest, usage, err),
-        Failure::OwnOutput(path) => writeln!(err, "error: {path} is the input and the output"),
+        Failure::OwnOutput(path) => write_path(
+            "error: ",
+            path,
+            " is the input and the output",
+            err,
+        ),
         Failure::Refused(text) => err.write_all(text.as_bytes()),
         Failure::NotUtf8 { valid_up_to } => {
             writeln!(err, "error: the input is not UTF-8 at byte {valid_up_to}")
         }
         Failure::NotText { path, valid_up_to } => write_not_text(path, *valid_up_to, err),
         Failure::Read(path, reason) => {
-            let why = reason.text();
-            writeln!(err, "error: cannot read {path}{why}")
+            write_path("error: cannot read ", path, reason.text(), err)
         }
         Failure::Write(path, reason) => {
-            let why = reason.text();
-            writeln!(err, "error: cannot write {path}{why}")
+            write_path("error: cannot write ", path, reason.text(), err)
         }
         Failure::Output => err.write_all(b"error: cannot write standard output\n"),
         Failure::Closed => err.write_all(b""),
@@ -53,11 +57,45 @@ fn write_message<E: Write>(failure: &Failure<'_>, usage: &str, err: &mut E) -> i
 /// Writes that a file is not UTF-8.
 fn write_not_text<E: Write>(path: &str, valid_up_to: usize, err: &mut E) -> io::Result<()>
     ensures { OnOk result (Appends (E.contents err.old) (E.contents err.new)
-        ((codes "error: cannot read " ++ path.now)
-        ++ (codes ": it is not UTF-8 at byte " ++ (decimal valid_up_to ++ codes "\n")))) }
+        (codes "error: cannot read " ++ (shown_text path.now
+        ++ (codes ": it is not UTF-8 at byte " ++ (decimal valid_up_to ++ codes "\n"))))) }
 {
-    write!(err, "error: cannot read {path}")?;
+    err.write_all(b"error: cannot read ")?;
+    write_shown(path, err)?;
     writeln!(err, ": it is not UTF-8 at byte {valid_up_to}")
+}
+
+/// Writes a line with a path between two texts.
+fn write_path<E: Write>(before: &str, path: &str, after: &str, err: &mut E) -> io::Result<()>
+    ensures { OnOk result (Appends (E.contents err.old) (E.contents err.new)
+        (path_line before.now path.now after.now)) }
+{
+    err.write_all(before.as_bytes())?;
+    write_shown(path, err)?;
+    writeln!(err, "{after}")
+}
+
+/// Writes a text in a form that cannot control a terminal.
+fn write_shown<E: Write>(text: &str, err: &mut E) -> io::Result<()>
+    ensures { OnOk result (Appends (E.contents err.old) (E.contents err.new)
+        (shown_text text.now)) }
+{
+    for character in text.chars() {
+        write_shown_char(character, err)?;
+    }
+    Ok(())
+}
+
+/// Writes a character in a form that cannot control a terminal: a tab as four blanks.
+fn write_shown_char<E: Write>(character: char, err: &mut E) -> io::Result<()>
+    ensures { OnOk result (Appends (E.contents err.old) (E.contents err.new)
+        (shown_char character)) }
+{
+    if character == '\t' {
+        return err.write_all(b"    ");
+    }
+    let shown = occur_in(character);
+    write!(err, "{shown}")
 }
 
 /// Writes the reason that the arguments are invalid, and the usage.
@@ -77,7 +115,9 @@ fn write_misuse_line<E: Write>(what: &str, word: &str, err: &mut E) -> io::Resul
     if word.is_empty() {
         return writeln!(err, "error: {what}");
     }
-    writeln!(err, "error: {what} `{word}`")
+    write!(err, "error: {what} `")?;
+    write_shown(word, err)?;
+    writeln!(err, "`")
 }
 
 /// Writes that an argument is an unknown option, the option that may be meant, and the usage.

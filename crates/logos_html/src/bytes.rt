@@ -55,7 +55,7 @@ fn push_flowing_byte(html: &mut Html, byte: u8)
 }
 
 /// Appends the escape of a byte, such as `\xFF`.
-pub(crate) fn push_byte_escape(html: &mut Html, byte: u8)
+fn push_byte_escape(html: &mut Html, byte: u8)
     ensures { Gains (byte_escape byte) html.old html.new }
 {
     html.push_markup("\\x");

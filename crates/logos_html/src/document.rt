@@ -1,7 +1,7 @@
 //! The page as a whole: its head, its sections and its end. Called by `logos_show`.
 
-ghost use Rattle.std.specs.Prelude.{IfErr};
-ghost use Rattle.logos_html.specs.Imports.{IsNoMisuse};
+ghost use Rattle.std.specs.Prelude.{◌≡◌, ◌++◌, IfErr, IfOk, IfSome, string_bytes};
+ghost use Rattle.logos_html.specs.Views.{HasMarked, IsMarked, IsNoMisuse};
 
 use crate::drawing::push_drawing;
 use crate::finds::first_items;
@@ -10,6 +10,7 @@ use crate::leaves::push_leaves;
 use crate::spans::{ShownInput, push_items};
 use crate::states::push_states;
 use crate::style::STYLE;
+use logos_attempts::entries_of;
 use logos_code::code::Code;
 use logos_graph::graph::{Graph, StateData};
 use logos_host::Failure;
@@ -54,16 +55,119 @@ pub fn page_of(
     page: LexerPage<'_, '_>,
     input: Option<PageInput<'_>>,
 ) -> Result<String, Failure<'static>>
-    ensures { IfErr result IsNoMisuse }
+    ensures failed { IfErr result IsNoMisuse }
+    ensures marked { IfOk result (λ text. IfSome input.entry (λ input.
+        HasMarked page.entry.code.now page.entry.graph.now.leaves input.bytes.now
+        (string_bytes text))) }
 {
+    match input {
+        Some(input) => page_with(alloc, page, input),
+        None => Ok(page_without(alloc, page)?),
+    }
+}
+
+/// Returns the page of a lexer, and of an input.
+fn page_with(
+    alloc: Global,
+    page: LexerPage<'_, '_>,
+    input: PageInput<'_>,
+) -> Result<String, Failure<'static>>
+    ensures failed { IfErr result IsNoMisuse }
+    ensures marked { IfOk result (λ text. HasMarked page.entry.code.now
+        page.entry.graph.now.leaves input.entry.bytes.now (string_bytes text)) }
+{
+    let front = front_of(alloc, page, Some(input))?;
+    let marked = marked_of(alloc, page, input)?;
+    let rest = rest_of(alloc, page, Some(input))?;
+    Ok(joined(front, marked.as_str(), rest.as_str())?)
+}
+
+/// Returns the page of a lexer alone.
+fn page_without(alloc: Global, page: LexerPage<'_, '_>) -> Result<String, AllocError> {
+    let front = front_of(alloc, page, None)?;
+    let rest = rest_of(alloc, page, None)?;
+    joined(front, "", rest.as_str())
+}
+
+/// Returns a text followed by two others.
+fn joined(front: String, middle: &str, rest: &str) -> Result<String, AllocError>
+    ensures { IfOk result (λ text. string_bytes text
+        ≡ string_bytes front ++ (middle.now ++ rest.now)) }
+{
+    let mut whole = front;
+    whole.push_str(middle)?;
+    whole.push_str(rest)?;
+    Ok(whole)
+}
+
+/// Returns the page up to the marked text of the input, if one is given, or up to its states.
+fn front_of(
+    alloc: Global,
+    page: LexerPage<'_, '_>,
+    input: Option<PageInput<'_>>,
+) -> Result<String, AllocError> {
     let mut html = Html::new(alloc);
     push_head(&mut html, page, input.is_some());
     push_leaves(alloc, &mut html, page.graph, page.rows)?;
     if let Some(input) = input {
-        push_input(alloc, &mut html, page, input)?;
+        push_input_head(&mut html, input, end_of(input.bytes));
     }
-    push_rest(alloc, &mut html, page.graph)?;
+    html.finish()
+}
+
+/// Returns the front of an input, with its items marked.
+fn marked_of(
+    alloc: Global,
+    page: LexerPage<'_, '_>,
+    input: PageInput<'_>,
+) -> Result<String, Failure<'static>>
+    ensures failed { IfErr result IsNoMisuse }
+    ensures marked { IfOk result (λ text. IsMarked page.entry.code.now
+        page.entry.graph.now.leaves input.entry.bytes.now (string_bytes text)) }
+{
+    let items = first_items(alloc, page.code, input.bytes, SHOWN)?;
+    let shown = ShownInput {
+        leaves: page.graph.leaves(),
+        bytes: input.bytes,
+        end: end_of(input.bytes),
+    };
+    let mut html = Html::new(alloc);
+    push_items(&mut html, shown, &items);
     Ok(html.finish()?)
+}
+
+/// Returns the page after the marked text of the input, if one is given, or from its states on.
+fn rest_of(
+    alloc: Global,
+    page: LexerPage<'_, '_>,
+    input: Option<PageInput<'_>>,
+) -> Result<String, AllocError> {
+    let states = states_of(alloc, page.graph)?;
+    let mut html = Html::new(alloc);
+    push_input_states(alloc, &mut html, page, input, &states)?;
+    push_drawing(alloc, &mut html, page.graph, &states)?;
+    html.push_markup(
+        "</main>\n<footer>Made by <code>logos_show --html</code>.</footer>\n</body>\n</html>\n",
+    );
+    html.finish()
+}
+
+/// Appends the end of the section of an input, if one is given, and the section of the states.
+fn push_input_states(
+    alloc: Global,
+    html: &mut Html,
+    page: LexerPage<'_, '_>,
+    input: Option<PageInput<'_>>,
+    states: &[&StateData],
+) -> Result<(), AllocError> {
+    let Some(input) = input else {
+        return push_states(alloc, html, page.graph, states, None);
+    };
+    html.push_markup("</pre>\n</div>\n</section>\n");
+    let end = end_of(input.bytes);
+    let mut entries = entries_of(alloc, states, page.code, input.bytes, end)?;
+    entries.end = entries.end.min(end);
+    push_states(alloc, html, page.graph, states, Some(&entries))
 }
 
 /// Appends the head of the page, and the beginning of its body.
@@ -105,27 +209,6 @@ fn push_navigation(html: &mut Html, has_input: bool) {
 </nav>
 ",
     );
-}
-
-/// Appends the section of an input.
-fn push_input(
-    alloc: Global,
-    html: &mut Html,
-    page: LexerPage<'_, '_>,
-    input: PageInput<'_>,
-) -> Result<(), Failure<'static>>
-    ensures { IfErr result IsNoMisuse }
-{
-    let items = first_items(alloc, page.code, input.bytes, SHOWN)?;
-    let shown = ShownInput {
-        leaves: page.graph.leaves(),
-        bytes: input.bytes,
-        end: end_of(input.bytes),
-    };
-    push_input_head(html, input, shown.end);
-    push_items(html, shown, &items);
-    html.push_markup("</pre>\n</div>\n</section>\n");
-    Ok(())
 }
 
 /// Returns the end of the shown front of an input. It is between characters, if the input is UTF-8.
@@ -178,17 +261,6 @@ fn push_cut(html: &mut Html, length: usize, end: usize) {
         html.push_number(length);
         html.push_markup(" bytes are shown.</p>\n");
     }
-}
-
-/// Appends the states, the drawing, and the end of the page.
-fn push_rest(alloc: Global, html: &mut Html, graph: &Graph<'_>) -> Result<(), AllocError> {
-    let states = states_of(alloc, graph)?;
-    push_states(html, graph, &states);
-    push_drawing(alloc, html, graph, &states)?;
-    html.push_markup(
-        "</main>\n<footer>Made by <code>logos_show --html</code>.</footer>\n</body>\n</html>\n",
-    );
-    Ok(())
 }
 
 /// Returns the states of a graph.

@@ -97,7 +97,7 @@ table of states has the same edges as text.</p>
     );
     push_frame(html, &layers, states.len());
     for number in 0..states.len() {
-        push_edges(html, &layers, number, states[number]);
+        push_edges(alloc, html, &layers, number, states[number])?;
     }
     for number in 0..states.len() {
         push_node(html, graph, &layers, number, states[number].state_type);
@@ -143,19 +143,26 @@ fn dot_of(layers: &Layers, state: usize) -> Dot {
 }
 
 /// Appends the edges of a state.
-fn push_edges(html: &mut Html, layers: &Layers, number: usize, state: &StateData) {
+fn push_edges(
+    alloc: Global,
+    html: &mut Html,
+    layers: &Layers,
+    number: usize,
+    state: &StateData,
+) -> Result<(), AllocError> {
     let from = dot_of(layers, number);
     for edge in &state.normal {
         let to = dot_of(layers, edge.1.index());
         push_line(html, from, to, "<path class=\"l\" d=\"");
         push_label_start(html, label_between(from, to));
-        push_class(html, &edge.0, RANGES);
+        push_class(alloc, html, &edge.0, RANGES)?;
         html.push_markup("</text>\n");
     }
     if let Some(target) = state.eoi {
         let to = dot_of(layers, target.index());
         push_line(html, from, to, "<path class=\"l end\" d=\"");
     }
+    Ok(())
 }
 
 /// Returns the form of an edge between two points.

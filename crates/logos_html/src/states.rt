@@ -3,7 +3,9 @@
 use crate::classes::push_class;
 use crate::html::Html;
 use crate::leaves::push_leaf_link;
+use logos_attempts::Entries;
 use logos_graph::graph::{Graph, State, StateData, StateType};
+use std::alloc::{AllocError, Global};
 
 /// The maximum number of states that are listed.
 const LISTED: usize = 1000;
@@ -11,8 +13,19 @@ const LISTED: usize = 1000;
 /// The maximum number of ranges of an edge that are shown.
 const RANGES: usize = 12;
 
-/// Appends the section of the states of a graph.
-pub(crate) fn push_states(html: &mut Html, graph: &Graph<'_>, states: &[&StateData]) {
+/// Appends the section of the states of a graph, with how often they are entered if an input is
+/// shown.
+///
+/// # Errors
+///
+/// Returns `AllocError` if memory runs out. Then a part may have been appended.
+pub(crate) fn push_states(
+    alloc: Global,
+    html: &mut Html,
+    graph: &Graph<'_>,
+    states: &[&StateData],
+    entries: Option<&Entries>,
+) -> Result<(), AllocError> {
     html.push_markup(
         "<section id=\"states\" aria-labelledby=\"states-title\">
 <h2 id=\"states-title\">States</h2>
@@ -21,19 +34,33 @@ entered. Sets of bytes are written as in a pattern.</p>
 ",
     );
     push_cut(html, states.len());
+    push_head(html, entries);
+    for number in 0..states.len() {
+        push_listed(alloc, html, graph, number, states[number], entries)?;
+    }
+    html.push_markup("</tbody>\n</table>\n</div>\n</section>\n");
+    Ok(())
+}
+
+/// Appends the head of the table, after the meaning of the counts if there are some.
+fn push_head(html: &mut Html, entries: Option<&Entries>) {
+    if let Some(entries) = entries {
+        html.push_markup(
+            "<p>The column Entered counts how often match attempts enter the state, in the first ",
+        );
+        html.push_number(entries.end);
+        html.push_markup(" bytes of the text.</p>\n");
+    }
     html.push_markup(
         "<div class=\"box\" role=\"region\" aria-label=\"Table of states\" tabindex=\"0\">
 <table class=\"s\">
 <thead>
-<tr><th scope=\"col\">State</th><th scope=\"col\">Mark</th><th scope=\"col\">Edges</th></tr>
-</thead>
-<tbody>
-",
+<tr><th scope=\"col\">State</th><th scope=\"col\">Mark</th>",
     );
-    for number in 0..states.len() {
-        push_listed(html, graph, number, states[number]);
+    if entries.is_some() {
+        html.push_markup("<th scope=\"col\">Entered</th>");
     }
-    html.push_markup("</tbody>\n</table>\n</div>\n</section>\n");
+    html.push_markup("<th scope=\"col\">Edges</th></tr>\n</thead>\n<tbody>\n");
 }
 
 /// Appends how many states are listed, if not all are.
@@ -48,23 +75,46 @@ fn push_cut(html: &mut Html, count: usize) {
 }
 
 /// Appends the row of a state, if it is listed.
-fn push_listed(html: &mut Html, graph: &Graph<'_>, number: usize, state: &StateData) {
-    if number < LISTED {
-        push_state(html, graph, number, state);
+fn push_listed(
+    alloc: Global,
+    html: &mut Html,
+    graph: &Graph<'_>,
+    number: usize,
+    state: &StateData,
+    entries: Option<&Entries>,
+) -> Result<(), AllocError> {
+    if number >= LISTED {
+        return Ok(());
     }
-}
-
-/// Appends the row of a state.
-fn push_state(html: &mut Html, graph: &Graph<'_>, number: usize, state: &StateData) {
     html.push_markup("<tr id=\"state-");
     html.push_number(number);
     html.push_markup("\"><th scope=\"row\">");
     html.push_number(number);
     html.push_markup("</th><td>");
     push_mark(html, graph, state.state_type);
-    html.push_markup("</td><td><ul>");
-    push_edges(html, state);
+    html.push_markup("</td>");
+    push_count(html, number, entries);
+    html.push_markup("<td><ul>");
+    push_edges(alloc, html, state)?;
     html.push_markup("</ul></td></tr>\n");
+    Ok(())
+}
+
+/// Appends the cell with how often a state was entered, if that was counted.
+fn push_count(html: &mut Html, number: usize, entries: Option<&Entries>) {
+    if let Some(entries) = entries {
+        html.push_markup("<td class=\"n\">");
+        html.push_number(count_at(&entries.counts, number));
+        html.push_markup("</td>");
+    }
+}
+
+/// Returns the count of a state, or 0 if there is no such state.
+fn count_at(counts: &[usize], state: usize) -> usize {
+    match counts.get(state) {
+        Some(count) => *count,
+        None => 0,
+    }
 }
 
 /// Appends the mark of a state, if it has one.
@@ -83,15 +133,16 @@ fn push_mark(html: &mut Html, graph: &Graph<'_>, state_type: StateType) {
 }
 
 /// Appends the edges of a state.
-fn push_edges(html: &mut Html, state: &StateData) {
+fn push_edges(alloc: Global, html: &mut Html, state: &StateData) -> Result<(), AllocError> {
     for edge in &state.normal {
         html.push_markup("<li><code>");
-        push_class(html, &edge.0, RANGES);
+        push_class(alloc, html, &edge.0, RANGES)?;
         html.push_markup("</code> to ");
         push_state_link(html, edge.1);
         html.push_markup("</li>");
     }
     push_end_edge(html, state.eoi);
+    Ok(())
 }
 
 /// Appends the edge of the end of the input, if there is one.

@@ -4,8 +4,10 @@ ghost use Rattle.std.specs.Prelude.{IfErr};
 ghost use Rattle.logos_items.specs.Imports.{IsNoMisuse};
 
 use crate::inputs::{ItemBlock, write_all};
-use crate::lines::{ERROR, ItemOrder, Lines, head_at, milliseconds, no_lines, now, push_totals};
-use logos_answers::{Totals, note_of, push_item};
+use crate::lines::{
+    ERROR, ItemOrder, Lines, head_at, milliseconds, no_lines, now, push_line, push_totals,
+};
+use logos_answers::{Totals, note_of};
 use logos_codegen::Generated;
 use logos_codegen::machine::Item;
 use logos_host::{Failure, print_bytes};
@@ -32,7 +34,7 @@ pub fn write_items<O: Write, C: Clock>(
 {
     let alloc = order.alloc;
     let mut added = InputLines {
-        lines: no_lines(alloc, &made.code)?,
+        lines: no_lines(order, &made.code)?,
         cursor: Cursor::new(input),
     };
     let start = now(clock);
@@ -66,13 +68,13 @@ impl<'t> ItemBlock for InputLines<'t> {
                 lines.counts.count_token(leaf.0);
                 let head = head_at(&lines.heads, leaf.0);
                 let location = self.cursor.location();
-                push_item(&mut lines.block, &mut lines.line, location, head, slice)
+                push_line(&mut lines.block, &mut lines.canvas, location, head, slice)
             }
             Item::Error { span, slice, .. } => {
                 self.cursor.go_to(span.from);
                 lines.counts.count_error();
                 let location = self.cursor.location();
-                push_item(&mut lines.block, &mut lines.line, location, ERROR, slice)
+                push_line(&mut lines.block, &mut lines.canvas, location, ERROR, slice)
             }
         }
     }

@@ -5,12 +5,15 @@ ghost use Rattle.std.specs.Prelude.{◌≡◌, ◌++◌, OnOk};
 ghost use Rattle.logos_items.specs.Imports.{totals_text};
 
 use crate::blocks::BLOCK;
-use logos_answers::{Counts, LINE, Totals, code_name_at};
+use logos_answers::{Counts, LINE, Totals, code_name_at, push_item};
 use logos_codegen::Generated;
 use logos_codegen::code::{Code, CodeLeaf};
+use logos_lines::Location;
 use logos_options::Settings;
 use logos_page::Page;
+use logos_screen::{ItemLine, Screen, push_item_line};
 use std::alloc::{AllocError, Global};
+use std::str;
 use std::time::{Clock, Duration};
 
 /// The name of an error in its line.
@@ -22,6 +25,8 @@ pub struct ItemOrder<'w> {
     pub alloc: Global,
     /// The given settings.
     pub settings: Settings<'w>,
+    /// The form of the output.
+    pub screen: Screen,
 }
 
 /// The destination of the lines of items.
@@ -29,22 +34,80 @@ pub struct ItemOrder<'w> {
 pub(crate) struct Lines {
     /// The lines that are not yet written.
     pub(crate) block: Vec<u8>,
-    /// The buffer in which a short line is assembled.
-    pub(crate) line: [u8; LINE],
+    pub(crate) canvas: Canvas,
     pub(crate) counts: Counts,
     /// For each leaf the part of a line between the location and the text: its variant, with the
     /// separators around it.
     pub(crate) heads: Vec<Vec<u8>>,
 }
 
+/// The form of lines, and the buffers in which they are assembled.
+#[derive(Drop)]
+pub(crate) struct Canvas {
+    screen: Screen,
+    /// The buffer for a short line.
+    line: [u8; LINE],
+    /// The line without colors, if it is not appended as it is.
+    plain: Vec<u8>,
+}
+
 /// Returns empty lines, with zero counts.
-pub(crate) fn no_lines(alloc: Global, code: &Code<'_>) -> Result<Lines, AllocError> {
+pub(crate) fn no_lines(order: ItemOrder<'_>, code: &Code<'_>) -> Result<Lines, AllocError> {
+    let alloc = order.alloc;
     Ok(Lines {
         block: Vec::with_capacity(alloc, BLOCK + BLOCK / 16)?,
-        line: [0; LINE],
+        canvas: Canvas {
+            screen: order.screen,
+            line: [0; LINE],
+            plain: Vec::new(alloc),
+        },
         counts: Counts::new(alloc, code.leaves().len())?,
         heads: heads_of(alloc, code.leaves())?,
     })
+}
+
+/// Appends the line of an item: its location, its head, which names it, and its text in quotes.
+///
+/// # Errors
+///
+/// Returns `AllocError` if memory runs out. Then a part of the line may have been appended.
+#[inline(always)]
+pub(crate) fn push_line(
+    block: &mut Vec<u8>,
+    canvas: &mut Canvas,
+    location: Location,
+    head: &[u8],
+    slice: &[u8],
+) -> Result<(), AllocError> {
+    if canvas.screen.is_plain() {
+        return push_item(block, &mut canvas.line, location, head, slice);
+    }
+    push_styled(block, canvas, location, head, slice)
+}
+
+/// Appends the line of an item with colors, or cut.
+fn push_styled(
+    block: &mut Vec<u8>,
+    canvas: &mut Canvas,
+    location: Location,
+    head: &[u8],
+    slice: &[u8],
+) -> Result<(), AllocError> {
+    let plain = &mut canvas.plain;
+    plain.clear();
+    push_item(plain, &mut canvas.line, location, head, slice)?;
+    let _ = plain.pop();
+    match str::from_utf8(plain) {
+        Ok(line) => {
+            let line = ItemLine {
+                line,
+                variant: head.len().saturating_sub(1),
+                is_error: head == ERROR,
+            };
+            push_item_line(block, canvas.screen, line)
+        }
+        Err(_) => block.extend_from_slice(plain),
+    }
 }
 
 /// Appends the counts for a whole input. If memory runs out, nothing was appended.

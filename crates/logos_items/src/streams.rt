@@ -4,8 +4,10 @@ ghost use Rattle.std.specs.Prelude.{◌<◌, IfErr};
 ghost use Rattle.logos_items.specs.Imports.{IsNoMisuse, KeepsCode, TakesMatches, unread_length};
 
 use crate::blocks::write_if_full;
-use crate::lines::{ERROR, ItemOrder, Lines, head_at, milliseconds, no_lines, now, push_totals};
-use logos_answers::{Totals, note_of, push_item};
+use crate::lines::{
+    ERROR, ItemOrder, Lines, head_at, milliseconds, no_lines, now, push_line, push_totals,
+};
+use logos_answers::{Totals, note_of};
 use logos_codegen::Generated;
 use logos_codegen::leaf::LeafId;
 use logos_codegen::machine::Action;
@@ -38,7 +40,7 @@ pub fn write_streamed<S: Clock + Input, O: Write>(
     ensures { IfErr result IsNoMisuse }
 {
     let alloc = order.alloc;
-    let mut lines = no_lines(alloc, &made.code)?;
+    let mut lines = no_lines(order, &made.code)?;
     let start = now(system);
     let emit = |_leaf: LeafId, _slice: &[u8]| Action::Emit;
     let mut stream = Stream::new(alloc, &made.code, system.reader(), MOST, emit)?;
@@ -130,11 +132,11 @@ fn add_item(
         StreamItem::Token { leaf, .. } => {
             lines.counts.count_token(leaf.0);
             let head = head_at(&lines.heads, leaf.0);
-            push_item(&mut lines.block, &mut lines.line, location, head, slice)
+            push_line(&mut lines.block, &mut lines.canvas, location, head, slice)
         }
         StreamItem::Error { .. } => {
             lines.counts.count_error();
-            push_item(&mut lines.block, &mut lines.line, location, ERROR, slice)
+            push_line(&mut lines.block, &mut lines.canvas, location, ERROR, slice)
         }
     }
 }

@@ -1,2 +1,3 @@
+pub mod lexemes
 pub mod readings
 pub mod spans

@@ -101,8 +101,8 @@ impl LayoutState {
         match self.end {
             LastEnd::Nothing => matches!(self.gap, Gap::Line | Gap::EmptyLine),
             LastEnd::Line => true,
-            LastEnd::Block => !goes_on(next),
-            LastEnd::Short => !matches!(self.inner, Open::Group) & !goes_on(next),
+            LastEnd::Block => !continues(next),
+            LastEnd::Short => !matches!(self.inner, Open::Group) & !continues(next),
         }
     }
 
@@ -183,7 +183,7 @@ fn closes_block(inner: Open, next: LexemeClass) -> bool {
 }
 
 /// Returns whether a lexeme continues the line of closing braces.
-fn goes_on(next: LexemeClass) -> bool {
+fn continues(next: LexemeClass) -> bool {
     match next {
         LexemeClass::Sign(role) => matches!(
             role,

@@ -62,7 +62,7 @@ pub record ReadsSource (item : EnumValue) (o : OptionsView) (leaves : List LeafV
   pub of_attributes : List Fault
   pub parameters : ReadsParameters no_options declared [] of_parameters item.parameters
   pub attributes : ReadsAttributes declared o of_parameters of_attributes item.attributes
-  pub leaves_say : YieldsLeaves o item.variants leaves of_attributes new
+  pub leaves_read : YieldsLeaves o item.variants leaves of_attributes new
 
 -- The options without the skips.
 abbrev pub IsWithoutSkips : OptionsView → OptionsView → Type 0
@@ -72,5 +72,5 @@ IsWithoutSkips options others = others ≡ record options { skips = [] }
 -- and the faults of its parts.
 pub record IsSourceRead (item : EnumValue) (leaves : List LeafView) (others : OptionsView) (faults : List Fault) : Type 0 where
   pub options : OptionsView
-  pub says : ReadsSource item options leaves faults
+  pub reads_as : ReadsSource item options leaves faults
   pub same : IsWithoutSkips options others

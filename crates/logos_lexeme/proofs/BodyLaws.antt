@@ -129,33 +129,33 @@ module _ (content : Content) (bytes : List ℕ) (at : ℕ) where
   -- itself otherwise
 
   module _ (escapes : Bool) where
-    pub says-escape : escapes ≡ true → get_or bytes at 0 ≡ 92 → (BreaksLine bytes (at + 1) → ⊥) → (next : ℕ) (held : List ℕ) → Represents escapes content bytes at next held → IsEscape content bytes at next held
-    says-escape t e b next held (plain f a v) = absurd (f t e)
-    says-escape t e b next held (return r) = absurd (let f = r.0 in omega arith)
-    says-escape t e b next held (escape u f) = f
-    says-escape t e b next held (continuation u k) = absurd (b k.breaks)
+    pub represents-escape : escapes ≡ true → get_or bytes at 0 ≡ 92 → (BreaksLine bytes (at + 1) → ⊥) → (next : ℕ) (held : List ℕ) → Represents escapes content bytes at next held → IsEscape content bytes at next held
+    represents-escape t e b next held (plain f a v) = absurd (f t e)
+    represents-escape t e b next held (return r) = absurd (let f = r.0 in omega arith)
+    represents-escape t e b next held (escape u f) = f
+    represents-escape t e b next held (continuation u k) = absurd (b k.breaks)
 
-    pub says_at_backslash : (found : Option (Piece × ℕ)) → escapes ≡ true → get_or bytes at 0 ≡ 92 → (BreaksLine bytes (at + 1) → ⊥) →
+    pub holds_at_backslash : (found : Option (Piece × ℕ)) → escapes ≡ true → get_or bytes at 0 ≡ 92 → (BreaksLine bytes (at + 1) → ⊥) →
         MatchOption found ((next : ℕ) (held : List ℕ) → IsEscape content bytes at next held → ⊥) (λ f. IsEscape content bytes at f.1 (bytes_of f.0)) →
         MatchOption found ((next : ℕ) (held : List ℕ) → Represents escapes content bytes at next held → ⊥) (λ f. Represents escapes content bytes at f.1 (bytes_of f.0))
-    says_at_backslash None t e b h = λ next held s. h next held (says-escape t e b next held s)
-    says_at_backslash (Some f) t e b h = escape t h
+    holds_at_backslash None t e b h = λ next held s. h next held (represents-escape t e b next held s)
+    holds_at_backslash (Some f) t e b h = escape t h
 
-    pub says-plain : (escapes ≡ true → get_or bytes at 0 ≢ 92) → (next : ℕ) (held : List ℕ) → Represents escapes content bytes at next held → IsPlain content bytes at next held
-    says-plain f next held (plain g a v) = itself a v
-    says-plain f next held (return r) = break r
-    says-plain f next held (escape t e) = absurd (f t (escape-backslash bytes at content next held e))
-    says-plain f next held (continuation t k) = absurd (f t k.backslash)
+    pub represents-plain : (escapes ≡ true → get_or bytes at 0 ≢ 92) → (next : ℕ) (held : List ℕ) → Represents escapes content bytes at next held → IsPlain content bytes at next held
+    represents-plain f next held (plain g a v) = itself a v
+    represents-plain f next held (return r) = break r
+    represents-plain f next held (escape t e) = absurd (f t (escape-backslash bytes at content next held e))
+    represents-plain f next held (continuation t k) = absurd (f t k.backslash)
 
-    pub plain-says : (escapes ≡ true → get_or bytes at 0 ≢ 92) → (next : ℕ) (held : List ℕ) → IsPlain content bytes at next held → Represents escapes content bytes at next held
-    plain-says f next held (itself a v) = plain f a v
-    plain-says f next held (break r) = return r
+    pub plain-represents : (escapes ≡ true → get_or bytes at 0 ≢ 92) → (next : ℕ) (held : List ℕ) → IsPlain content bytes at next held → Represents escapes content bytes at next held
+    plain-represents f next held (itself a v) = plain f a v
+    plain-represents f next held (break r) = return r
 
-    pub says_at_other : (found : Option (Piece × ℕ)) → (escapes ≡ true → get_or bytes at 0 ≢ 92) →
+    pub holds_at_other : (found : Option (Piece × ℕ)) → (escapes ≡ true → get_or bytes at 0 ≢ 92) →
         MatchOption found ((next : ℕ) (held : List ℕ) → IsPlain content bytes at next held → ⊥) (λ f. IsPlain content bytes at f.1 (bytes_of f.0)) →
         MatchOption found ((next : ℕ) (held : List ℕ) → Represents escapes content bytes at next held → ⊥) (λ f. Represents escapes content bytes at f.1 (bytes_of f.0))
-    says_at_other None f h = λ next held s. h next held (says-plain f next held s)
-    says_at_other (Some g) f h = plain-says f g.1 (bytes_of g.0) h
+    holds_at_other None f h = λ next held s. h next held (represents-plain f next held s)
+    holds_at_other (Some g) f h = plain-represents f g.1 (bytes_of g.0) h
 
 -- digits that are read
 

@@ -9,7 +9,7 @@ use Rattle.unicode_ident.proofs.IdentLemmas.{is_xid_start-ascii}
 use Rattle.logos_lexeme.specs.LexemeCharacters.{character, past, is_space, is_start, is_continuing}
 use Rattle.logos_lexeme.specs.LexemeRuns.{Steps, here, step, Run, IsFirst, Passes}
 use Rattle.logos_lexeme.specs.LexemeOpenings.{name_at, prefix_of}
-use Rattle.logos_lexeme.specs.LexemeEnds.{IsLineEnd, IsPair, Closes, closed, opens, closes, inside, IsName, IsSuffix, has_base, GoesOn, letter, point, sign, InQuotes, escaped, plain, ReachesQuote, IsQuoted, IsRaw, IsCharacter, Ends}
+use Rattle.logos_lexeme.specs.LexemeEnds.{IsLineEnd, IsPair, Closes, closed, opens, closes, inside, IsName, IsSuffix, has_base, Continues, letter, point, sign, InQuotes, escaped, plain, ReachesQuote, IsQuoted, IsRaw, IsCharacter, Ends}
 use Rattle.logos_lexeme.specs.inside.CommentReads.{IsOnward}
 use Rattle.logos_lexeme.specs.declared.lexeme.openings.Opening.{Opening}
 use Rattle.logos_lexeme.specs.declared.lexeme.openings.Opening.TheVariants.{Space, Line, Block, Word, Number, Quotes, Raw, Apostrophes, Character, Single, Nothing}
@@ -23,7 +23,7 @@ Passes-one test bytes at m n p q = p.moves ∙ sym q.moves
 
 module _ (based : Bool) (bytes : List ℕ) where
   -- a sign and a point are ASCII, and end after one byte also where they continue an identifier
-  one_after : (at n : ℕ) → GoesOn based bytes at n → get_or bytes at 0 < 128 → n ≡ at + 1
+  one_after : (at n : ℕ) → Continues based bytes at n → get_or bytes at 0 < 128 → n ≡ at + 1
   one_after at n (letter p) h = p.moves ∙ past-ascii bytes at h
   one_after at n (point b e d m) h = m
   one_after at n (sign b e f d m) h = m
@@ -32,17 +32,17 @@ module _ (based : Bool) (bytes : List ℕ) where
   sign_ascii at (inl e) = omega arith
   sign_ascii at (inr e) = omega arith
 
-  pub GoesOn-one : (at m n : ℕ) → GoesOn based bytes at m → GoesOn based bytes at n → m ≡ n
-  GoesOn-one at m n (letter p) (letter q) = p.moves ∙ sym q.moves
-  GoesOn-one at m n (letter p) (point b e d w) = p.moves ∙ past-ascii bytes at (omega arith) ∙ sym w
-  GoesOn-one at m n (letter p) (sign b e f d w) = p.moves ∙ past-ascii bytes at (sign_ascii at f) ∙ sym w
-  GoesOn-one at m n (point b e d w) g = w ∙ sym (one_after at n g (omega arith))
-  GoesOn-one at m n (sign b e f d w) g = w ∙ sym (one_after at n g (sign_ascii at f))
+  pub Continues-one : (at m n : ℕ) → Continues based bytes at m → Continues based bytes at n → m ≡ n
+  Continues-one at m n (letter p) (letter q) = p.moves ∙ sym q.moves
+  Continues-one at m n (letter p) (point b e d w) = p.moves ∙ past-ascii bytes at (omega arith) ∙ sym w
+  Continues-one at m n (letter p) (sign b e f d w) = p.moves ∙ past-ascii bytes at (sign_ascii at f) ∙ sym w
+  Continues-one at m n (point b e d w) g = w ∙ sym (one_after at n g (omega arith))
+  Continues-one at m n (sign b e f d w) g = w ∙ sym (one_after at n g (sign_ascii at f))
 
-  pub GoesOn-moves : (at n : ℕ) → GoesOn based bytes at n → at < n
-  GoesOn-moves at n (letter p) = omega (arith, p.moves, past-moves bytes at)
-  GoesOn-moves at n (point b e d w) = omega arith
-  GoesOn-moves at n (sign b e f d w) = omega arith
+  pub Continues-moves : (at n : ℕ) → Continues based bytes at n → at < n
+  Continues-moves at n (letter p) = omega (arith, p.moves, past-moves bytes at)
+  Continues-moves at n (point b e d w) = omega arith
+  Continues-moves at n (sign b e f d w) = omega arith
 
 module _ (quote : ℕ) (bytes : List ℕ) where
   pub InQuotes-one : (at m n : ℕ) → InQuotes quote bytes at m → InQuotes quote bytes at n → m ≡ n
@@ -299,8 +299,8 @@ quotes-one bytes body a b p q = IsQuoted-one 34 bytes (λ e. omega arith) body a
 apostrophes-one : (bytes : List ℕ) (body a b : ℕ) → IsQuoted 39 bytes body a → IsQuoted 39 bytes body b → a ≡ b
 apostrophes-one bytes body a b p q = IsQuoted-one 39 bytes (λ e. omega arith) body a b p q
 
-number-one : (based : Bool) (bytes : List ℕ) (from a b : ℕ) → Run (GoesOn based bytes) from a → Run (GoesOn based bytes) from b → a ≡ b
-number-one based bytes from a b p q = Run-one (GoesOn based bytes) (GoesOn-one based bytes) p q
+number-one : (based : Bool) (bytes : List ℕ) (from a b : ℕ) → Run (Continues based bytes) from a → Run (Continues based bytes) from b → a ≡ b
+number-one based bytes from a b p q = Run-one (Continues based bytes) (Continues-one based bytes) p q
 
 character-one : (bytes : List ℕ) (from a b : ℕ) → IsCharacter bytes from a → IsCharacter bytes from b → a ≡ b
 character-one bytes from a b p q = p.after ∙ sym q.after
@@ -334,7 +334,7 @@ Ends-after bytes from Space to p = omega (arith, past-moves bytes from, run-le i
 Ends-after bytes from (Line kind) to p = omega (arith, p.begun)
 Ends-after bytes from (Block kind) to p = omega (arith, Closes-le bytes 1 (from + 2) to p)
 Ends-after bytes from Word to p = IsName-after bytes from to p
-Ends-after bytes from Number to p = omega (arith, past-moves bytes from, Steps-le (GoesOn (has_base bytes from) bytes) (GoesOn-moves (has_base bytes from) bytes) p.steps)
+Ends-after bytes from Number to p = omega (arith, past-moves bytes from, Steps-le (Continues (has_base bytes from) bytes) (Continues-moves (has_base bytes from) bytes) p.steps)
 Ends-after bytes from (Quotes content) to p = omega (arith, IsQuoted-after 34 bytes (from + prefix_of content + 1) to p)
 Ends-after bytes from (Raw content count) to p = omega (arith, p.after, p.first.begun)
 Ends-after bytes from (Apostrophes content) to p = omega (arith, IsQuoted-after 39 bytes (from + prefix_of content + 1) to p)
@@ -354,7 +354,7 @@ module _ (bytes : List ℕ) (utf8 : IsUtf8 bytes) where
     | inr l ↦ let f = p.returns to (omega arith) l in boundary-before bytes to (omega arith) (omega arith)
   ]
 
-  pub step-boundary : (based : Bool) (at next : ℕ) → IsCharBoundary bytes at → GoesOn based bytes at next → IsCharBoundary bytes next
+  pub step-boundary : (based : Bool) (at next : ℕ) → IsCharBoundary bytes at → Continues based bytes at next → IsCharBoundary bytes next
   step-boundary based at next bound (letter p) = rw p.moves (past-boundary bytes at utf8 bound p.inside)
   step-boundary based at next bound (point b e d w) = boundary-after bytes utf8 at next (omega arith) (omega arith) w
   step-boundary based at next bound (sign b e (inl f) d w) = boundary-after bytes utf8 at next (omega arith) (omega arith) w
@@ -374,7 +374,7 @@ module _ (bytes : List ℕ) (utf8 : IsUtf8 bytes) where
   Ends-boundary from within bound (Line kind) to p = line-boundary to p.holds
   Ends-boundary from within bound (Block kind) to p = let e = Closes-slash bytes 1 (from + 2) to p (omega arith) in boundary-after bytes utf8 (to - 1) to (omega arith) (omega arith) (omega (arith, Closes-le bytes 1 (from + 2) to p))
   Ends-boundary from within bound Word to p = IsName-boundary bytes from utf8 bound to p
-  Ends-boundary from within bound Number to p = Steps-keep (GoesOn (has_base bytes from) bytes) (IsCharBoundary bytes) (step-boundary (has_base bytes from)) p.steps (past-boundary bytes from utf8 bound within)
+  Ends-boundary from within bound Number to p = Steps-keep (Continues (has_base bytes from) bytes) (IsCharBoundary bytes) (step-boundary (has_base bytes from)) p.steps (past-boundary bytes from utf8 bound within)
   Ends-boundary from within bound (Quotes content) to p = quoted-boundary 34 (from + prefix_of content + 1) to (omega arith) (omega arith) p
   Ends-boundary from within bound (Raw content count) to p = raw-boundary count (from + prefix_of content + 1 + count + 1) to p
   Ends-boundary from within bound (Apostrophes content) to p = quoted-boundary 39 (from + prefix_of content + 1) to (omega arith) (omega arith) p

@@ -11,16 +11,16 @@ use Rattle.logos_lexeme.specs.LiteralPieces.{run_length, is_hex_or_line, hex_esc
 use Rattle.logos_lexeme.specs.declared.lexeme.openings.Content.{Content}
 use Rattle.logos_lexeme.specs.declared.lexeme.openings.Content.TheVariants.{Text, Bytes, C}
 use Rattle.logos_lexeme.proofs.RunLaws.{IsFirst-one}
-use Rattle.logos_lexeme.proofs.BodyLaws.{Represents-one, says-escape, says-plain, plain-says}
+use Rattle.logos_lexeme.proofs.BodyLaws.{Represents-one, represents-escape, represents-plain, plain-represents}
 
 -- the value of a function is allowed by a relation, and there is none if the relation allows none
-abbrev pub Tells : (ℕ → List ℕ → Type 0) → Option (List ℕ × ℕ) → Type 0
-Tells P found = MatchOption found ((next : ℕ) (held : List ℕ) → P next held → ⊥) (λ f. P f.1 f.0)
+abbrev pub Characterizes : (ℕ → List ℕ → Type 0) → Option (List ℕ × ℕ) → Type 0
+Characterizes P found = MatchOption found ((next : ℕ) (held : List ℕ) → P next held → ⊥) (λ f. P f.1 f.0)
 
-tells-same : (P Q : ℕ → List ℕ → Type 0) → ((next : ℕ) (held : List ℕ) → P next held → Q next held) → ((next : ℕ) (held : List ℕ) → Q next held → P next held) →
-    (found : Option (List ℕ × ℕ)) → Tells P found → Tells Q found
-tells-same P Q on back None t = λ next held q. t next held (back next held q)
-tells-same P Q on back (Some f) t = on f.1 f.0 t
+characterizes-same : (P Q : ℕ → List ℕ → Type 0) → ((next : ℕ) (held : List ℕ) → P next held → Q next held) → ((next : ℕ) (held : List ℕ) → Q next held → P next held) →
+    (found : Option (List ℕ × ℕ)) → Characterizes P found → Characterizes Q found
+characterizes-same P Q on back None t = λ next held q. t next held (back next held q)
+characterizes-same P Q on back (Some f) t = on f.1 f.0 t
 
 -- a run ends at the first offset that does not pass
 module _ (test : ℕ → Bool) (bytes : List ℕ) (from : ℕ) (none : test 0 ≡ false) where
@@ -47,11 +47,11 @@ unfolding is_blank
 no_blank = refl
 
 module _ (content : Content) (bytes : List ℕ) (at : ℕ) where
-  hex-tells : get_or bytes at 0 ≡ 92 → is_simple (get_or bytes (at + 1) 0) ≡ false → get_or bytes (at + 1) 0 ≡ 120 → Tells (IsEscape content bytes at) (hex_escape content bytes at)
+  hex-characterizes : get_or bytes at 0 ≡ 92 → is_simple (get_or bytes (at + 1) 0) ≡ false → get_or bytes (at + 1) 0 ≡ 120 → Characterizes (IsEscape content bytes at) (hex_escape content bytes at)
   unfolding hex_escape
-  hex-tells e n x =
+  hex-characterizes e n x =
       let value = hex_value (slice_range bytes (at + 2) (at + 4)) in
-      cond_both (is_hex (get_or bytes (at + 2) 0) && (is_hex (get_or bytes (at + 3) 0) && nat_le value (greatest_of content))) _ _ (Tells (IsEscape content bytes at))
+      cond_both (is_hex (get_or bytes (at + 2) 0) && (is_hex (get_or bytes (at + 3) 0) && nat_le value (greatest_of content))) _ _ (Characterizes (IsEscape content bytes at))
       (λ t.
       let first = and_parts (is_hex (get_or bytes (at + 2) 0)) (is_hex (get_or bytes (at + 3) 0) && nat_le value (greatest_of content)) t in
       let second = and_parts (is_hex (get_or bytes (at + 3) 0)) (nat_le value (greatest_of content)) first.1 in
@@ -110,11 +110,11 @@ module _ (content : Content) (bytes : List ℕ) (at : ℕ) where
         scalar = f.1;
       }
 
-  unicode-tells : get_or bytes at 0 ≡ 92 → is_simple (get_or bytes (at + 1) 0) ≡ false → get_or bytes (at + 1) 0 ≡ 117 → Tells (IsEscape content bytes at) (unicode_escape content bytes at)
+  unicode-characterizes : get_or bytes at 0 ≡ 92 → is_simple (get_or bytes (at + 1) 0) ≡ false → get_or bytes (at + 1) 0 ≡ 117 → Characterizes (IsEscape content bytes at) (unicode_escape content bytes at)
   unfolding unicode_escape
-  unicode-tells e n x =
+  unicode-characterizes e n x =
       let brace = at + 3 + run_length is_hex_or_line bytes (at + 3) in
-      cond_both (unicode_test brace) _ _ (Tells (IsEscape content bytes at))
+      cond_both (unicode_test brace) _ _ (Characterizes (IsEscape content bytes at))
       (λ t. unicode (no_bytes (and_parts (has_unicode content) _ t).0) (unicode-escape brace refl e x t) refl)
       none
     where
@@ -123,13 +123,13 @@ module _ (content : Content) (bytes : List ℕ) (at : ℕ) where
       none f next held (hex h v) = let g = h.letter in omega arith
       none f next held (unicode {brace} c u v) = false≢true (sym f ∙ ap unicode_test (brace-is brace u) ∙ unicode-tested brace c u)
 
-  escape-tells : get_or bytes at 0 ≡ 92 → Tells (IsEscape content bytes at) (escape_at content bytes at)
+  escape-characterizes : get_or bytes at 0 ≡ 92 → Characterizes (IsEscape content bytes at) (escape_at content bytes at)
   unfolding escape_at
-  escape-tells e =
+  escape-characterizes e =
       let letter = get_or bytes (at + 1) 0 in
-      cond_both (is_simple letter) _ _ (Tells (IsEscape content bytes at)) (λ s. simple e s refl) (λ n.
-      cond_both (letter == 120) _ _ (Tells (IsEscape content bytes at)) (λ x. hex-tells e n (eqb-true letter 120 x)) (λ x.
-      cond_both (letter == 117) _ _ (Tells (IsEscape content bytes at)) (λ u. unicode-tells e n (eqb-true letter 117 u)) (λ u.
+      cond_both (is_simple letter) _ _ (Characterizes (IsEscape content bytes at)) (λ s. simple e s refl) (λ n.
+      cond_both (letter == 120) _ _ (Characterizes (IsEscape content bytes at)) (λ x. hex-characterizes e n (eqb-true letter 120 x)) (λ x.
+      cond_both (letter == 117) _ _ (Characterizes (IsEscape content bytes at)) (λ u. unicode-characterizes e n (eqb-true letter 117 u)) (λ u.
       none n x u)))
     where
       none : is_simple (get_or bytes (at + 1) 0) ≡ false → (get_or bytes (at + 1) 0 == 120) ≡ false → (get_or bytes (at + 1) 0 == 117) ≡ false → (next : ℕ) (held : List ℕ) → IsEscape content bytes at next held → ⊥
@@ -174,30 +174,30 @@ breaks-into bytes at (inl e) = or_left (get_or bytes at 0 == 10) (is_return byte
 breaks-into bytes at (inr e) = or_right (get_or bytes at 0 == 10) (is_return bytes at) (return-test bytes at e.0 e.1)
 
 module _ (content : Content) (bytes : List ℕ) (at : ℕ) where
-  plain-tells : Tells (IsPlain content bytes at) (plain_at content bytes at)
+  plain-characterizes : Characterizes (IsPlain content bytes at) (plain_at content bytes at)
   unfolding plain_at
-  plain-tells =
-      cond_both (is_allowed content (get_or bytes at 0)) _ _ (Tells (IsPlain content bytes at)) (λ t. itself (allowed-from content (get_or bytes at 0) t) refl) (λ n.
-      cond_both (is_return bytes at) _ _ (Tells (IsPlain content bytes at)) (λ t. let p = return-parts bytes at t in break (p.0, p.1, refl)) (λ f.
+  plain-characterizes =
+      cond_both (is_allowed content (get_or bytes at 0)) _ _ (Characterizes (IsPlain content bytes at)) (λ t. itself (allowed-from content (get_or bytes at 0) t) refl) (λ n.
+      cond_both (is_return bytes at) _ _ (Characterizes (IsPlain content bytes at)) (λ t. let p = return-parts bytes at t in break (p.0, p.1, refl)) (λ f.
       none n f))
     where
       none : is_allowed content (get_or bytes at 0) ≡ false → is_return bytes at ≡ false → (next : ℕ) (held : List ℕ) → IsPlain content bytes at next held → ⊥
       none n f next held (itself a v) = false≢true (sym n ∙ allowed-into content (get_or bytes at 0) a)
       none n f next held (break r) = false≢true (sym f ∙ return-test bytes at r.0 r.1)
 
-  pub piece-tells : (escapes : Bool) → Tells (Represents escapes content bytes at) (piece_at escapes content bytes at)
+  pub piece-characterizes : (escapes : Bool) → Characterizes (Represents escapes content bytes at) (piece_at escapes content bytes at)
   unfolding piece_at
-  piece-tells escapes =
-      cond_both (not (escapes && (get_or bytes at 0 == 92))) _ _ (Tells (Represents escapes content bytes at))
+  piece-characterizes escapes =
+      cond_both (not (escapes && (get_or bytes at 0 == 92))) _ _ (Characterizes (Represents escapes content bytes at))
       (λ t. let other = no_escape t in
-      tells-same (IsPlain content bytes at) (Represents escapes content bytes at) (plain-says content bytes at escapes other) (says-plain content bytes at escapes other) (plain_at content bytes at) plain-tells)
+      characterizes-same (IsPlain content bytes at) (Represents escapes content bytes at) (plain-represents content bytes at escapes other) (represents-plain content bytes at escapes other) (plain_at content bytes at) plain-characterizes)
       (λ f.
       let p = and_parts escapes (get_or bytes at 0 == 92) (escaped f) in
       let e = eqb-true (get_or bytes at 0) 92 p.1 in
-      cond_both (breaks_line bytes (at + 1)) _ _ (Tells (Represents escapes content bytes at))
+      cond_both (breaks_line bytes (at + 1)) _ _ (Characterizes (Represents escapes content bytes at))
       (λ t. continuation p.0 (record { backslash = e; breaks = breaks-from bytes (at + 1) t; blanks = run-first is_blank bytes (at + 1) no_blank }))
-      (λ n. tells-same (IsEscape content bytes at) (Represents escapes content bytes at) (λ next held h. escape p.0 h)
-      (says-escape content bytes at escapes p.0 e (λ b. false≢true (sym n ∙ breaks-into bytes (at + 1) b))) (escape_at content bytes at) (escape-tells content bytes at e)))
+      (λ n. characterizes-same (IsEscape content bytes at) (Represents escapes content bytes at) (λ next held h. escape p.0 h)
+      (represents-escape content bytes at escapes p.0 e (λ b. false≢true (sym n ∙ breaks-into bytes (at + 1) b))) (escape_at content bytes at) (escape-characterizes content bytes at e)))
     where
       no_escape : not (escapes && (get_or bytes at 0 == 92)) ≡ true → escapes ≡ true → get_or bytes at 0 ≢ 92
       no_escape t s e = false≢true (sym (not_from_true (escapes && (get_or bytes at 0 == 92)) (and_from _ _ s (eq-eqb (get_or bytes at 0) 92 e))) ∙ t)
@@ -207,11 +207,11 @@ module _ (content : Content) (bytes : List ℕ) (at : ℕ) where
 
   -- so it is the piece at this offset
 
-  tells-all : (escapes : Bool) (found : Option (List ℕ × ℕ)) → Tells (Represents escapes content bytes at) found → (next : ℕ) (held : List ℕ) → Represents escapes content bytes at next held → found ≡ Some (held, next)
-  tells-all escapes None t next held s = absurd (t next held s)
-  tells-all escapes (Some (said, end)) t next held s =
-      let one = Represents-one escapes content bytes at end next said held t s in
+  characterizes-all : (escapes : Bool) (found : Option (List ℕ × ℕ)) → Characterizes (Represents escapes content bytes at) found → (next : ℕ) (held : List ℕ) → Represents escapes content bytes at next held → found ≡ Some (held, next)
+  characterizes-all escapes None t next held s = absurd (t next held s)
+  characterizes-all escapes (Some (stated, end)) t next held s =
+      let one = Represents-one escapes content bytes at end next stated held t s in
       rw (one.0, one.1) refl
 
   pub piece-all : (escapes : Bool) (next : ℕ) (held : List ℕ) → Represents escapes content bytes at next held → piece_at escapes content bytes at ≡ Some (held, next)
-  piece-all escapes next held s = tells-all escapes (piece_at escapes content bytes at) (piece-tells escapes) next held s
+  piece-all escapes next held s = characterizes-all escapes (piece_at escapes content bytes at) (piece-characterizes escapes) next held s

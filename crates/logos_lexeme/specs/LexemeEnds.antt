@@ -41,10 +41,10 @@ has_base bytes at =
     (slice_index bytes at == 48) && ((letter == 120) || (letter == 111) || (letter == 98))
 
 -- A number continues from `at` to `next`. `based` is whether it starts with a base prefix.
-pub data GoesOn (based : Bool) (bytes : List ℕ) (at next : ℕ) : Type 0 where
-  letter : Passes is_continuing bytes at next → GoesOn based bytes at next
-  point : based ≡ false → slice_index bytes at ≡ 46 → IsTrue (is_ascii_digit (slice_index bytes (at + 1))) → next ≡ at + 1 → GoesOn based bytes at next
-  sign : based ≡ false → (slice_index bytes (at - 1) ≡ 101) ⊎ (slice_index bytes (at - 1) ≡ 69) → (slice_index bytes at ≡ 43) ⊎ (slice_index bytes at ≡ 45) → IsTrue (is_ascii_digit (slice_index bytes (at + 1))) → next ≡ at + 1 → GoesOn based bytes at next
+pub data Continues (based : Bool) (bytes : List ℕ) (at next : ℕ) : Type 0 where
+  letter : Passes is_continuing bytes at next → Continues based bytes at next
+  point : based ≡ false → slice_index bytes at ≡ 46 → IsTrue (is_ascii_digit (slice_index bytes (at + 1))) → next ≡ at + 1 → Continues based bytes at next
+  sign : based ≡ false → (slice_index bytes (at - 1) ≡ 101) ⊎ (slice_index bytes (at - 1) ≡ 69) → (slice_index bytes at ≡ 43) ⊎ (slice_index bytes at ≡ 45) → IsTrue (is_ascii_digit (slice_index bytes (at + 1))) → next ≡ at + 1 → Continues based bytes at next
 
 -- One step inside quotes: over `\` and the byte after it, or over a byte that is neither `\` nor
 -- the quote.
@@ -92,7 +92,7 @@ Ends bytes from Space to = Run (Passes is_space bytes) (past bytes from) to
 Ends bytes from (Line kind) to = IsFirst (IsLineEnd bytes) (from + 2) to
 Ends bytes from (Block kind) to = Closes bytes 1 (from + 2) to
 Ends bytes from Word to = IsName bytes from to
-Ends bytes from Number to = Run (GoesOn (has_base bytes from) bytes) (past bytes from) to
+Ends bytes from Number to = Run (Continues (has_base bytes from) bytes) (past bytes from) to
 Ends bytes from (Quotes content) to = IsQuoted 34 bytes (from + prefix_of content + 1) to
 Ends bytes from (Raw content count) to = IsRaw count bytes (from + prefix_of content + 1 + count + 1) to
 Ends bytes from (Apostrophes content) to = IsQuoted 39 bytes (from + prefix_of content + 1) to

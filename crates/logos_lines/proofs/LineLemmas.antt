@@ -9,8 +9,8 @@ ended [] e = refl
 ended (b ∷ rest) e = cond-true _ _ _ e
 
 -- a line continues by one byte
-pub goes_on : (text : List ℕ) (j : ℕ) → j < length text → ends_line (drop j text) ≡ false → line_length (drop j text) ≡ 1 + line_length (drop (j + 1) text)
-goes_on text j l e =
+pub continues : (text : List ℕ) (j : ℕ) → j < length text → ends_line (drop j text) ≡ false → line_length (drop j text) ≡ 1 + line_length (drop (j + 1) text)
+continues text j l e =
     let k : suc j ≡ j + 1 = omega arith in
     let d = rw k at (drop-cons text j 0 l) in
     rw d (cond-false _ _ _ (rw d at e))

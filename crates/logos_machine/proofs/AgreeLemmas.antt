@@ -9,8 +9,8 @@ use Rattle.std.specs.List.{prefix_len}
 use Rattle.logos_automaton.specs.Munch.{Found, ended, matched, failed}
 use Rattle.logos_code.specs.Bytes.{passes_test}
 use Rattle.logos_code.specs.Code.{CodeValue, CodeState, Fork, by_conditions, by_table}
-use Rattle.logos_code.specs.Runs.{Status, Turn, enters, acts, looped, marked, forked, turn, Does, EndsError, Acts, Goes, goes_on, acts_on, Attempts}
-use Rattle.logos_machine.specs.Streams.{stop_at, HasBranches, IsClosed, IsOpen, LooksPast, MayFollow, NoBranches, StopsWithin, looks_here, looks_later, EndsWithin, GoesWithin, leads_within, acts_within, AttemptsWithin, AttemptsAgree}
+use Rattle.logos_code.specs.Runs.{Status, Turn, enters, acts, looped, marked, forked, turn, Does, EndsError, Acts, AttemptsFrom, continues, acts_on, Attempts}
+use Rattle.logos_machine.specs.Streams.{stop_at, HasBranches, IsClosed, IsOpen, LooksPast, MayFollow, NoBranches, StopsWithin, looks_here, looks_later, EndsWithin, AttemptsFromWithin, leads_within, acts_within, AttemptsWithin, AttemptsAgree}
 use Rattle.logos_machine.proofs.StepLemmas.{closed_turn}
 
 -- ---- lists with the same front
@@ -119,15 +119,15 @@ module _ (code : CodeValue) (front one other : List ℕ) (start : ℕ) where
   ends_within seen (matched leaf to) w = w
   ends_within seen (failed to) w = w
 
-  goes_agree : (seen : ℕ) → seen ≤ length front → IsCutAt seen → {at : Status} {found : Found} {n : ℕ} → GoesWithin code (front ++ one) start seen at found n → GoesWithin code (front ++ other) start seen at found n
+  goes_agree : (seen : ℕ) → seen ≤ length front → IsCutAt seen → {at : Status} {found : Found} {n : ℕ} → AttemptsFromWithin code (front ++ one) start seen at found n → AttemptsFromWithin code (front ++ other) start seen at found n
   goes_agree seen fits whole (leads_within at next found n s d g) =
       leads_within at next found n (stops_agree seen at fits s) (does_agrees seen at (enters next) fits s d) (goes_agree seen fits whole g)
   goes_agree seen fits whole (acts_within at context offset found s d a w) =
       acts_within at context offset found (stops_agree seen at fits s) (does_agrees seen at (acts context offset) fits s d) (acts_agree seen context offset found fits whole w a) (ends_within seen found w)
 
 -- such a match attempt is a match attempt
-pub goes_within : (code : CodeValue) (bytes : List ℕ) (start seen : ℕ) {at : Status} {found : Found} {n : ℕ} → GoesWithin code bytes start seen at found n → Goes code bytes start at found n
-goes_within code bytes start seen (leads_within at next found n s d g) = goes_on at next found n d (goes_within code bytes start seen g)
+pub goes_within : (code : CodeValue) (bytes : List ℕ) (start seen : ℕ) {at : Status} {found : Found} {n : ℕ} → AttemptsFromWithin code bytes start seen at found n → AttemptsFrom code bytes start at found n
+goes_within code bytes start seen (leads_within at next found n s d g) = continues at next found n d (goes_within code bytes start seen g)
 goes_within code bytes start seen (acts_within at context offset found s d a w) = acts_on at context offset found d a
 
 pub attempts_agree : AttemptsAgree
@@ -161,16 +161,16 @@ module _ (code : CodeValue) (bytes : List ℕ) (start : ℕ) where
       let same = same_state (slice_get code.states at.state) d.0 e.0 d.1 e.1 in
       sym d.2 ∙ ap (λ (state : CodeState). turn code bytes start state at) same ∙ e.2
 
-  stops_here : {at : Status} {found : Found} {n : ℕ} → GoesWithin code bytes start (length bytes) at found n → StopsWithin code bytes start (length bytes) at
+  stops_here : {at : Status} {found : Found} {n : ℕ} → AttemptsFromWithin code bytes start (length bytes) at found n → StopsWithin code bytes start (length bytes) at
   stops_here (leads_within at next found n s d g) = s
   stops_here (acts_within at context offset found s d a w) = s
 
-  goes_next : {at : Status} {found : Found} {n : ℕ} → GoesWithin code bytes start (length bytes) at found n → (next : Status) → Does code bytes start at (enters next) →
-      (more : Found) × (m : ℕ) × GoesWithin code bytes start (length bytes) next more m
+  goes_next : {at : Status} {found : Found} {n : ℕ} → AttemptsFromWithin code bytes start (length bytes) at found n → (next : Status) → Does code bytes start at (enters next) →
+      (more : Found) × (m : ℕ) × AttemptsFromWithin code bytes start (length bytes) next more m
   goes_next (leads_within at other found n s d g) next e =
       let same : enters other ≡ enters next = same_turn at (enters other) (enters next) d e in
       let there : other ≡ next = cc in
-      (found, n, subst (λ (s : Status). GoesWithin code bytes start (length bytes) s found n) there g)
+      (found, n, subst (λ (s : Status). AttemptsFromWithin code bytes start (length bytes) s found n) there g)
   goes_next (acts_within at context offset found s d a w) next e =
       let same : acts context offset ≡ enters next = same_turn at (acts context offset) (enters next) d e in
       absurd (acts_enters context offset next same)
@@ -187,6 +187,6 @@ module _ (code : CodeValue) (bytes : List ℕ) (start : ℕ) where
       why)
       s.2
 
-  pub open_attempts : {at : Status} {found : Found} {n : ℕ} → LooksPast code bytes start at → GoesWithin code bytes start (length bytes) at found n → ⊥
+  pub open_attempts : {at : Status} {found : Found} {n : ℕ} → LooksPast code bytes start at → AttemptsFromWithin code bytes start (length bytes) at found n → ⊥
   open_attempts (looks_here at state is past why) g = open_here at state is past why (stops_here g)
   open_attempts (looks_later at next does l) g = let more = goes_next g next does in open_attempts l more.2

@@ -42,7 +42,7 @@ lanes_fit (x ∷ xs) h = (record { fits = h 0 }, lanes_fit xs (λ i. h (suc i)))
 -- the entries of a table at the indexes g x below 16, which are the values of f
 pub looked_up : (t : List ℕ) (f g : ℕ → ℕ) (v js : List ℕ) → IsBlock v → js ≡ map g v → ((x : ℕ) → x < 256 → g x < 16) → ((x : ℕ) → x < 256 → get_or t (g x) 0 ≡ f x) →
     swz_l w8 16 t 0 js ≡ map f v
-looked_up t f g v js fits e small says =
+looked_up t f g v js fits e small describes =
     let long : length js ≡ 16 = ap length e ∙ length-map v g ∙ fits.0 in
     ext_get_or 0 _ _ (length-swz_l w8 16 t 0 js ∙ long ∙ sym (length-map v f ∙ fits.0)) (λ i h.
     let lt : i < 16 = omega (arith, h, length-swz_l w8 16 t 0 js, long) in
@@ -53,7 +53,7 @@ looked_up t f g v js fits e small says =
     let below : get_or js i 0 < 16 = omega (arith, is, small x fit) in
     let first : 16 * ((0 + i) / 16) + get_or js i 0 ≡ get_or js i 0 = omega (arith, lt) in
     get_or-swz_l_below w8 16 t 0 js i (omega (arith, lt, long)) below
-    ∙ ap (λ k. get_or t k 0) (first ∙ is) ∙ says x fit ∙ sym (get_or-map f v i 0 0 within))
+    ∙ ap (λ k. get_or t k 0) (first ∙ is) ∙ describes x fit ∙ sym (get_or-map f v i 0 0 within))
 
 -- by lower halves, in the entries from an offset on
 pub by_low : (mask : List ℕ) (at : ℕ) (v : List ℕ) → at ≤ 16 → IsBlock v →
@@ -106,8 +106,8 @@ bare (suc (suc bit)) n lt pos = absurd (omega (arith, lt))
 
 module _ (p : ℕ → Bool) (mask : List ℕ) (is : IsMask p mask) where
   -- the value that is looked up is 0 if the byte does not pass
-  pub found_says : (b : ℕ) → b < 256 → eqb (found mask b) 0 ≡ not (p b)
-  found_says b lt =
+  pub found_describes : (b : ℕ) → b < 256 → eqb (found mask b) 0 ≡ not (p b)
+  found_describes b lt =
       let k = b / 16 % 8 in
       let e = 16 * (b / 128) + b % 16 in
       let x = slice_index mask e in
@@ -135,7 +135,7 @@ module _ (p : ℕ → Bool) (mask : List ℕ) (is : IsMask p mask) where
   -- of all bytes of a block
   none_found : (v : List ℕ) → Each1 (Fits w8) v → map (λ z. eqb z 0) (map (found mask) v) ≡ map (λ b. not (p b)) v
   none_found [] fits = refl
-  none_found (b ∷ v) fits = λ i. found_says b fits.0.fits i ∷ none_found v fits.1 i
+  none_found (b ∷ v) fits = λ i. found_describes b fits.0.fits i ∷ none_found v fits.1 i
 
   none_marked : (v : List ℕ) → IsBlock v →
       mask_l (map (top 7) (zip2 (λ a b. cond (eqb a b) 255 0) (map (found mask) v) (replicate 16 0))) % 2 ^ 64 ≡ mask_l (map (λ b. not (p b)) v)

@@ -6,7 +6,7 @@ use Rattle.logos_automaton.specs.Munch.{Use, Found, ended, matched, failed}
 use Rattle.logos_code.specs.Code.{CodeValue, CodeState, Mark}
 use Rattle.logos_code.specs.Headline.{IsSound}
 use Rattle.logos_code.specs.Items.{Callback, Search, Item, token, error, MayAnswer, items_of, skips, Lexes, over, match, fault, NextItem, passes, yields, fails}
-use Rattle.logos_code.specs.Runs.{Status, Turn, enters, acts, returns, looped, marked, led, forked, target, turn, Does, EndsError, Acts, Goes, goes_on, is_over, acts_on, Attempts, CodeFinds}
+use Rattle.logos_code.specs.Runs.{Status, Turn, enters, acts, returns, looped, marked, led, forked, target, turn, Does, EndsError, Acts, AttemptsFrom, continues, is_over, acts_on, Attempts, CodeFinds}
 use Rattle.logos_code.specs.declared.action.Action.{Action}
 use Rattle.logos_code.specs.declared.action.Action.TheVariants.{Emit, Skip, Error}
 use Rattle.logos_machine.specs.Streams.{first_status, stop_at, found_later, item_later, PassesOver, passes_none, passes_match, RunsGoLater}
@@ -154,9 +154,9 @@ module _ (code : CodeValue) (sound : IsSound code) (front bytes : List ℕ) (sta
   next_past at next d = λ other. forked_past code d.0 (slice_get bytes (stop_at code bytes d.0 at.offset)) (at.state == code.root && stop_at code bytes d.0 at.offset == start)
       (stop_at code bytes d.0 at.offset) (marked d.0.mark (stop_at code bytes d.0 at.offset) at.context) next d.2
 
-  goes_later : {at : Status} {found : Found} {n : ℕ} → IsPast at → Goes code bytes start at found n → Goes code (front ++ bytes) (far + start) (status_later far at) (found_later far found) n
-  goes_later past (goes_on at next found n d g) =
-      goes_on (status_later far at) (status_later far next) (found_later far found) n (does_later at (enters next) past d) (goes_later (next_past at next d) g)
+  goes_later : {at : Status} {found : Found} {n : ℕ} → IsPast at → AttemptsFrom code bytes start at found n → AttemptsFrom code (front ++ bytes) (far + start) (status_later far at) (found_later far found) n
+  goes_later past (continues at next found n d g) =
+      continues (status_later far at) (status_later far next) (found_later far found) n (does_later at (enters next) past d) (goes_later (next_past at next d) g)
   goes_later past (is_over at d) = is_over (status_later far at) (does_later at returns past d)
   goes_later past (acts_on at context offset found d a) =
       acts_on (status_later far at) (context_later far context) (far + offset) (found_later far found) (does_later at (acts context offset) past d) (acts_later context offset found a)

@@ -6,7 +6,7 @@ use Rattle.logos_code.specs.declared.action.Action.TheVariants.{Emit, Skip, Erro
 use Rattle.logos_code.specs.Items.{Callback, Item, token, error, items_of, skips, MayAnswer, over, match, fault, passes, yields, fails}
 use Rattle.logos_code.specs.Code.{CodeValue}
 use Rattle.logos_code.specs.Runs.{Runs, RunsOn, Attempts, CodeFinds}
-use Rattle.logos_machine.specs.inside.Looks.{Tried}
+use Rattle.logos_machine.specs.inside.Looks.{Attempted}
 use Rattle.logos_machine.specs.inside.IsAt.{IsMatch}
 use Rattle.logos_machine.specs.LexerValue.{LexerValue, HasSpan, Yields, Ends, Keeps}
 
@@ -86,39 +86,39 @@ moved lexer from to steps = record { code = lexer.code; input = lexer.input; cal
 
 module _ {C : Type 0} (callback : Callback) (old : LexerValue C) where
   -- a continuation from here, after skipped matches, continues after the last item
-  pub record GoesOn (from : ℕ) : Type 0 where
+  pub record Continues (from : ℕ) : Type 0 where
     pub after : old.to ≤ from
     pub within : from ≤ length old.input
-    pub goes_on : (items : List Item) → Runs old.code callback old.input from items → Runs old.code callback old.input old.to items
+    pub continues : (items : List Item) → Runs old.code callback old.input from items → Runs old.code callback old.input old.to items
     pub passed : (item : Item) (end : ℕ) → RunsOn old.code callback old.input from item end → RunsOn old.code callback old.input old.to item end
 
   -- past a match without an item
-  pub goes_past : (from to leaf steps : ℕ) (answer : Action) → GoesOn from → Tried old.code old.input from (matched leaf to) steps →
-      MayAnswer old.code.leaves callback old.input leaf (slice_range old.input from to) answer → items_of old.code.leaves callback old.input answer leaf from to ≡ [] → GoesOn to
+  pub goes_past : (from to leaf steps : ℕ) (answer : Action) → Continues from → Attempted old.code old.input from (matched leaf to) steps →
+      MayAnswer old.code.leaves callback old.input leaf (slice_range old.input from to) answer → items_of old.code.leaves callback old.input answer leaf from to ≡ [] → Continues to
   goes_past from to leaf steps answer i t may is =
       let after = i.after in
       let fits : IsMatch old.code old.input from leaf to = t.within in
       record {
         after = omega (arith, after, fits.1);
         within = fits.2;
-        goes_on = λ items r. i.goes_on items (match_runs old.code callback old.input from to leaf steps answer [] items t.attempts may is r);
+        continues = λ items r. i.continues items (match_runs old.code callback old.input from to leaf steps answer [] items t.attempts may is r);
         passed = λ item end r. i.passed item end (pass_next old.code callback old.input from to leaf steps answer item end t.attempts may is r);
       }
 
   -- past one of a leaf that skips without a callback
-  pub goes_past_skip : (from to leaf steps : ℕ) → GoesOn from → Tried old.code old.input from (matched leaf to) steps →
-      slice_get old.code.leaves leaf ≡ Some (record { skips = true; calls_back = false }) → GoesOn to
+  pub goes_past_skip : (from to leaf steps : ℕ) → Continues from → Attempted old.code old.input from (matched leaf to) steps →
+      slice_get old.code.leaves leaf ≡ Some (record { skips = true; calls_back = false }) → Continues to
   goes_past_skip from to leaf steps i t skips =
       goes_past from to leaf steps Emit i t (may_emit old.code callback old.input from leaf (slice_range old.input from to) true skips) (skipped_items old.code callback old.input from to leaf skips)
 
   module _ (from to steps : ℕ) (new : LexerValue C) (is_new : new ≡ moved old from to steps) where
-    pub keeps : (found : Found) → Tried old.code old.input from found steps → Keeps old new
+    pub keeps : (found : Found) → Attempted old.code old.input from found steps → Keeps old new
     keeps found t =
         let made : Keeps old (moved old from to steps) = record { code = refl; input = refl; callback = refl; steps = (found, t.attempts); few = t.few } in
         subst (λ (l : LexerValue C). Keeps old l) (sym is_new) made
 
     -- the item of a match
-    pub yields_item : (leaf : ℕ) (answer : Action) (item : Item) → GoesOn from → Tried old.code old.input from (matched leaf to) steps →
+    pub yields_item : (leaf : ℕ) (answer : Action) (item : Item) → Continues from → Attempted old.code old.input from (matched leaf to) steps →
         MayAnswer old.code.leaves callback old.input leaf (slice_range old.input from to) answer → items_of old.code.leaves callback old.input answer leaf from to ≡ item ∷ [] →
         Yields callback old new item
     yields_item leaf answer item i t may is =
@@ -129,19 +129,19 @@ module _ {C : Type 0} (callback : Callback) (old : LexerValue C) where
           nonempty = fits.1;
           within = fits.2;
           is = i.passed item to (match_next old.code callback old.input from to leaf steps answer item t.attempts may is);
-          next = λ rest r. i.goes_on (item ∷ rest) (match_runs old.code callback old.input from to leaf steps answer (item ∷ []) rest t.attempts may is r);
+          next = λ rest r. i.continues (item ∷ rest) (match_runs old.code callback old.input from to leaf steps answer (item ∷ []) rest t.attempts may is r);
         } in
         subst (λ (l : LexerValue C). Yields callback old l item) (sym is_new) made
 
     -- that of a leaf without a callback
-    pub yields_token : (leaf : ℕ) (item : Item) → GoesOn from → Tried old.code old.input from (matched leaf to) steps →
+    pub yields_token : (leaf : ℕ) (item : Item) → Continues from → Attempted old.code old.input from (matched leaf to) steps →
         slice_get old.code.leaves leaf ≡ Some (record { skips = false; calls_back = false }) → item ≡ token leaf from to (slice_range old.input from to) → Yields callback old new item
     yields_token leaf item i t emits is =
         yields_item leaf Emit item i t (may_emit old.code callback old.input from leaf (slice_range old.input from to) false emits)
         (token_items old.code callback old.input from to leaf emits ∙ ap (λ x. x ∷ []) (sym is))
 
     -- an error
-    pub yields_error : (item : Item) → GoesOn from → Tried old.code old.input from (failed to) steps → item ≡ error None from to (slice_range old.input from to) → Yields callback old new item
+    pub yields_error : (item : Item) → Continues from → Attempted old.code old.input from (failed to) steps → item ≡ error None from to (slice_range old.input from to) → Yields callback old new item
     yields_error item i t is =
         let span : (from < to) × (to ≤ length old.input) = t.within in
         let made : Yields callback old (moved old from to steps) (error None from to (slice_range old.input from to)) = record {
@@ -150,18 +150,18 @@ module _ {C : Type 0} (callback : Callback) (old : LexerValue C) where
           nonempty = span.0;
           within = span.1;
           is = i.passed _ _ (fault_next old.code callback old.input from to steps t.attempts);
-          next = λ rest r. i.goes_on _ (fault_runs old.code callback old.input from to steps rest t.attempts r);
+          next = λ rest r. i.continues _ (fault_runs old.code callback old.input from to steps rest t.attempts r);
         } in
         subst (λ (l : LexerValue C). Yields callback old l item) (sym is_new) (subst (λ (x : Item). Yields callback old (moved old from to steps) x) (sym is) made)
 
   -- the end of the input
-  pub ends_run : (from steps : ℕ) (new : LexerValue C) → new ≡ moved old from from steps → GoesOn from → Tried old.code old.input from ended steps → Ends callback old new
+  pub ends_run : (from steps : ℕ) (new : LexerValue C) → new ≡ moved old from from steps → Continues from → Attempted old.code old.input from ended steps → Ends callback old new
   ends_run from steps new is_new i t =
       let within = i.within in
       let past : length old.input ≤ from = t.within in
       let made : Ends callback old (moved old from from steps) = record {
         from = omega (arith, within, past);
         to = omega (arith, within, past);
-        over = i.goes_on [] (over_runs old.code callback old.input from steps t.attempts);
+        over = i.continues [] (over_runs old.code callback old.input from steps t.attempts);
       } in
       subst (λ (l : LexerValue C). Ends callback old l) (sym is_new) made

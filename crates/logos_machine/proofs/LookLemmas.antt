@@ -8,11 +8,11 @@ use Rattle.logos_code.specs.Bytes.{passes_test}
 use Rattle.logos_code.specs.Code.{CodeValue, Mark}
 use Rattle.logos_code.specs.CodeView.{state_at, no_state}
 use Rattle.logos_code.specs.Headline.{IsSound}
-use Rattle.logos_code.specs.Rows.{closing, Says, SaysAtEnd, IsEntry, IsStepOf}
+use Rattle.logos_code.specs.Rows.{closing, Describes, DescribesEnd, IsEntry, IsStepOf}
 use Rattle.logos_code.specs.Runs.{acts, looped, stays, marked, turn, Does}
 use Rattle.logos_machine.specs.inside.Looks.{Sees}
 use Rattle.logos_code.specs.declared.code.rows.Step.{Step}
-use Rattle.logos_code.specs.declared.code.rows.Step.TheVariants.{Leads, Stays, Halts, Looks, Closes, Stuck, Unsaid}
+use Rattle.logos_code.specs.declared.code.rows.Step.TheVariants.{Leads, Stays, Halts, Looks, Closes, Stuck, Undescribed}
 use Rattle.logos_machine.proofs.StatusLemmas.{unmarked_root}
 
 and_false : (b : Bool) → (b && false) ≡ false
@@ -53,67 +53,67 @@ module _ (code : CodeValue) (bytes : List ℕ) (start : ℕ) (s : ℕ) (there : 
 
   -- the step at a byte where the fast loop ends
   pub sees_byte : (b : ℕ) (step : Step) → start ≤ offset → stop ≡ offset + looped code (state_at code s).fast_loop (drop offset bytes) → slice_get bytes stop ≡ Some b →
-      Says code (state_at code s) b step → Sees code bytes start s offset stop step
-  sees_byte b (Leads next) h is at says = λ context. (marked (state_at code s).mark stop context, (state_at code s, got, rw (← is, at, says.1) refl))
-  sees_byte b (Stays test) h is at says = tt
-  sees_byte b (Looks leaf used) h is at says = (
+      Describes code (state_at code s) b step → Sees code bytes start s offset stop step
+  sees_byte b (Leads next) h is at describes = λ context. (marked (state_at code s).mark stop context, (state_at code s, got, rw (← is, at, describes.1) refl))
+  sees_byte b (Stays test) h is at describes = tt
+  sees_byte b (Looks leaf used) h is at describes = (
     λ context.
         let passed = marked (state_at code s).mark stop context in
         let before : stop + 1 - 1 ≡ stop = omega arith in
-        let does : Does code bytes start (record { state = says.1.next; offset = stop + 1; context = passed }) (acts (Some (leaf.0, stop + 1 - 1)) (stop + 1)) =
-        closes says.1.next (stop + 1) (record { leaf = leaf.0; late = true }) passed says.1.closes (omega (arith, h, is)) in (
-          says.1.next,
+        let does : Does code bytes start (record { state = describes.1.next; offset = stop + 1; context = passed }) (acts (Some (leaf.0, stop + 1 - 1)) (stop + 1)) =
+        closes describes.1.next (stop + 1) (record { leaf = leaf.0; late = true }) passed describes.1.closes (omega (arith, h, is)) in (
+          describes.1.next,
           passed,
-          (state_at code s, got, rw (← is, at, says.1.leads) refl),
-          subst (λ end. Does code bytes start (record { state = says.1.next; offset = stop + 1; context = passed }) (acts (Some (leaf.0, end)) (stop + 1))) before does,
+          (state_at code s, got, rw (← is, at, describes.1.leads) refl),
+          subst (λ end. Does code bytes start (record { state = describes.1.next; offset = stop + 1; context = passed }) (acts (Some (leaf.0, end)) (stop + 1))) before does,
         ),
-    says.2,
+    describes.2,
   )
-  sees_byte b (Closes leaf used) h is at says = (
+  sees_byte b (Closes leaf used) h is at describes = (
     λ context. (
-      says.1.next,
+      describes.1.next,
       marked (state_at code s).mark stop context,
-      (state_at code s, got, rw (← is, at, says.1.leads) refl),
-      closes says.1.next (stop + 1) (record { leaf = leaf.0; late = false }) _ says.1.closes (omega (arith, h, is)),
+      (state_at code s, got, rw (← is, at, describes.1.leads) refl),
+      closes describes.1.next (stop + 1) (record { leaf = leaf.0; late = false }) _ describes.1.closes (omega (arith, h, is)),
     ),
-    says.2,
+    describes.2,
   )
-  sees_byte b (Halts leaf used) h is at says = (λ context. (state_at code s, got, rw (← is, at, says.1, says.2) refl), says.3)
-  sees_byte b Stuck h is at says = λ inside context. (marked (state_at code s).mark stop context, (state_at code s, got, rw (← is, at, says.1) refl))
-  sees_byte b Unsaid h is at says = tt
+  sees_byte b (Halts leaf used) h is at describes = (λ context. (state_at code s, got, rw (← is, at, describes.1, describes.2) refl), describes.3)
+  sees_byte b Stuck h is at describes = λ inside context. (marked (state_at code s).mark stop context, (state_at code s, got, rw (← is, at, describes.1) refl))
+  sees_byte b Undescribed h is at describes = tt
 
   -- the step at the end of the input
   pub sees_end : IsSound code → (step : Step) → stop ≡ offset + looped code (state_at code s).fast_loop (drop offset bytes) → slice_get bytes stop ≡ None →
-      SaysAtEnd code (state_at code s) step → Sees code bytes start s offset stop step
-  sees_end sound (Leads next) is at says = absurd says
-  sees_end sound (Stays test) is at says = absurd says
-  sees_end sound (Looks leaf used) is at says = absurd says
-  sees_end sound (Closes leaf used) is at says = absurd says
-  sees_end sound (Halts leaf used) is at says = (λ context. (state_at code s, got, rw (← is, at, stale, says.0, says.1) refl), says.2)
+      DescribesEnd code (state_at code s) step → Sees code bytes start s offset stop step
+  sees_end sound (Leads next) is at describes = absurd describes
+  sees_end sound (Stays test) is at describes = absurd describes
+  sees_end sound (Looks leaf used) is at describes = absurd describes
+  sees_end sound (Closes leaf used) is at describes = absurd describes
+  sees_end sound (Halts leaf used) is at describes = (λ context. (state_at code s, got, rw (← is, at, stale, describes.0, describes.1) refl), describes.2)
     where
       other : s ≢ code.root
-      other e = unmarked_root code sound bytes s (state_at code s) e got says.1
+      other e = unmarked_root code sound bytes s (state_at code s) e got describes.1
 
       stale : (s == code.root && (stop == start)) ≡ false
       stale = let e : (s == code.root) ≡ false = ne_eqb s code.root other in rw e refl
-  sees_end sound Stuck is at says = λ inside. absurd (let e : None ≡ Some (get_or bytes stop 0) = sym at ∙ slice_get-get_or bytes stop 0 inside in cc)
-  sees_end sound Unsaid is at says = tt
+  sees_end sound Stuck is at describes = λ inside. absurd (let e : None ≡ Some (get_or bytes stop 0) = sym at ∙ slice_get-get_or bytes stop 0 inside in cc)
+  sees_end sound Undescribed is at describes = tt
 
 -- the meaning of the entry of a byte on which the state changes: no bytes are looped over
 pub sees_entry : (code : CodeValue) (bytes : List ℕ) (start s : ℕ) → s < length code.states → (at entry : ℕ) → start ≤ at → at < length bytes →
     IsEntry code (state_at code s) (get_or bytes at 0) entry → (step : Step) → IsStepOf entry step → Sees code bytes start s at at step
-sees_entry code bytes start s there at entry h within is step f = go step (is.says step f)
+sees_entry code bytes start s there at entry h within is step f = go step (is.describes step f)
   where
-    by_step : (step : Step) → stays code (state_at code s).fast_loop (get_or bytes at 0) ≡ false → Says code (state_at code s) (get_or bytes at 0) step → Sees code bytes start s at at step
-    by_step step out said =
+    by_step : (step : Step) → stays code (state_at code s).fast_loop (get_or bytes at 0) ≡ false → Describes code (state_at code s) (get_or bytes at 0) step → Sees code bytes start s at at step
+    by_step step out stated =
         let none = loops_no code (state_at code s).fast_loop bytes at within out in
-        sees_byte code bytes start s there at at (get_or bytes at 0) step h (omega (arith, none)) (slice_get-get_or bytes at 0 within) said
+        sees_byte code bytes start s there at at (get_or bytes at 0) step h (omega (arith, none)) (slice_get-get_or bytes at 0 within) stated
 
-    go : (step : Step) → Says code (state_at code s) (get_or bytes at 0) step → Sees code bytes start s at at step
-    go (Leads next) said = by_step (Leads next) said.0 said
-    go (Stays test) said = tt
-    go (Looks leaf used) said = by_step (Looks leaf used) said.0 said
-    go (Closes leaf used) said = by_step (Closes leaf used) said.0 said
-    go Stuck said = by_step Stuck said.0 said
-    go (Halts leaf used) said = by_step (Halts leaf used) said.0 said
-    go Unsaid said = tt
+    go : (step : Step) → Describes code (state_at code s) (get_or bytes at 0) step → Sees code bytes start s at at step
+    go (Leads next) stated = by_step (Leads next) stated.0 stated
+    go (Stays test) stated = tt
+    go (Looks leaf used) stated = by_step (Looks leaf used) stated.0 stated
+    go (Closes leaf used) stated = by_step (Closes leaf used) stated.0 stated
+    go Stuck stated = by_step Stuck stated.0 stated
+    go (Halts leaf used) stated = by_step (Halts leaf used) stated.0 stated
+    go Undescribed stated = tt

@@ -8,7 +8,7 @@ use Rattle.std.proofs.lemmas.Bool.Decides.{eqb_tells}
 use Rattle.logos_code.specs.Bytes.{passes_test}
 use Rattle.logos_code.specs.Code.{CodeValue, CodeState, Mark}
 use Rattle.logos_code.specs.CodeView.{state_at, no_state}
-use Rattle.logos_code.specs.Headline.{IsSound, IsRoot, IsEnd, IsLate, NamesWhatIsThere}
+use Rattle.logos_code.specs.Headline.{IsSound, IsRoot, IsEnd, IsLate, NamesExisting}
 use Rattle.logos_code.specs.Runs.{Status, enters, acts, returns, target, looped, marked, forked, Does}
 use Rattle.logos_code.proofs.TargetLemmas.{All-slice_get, target_there}
 use Rattle.logos_machine.specs.inside.IsAt.{IsMatch, IsContext, IsStatus}
@@ -73,8 +73,8 @@ module _ (code : CodeValue) (sound : IsSound code) (bytes : List ℕ) (start : �
 
   -- the facts that a status implies about its state
   module _ (at : Status) (s : IsAt at) (state : CodeState) (is : slice_get code.states at.state ≡ Some state) where
-    names : NamesWhatIsThere code state
-    names = All-slice_get (NamesWhatIsThere code) code.states at.state state sound.states is
+    names : NamesExisting code state
+    names = All-slice_get (NamesExisting code) code.states at.state state sound.states is
 
     abbrev offset : ℕ
     offset = at.offset + looped code state.fast_loop (drop at.offset bytes)

@@ -74,9 +74,9 @@ module _ (code : CodeValue) (bytes : List ℕ) (start : ℕ) (at : Status) (stat
       by_way (inr h) = by_end offset to (slice_get bytes offset) (at.state == code.root && offset == start) (sym sees ∙ h.0) (later offset h.1) h.2
 
   -- a late mark is after a byte
-  pub late_behind : (IsLate code at.state → start + 1 < at.offset) → (offset : ℕ) → Stops offset → (mark : Option Mark) → state.mark ≡ mark → IfSome mark (λ m. IsTrue m.late → 0 < offset)
-  late_behind second offset stops None marks = tt
-  late_behind second offset stops (Some mark) marks = λ late.
+  pub late_afterward : (IsLate code at.state → start + 1 < at.offset) → (offset : ℕ) → Stops offset → (mark : Option Mark) → state.mark ≡ mark → IfSome mark (λ m. IsTrue m.late → 0 < offset)
+  late_afterward second offset stops None marks = tt
+  late_afterward second offset stops (Some mark) marks = λ late.
       let there : IsLate code at.state = rw (is, marks) late in
       let past = second there in
       omega (arith, stops, past)

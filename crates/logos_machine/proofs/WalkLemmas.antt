@@ -6,13 +6,13 @@ use Rattle.logos_hir.specs.Text.{IsBytes}
 use Rattle.logos_hir.specs.declared.leaf.LeafId.{LeafId}
 use Rattle.logos_code.specs.Code.{CodeValue, CodeState}
 use Rattle.logos_code.specs.CodeView.{state_at, no_state}
-use Rattle.logos_code.specs.Headline.{IsSound, NamesTest, NamesWhatIsThere}
+use Rattle.logos_code.specs.Headline.{IsSound, NamesTest, NamesExisting}
 use Rattle.logos_code.specs.LastMarks.{IsLastMark, first_status, next_status}
 use Rattle.logos_code.specs.Rows.{IsEntry, IsLastEntry, IsUse, first_halting, first_closing}
-use Rattle.logos_code.specs.Runs.{Status, goes_on, acts_on, acts, looped, stays, Does, EndsError}
+use Rattle.logos_code.specs.Runs.{Status, continues, acts_on, acts, looped, stays, Does, EndsError}
 use Rattle.logos_code.proofs.RowLemmas.{loop_stops, entry_moves}
 use Rattle.logos_code.proofs.TargetLemmas.{All-slice_get}
-use Rattle.logos_machine.specs.inside.Looks.{Sees, Comes, Reaches, Tried, LooksAhead, StopsAt}
+use Rattle.logos_machine.specs.inside.Looks.{Sees, Comes, Reaches, Attempted, LooksAhead, StopsAt}
 use Rattle.logos_code.specs.declared.code.last_marks.LastMark.TheVariants.{Never, Back}
 use Rattle.logos_code.specs.declared.code.rows.MatchUse.{MatchUse}
 use Rattle.logos_code.specs.declared.code.rows.Step.TheVariants.{Leads, Stays, Halts, Looks, Closes, Stuck}
@@ -24,13 +24,13 @@ use Rattle.logos_machine.proofs.LookLemmas.{loops_on, sees_byte, sees_end, sees_
 pub loop_named : (code : CodeValue) (s test : ℕ) → IsSound code → s < length code.states → (state_at code s).fast_loop ≡ Some test → NamesTest code test
 loop_named code s test sound there is =
     let got = slice_get-get_or code.states s no_state there in
-    let names = All-slice_get (NamesWhatIsThere code) code.states s (state_at code s) sound.states got in
+    let names = All-slice_get (NamesExisting code) code.states s (state_at code s) sound.states got in
     rw is at names.fast_loop
 
 -- the entry of a byte that stays names the test of its state
 pub stays_test : (code : CodeValue) (state : CodeState) (b entry : ℕ) → IsEntry code state b entry → (268435456 ≤ entry) × (entry < 536870912) →
     (stays code state.fast_loop b ≡ true) × (state.fast_loop ≡ Some (entry - 268435456))
-stays_test code state b entry is h = is.says (Stays (entry - 268435456)) (omega (arith, h.0), omega (arith, h.0, h.1))
+stays_test code state b entry is h = is.describes (Stays (entry - 268435456)) (omega (arith, h.0), omega (arith, h.0, h.1))
 
 module _ (code : CodeValue) (sound : IsSound code) (bytes : List ℕ) (s : ℕ) (there : s < length code.states) (at entry stop : ℕ) (within : at < length bytes)
     (is : IsEntry code (state_at code s) (get_or bytes at 0) entry) (kind : (268435456 ≤ entry) × (entry < 536870912)) (stops : StopsAt code (entry - 268435456) bytes (at + 1) stop) where
@@ -38,36 +38,36 @@ module _ (code : CodeValue) (sound : IsSound code) (bytes : List ℕ) (s : ℕ) 
   loop_ends : stop ≡ at + looped code (state_at code s).fast_loop (drop at bytes)
   loop_ends =
       let test = entry - 268435456 in
-      let said = stays_test code (state_at code s) (get_or bytes at 0) entry is kind in
-      let on = loops_on code test bytes at within (rw said.1 at said.0) in
+      let stated = stays_test code (state_at code s) (get_or bytes at 0) entry is kind in
+      let on = loops_on code test bytes at within (rw stated.1 at stated.0) in
       let rest = stop_looped code test bytes (at + 1) stop stops in
-      rw said.1 (omega (arith, on, rest))
+      rw stated.1 (omega (arith, on, rest))
 
   fits : (at + 1 ≤ stop) × (stop ≤ length bytes)
   fits = stop_within code (entry - 268435456) bytes (at + 1) stop stops (omega (arith, within))
 
   -- it takes all bytes that are left
   pub looks_end : (last : ℕ) → length bytes ≤ stop → IsLastEntry code (state_at code s) last → LooksAhead code bytes s at last stop
-  looks_end last past says = record {
+  looks_end last past describes = record {
     past = omega (arith, fits.0);
     within = fits.1;
-    moves = inr says.last;
-    sees = λ start h step f. sees_end code bytes start s there at stop sound step loop_ends (slice_get_past bytes stop past) (says.says step f);
-    row_start = λ h. absurd (omega (arith, h, says.last));
+    moves = inr describes.last;
+    sees = λ start h step f. sees_end code bytes start s there at stop sound step loop_ends (slice_get_past bytes stop past) (describes.describes step f);
+    row_start = λ h. absurd (omega (arith, h, describes.last));
   }
 
   -- it ends at a byte
   pub looks_byte : (later : ℕ) → stop < length bytes → IsEntry code (state_at code s) (get_or bytes stop 0) later → LooksAhead code bytes s at later stop
-  looks_byte later inside says =
+  looks_byte later inside describes =
       let loop = (state_at code s).fast_loop in
       let e = loop_ends in
       let out : stays code loop (get_or bytes stop 0) ≡ false = rw (← e) at (loop_stops code loop bytes at 0 (rw e at inside)) in
       record {
         past = omega (arith, fits.0);
         within = fits.1;
-        moves = ⊎_elim (λ h. inl (h, inside)) (λ h. inr h) (entry_moves code (state_at code s) (get_or bytes stop 0) later says out);
-        sees = λ start h step f. sees_byte code bytes start s there at stop (get_or bytes stop 0) step h e (slice_get-get_or bytes stop 0 inside) (says.says step f);
-        row_start = says.row_start;
+        moves = ⊎_elim (λ h. inl (h, inside)) (λ h. inr h) (entry_moves code (state_at code s) (get_or bytes stop 0) later describes out);
+        sees = λ start h step f. sees_byte code bytes start s there at stop (get_or bytes stop 0) step h e (slice_get-get_or bytes stop 0 inside) (describes.describes step f);
+        row_start = describes.row_start;
       }
 
 module _ (code : CodeValue) (sound : IsSound code) (bytes : List ℕ) (start : ℕ) (starts : start ≤ length bytes) where
@@ -76,9 +76,9 @@ module _ (code : CodeValue) (sound : IsSound code) (bytes : List ℕ) (start : �
   comes_first = record {
     context = None;
     is_at = is_at_first code sound bytes start starts;
-    stood = first_status;
+    of_attempt = first_status;
     few = omega arith;
-    goes_on = λ found n g. let e : 0 + n ≡ n = omega arith in rw e g;
+    continues = λ found n g. let e : 0 + n ≡ n = omega arith in rw e g;
   }
 
   -- an examination from a state on
@@ -95,7 +95,7 @@ module _ (code : CodeValue) (sound : IsSound code) (bytes : List ℕ) (start : �
 
   -- the end of the input
   pub looks_past : (state at before last : ℕ) → Comes code bytes start state at before → at ≡ length bytes → IsLastEntry code (state_at code state) last → Reaches code bytes start state last at before
-  looks_past state at before last comes end says =
+  looks_past state at before last comes end describes =
       let is_at = comes.is_at in
       let none : looped code (state_at code state).fast_loop (drop at bytes) ≡ 0 = omega (arith, looped-fits code (state_at code state).fast_loop (drop at bytes), length-drop at bytes, end) in
       record {
@@ -103,8 +103,8 @@ module _ (code : CodeValue) (sound : IsSound code) (bytes : List ℕ) (start : �
         comes = comes;
         past = omega arith;
         within = omega (arith, end);
-        sees = λ step f. sees_end code bytes start state is_at.state at at sound step (omega (arith, none)) (slice_get_past bytes at (omega (arith, end))) (says.says step f);
-        row_start = λ h. absurd (omega (arith, h, says.last));
+        sees = λ step f. sees_end code bytes start state is_at.state at at sound step (omega (arith, none)) (slice_get_past bytes at (omega (arith, end))) (describes.describes step f);
+        row_start = λ h. absurd (omega (arith, h, describes.last));
       }
 
   -- the entry of the byte there
@@ -136,15 +136,15 @@ module _ (code : CodeValue) (sound : IsSound code) (bytes : List ℕ) (start : �
         record {
           context = does.0;
           is_at = n.0;
-          stood = next_status at next r.comes.stood does.1;
+          of_attempt = next_status at next r.comes.of_attempt does.1;
           few = omega (arith, few, moves);
-          goes_on = λ found m g.
+          continues = λ found m g.
               let e : before + suc m ≡ before + 1 + m = omega arith in
-              rw (← e) (r.comes.goes_on found (suc m) (goes_on at next found m does.1 g));
+              rw (← e) (r.comes.continues found (suc m) (continues at next found m does.1 g));
         }
 
     -- an entry that halts
-    halts_soon : (leaf : ℕ) (used : MatchUse) → entry ≡ first_halting used + leaf → leaf < 134217728 → Tried code bytes start (matched leaf stop) (before + 1) × IsUse code leaf used
+    halts_soon : (leaf : ℕ) (used : MatchUse) → entry ≡ first_halting used + leaf → leaf < 134217728 → Attempted code bytes start (matched leaf stop) (before + 1) × IsUse code leaf used
     halts_soon leaf used is small =
         let sees : Sees code bytes start state r.offset stop (Halts (record { 0 = leaf }) used) = r.sees (Halts (record { 0 = leaf }) used) (is, small) in
         let does = sees.0 r.comes.context in
@@ -152,7 +152,7 @@ module _ (code : CodeValue) (sound : IsSound code) (bytes : List ℕ) (start : �
         let past = r.past in
         let within = r.within in (
           record {
-            attempts = r.comes.goes_on (matched leaf stop) 1 (acts_on at (Some (leaf, stop)) stop (matched leaf stop) does refl);
+            attempts = r.comes.continues (matched leaf stop) 1 (acts_on at (Some (leaf, stop)) stop (matched leaf stop) does refl);
             within = is_at_match code sound bytes start starts at (Some (leaf, stop)) stop r.comes.is_at does;
             few = omega (arith, few, past, within);
           },
@@ -160,7 +160,7 @@ module _ (code : CodeValue) (sound : IsSound code) (bytes : List ℕ) (start : �
         )
 
     -- an entry that looks ahead
-    looks_soon : (leaf : ℕ) (used : MatchUse) → entry ≡ first_halting used + 134217728 + leaf → leaf < 134217728 → Tried code bytes start (matched leaf stop) (before + 2) × IsUse code leaf used
+    looks_soon : (leaf : ℕ) (used : MatchUse) → entry ≡ first_halting used + 134217728 + leaf → leaf < 134217728 → Attempted code bytes start (matched leaf stop) (before + 2) × IsUse code leaf used
     looks_soon leaf used is small =
         let sees : Sees code bytes start state r.offset stop (Looks (record { 0 = leaf }) used) = r.sees (Looks (record { 0 = leaf }) used) (is, small) in
         let does = sees.0 r.comes.context in
@@ -171,8 +171,8 @@ module _ (code : CodeValue) (sound : IsSound code) (bytes : List ℕ) (start : �
         let m = is_at_match code sound bytes start starts next (Some (leaf, stop)) (stop + 1) n.0 does.3 in
         let within = m.2 in (
           record {
-            attempts = r.comes.goes_on (matched leaf stop) 2
-                (goes_on at next (matched leaf stop) 1 does.2 (acts_on next (Some (leaf, stop)) (stop + 1) (matched leaf stop) does.3 refl));
+            attempts = r.comes.continues (matched leaf stop) 2
+                (continues at next (matched leaf stop) 1 does.2 (acts_on next (Some (leaf, stop)) (stop + 1) (matched leaf stop) does.3 refl));
             within = m;
             few = omega (arith, few, past, within);
           },
@@ -181,20 +181,20 @@ module _ (code : CodeValue) (sound : IsSound code) (bytes : List ℕ) (start : �
 
     -- an entry of a match that ends before its byte
     pub ends_before : (named : ℕ) (used : MatchUse) → entry ≡ first_halting used + named → named < 268435456 →
-        Tried code bytes start (matched (named % 134217728) stop) (before + 1 + named / 134217728) × IsUse code (named % 134217728) used
+        Attempted code bytes start (matched (named % 134217728) stop) (before + 1 + named / 134217728) × IsUse code (named % 134217728) used
     ends_before named used is small = go (named / 134217728) (named % 134217728) (omega arith) (omega arith) (omega (arith, small))
       where
-        go : (late leaf : ℕ) → named ≡ 134217728 * late + leaf → leaf < 134217728 → late < 2 → Tried code bytes start (matched leaf stop) (before + 1 + late) × IsUse code leaf used
+        go : (late leaf : ℕ) → named ≡ 134217728 * late + leaf → leaf < 134217728 → late < 2 → Attempted code bytes start (matched leaf stop) (before + 1 + late) × IsUse code leaf used
         go zero leaf e l h =
             let n : before + 1 ≡ before + 1 + 0 = omega arith in
-            subst (λ steps. Tried code bytes start (matched leaf stop) steps × IsUse code leaf used) n (halts_soon leaf used (omega (arith, is, e)) l)
+            subst (λ steps. Attempted code bytes start (matched leaf stop) steps × IsUse code leaf used) n (halts_soon leaf used (omega (arith, is, e)) l)
         go (suc zero) leaf e l h =
             let n : before + 2 ≡ before + 1 + 1 = omega arith in
-            subst (λ steps. Tried code bytes start (matched leaf stop) steps × IsUse code leaf used) n (looks_soon leaf used (omega (arith, is, e)) l)
+            subst (λ steps. Attempted code bytes start (matched leaf stop) steps × IsUse code leaf used) n (looks_soon leaf used (omega (arith, is, e)) l)
         go (suc (suc late)) leaf e l h = absurd (omega (arith, h))
 
     -- an entry that closes
-    pub closes_soon : (leaf : ℕ) (used : MatchUse) → entry ≡ first_closing used + leaf → leaf < 268435456 → Tried code bytes start (matched leaf (stop + 1)) (before + 2) × IsUse code leaf used
+    pub closes_soon : (leaf : ℕ) (used : MatchUse) → entry ≡ first_closing used + leaf → leaf < 268435456 → Attempted code bytes start (matched leaf (stop + 1)) (before + 2) × IsUse code leaf used
     closes_soon leaf used is small =
         let sees : Sees code bytes start state r.offset stop (Closes (record { 0 = leaf }) used) = r.sees (Closes (record { 0 = leaf }) used) (is, small) in
         let does = sees.0 r.comes.context in
@@ -205,8 +205,8 @@ module _ (code : CodeValue) (sound : IsSound code) (bytes : List ℕ) (start : �
         let m = is_at_match code sound bytes start starts next (Some (leaf, stop + 1)) (stop + 1) n.0 does.3 in
         let within = m.2 in (
           record {
-            attempts = r.comes.goes_on (matched leaf (stop + 1)) 2
-                (goes_on at next (matched leaf (stop + 1)) 1 does.2 (acts_on next (Some (leaf, stop + 1)) (stop + 1) (matched leaf (stop + 1)) does.3 refl));
+            attempts = r.comes.continues (matched leaf (stop + 1)) 2
+                (continues at next (matched leaf (stop + 1)) 1 does.2 (acts_on next (Some (leaf, stop + 1)) (stop + 1) (matched leaf (stop + 1)) does.3 refl));
             within = m;
             few = omega (arith, few, past, within);
           },
@@ -219,30 +219,30 @@ module _ (code : CodeValue) (sound : IsSound code) (bytes : List ℕ) (start : �
       stuck = let sees : Sees code bytes start state r.offset stop Stuck = r.sees Stuck (low, high) in sees inside r.comes.context
 
       -- the last mark passed is this number of bytes back
-      pub goes_back : (leaf : LeafId) (n : ℕ) → IsLastMark code state (Back leaf n) → Tried code bytes start (matched leaf.0 (stop - n)) (before + 1)
+      pub goes_back : (leaf : LeafId) (n : ℕ) → IsLastMark code state (Back leaf n) → Attempted code bytes start (matched leaf.0 (stop - n)) (before + 1)
       goes_back leaf n last =
-          let e : stuck.0 ≡ Some (leaf.0, stop - n) = last bytes start at stuck.0 stop are r.comes.stood refl stuck.1 in
+          let e : stuck.0 ≡ Some (leaf.0, stop - n) = last bytes start at stuck.0 stop are r.comes.of_attempt refl stuck.1 in
           let does : Does code bytes start at (acts (Some (leaf.0, stop - n)) stop) = subst (λ (p : Option (ℕ × ℕ)). Does code bytes start at (acts p stop)) e stuck.1 in
           let few = r.comes.few in
           let past = r.past in
           let within = r.within in
           record {
-            attempts = r.comes.goes_on (matched leaf.0 (stop - n)) 1 (acts_on at (Some (leaf.0, stop - n)) stop (matched leaf.0 (stop - n)) does refl);
+            attempts = r.comes.continues (matched leaf.0 (stop - n)) 1 (acts_on at (Some (leaf.0, stop - n)) stop (matched leaf.0 (stop - n)) does refl);
             within = is_at_match code sound bytes start starts at (Some (leaf.0, stop - n)) stop r.comes.is_at does;
             few = omega (arith, few, past, within);
           }
 
       -- none was passed
-      pub fails_soon : (to : ℕ) → IsLastMark code state Never → EndsError code bytes start stop to → to ≤ length bytes → Tried code bytes start (failed to) (before + 1)
+      pub fails_soon : (to : ℕ) → IsLastMark code state Never → EndsError code bytes start stop to → to ≤ length bytes → Attempted code bytes start (failed to) (before + 1)
       fails_soon to last ends fits =
-          let e : stuck.0 ≡ None = last bytes start at stuck.0 stop are r.comes.stood refl stuck.1 in
+          let e : stuck.0 ≡ None = last bytes start at stuck.0 stop are r.comes.of_attempt refl stuck.1 in
           let does : Does code bytes start at (acts None stop) = subst (λ (p : Option (ℕ × ℕ)). Does code bytes start at (acts p stop)) e stuck.1 in
           let few = r.comes.few in
           let past = r.past in
           let within = r.within in
           let over = ends.past in
           record {
-            attempts = r.comes.goes_on (failed to) 1 (acts_on at None stop (failed to) does ends);
+            attempts = r.comes.continues (failed to) 1 (acts_on at None stop (failed to) does ends);
             within = (omega (arith, over), fits);
             few = omega (arith, few, past, within);
           }

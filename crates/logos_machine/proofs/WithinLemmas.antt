@@ -9,7 +9,7 @@ use Rattle.logos_code.specs.Runs.{RunsOn, CodeFinds}
 use Rattle.logos_machine.specs.LexerValue.{LexerValue}
 use Rattle.logos_machine.specs.Streams.{first_status, LooksPast, MayFollow, passes_none, passes_match, RunsOver}
 use Rattle.logos_machine.specs.Within.{YieldsWithin, KeepsGiven, Waits}
-use Rattle.logos_machine.specs.inside.Parts.{TriedWithin}
+use Rattle.logos_machine.specs.inside.Parts.{AttemptedWithin}
 use Rattle.logos_machine.specs.inside.IsAt.{IsMatch}
 use Rattle.logos_machine.proofs.AgreeLemmas.{open_attempts, attempts_whatever_follows}
 use Rattle.logos_machine.proofs.LexerLemmas.{moved, item_span}
@@ -36,19 +36,19 @@ module _ (uses : List Use) (callback : Callback) (part rest : List ℕ) (from to
 module _ {C : Type 0} (callback : Callback) (old : LexerValue C) where
   -- a continuation from here, after matches without an item, continues after the last item,
   -- regardless of the bytes after the part
-  pub record GoesOnWithin (from : ℕ) : Type 0 where
+  pub record ContinuesWithin (from : ℕ) : Type 0 where
     pub after : old.to ≤ from
     pub within : from ≤ length old.input
     pub over : (rest : List ℕ) → MayFollow old.code rest → (end : ℕ) → RunsOver old.code callback (old.input ++ rest) from end → RunsOver old.code callback (old.input ++ rest) old.to end
     pub next : (rest : List ℕ) → MayFollow old.code rest → (item : Item) (end : ℕ) → RunsOn old.code callback (old.input ++ rest) from item end → RunsOn old.code callback (old.input ++ rest) old.to item end
 
-  module _ (from to steps : ℕ) (found : Found) (t : TriedWithin old.code old.input from found steps) where
+  module _ (from to steps : ℕ) (found : Found) (t : AttemptedWithin old.code old.input from found steps) where
     finds_within : (rest : List ℕ) → MayFollow old.code rest → CodeFinds old.code (old.input ++ rest) from found
     finds_within rest follows = (steps, attempts_whatever_follows old.code old.input rest from steps found follows t.attempts)
 
   -- past a match without an item
-  pub passes_within : (from to leaf steps : ℕ) (answer : Action) → GoesOnWithin from → TriedWithin old.code old.input from (matched leaf to) steps →
-      MayAnswer old.code.leaves callback old.input leaf (slice_range old.input from to) answer → items_of old.code.leaves callback old.input answer leaf from to ≡ [] → GoesOnWithin to
+  pub passes_within : (from to leaf steps : ℕ) (answer : Action) → ContinuesWithin from → AttemptedWithin old.code old.input from (matched leaf to) steps →
+      MayAnswer old.code.leaves callback old.input leaf (slice_range old.input from to) answer → items_of old.code.leaves callback old.input answer leaf from to ≡ [] → ContinuesWithin to
   passes_within from to leaf steps answer i t may is =
       let after = i.after in
       let fits : IsMatch old.code old.input from leaf to = t.within in
@@ -71,7 +71,7 @@ module _ {C : Type 0} (callback : Callback) (old : LexerValue C) where
         subst (λ (l : LexerValue C). KeepsGiven old l) (sym is_new) made
 
     -- the item of a match
-    pub yields_within : (leaf : ℕ) (answer : Action) (item : Item) → GoesOnWithin from → TriedWithin old.code old.input from (matched leaf to) steps →
+    pub yields_within : (leaf : ℕ) (answer : Action) (item : Item) → ContinuesWithin from → AttemptedWithin old.code old.input from (matched leaf to) steps →
         MayAnswer old.code.leaves callback old.input leaf (slice_range old.input from to) answer → items_of old.code.leaves callback old.input answer leaf from to ≡ item ∷ [] →
         YieldsWithin callback old new item
     yields_within leaf answer item i t may is =
@@ -90,7 +90,7 @@ module _ {C : Type 0} (callback : Callback) (old : LexerValue C) where
         subst (λ (l : LexerValue C). YieldsWithin callback old l item) (sym is_new) made
 
     -- an error
-    pub yields_error_within : (item : Item) → GoesOnWithin from → TriedWithin old.code old.input from (failed to) steps → item ≡ error None from to (slice_range old.input from to) → YieldsWithin callback old new item
+    pub yields_error_within : (item : Item) → ContinuesWithin from → AttemptedWithin old.code old.input from (failed to) steps → item ≡ error None from to (slice_range old.input from to) → YieldsWithin callback old new item
     yields_error_within item i t is =
         let span : (from < to) × (to ≤ length old.input) = t.within in
         let order : from ≤ to = (let f = span.0 in omega (arith, f)) in
@@ -107,7 +107,7 @@ module _ {C : Type 0} (callback : Callback) (old : LexerValue C) where
         subst (λ (l : LexerValue C). YieldsWithin callback old l item) (sym is_new) (subst (λ i. YieldsWithin callback old (moved old from to steps) i) (sym is) made)
 
   -- the next item depends on the bytes after the part
-  pub waits_within : (from : ℕ) (new : LexerValue C) → new ≡ moved old from from old.steps → GoesOnWithin from → LooksPast old.code old.input from (first_status old.code from) → Waits callback old new
+  pub waits_within : (from : ℕ) (new : LexerValue C) → new ≡ moved old from from old.steps → ContinuesWithin from → LooksPast old.code old.input from (first_status old.code from) → Waits callback old new
   waits_within from new is_new i looks =
       let made : Waits callback old (moved old from from old.steps) = record {
         from = refl;

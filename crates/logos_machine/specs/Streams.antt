@@ -52,16 +52,16 @@ module _ (code : CodeValue) (bytes : List ℕ) (start seen : ℕ) where
 
   -- From this status on, the attempt has this result in this number of states, and depends only on
   -- the first `seen` bytes.
-  pub data GoesWithin : Status → Found → ℕ → Type 0 where
+  pub data AttemptsFromWithin : Status → Found → ℕ → Type 0 where
     leads_within : (at next : Status) (found : Found) (n : ℕ) → StopsWithin at →
-        Does code bytes start at (enters next) → GoesWithin next found n → GoesWithin at found (suc n)
+        Does code bytes start at (enters next) → AttemptsFromWithin next found n → AttemptsFromWithin at found (suc n)
     acts_within : (at : Status) (context : Option (ℕ × ℕ)) (offset : ℕ) (found : Found) → StopsWithin at →
-        Does code bytes start at (acts context offset) → Acts code bytes start context offset found → EndsWithin found → GoesWithin at found 1
+        Does code bytes start at (acts context offset) → Acts code bytes start context offset found → EndsWithin found → AttemptsFromWithin at found 1
 
   -- An attempt from the start has this result in this number of states, and depends only on the
   -- first `seen` bytes.
   abbrev pub AttemptsWithin : Found → ℕ → Type 0
-  AttemptsWithin = GoesWithin (first_status code start)
+  AttemptsWithin = AttemptsFromWithin (first_status code start)
 
 -- The result of the attempt is open at the end of the bytes: it reaches the end before its first
 -- byte, or in a state with a transition on more bytes or on the end of the input.

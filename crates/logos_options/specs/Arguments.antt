@@ -25,7 +25,7 @@ pub record ArgumentsValue : Type 0 where
 
 -- An empty command line. The table has sixteen options.
 abbrev pub nothing_given : ArgumentsValue
-nothing_given = record { first = None; second = None; settings = replicate 16 None; question = None; text = None; progress = not_begun }
+nothing_given = record { first = None; second = None; settings = replicate 17 None; question = None; text = None; progress = not_begun }
 
 -- The value of a setting, if it is given.
 abbrev pub setting : OptionName → List (Option (List ℕ)) → Option (List ℕ)

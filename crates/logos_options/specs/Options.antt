@@ -34,6 +34,7 @@ rows =
     ∷ row options.Expect (codes "--expect") None true Setting false true
     ∷ row options.Compare (codes "--compare") None false Question false true
     ∷ row options.Html (codes "--html") None true Question false true
+    ∷ row options.Mermaid (codes "--mermaid") None false Question false true
     ∷ row options.Color (codes "--color") None true Setting true true
     ∷ row options.DenyWarnings (codes "--deny-warnings") None false Setting true true
     ∷ row options.MessageFormat (codes "--message-format") None true Setting true true
@@ -54,11 +55,12 @@ number options.Json = 7
 number options.Expect = 8
 number options.Compare = 9
 number options.Html = 10
-number options.Color = 11
-number options.DenyWarnings = 12
-number options.MessageFormat = 13
-number options.Help = 14
-number options.Version = 15
+number options.Mermaid = 11
+number options.Color = 12
+number options.DenyWarnings = 13
+number options.MessageFormat = 14
+number options.Help = 15
+number options.Version = 16
 
 -- The row of an option.
 abbrev pub row_of : OptionName → OptionRowValue

@@ -18,6 +18,7 @@ pub enum OptionName {
     Expect,
     Compare,
     Html,
+    Mermaid,
     Color,
     DenyWarnings,
     MessageFormat,
@@ -26,7 +27,7 @@ pub enum OptionName {
 }
 
 /// The number of options.
-pub(crate) const OPTIONS: usize = 16;
+pub(crate) const OPTIONS: usize = 17;
 
 /// The effect of an option.
 #[derive(Clone, Copy, Debug, PartialEq, Eq)]
@@ -199,17 +200,31 @@ pub(crate) const ROWS: [OptionRow; OPTIONS] = [
         ),
     },
     OptionRow {
+        option: OptionName::Mermaid,
+        word: "--mermaid",
+        letter: None,
+        has_value: false,
+        role: OptionRole::Question,
+        cli: None,
+        show: Some(
+            "      --mermaid     print the state diagram of the lexer as Mermaid text
+",
+        ),
+    },
+    OptionRow {
         option: OptionName::Color,
         word: "--color",
         letter: None,
         has_value: true,
         role: OptionRole::Setting,
         cli: Some(
-            "      --color WHEN   always, never or auto (on a terminal; the default)
+            "      --color WHEN   always, never or auto: on a terminal, unless the variable
+                     NO_COLOR has a value (the default)
 ",
         ),
         show: Some(
-            "      --color WHEN  always, never or auto (on a terminal; the default)
+            "      --color WHEN  always, never or auto: on a terminal, unless the variable
+                    NO_COLOR has a value (the default)
 ",
         ),
     },

@@ -7,4 +7,4 @@ mod page;
 mod shown;
 
 pub use page::{Page, Style, digits};
-pub use shown::columns_of;
+pub use shown::{columns_of, occur_in};

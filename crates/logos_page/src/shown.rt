@@ -12,7 +12,7 @@ const TAB: usize = 4;
 
 /// Returns the character that is shown for one other than a tab: itself, the picture of an ASCII
 /// control character, or U+FFFD for any other unsafe one.
-pub(crate) fn occur_in(character: char) -> char
+pub fn occur_in(character: char) -> char
     ensures { result ≡ occur_in character }
 {
     let code = character as u32;

@@ -46,7 +46,7 @@ HasItsType name options this = this ≡ enum_type name.text (generics options.ty
 pub record IsEnumAnalysis (enum : EnumValue) (at : Span) (analysis : AnalysisView) : Type 0 where
   pub is_name : enum.name ≡ analysis.name
   pub is_span : at ≡ analysis.span
-  pub says : ReadsEnum enum analysis.leaves analysis.options analysis.faults
+  pub reads_as : ReadsEnum enum analysis.leaves analysis.options analysis.faults
   pub is_type : HasItsType analysis.name analysis.options analysis.this
 
 -- This is the analysis of tokens that are read as an enum.
@@ -58,7 +58,7 @@ pub record IsTokenAnalysis (tokens : TokenList) (analysis : AnalysisView) : Type
 -- This is the analysis of a source that is read as an enum.
 pub record IsAnalysis (source : List ℕ) (analysis : AnalysisView) : Type 0 where
   pub enum : EnumValue
-  pub says : YieldsEnum source enum analysis.span
+  pub reads_as : YieldsEnum source enum analysis.span
   pub is_name : enum.name ≡ analysis.name
-  pub enum_says : ReadsEnum enum analysis.leaves analysis.options analysis.faults
+  pub enum_reads : ReadsEnum enum analysis.leaves analysis.options analysis.faults
   pub is_type : HasItsType analysis.name analysis.options analysis.this

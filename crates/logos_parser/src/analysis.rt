@@ -60,7 +60,7 @@ fn read_typed<'s>(
 ) -> Result<(Vec<Leaf<'s>>, TypeExpr<'s>), Memory>
     requires options { parser_view parser.old ≡ no_options }
     requires faults { parser.old.errors ≡ [] }
-    ensures says { IfOk result (λ made. ReadsEnum (enum_value item.now)
+    ensures reads_as { IfOk result (λ made. ReadsEnum (enum_value item.now)
         (map leaf_view made.0.items) (parser_view parser.new) parser.new.errors) }
     ensures is_type { IfOk result (λ made. HasItsType (enum_value item.now).name
         (parser_view parser.new) (type_tree made.1)) }

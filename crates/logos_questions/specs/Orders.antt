@@ -18,8 +18,8 @@ use Rattle.logos_questions.specs.declared.questions.ShowRequest.{ShowRequest}
 
 -- A question about the lexers of a file: their leaves; the items of an input, given by its path;
 -- the matches from a location of an input; examples for each leaf; at most a number of inputs that
--- together take all edges; whether the lexer of another file, given by its path, is equivalent; or
--- a page, written to an argument, with an optional input.
+-- together take all edges; whether the lexer of another file, given by its path, is equivalent; a
+-- page, written to an argument, with an optional input; or the state diagram of a lexer.
 pub data QuestionValue : Type 0 where
   leaves : QuestionValue
   items : (input : List ℕ) → QuestionValue
@@ -28,6 +28,7 @@ pub data QuestionValue : Type 0 where
   inputs : (most : ℕ) → QuestionValue
   comparison : (other : List ℕ) → QuestionValue
   page : (to : List ℕ) → (input : Option (List ℕ)) → QuestionValue
+  diagram : QuestionValue
 
 -- A file: its path, the question about its lexers, the given settings, and the style of messages.
 pub record OrderValue : Type 0 where
@@ -59,6 +60,11 @@ abbrev pub examples_given : Option (List ℕ) → Option QuestionValue
 examples_given None = Some examples
 examples_given (Some input) = None
 
+-- A state diagram. There is no second path.
+abbrev pub diagram_given : Option (List ℕ) → Option QuestionValue
+diagram_given None = Some diagram
+diagram_given (Some input) = None
+
 -- A comparison with another file.
 abbrev pub comparison_given : Option (List ℕ) → Option QuestionValue
 comparison_given None = None
@@ -70,6 +76,7 @@ question_named options.Compare word input = comparison_given input
 question_named options.Inputs word input = inputs_given (number_named word) input
 question_named options.At word input = matches_given (location_named word) input
 question_named options.Html word input = Some (page word input)
+question_named options.Mermaid word input = diagram_given input
 question_named option word input = examples_given input
 
 -- The question about a file. Without an option a second path requests its items.
@@ -115,6 +122,7 @@ question_value questions.Examples = examples
 question_value (questions.Inputs most) = inputs most
 question_value (questions.Comparison other) = comparison other.now
 question_value (questions.Page to input) = page to.now (option_map (λ path. path.now) input)
+question_value questions.Diagram = diagram
 
 -- The view of an order.
 abbrev pub order_value : ShowOrder → OrderValue

@@ -69,6 +69,8 @@ pub enum Question<'w> {
     /// A page, written to this argument, about a lexer and about the input at a path, if one is
     /// given.
     Page(&'w str, Option<&'w str>),
+    /// The state diagram of a lexer.
+    Diagram,
 }
 
 /// Reads the arguments of `logos_show`.
@@ -177,6 +179,8 @@ fn question_named<'w>(
         (OptionName::Inputs, input) => inputs_given(one.value, input),
         (OptionName::At, input) => matches_given(one.value, input),
         (OptionName::Html, input) => Ok(Question::Page(one.value, input)),
+        (OptionName::Mermaid, None) => Ok(Question::Diagram),
+        (OptionName::Mermaid, Some(input)) => Err(misuse("`--mermaid` takes no input, not", input)),
         (_, None) => Ok(Question::Examples),
         (_, Some(input)) => Err(misuse("`--examples` takes no input, not", input)),
     }

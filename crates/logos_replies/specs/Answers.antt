@@ -6,6 +6,9 @@ use Rattle.logos_answers.specs.Expecting.{timeless}
 use Rattle.logos_answers.specs.Inputs.{input_line}
 use Rattle.logos_answers.specs.Matches.{AreLines}
 use Rattle.logos_answers.specs.Offsets.{IsOffsetOf}
+use Rattle.logos_attempts.specs.Around.{IsAroundText}
+use Rattle.logos_attempts.specs.Partials.{IsPartialText}
+use Rattle.logos_code.specs.Code.{CodeValue}
 use Rattle.logos_evidence.specs.Covering.{AreCoveringInputs}
 use Rattle.logos_evidence.specs.Matching.{AreMatches}
 use Rattle.logos_evidence.specs.declared.matches.Match.{Match}
@@ -23,15 +26,20 @@ use Rattle.logos_replies.specs.declared.replies.Agreement.TheVariants.{Different
 abbrev pub location_line : Location → List ℕ
 location_line location = codes "from " ++ (decimal location.line ++ (codes ":" ++ (decimal location.column ++ codes "\n")))
 
--- The lines about all matches from a point of an input were written to standard output.
-pub record PrintsMatches (leaves : List Leaf) (input : List ℕ) (location : Location) (old new : Option (List ℕ)) : Type 0 where
+-- The lines about all matches from a point of an input were written to standard output: after the
+-- line of the match or the error around the point, and before those about how far leaves read.
+pub record PrintsMatches (leaves : List Leaf) (code : CodeValue) (input : List ℕ) (location : Location) (old new : Option (List ℕ)) : Type 0 where
   pub from : ℕ
   pub at : IsOffsetOf input location from
   pub matches : List Match
   pub all : AreMatches (rules_of leaves) input from matches
   pub text : List ℕ
   pub lines : AreLines leaves input from matches text
-  pub printed : Appends old new (location_line location ++ text)
+  pub around : List ℕ
+  pub found : IsAroundText code leaves input from around
+  pub partial : List ℕ
+  pub reads : IsPartialText leaves input from code partial
+  pub printed : Appends old new (around ++ (location_line location ++ (text ++ partial)))
 
 -- The lines of JSON about all matches from a point of an input were written to standard output.
 pub record PrintsMatchRecords (leaves : List Leaf) (input : List ℕ) (location : Location) (old new : Option (List ℕ)) : Type 0 where

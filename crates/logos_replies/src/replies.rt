@@ -4,6 +4,8 @@ ghost use Rattle.std.specs.Prelude.{◌≡◌, IfErr, IfOk, OnOk};
 ghost use Rattle.logos_replies.specs.Views.{AllStart, Gains, IsBytes, IsGraphOf, rules_of, IsNoMisuse, PrintsAgreement, PrintsInputRecords, PrintsInputs, PrintsMatchRecords, PrintsMatches, location_line};
 
 use logos_answers::{offset_of, push_agreement, push_inputs, push_matches};
+use logos_attempts::{push_around, push_partials};
+use logos_codegen::code::Code;
 use logos_codegen::graph::Graph;
 use logos_host::{Failure, print_bytes};
 use logos_lines::Location;
@@ -27,7 +29,8 @@ pub struct InputPoint<'w, 'i> {
     pub location: Location,
 }
 
-/// Writes the matches from a point of an input, as lines of text.
+/// Writes the matches from a point of an input, as lines of text. Before them is the match or the
+/// error around the point, if there is one, and after them how far leaves read, if none matches.
 ///
 /// # Errors
 ///
@@ -36,21 +39,24 @@ pub struct InputPoint<'w, 'i> {
 pub fn write_matches<O: Write>(
     alloc: Global,
     graph: &Graph<'_>,
+    code: &Code<'_>,
     point: InputPoint<'_, '_>,
     out: &mut O,
 ) -> Result<(), Failure<'static>>
     ensures failed { IfErr result IsNoMisuse }
     ensures printed { OnOk result (IsGraphOf graph.now.leaves graph.now.utf8 graph.now →
         AllStart (rules_of graph.now.leaves) → IsBytes point.entry.bytes.now →
-        PrintsMatches graph.now.leaves point.entry.bytes.now point.entry.location
+        PrintsMatches graph.now.leaves code.now point.entry.bytes.now point.entry.location
         (O.contents out.old) (O.contents out.new)) }
 {
     let Some(from) = offset_of(point.bytes, point.location) else {
         return Err(no_location(alloc, point.path, point.location));
     };
     let mut page = Page::new(alloc, false);
+    push_around(&mut page, code, graph.leaves(), point.bytes, from);
     push_location(&mut page, point.location);
     push_matches(alloc, &mut page, graph, point.bytes, from)?;
+    push_partials(alloc, &mut page, graph, code, point.bytes, from)?;
     let text = page.finish()?;
     print_bytes(text.as_str().as_bytes(), out)
 }

@@ -67,10 +67,10 @@ pub seen_more : (p : Fault → Bool) (parts : List Refused) (front : List Fault)
     new ≡ min (count_by p (all_faults (drop next parts) ++ front)) 51
 seen_more p parts front left next d count seen new e l a b c =
     let was = subst (λ n. count ≡ min (count_by p (all_faults (drop n parts) ++ front)) 51) e a in
-    let behind = both_counted p (all_faults (drop (next + 1) parts)) front in
+    let afterward = both_counted p (all_faults (drop (next + 1) parts)) front in
     let here = ap (λ list. count_by p (all_faults list)) (next_left parts next d (omega (arith, e, l))) ∙ both_counted p (get_or parts next d).errors (all_faults (drop (next + 1) parts)) in
     let all = both_counted p (all_faults (drop next parts)) front in
-    omega (arith, was, behind, here, all, b, c)
+    omega (arith, was, afterward, here, all, b, c)
 
 -- all parts were looked at, or enough faults had the code
 pub seen_all : (p : Fault → Bool) (parts : List Refused) (front : List Fault) (left count : ℕ) → count ≡ min (count_by p (all_faults (drop left parts) ++ front)) 51 → (1 ≤ left → 51 ≤ count) →

@@ -36,7 +36,7 @@ pub(crate) struct LineWindow<'t> {
     /// The number of leading characters of the text that are left out.
     skipped: usize,
     /// Whether the line continues after the text.
-    goes_on: bool,
+    continues: bool,
 }
 
 /// Returns the shown part of the line at a location of a file.
@@ -55,7 +55,7 @@ pub(crate) fn window_at<'t>(source: &Source<'t>, spot: FileSpot) -> LineWindow<'
             .saturating_sub(1)
             .saturating_sub(before),
         skipped: 0,
-        goes_on: !ends_at(bytes, to),
+        continues: !ends_at(bytes, to),
     };
     LineWindow {
         skipped: skipped_of(window, before),
@@ -115,7 +115,7 @@ fn character_at(text: &str, offset: usize) -> usize {
 /// characters before it.
 fn skipped_of(window: LineWindow<'_>, before: usize) -> usize {
     let width = columns(window.text, 0, before);
-    let is_whole = (window.front == 0) & !window.goes_on;
+    let is_whole = (window.front == 0) & !window.continues;
     let is_near = (window.front == 0) & (width <= NEAR);
     if is_near | (is_whole & (columns(window.text, 0, usize::MAX) <= COLUMNS)) {
         0
@@ -182,7 +182,7 @@ impl LineWindow<'_> {
             page.push_shown_char(character);
             total = total.saturating_add(columns_of(character));
         }
-        self.goes_on
+        self.continues
     }
 
     /// Returns how many characters of the window are before a column of the line.

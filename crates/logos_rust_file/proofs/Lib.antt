@@ -5,3 +5,4 @@ mod OrderLemmas
 mod ReplaceLemmas
 mod CutLemmas
 mod NameLemmas
+mod PathLemmas

@@ -3,6 +3,7 @@ pub mod Derives
 pub mod Fronts
 pub mod Files
 pub mod Replacing
+pub mod Paths
 pub mod inside
 pub mod Imports
 pub mod Views

@@ -4,3 +4,4 @@ pub use Rattle.logos_rust_file.specs.Files.{AreEnumsOf, Describes, Finds}
 pub use Rattle.logos_rust_file.specs.Fronts.{after_attributes, after_body, after_hash, after_head, braced_in, ends_body, kind_at, kind_of, kind_value, module_in, name_at, name_of}
 pub use Rattle.logos_rust_file.specs.Replacing.{AreInOrder, IsFoundCut, found_span, part_span, replaced}
 pub use Rattle.logos_rust_file.specs.inside.Finding.{AddsItem, AddsRun}
+pub use Rattle.logos_rust_file.specs.Paths.{EndsWithPath, IsNameAt, IsPathOf}

@@ -12,5 +12,5 @@ mod paths;
 mod replacement;
 
 pub use finder::{FoundEnum, ReadFile, enums_in, read_file};
-pub use paths::path_of;
+pub use paths::{ends_with_path, path_of};
 pub use replacement::{Replacement, replace};

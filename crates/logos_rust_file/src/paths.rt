@@ -1,5 +1,8 @@
 //! The paths of enums in a file. `logos_show` requests them for an enum that is given by its name.
 
+ghost use Rattle.std.specs.Prelude.{IfOk, IsTrue, string_bytes};
+ghost use Rattle.logos_rust_file.specs.Views.{EndsWithPath, IsNameAt, IsPathOf};
+
 use crate::finder::FoundEnum;
 use logos_lexeme::lexeme::{LexemeKind, lexeme_at};
 use logos_token::error::Memory;
@@ -20,7 +23,9 @@ struct Word<'t> {
 /// # Errors
 ///
 /// Returns `Memory` if memory runs out.
-pub fn path_of(alloc: Global, text: &str, found: FoundEnum) -> Result<String, Memory> {
+pub fn path_of(alloc: Global, text: &str, found: FoundEnum) -> Result<String, Memory>
+    ensures { IfOk result (λ path. IsPathOf text.now found (string_bytes path)) }
+{
     let mut path = String::new(alloc);
     for level in &levels_of(alloc, before(text, found))? {
         push_level(&mut path, *level)?;
@@ -38,13 +43,35 @@ fn before(text: &str, found: FoundEnum) -> &str {
 }
 
 /// Returns the name of an enum, or an empty text if it has none.
-fn name_in(text: &str, found: FoundEnum) -> &str {
+fn name_in(text: &str, found: FoundEnum) -> &str
+    ensures { IsNameAt text.now found.name result.now }
+{
     let Some(span) = found.name else {
         return "";
     };
-    match text.get(span.from..span.to) {
-        Some(name) => name,
+    let Some((front, _)) = text.split_at_checked(span.to) else {
+        return "";
+    };
+    match front.split_at_checked(span.from) {
+        Some((_, name)) => name,
         None => "",
+    }
+}
+
+/// Returns whether a path ends with `::` and a shorter one.
+pub fn ends_with_path(path: &str, end: &str) -> bool
+    ensures { IsTrue result → EndsWithPath path.now end.now }
+{
+    let from = path.len().saturating_sub(end.len());
+    let Some((front, back)) = path.split_at_checked(from) else {
+        return false;
+    };
+    if back != end {
+        return false;
+    }
+    match front.split_at_checked(front.len().saturating_sub(2)) {
+        Some((_, mark)) => mark == "::",
+        None => false,
     }
 }
 

@@ -1,4 +1,4 @@
-pub mod TryLemmas
+pub mod AttemptLemmas
 pub mod RunLemmas
 pub mod LoadLemmas
 pub mod ItemLemmas

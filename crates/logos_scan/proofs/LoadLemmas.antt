@@ -12,15 +12,15 @@ use Rattle.logos_code.specs.Rows.{IsUse}
 use Rattle.logos_code.specs.declared.code.rows.MatchUse.{MatchUse}
 use Rattle.logos_code.specs.declared.code.rows.MatchUse.TheVariants.{Emits, Skips, CallsBack}
 use Rattle.logos_scan.specs.fold.Folds.{AreFolded, HasUse, leaf_of}
-use Rattle.logos_machine.specs.inside.Looks.{Tried}
+use Rattle.logos_machine.specs.inside.Looks.{Attempted}
 use Rattle.logos_machine.proofs.WalkLemmas.{comes_first}
 use Rattle.logos_scan.specs.Attempts.{ComesTo, SkipsTo, skips_none, skips_then}
 use Rattle.logos_scan.specs.Runs.{IsChunk, IsLoaded, IsRun, IsTaken, WithChunk, point_of}
 use Rattle.logos_scan.specs.declared.attempts.Taken.{Taken}
 use Rattle.logos_scan.specs.declared.attempts.Taken.TheVariants.{Emits as TakenEmits, CallsBack as TakenCallsBack, Fails as TakenFails, Ends as TakenEnds}
 use Rattle.logos_scan.specs.declared.run.Loaded.{Loaded}
-use Rattle.logos_scan.proofs.RunLemmas.{Holds, later_at, starts_short, tried, ends_as, holds_next}
-use Rattle.logos_scan.proofs.TryLemmas.{is_at_begun}
+use Rattle.logos_scan.proofs.RunLemmas.{Holds, later_at, starts_short, attempted, ends_as, holds_next}
+use Rattle.logos_scan.proofs.AttemptLemmas.{is_at_begun}
 use Rattle.logos_scan.specs.declared.walk.cursor.ChunkCursor.{ChunkCursor}
 use Rattle.logos_scan.specs.walk.Cursor.{HasRoom, IsNext, NoToken, StartsAt, token_bit, end_bit}
 use Rattle.logos_scan.specs.walk.Cursors.{IsMarked, IsAt, start_of}
@@ -147,7 +147,7 @@ moved run cursor = record { chunk = run.chunk; cursor = cursor; count = run.coun
 -- skipped, and then skipped again
 pub skips_join : (code : CodeValue) (bytes : List ℕ) (from mid to : ℕ) → SkipsTo code bytes from mid → SkipsTo code bytes mid to → SkipsTo code bytes from to
 skips_join code bytes from mid to a (skips_none at) = a
-skips_join code bytes from mid to a (skips_then m n t leaf steps b tried is) = skips_then from n to leaf steps (skips_join code bytes from m n a b) tried is
+skips_join code bytes from mid to a (skips_then m n t leaf steps b attempted is) = skips_then from n to leaf steps (skips_join code bytes from m n a b) attempted is
 
 module _ (code : CodeValue) (rows : List ℕ) (folded : AreFolded code rows) (input : List ℕ) (are : (k : ℕ) → get_or input k 0 < 256) (run : WithChunk) where
   abbrev base : ℕ
@@ -253,13 +253,13 @@ module _ (code : CodeValue) (rows : List ℕ) (folded : AreFolded code rows) (in
     abbrev entry : ℕ
     entry = slice_index entries at
 
-    pub found_match : ((n : ℕ) × Tried code input start (matched (leaf_of entry) (base + at)) n)
-    found_match = (let c = r.in_chunk in tried code rows folded input are base run.count run.row_start entries c.within start at r.before (holds_at start at r) inside ended).0
+    pub found_match : ((n : ℕ) × Attempted code input start (matched (leaf_of entry) (base + at)) n)
+    found_match = (let c = r.in_chunk in attempted code rows folded input are base run.count run.row_start entries c.within start at r.before (holds_at start at r) inside ended).0
 
     pub found_use : token_bit entries at ≡ 1 → bit_at entry 29 ≡ 0 → IsUse code (leaf_of entry) Emits
     found_use t b = (let c = r.in_chunk in
         let used = ends_as code rows folded input are base run.count run.row_start entries c.within start at r.before (holds_at start at r) inside ended in
-        by_use used.used used.has_use (tried code rows folded input are base run.count run.row_start entries c.within start at r.before (holds_at start at r) inside ended).1)
+        by_use used.used used.has_use (attempted code rows folded input are base run.count run.row_start entries c.within start at r.before (holds_at start at r) inside ended).1)
       where
         by_use : (used : MatchUse) → HasUse entry used → IsUse code (leaf_of entry) used → IsUse code (leaf_of entry) Emits
         by_use Emits has is = is

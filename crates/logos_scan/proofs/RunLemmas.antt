@@ -8,9 +8,9 @@ use Rattle.logos_code.specs.Rows.{IsUse}
 use Rattle.logos_code.specs.declared.code.rows.MatchUse.{MatchUse}
 use Rattle.logos_code.specs.declared.code.rows.MatchUse.TheVariants.{Emits, Skips, CallsBack}
 use Rattle.logos_scan.specs.fold.Folds.{AreFolded, IsFolded, EndsAs, HasUse, leaf_of}
-use Rattle.logos_machine.specs.inside.Looks.{Tried}
+use Rattle.logos_machine.specs.inside.Looks.{Attempted}
 use Rattle.logos_scan.specs.Attempts.{ComesTo, SkipsTo, skips_none, skips_then}
-use Rattle.logos_scan.proofs.TryLemmas.{is_at_begun, is_at_goes, tried_ends}
+use Rattle.logos_scan.proofs.AttemptLemmas.{is_at_begun, is_at_goes, attempted_ends}
 use Rattle.logos_scan.specs.walk.Cursor.{token_bit, end_bit, NoToken, StartsAt}
 use Rattle.logos_scan.specs.walk.Walk.{Walked, row_start_of}
 use Rattle.logos_scan.proofs.walk.CursorLemmas.{ways, starts_join}
@@ -66,8 +66,8 @@ module _ (code : CodeValue) (rows : List ℕ) (folded : AreFolded code rows) (in
     pub ends_as : end_bit entries at ≡ 1 → EndsAs code state byte entry
     ends_as e = let f = is_folded in (f.ends e).0
 
-    pub tried : (e : end_bit entries at ≡ 1) → ((n : ℕ) × Tried code input start (matched (leaf_of entry) (base + at)) n) × IsUse code (leaf_of entry) (ends_as e).used
-    tried e = tried_ends code folded.sound input start h.starts (base + at) row_start h.is_at within entry (ends_as e)
+    pub attempted : (e : end_bit entries at ≡ 1) → ((n : ℕ) × Attempted code input start (matched (leaf_of entry) (base + at)) n) × IsUse code (leaf_of entry) (ends_as e).used
+    attempted e = attempted_ends code folded.sound input start h.starts (base + at) row_start h.is_at within entry (ends_as e)
 
     -- the next attempt begins there
     pub holds_next : end_bit entries at ≡ 1 → Holds (base + at) (at + 1) (row_start_of entry)
@@ -83,7 +83,7 @@ module _ (code : CodeValue) (rows : List ℕ) (folded : AreFolded code rows) (in
 
     -- it is skipped where there is nothing to do
     skips : (e : end_bit entries at ≡ 1) → token_bit entries at ≡ 0 → IsUse code (leaf_of entry) Skips
-    skips e t = by_use (ends_as e).used ((ends_as e).has_use) (tried e).1
+    skips e t = by_use (ends_as e).used ((ends_as e).has_use) (attempted e).1
       where
         by_use : (used : MatchUse) → HasUse entry used → IsUse code (leaf_of entry) used → IsUse code (leaf_of entry) Skips
         by_use Skips has is = is
@@ -127,8 +127,8 @@ module _ (code : CodeValue) (rows : List ℕ) (folded : AreFolded code rows) (in
         start = base + at;
         row_start = row_start_of (slice_index entries at);
         holds = holds_next l.start at l.row_start l.holds inside e;
-        skipped = skips_then first l.start (base + at) (leaf_of (slice_index entries at)) (tried l.start at l.row_start l.holds inside e).0.0 l.skipped
-            (tried l.start at l.row_start l.holds inside e).0.1 (skips l.start at l.row_start l.holds inside e t);
+        skipped = skips_then first l.start (base + at) (leaf_of (slice_index entries at)) (attempted l.start at l.row_start l.holds inside e).0.0 l.skipped
+            (attempted l.start at l.row_start l.holds inside e).0.1 (skips l.start at l.row_start l.holds inside e t);
         starts_at = inr (
           at,
           record {

@@ -6,7 +6,7 @@ use Rattle.logos_code.specs.CodeView.{state_at}
 use Rattle.logos_code.specs.Rows.{IsUse}
 use Rattle.logos_code.specs.Runs.{looped}
 use Rattle.logos_code.specs.declared.code.rows.MatchUse.TheVariants.{Skips}
-use Rattle.logos_machine.specs.inside.Looks.{Comes, Tried}
+use Rattle.logos_machine.specs.inside.Looks.{Comes, Attempted}
 
 -- The attempt that begins at `start` has reached the state of the row, and its fast loop has
 -- reached this byte.
@@ -22,4 +22,4 @@ pub record ComesTo (code : CodeValue) (bytes : List ℕ) (start at row_start : �
 -- From one point to the other, each attempt has a match that is skipped without a callback.
 pub data SkipsTo (code : CodeValue) (bytes : List ℕ) : ℕ → ℕ → Type 0 where
   skips_none : (at : ℕ) → SkipsTo code bytes at at
-  skips_then : (from mid to leaf steps : ℕ) → SkipsTo code bytes from mid → Tried code bytes mid (matched leaf to) steps → IsUse code leaf Skips → SkipsTo code bytes from to
+  skips_then : (from mid to leaf steps : ℕ) → SkipsTo code bytes from mid → Attempted code bytes mid (matched leaf to) steps → IsUse code leaf Skips → SkipsTo code bytes from to

@@ -5,7 +5,7 @@ use Rattle.logos_code.specs.Code.{CodeValue}
 use Rattle.logos_code.specs.Rows.{IsUse}
 use Rattle.logos_code.specs.declared.code.rows.MatchUse.TheVariants.{Emits as IsEmitted}
 use Rattle.logos_scan.specs.fold.Folds.{AreFolded}
-use Rattle.logos_machine.specs.inside.Looks.{Tried}
+use Rattle.logos_machine.specs.inside.Looks.{Attempted}
 use Rattle.logos_scan.specs.Attempts.{ComesTo, SkipsTo}
 use Rattle.logos_scan.specs.declared.run.Loaded.{Loaded}
 use Rattle.logos_scan.specs.declared.run.Reading.{Reading}
@@ -104,7 +104,7 @@ pub record IsOver (reading : Reading) (start : ℕ) (run : WithChunk) : Type 0 w
 -- The result, after matches that are skipped, of a match attempt, and the start of the next one.
 abbrev pub IsTaken : CodeValue → List ℕ → ℕ → Taken → ℕ → Type 0
 IsTaken code bytes from (Emits leaf span) next =
-    SkipsTo code bytes from span.from × ((steps : ℕ) × Tried code bytes span.from (matched leaf.0 span.to) steps) × IsUse code leaf.0 IsEmitted × (next ≡ span.to)
-IsTaken code bytes from (CallsBack leaf span) next = SkipsTo code bytes from span.from × ((steps : ℕ) × Tried code bytes span.from (matched leaf.0 span.to) steps) × (next ≡ span.to)
-IsTaken code bytes from (Fails span) next = SkipsTo code bytes from span.from × ((steps : ℕ) × Tried code bytes span.from (failed span.to) steps) × (next ≡ span.to)
-IsTaken code bytes from Ends next = SkipsTo code bytes from next × ((steps : ℕ) × Tried code bytes next ended steps)
+    SkipsTo code bytes from span.from × ((steps : ℕ) × Attempted code bytes span.from (matched leaf.0 span.to) steps) × IsUse code leaf.0 IsEmitted × (next ≡ span.to)
+IsTaken code bytes from (CallsBack leaf span) next = SkipsTo code bytes from span.from × ((steps : ℕ) × Attempted code bytes span.from (matched leaf.0 span.to) steps) × (next ≡ span.to)
+IsTaken code bytes from (Fails span) next = SkipsTo code bytes from span.from × ((steps : ℕ) × Attempted code bytes span.from (failed span.to) steps) × (next ≡ span.to)
+IsTaken code bytes from Ends next = SkipsTo code bytes from next × ((steps : ℕ) × Attempted code bytes next ended steps)

@@ -23,7 +23,7 @@ pub enum Taken {
 
 /// Returns the result of a match attempt from a point of the input on, after matches that are
 /// skipped without a callback, and the start of the next attempt.
-pub(crate) fn tried(code: &Code, input: &[u8], start: usize) -> (Taken, usize)
+pub(crate) fn attempted(code: &Code, input: &[u8], start: usize) -> (Taken, usize)
     requires { start ≤ length input.now }
     ensures { IsTaken code.now input.now start result.0 result.1 }
 {

@@ -4,14 +4,14 @@
 ghost use Rattle.std.specs.Prelude.{◌≡◌, ◌+◌, ◌<◌, ◌≤◌, length, MatchOption};
 ghost use Rattle.logos_scan.specs.Views.{IsBytes, IsRowStart, ComesTo, answers_of, item_of, EndsItems, YieldsItem, IsChunk, IsFlagged, IsHeld, IsLoaded, IsMarked, IsOver, IsReading, IsReady, IsRun, IsTaken, TakesMatches, start_of, with_chunk};
 
-use crate::attempts::{Taken, tried};
+use crate::attempts::{Taken, attempted};
 use crate::fold::entries::CALLS;
 use crate::fold::folded::Folded;
 use crate::walk::blocks::walk_chunk;
 use crate::walk::cursor::ChunkCursor;
 use crate::walk::masks::ChunkEntries;
 use crate::walk::repair::{Stretch, repair};
-use crate::walk::{ENDED, PLACE, walk};
+use crate::walk::{ENDED, OFFSET_MASK, walk};
 use logos_code::action::Action;
 use logos_code::code::Code;
 use logos_hir::leaf::LeafId;
@@ -108,14 +108,19 @@ fn load(reading: &Reading, base: usize, row_start: usize, chunk: &mut ChunkEntri
 /// passes.
 #[cold]
 #[inline(never)]
-fn try_again(reading: &Reading, run: Run, chunk: &mut ChunkEntries, start: usize) -> (Taken, Run)
+fn attempt_again(
+    reading: &Reading,
+    run: Run,
+    chunk: &mut ChunkEntries,
+    start: usize,
+) -> (Taken, Run)
     requires reading { IsReading reading.now }
     requires held { IsHeld reading.now (with_chunk chunk.old run) start }
     ensures ready { IsReady reading.now (with_chunk chunk.new result.1) }
     ensures taken { IsTaken reading.now.code.now reading.now.input.now start
         result.0 (start_of result.1.cursor) }
 {
-    let (taken, next) = tried(reading.code, reading.input, start);
+    let (taken, next) = attempted(reading.code, reading.input, start);
     let after = restarted(reading, run, chunk, next);
     (taken, after)
 }
@@ -152,7 +157,7 @@ fn repaired_from(reading: &Reading, run: Run, chunk: &mut ChunkEntries, from: us
     let stretch = Stretch {
         from,
         to: run.count,
-        begin: (chunk.entries[from - 1] & PLACE) as usize,
+        begin: (chunk.entries[from - 1] & OFFSET_MASK) as usize,
         end: run.row_start,
     };
     let root = reading.code.root_row_start();
@@ -276,7 +281,7 @@ impl Run {
         ensures taken { IsTaken reading.now.code.now reading.now.input.now start
             result (start_of self.new.cursor) }
     {
-        let (taken, run) = try_again(reading, *self, chunk, start);
+        let (taken, run) = attempt_again(reading, *self, chunk, start);
         *self = run;
         taken
     }

@@ -16,7 +16,7 @@ pub mod masks;
 pub mod repair;
 
 /// The bits of an entry that name the next row, by its offset.
-pub const PLACE: u32 = 0xF_FFFF;
+pub const OFFSET_MASK: u32 = 0xF_FFFF;
 
 /// The flag of an entry where a match ends before the byte.
 pub const ENDED: u32 = 1 << 31;
@@ -48,7 +48,7 @@ pub fn step(rows: &[u32], text: &[u8], row_start: usize, trace: &mut [u32], at: 
 {
     let entry = entry_of(rows, text[at], row_start);
     trace[at] = entry;
-    (entry & PLACE) as usize
+    (entry & OFFSET_MASK) as usize
 }
 
 /// Steps over all bytes of the text, from the row on, and returns the row after them.

@@ -28,7 +28,7 @@ pub are_bytes : (bytes : List ℕ) → ((i : ℕ) → Fits w8 (get_or bytes i 0)
 are_bytes bytes h = λ k d l. rw (get_or_default_zero bytes k d l) (Fits-lt-pow (h k))
 
 -- a lexer that was made of a requested enum
-pub lexer_made : {text : List ℕ} {name : Option (List ℕ)} {one : FoundEnum} {source : List ℕ} {graph : GraphValue} {code : CodeValue} {ident : Slice} {export : Option (List ℕ)} → IsLexerOf text name one → IsPartAt text one.span source →
+abbrev pub lexer_made : {text : List ℕ} {name : Option (List ℕ)} {one : FoundEnum} {source : List ℕ} {graph : GraphValue} {code : CodeValue} {ident : Slice} {export : Option (List ℕ)} → IsLexerOf text name one → IsPartAt text one.span source →
     IsAccepted source (rules_of graph.leaves) graph.utf8 → IsGiven source shape graph code ident export → IsLexerIn text name graph
 lexer_made {text} {name} {one} {source} {graph} {code} {ident} {export} chosen part accepted given = record {
   one = one;
@@ -74,12 +74,12 @@ module _ (order : OrderValue) (text : List ℕ) (graph : GraphValue) (l : IsLexe
 
   -- the matches of a lexer of a text
   pub matches_shown : (input : List ℕ) → IsBytes input → (location : Location) (json : Bool) → json ≡ is_json order → (result : Result T E) →
-      OnOk result (IsGraphOf graph.leaves graph.utf8 graph → AllStart (rules_of graph.leaves) → IsBytes input → PrintsMatchesAs json graph input location old new) →
+      OnOk result (IsGraphOf graph.leaves graph.utf8 graph → AllStart (rules_of graph.leaves) → IsBytes input → PrintsMatchesAs json graph l.code input location old new) →
       OnOk result (ShowsMatchesOf order text input location old new)
   matches_shown input are location json is (Ok x) h =
       let of_leaves = l.given.of_source.of_leaves in
       let printed = h of_leaves (all_start graph of_leaves l.given.of_source.faultless) are in
-      record { graph = graph; of_text = l; printed = subst (λ j. PrintsMatchesAs j graph input location old new) is printed }
+      record { graph = graph; of_text = l; printed = subst (λ j. PrintsMatchesAs j graph l.code input location old new) is printed }
   matches_shown input are location json is (Err e) h = tt
 
 -- an answer that is compared with the stored one

@@ -20,7 +20,7 @@ use Rattle.logos_show.specs.Parts.{IsPartAt}
 use Rattle.logos_replies.specs.Verdicts.{PrintsVerdict}
 use Rattle.logos_replies.specs.declared.replies.Agreement.{Agreement}
 use Rattle.logos_replies.specs.declared.replies.Agreement.TheVariants.{Same}
-use Rattle.logos_questions.specs.Orders.{OrderValue, QuestionValue, Requested, comparison, examples, inputs, items, leaves, matches, page, requests_help, requests_showing, requests_version}
+use Rattle.logos_questions.specs.Orders.{OrderValue, QuestionValue, Requested, comparison, diagram, examples, inputs, items, leaves, matches, page, requests_help, requests_showing, requests_version}
 
 -- The shape of the code of the lexers.
 abbrev pub shape : Config
@@ -51,9 +51,9 @@ abbrev pub expected_in : OrderValue → Option (List ℕ)
 expected_in order = setting options.Expect order.settings
 
 -- The matches from a location of an input were written to standard output, as JSON or as text.
-abbrev pub PrintsMatchesAs : Bool → GraphValue → List ℕ → Location → Option (List ℕ) → Option (List ℕ) → Type 0
-PrintsMatchesAs true graph input location old new = PrintsMatchRecords graph.leaves input location old new
-PrintsMatchesAs false graph input location old new = PrintsMatches graph.leaves input location old new
+abbrev pub PrintsMatchesAs : Bool → GraphValue → CodeValue → List ℕ → Location → Option (List ℕ) → Option (List ℕ) → Type 0
+PrintsMatchesAs true graph code input location old new = PrintsMatchRecords graph.leaves input location old new
+PrintsMatchesAs false graph code input location old new = PrintsMatches graph.leaves code input location old new
 
 -- Inputs that take all edges of a graph were written to standard output, as JSON or as text.
 abbrev pub PrintsInputsAs : Bool → GraphValue → ℕ → Option (List ℕ) → Option (List ℕ) → Type 0
@@ -78,7 +78,7 @@ pub record ComparesFiles (order : OrderValue) (file other : SourceValue) (agreem
 pub record ShowsMatchesOf (order : OrderValue) (text input : List ℕ) (location : Location) (old new : Option (List ℕ)) : Type 0 where
   pub graph : GraphValue
   pub of_text : IsLexerIn text (name_in order) graph
-  pub printed : PrintsMatchesAs (is_json order) graph input location old new
+  pub printed : PrintsMatchesAs (is_json order) graph of_text.code input location old new
 
 -- A text has a requested lexer, and inputs that take all edges of its graph were written.
 pub record ShowsInputsOf (order : OrderValue) (text : List ℕ) (most : ℕ) (old new : Option (List ℕ)) : Type 0 where
@@ -88,7 +88,7 @@ pub record ShowsInputsOf (order : OrderValue) (text : List ℕ) (most : ℕ) (ol
 
 module _ {F : Type 0} (yields : F → List ℕ → List ℕ → F → Type 0) where
   -- The question about a file is answered. Nothing is claimed about answers on leaves, items,
-  -- examples and pages.
+  -- examples, pages and diagrams.
   abbrev pub AnswersAbout : OrderValue → QuestionValue → SourceValue → F → F → Agreement → Option (List ℕ) → Option (List ℕ) → Type 0
   AnswersAbout order (comparison other) file files after agreement old new =
       Reads yields files other (λ text read. (after ≡ read) × ComparesFiles order file (record { path = other; text = text }) agreement old new)
@@ -99,6 +99,7 @@ module _ {F : Type 0} (yields : F → List ℕ → List ℕ → F → Type 0) wh
   AnswersAbout order (items input) file files after agreement old new = agreement ≡ Same
   AnswersAbout order examples file files after agreement old new = agreement ≡ Same
   AnswersAbout order (page to input) file files after agreement old new = agreement ≡ Same
+  AnswersAbout order diagram file files after agreement old new = agreement ≡ Same
 
   -- The file is read, and the question about it is answered.
   abbrev pub Answers : OrderValue → F → F → Agreement → Option (List ℕ) → Option (List ℕ) → Type 0

@@ -76,6 +76,7 @@ fn items_by_lexer<C: Clock, O: Write>(
     let order = ItemOrder {
         alloc,
         settings: task.order.settings,
+        screen: task.screen,
     };
     write_items(order, made, bytes, clock, out)
 }

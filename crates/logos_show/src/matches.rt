@@ -7,8 +7,7 @@ use crate::choice::lexer_in;
 use crate::lexers::{SHAPE, part_of};
 use crate::program::{Task, is_json};
 use crate::refusals::{refused, text_of};
-use logos_codegen::generate;
-use logos_codegen::graph::Graph;
+use logos_codegen::{Generated, generate};
 use logos_host::{Failure, Files, read_bytes};
 use logos_lines::Location;
 use logos_replies::{Agreement, InputPoint, write_match_records, write_matches};
@@ -67,29 +66,29 @@ fn matches_by_file<'w, O: Write, E: Write>(
                 bytes,
                 location: point.location,
             };
-            matches_by_graph(alloc, &made.graph, input, is_json(task.order), out)
+            matches_by_lexer(alloc, &made, input, is_json(task.order), out)
         }
         Err(refusal) => Err(refused(alloc, part, task.showing, refusal)),
     }
 }
 
-/// Writes the matches from a point of an input, found with the lexer of a graph.
-fn matches_by_graph<O: Write>(
+/// Writes the matches from a point of an input, found with a lexer.
+fn matches_by_lexer<O: Write>(
     alloc: Global,
-    graph: &Graph<'_>,
+    made: &Generated<'_>,
     point: InputPoint<'_, '_>,
     is_json: bool,
     out: &mut O,
 ) -> Result<(), Failure<'static>>
     ensures failed { IfErr result IsNoMisuse }
-    ensures printed { OnOk result (IsGraphOf graph.now.leaves graph.now.utf8 graph.now →
-        AllStart (rules_of graph.now.leaves) → IsBytes point.entry.bytes.now →
-        PrintsMatchesAs is_json graph.now point.entry.bytes.now point.entry.location
-        (O.contents out.old) (O.contents out.new)) }
+    ensures printed { OnOk result (IsGraphOf made.now.graph.leaves made.now.graph.utf8 made.now.graph →
+        AllStart (rules_of made.now.graph.leaves) → IsBytes point.entry.bytes.now →
+        PrintsMatchesAs is_json made.now.graph made.now.code point.entry.bytes.now
+        point.entry.location (O.contents out.old) (O.contents out.new)) }
 {
     if is_json {
-        write_match_records(alloc, graph, point, out)
+        write_match_records(alloc, &made.graph, point, out)
     } else {
-        write_matches(alloc, graph, point, out)
+        write_matches(alloc, &made.graph, &made.code, point, out)
     }
 }

@@ -5,6 +5,7 @@ ghost use Rattle.logos_show.specs.Views.{Answers, AnswersAbout, AnswersOrExpects
 
 use crate::choice::found_in;
 use crate::comparison::compare;
+use crate::diagrams::print_diagram;
 use crate::inputs::yield_inputs;
 use crate::items::lex;
 use crate::matches::{FilePoint, show_matches};
@@ -21,7 +22,9 @@ use logos_options::{
 use logos_questions::{Question, RequestKind, ShowOrder, ShowRequest, request_of};
 use logos_replies::{Agreement, write_agreement};
 use logos_report::Source;
+use logos_screen::{PLAIN, Screen, allows_colors, push_fitted, screen_of};
 use std::alloc::{AllocError, Global};
+use std::env::Env;
 use std::io::{Input as StandardInput, IsTerminal, Write};
 use std::time::Clock;
 
@@ -32,6 +35,7 @@ usage: logos_show FILE [INPUT] [--enum NAME] [--color always|never|auto]
        logos_show FILE --inputs N
        logos_show OLD NEW --compare
        logos_show FILE [INPUT] --html PAGE
+       logos_show FILE --mermaid
 ";
 
 const HELP: HelpText = HelpText {
@@ -45,6 +49,9 @@ what its lexer costs, and warns about probable mistakes. With INPUT, prints a
 line for each item of INPUT that the first of these enums finds, and at the end
 how many items there were. Either may be `-`, which is standard input.
 
+On a terminal, lines of tables and of items are cut to the number of columns in
+the variable COLUMNS, if it is exported.
+
 options:
 ",
     end: "      --            what follows are FILE and INPUT, even if they begin with `-`
@@ -57,8 +64,8 @@ const VERSION: &str = "logos_show 0.1.0 (for logos 0.16)\n";
 /// cannot be read, the status is that of the failure.
 pub(crate) fn run_with<
     F: ComparableFiles,
-    C: Clock + StandardInput,
-    O: Write,
+    C: Clock + StandardInput + Env,
+    O: Write + IsTerminal,
     E: Write + IsTerminal,
 >(
     alloc: Global,
@@ -86,14 +93,12 @@ pub(crate) fn run_with<
 /// Runs the program, and returns the exit status: 0 if the request is fulfilled, 1 if it is refused
 /// or two lexers differ, 2 if the arguments are invalid, and 3 if a file, an output or memory
 /// fails. The messages of failures and the warnings are written to standard error.
-pub(crate) fn run<F: ComparableFiles, C: Clock + StandardInput, O: Write, E: Write + IsTerminal>(
-    alloc: Global,
-    arguments: &[String],
-    files: &mut F,
-    clock: &C,
-    err: &mut E,
-    out: &mut O,
-) -> u8
+pub(crate) fn run<
+    F: ComparableFiles,
+    C: Clock + StandardInput + Env,
+    O: Write + IsTerminal,
+    E: Write + IsTerminal,
+>(alloc: Global, arguments: &[String], files: &mut F, clock: &C, err: &mut E, out: &mut O) -> u8
     ensures usage { (result ≡ 2) ↔ (requested (map string_bytes arguments.now) ≡ None) }
     // At exit status 0 the question was answered as requested. Two lexers that are compared find
     // the same on all inputs, and an answer is the stored one.
@@ -127,10 +132,18 @@ pub(crate) struct Task<'w> {
     pub(crate) order: ShowOrder<'w>,
     /// The settings for showing messages.
     pub(crate) showing: Showing,
+    /// The form of standard output.
+    pub(crate) screen: Screen,
 }
 
 /// Carries out the request, and returns the outcome of its comparison, if it has one.
-fn carry_out<'w, F: ComparableFiles, C: Clock + StandardInput, O: Write, E: Write + IsTerminal>(
+fn carry_out<
+    'w,
+    F: ComparableFiles,
+    C: Clock + StandardInput + Env,
+    O: Write + IsTerminal,
+    E: Write + IsTerminal,
+>(
     alloc: Global,
     request: ShowRequest<'w>,
     files: &mut F,
@@ -153,14 +166,29 @@ fn carry_out<'w, F: ComparableFiles, C: Clock + StandardInput, O: Write, E: Writ
                 settings: request.settings,
                 style: asked.style,
             };
-            let showing = Showing {
-                alloc,
-                format: order.style.format,
-                is_colored: order.style.color.is_on(err.is_terminal()),
-                denies: order.settings.has(OptionName::DenyWarnings),
+            let task = Task {
+                order,
+                showing: showing_of(alloc, order, clock, err.is_terminal()),
+                screen: screen_of(clock, order.style.color, out.is_terminal()),
             };
-            answer_or_compare(Task { order, showing }, files, clock, err, out)
+            answer_or_compare(task, files, clock, err, out)
         }
+    }
+}
+
+/// Returns the settings for showing messages, for an output that may be a terminal.
+fn showing_of<V: Env>(
+    alloc: Global,
+    order: ShowOrder<'_>,
+    variables: &V,
+    is_terminal: bool,
+) -> Showing {
+    let takes_colors = is_terminal & allows_colors(variables);
+    Showing {
+        alloc,
+        format: order.style.format,
+        is_colored: order.style.color.is_on(takes_colors),
+        denies: order.settings.has(OptionName::DenyWarnings),
     }
 }
 
@@ -212,7 +240,11 @@ fn expect<'w, F: Files, C: Clock + StandardInput, O: Write, E: Write>(
     let alloc = task.showing.alloc;
     let stored = read_bytes(path, files)?;
     let mut made = Vec::new(alloc);
-    let _ = answer(task, files, clock, err, &mut made)?;
+    let compared = Task {
+        screen: PLAIN,
+        ..task
+    };
+    let _ = answer(compared, files, clock, err, &mut made)?;
     write_agreement(alloc, path, &stored, &made, out)
 }
 
@@ -266,6 +298,7 @@ fn answer_about<'w, F: Files, C: Clock + StandardInput, O: Write, E: Write>(
         Question::Page(to, input) => {
             as_same(write_page(task, source, PageOrder { to, input }, files, err, out))
         }
+        Question::Diagram => as_same(print_diagram(task, source, err, out)),
         Question::Items(_) => as_same(lex_any(task, source, files, clock, err, out)),
         Question::Leaves | Question::Examples => as_same(show(task, source, err, out)),
     }
@@ -315,8 +348,21 @@ fn show<'w, O: Write, E: Write>(
         warnings,
     } = shown_of(alloc, source, style, name)?;
     write_note(err, &warnings);
-    print_bytes(tables.as_str().as_bytes(), out)?;
+    print_tables(task, tables.as_str(), out)?;
     print_bytes(&records, out)
+}
+
+/// Writes the tables of a file, with lines that fit the screen, or examples.
+fn print_tables<'w, O: Write>(task: Task<'w>, tables: &str, out: &mut O) -> Result<(), Failure<'w>>
+    ensures { IfErr result IsNoMisuse }
+{
+    let width = match task.order.question {
+        Question::Leaves => task.screen.width,
+        _ => None,
+    };
+    let mut block = Vec::new(task.showing.alloc);
+    push_fitted(&mut block, tables, width)?;
+    print_bytes(&block, out)
 }
 
 /// Returns whether the answer is JSON.

@@ -29,6 +29,7 @@ pub(crate) fn lex_stream<'w, C: Clock + Input, O: Write, E: Write>(
     let order = ItemOrder {
         alloc,
         settings: task.order.settings,
+        screen: task.screen,
     };
     let one = lexer_in(alloc, task, source, err)?;
     let part = part_of(source, one);

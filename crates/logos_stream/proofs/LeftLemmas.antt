@@ -8,7 +8,7 @@ use Rattle.logos_code.specs.Headline.{IsSound}
 use Rattle.logos_code.specs.Items.{Callback, Item}
 use Rattle.logos_code.specs.Runs.{Runs}
 use Rattle.logos_stream.specs.Fronts.{end_of, item_with}
-use Rattle.logos_stream.specs.Lefts.{AllAreOfTheWhole, AreLeft, GoesOn, MayRead, Steps, placed}
+use Rattle.logos_stream.specs.Lefts.{AllAreOfTheWhole, AreLeft, Continues, MayRead, Steps, placed}
 use Rattle.logos_stream.specs.Nexts.{YieldsNext, WaitsNext}
 use Rattle.logos_stream.specs.Wholes.{AreFound, HasGiven}
 use Rattle.logos_stream.specs.WindowValue.{GoesPast, WindowValue}
@@ -55,7 +55,7 @@ all_of_two a b c first second false p q h k = all_more a b first second p (k ref
 
 module _ {R : Type 0} (remaining : R → Option (List ℕ)) (code : CodeValue) (callback : Callback) where
   abbrev On : WindowValue R → WindowValue R → List Item → Type 0
-  On = GoesOn remaining code callback
+  On = Continues remaining code callback
 
   pub on_none : (window : WindowValue R) → On window window []
   on_none window = record {

@@ -186,7 +186,7 @@ alone false b e h = h
 
 module _ (utf8 : Bool) (part : List ℕ) (most : ℕ) (was : Bool) (before first at ready : ℕ) (last : Bool) (limit least : ℕ)
     (is : IsWindow utf8 part most was before first at ready last limit least)
-    (added next : List ℕ) (grows : next ≡ drop at part ++ added) (tail : Tail) (tells : IsTail utf8 (drop (ready - at) next) tail) where
+    (added next : List ℕ) (grows : next ≡ drop at part ++ added) (tail : Tail) (is_tail : IsTail utf8 (drop (ready - at) next) tail) where
   kept : ready - at ≤ length (drop at part)
   kept = let o = is.order in let w = is.within in omega (arith, o, w, length-drop at part)
 
@@ -206,15 +206,15 @@ module _ (utf8 : Bool) (part : List ℕ) (most : ℕ) (was : Bool) (before first
   ends_now over h = subst (HasEnded utf8 over) (sym after_now) (⊎_elim
       (λ e. inl (e.0, alone tail.is_at_fault over e.1 h))
       (λ t. inr (t.0, (tail.is_at_fault, t.1, either tail.is_at_fault over h)))
-      tells.rest)
+      is_tail.rest)
 
   pub read_window : (over : Bool) (bound : ℕ) → bound ≡ most → IsWindow utf8 next bound over 0 0 0 (ready - at + tail.valid) (tail.is_at_fault || over) limit least
   read_window over bound same = record {
     skipped = omega arith;
     span = omega arith;
     order = omega arith;
-    within = let w = tells.within in let k = kept in omega (arith, w, k, length-drop (ready - at) next, ap length grows, length-append (drop at part) added);
-    text = λ t. subst IsUtf8 (sym lexed_now) (IsUtf8-append (slice_range part at ready) (take tail.valid (drop (ready - at) next)) (is.text t) (tells.text t));
+    within = let w = is_tail.within in let k = kept in omega (arith, w, k, length-drop (ready - at) next, ap length grows, length-append (drop at part) added);
+    text = λ t. subst IsUtf8 (sym lexed_now) (IsUtf8-append (slice_range part at ready) (take tail.valid (drop (ready - at) next)) (is.text t) (is_tail.text t));
     ended = ends_now over;
     bound = same ∙ is.bound;
     wanted = is.wanted;
@@ -262,9 +262,9 @@ module _ (utf8 : Bool) (part : List ℕ) (most : ℕ) (was : Bool) (before first
         ∙ ap (λ l. (slice_range part at ready ++ l) ++ added) (after_moved part at ready is.order is.within);
     grown = take tail.valid (drop (ready - at) next);
     lexed = lexed_now;
-    text = tells.text;
+    text = is_tail.text;
     last = λ h. absurd (let f : false ≡ true = sym begun ∙ h in cc);
-    goes_on = λ h _. some h;
+    continues = λ h _. some h;
     over = λ h _. end h;
     ended = λ h. second tail.is_at_fault over h;
     wanted = same_wanted;
@@ -287,7 +287,7 @@ reads_nothing remaining window h = record {
   lexed = sym (append-nil window.lexed);
   text = λ _. IsUtf8-nil;
   last = λ _. (refl, h);
-  goes_on = λ _ f. absurd (let g : false ≡ true = sym f ∙ h in cc);
+  continues = λ _ f. absurd (let g : false ≡ true = sym f ∙ h in cc);
   over = λ _ f. absurd (let g : false ≡ true = sym f ∙ h in cc);
   ended = λ _. h;
   wanted = refl;

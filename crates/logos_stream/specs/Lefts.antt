@@ -27,7 +27,7 @@ MayRead remaining old new = ReadsOn remaining old new ⊎ StaysUnread remaining 
 
 module _ {R : Type 0} (remaining : R → Option (List ℕ)) (code : CodeValue) (callback : Callback) where
   -- A stream continues: it reads, passes bytes, and returns these items.
-  pub record GoesOn (old new : WindowValue R) (found : List Item) : Type 0 where
+  pub record Continues (old new : WindowValue R) (found : List Item) : Type 0 where
     pub added : List ℕ
     pub consumed : Consumes (remaining old.reader) (remaining new.reader) added
     pub passed : List ℕ
@@ -39,7 +39,7 @@ module _ {R : Type 0} (remaining : R → Option (List ℕ)) (code : CodeValue) (
   -- The stream continues, and its items are appended to a list; or it has ended, and the list stays
   -- unchanged.
   abbrev pub Steps : WindowValue R → WindowValue R → List StreamItem → List StreamItem → Bool → Type 0
-  Steps old new former items false = (found : List Item) × GoesOn old new found × (items ≡ former ++ map placed found)
+  Steps old new former items false = (found : List Item) × Continues old new found × (items ≡ former ++ map placed found)
   Steps old new former items true = FinishesNext code callback old new × (new.after ≡ []) × IsTrue new.is_over × (items ≡ former)
 
   -- These are all remaining items: together with those returned before, they are the items of a run

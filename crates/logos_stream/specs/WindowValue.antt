@@ -91,7 +91,7 @@ pub record ReadsOn {R : Type 0} (remaining : R → Option (List ℕ)) (old new :
   pub lexed : new.lexed ≡ old.lexed ++ grown
   pub text : IsTrue new.utf8 → IsUtf8 grown
   pub last : IsTrue old.is_last → (grown ≡ []) × IsTrue new.is_last
-  pub goes_on : IsFalse new.is_over → IsFalse old.is_last → 0 < length added
+  pub continues : IsFalse new.is_over → IsFalse old.is_last → 0 < length added
   pub over : IsTrue new.is_over → IsFalse old.is_last → IsAtEnd (remaining new.reader)
   pub ended : IsTrue new.is_over → IsTrue new.is_last
   pub wanted : new.wanted ≡ old.wanted

@@ -4,7 +4,7 @@ use Rattle.std.proofs.lemmas.List.{get_or_default, length-map}
 use Rattle.std.proofs.lemmas.Simd.{map-map}
 use Rattle.logos_code.specs.Code.{CodeValue}
 use Rattle.logos_code.specs.CodeView.{code_of, mark_of, state_of, use_of}
-use Rattle.logos_code.specs.Headline.{IsSound, NamesWhatIsThere}
+use Rattle.logos_code.specs.Headline.{IsSound, NamesExisting}
 use Rattle.logos_code.specs.declared.code.CodeLeaf.{CodeLeaf}
 use Rattle.logos_code.specs.declared.code.CodeParts.{CodeParts}
 use Rattle.logos_code.specs.declared.code.Mark.{Mark as TheMark}
@@ -24,7 +24,7 @@ small_marks parts sound k d l =
     let state = get_or states k d in
     let long = length-map parts.leaves.items use_of in
     let count : length (map use_of parts.leaves.items) < 9223372036854775808 = omega (arith, long, parts.leaves.ok.0, parts.leaves.ok.1, parts.leaves.small) in
-    let names = All-map (NamesWhatIsThere (code_of parts)) (state_of parts.jump_tables.items) states k state sound.states l (get_or_default states k d state l) in
+    let names = All-map (NamesExisting (code_of parts)) (state_of parts.jump_tables.items) states k state sound.states l (get_or_default states k d state l) in
     small_mark state.mark (length (map use_of parts.leaves.items)) 9223372036854775807 count names.mark
 
 -- the numbers of all marks, by the facts about the code

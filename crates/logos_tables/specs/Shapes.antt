@@ -1,5 +1,5 @@
 -- The shapes in which lexers are printed.
-use Rattle.std.specs.Prelude.{ℕ, List, Option, true}
+use Rattle.std.specs.Prelude.{ℕ, List, [], Option, true}
 use Rattle.logos_code.specs.Code.{CodeValue}
 use Rattle.logos_code.specs.declared.code.Config.{Config}
 use Rattle.logos_codegen.specs.Around.{IsAroundOf}
@@ -27,7 +27,7 @@ config_of Tables = record { use_state_machine_codegen = true }
 -- those of all conditions are in it.
 pub record IsCodeText (around : AroundValue) (code : CodeValue) (shown : List ℕ) : Type 0 where
   pub occur : OccurInOrder (texts_of code) shown
-  pub begins : BeginsWith (opening_text short_core around (printed_type (type_tree code.header.this))) shown
+  pub begins : BeginsWith (opening_text [] short_core around (printed_type (type_tree code.header.this))) shown
 
 -- A code is printed in a shape, with these texts around its function: as generated code, or as the
 -- front of an implementation and tables that hold all steps of the code.

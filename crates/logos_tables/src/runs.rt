@@ -64,7 +64,7 @@ fn push_step(runs: &mut Vec<Run>, step: usize) -> Result<(), AllocError>
     ensures { OnOk result (spread runs.new.items ≡ spread runs.old.items ++ step ∷ []) }
 {
     match runs.pop() {
-        Some(last) if goes_on(last, step) => runs.push((last.0 + 1, step))?,
+        Some(last) if continues(last, step) => runs.push((last.0 + 1, step))?,
         Some(last) => {
             runs.push(last)?;
             runs.push((1, step))?;
@@ -75,7 +75,7 @@ fn push_step(runs: &mut Vec<Run>, step: usize) -> Result<(), AllocError>
 }
 
 /// Returns whether a run can be extended by this step.
-fn goes_on(run: Run, step: usize) -> bool
+fn continues(run: Run, step: usize) -> bool
     ensures { IsTrue result → (run.1 ≡ step) × (run.0 < LONGEST) }
 {
     (run.1 == step) & (run.0 < LONGEST)

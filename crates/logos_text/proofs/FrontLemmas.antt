@@ -5,7 +5,7 @@ use Rattle.std.specs.List.{starts_with}
 use Rattle.std.specs.Str.Pattern.{FindsTextPrefix, StripsPrefix}
 use denote.Ref.{Bor}
 use Rattle.logos_text.specs.declared.sink.Sink.{Sink}
-use Rattle.logos_text.specs.Fronts.{AroundValue, BeginsWith, IsFront, last_arm_text, library_text, opening_text, tables_use_text, whole_core}
+use Rattle.logos_text.specs.Fronts.{AroundValue, BeginsWith, IsFront, last_arm_text, library_text, opening_text, tables_lead, tables_use_text, whole_core}
 use Rattle.logos_text.specs.Occurrence.{Adds}
 use Rattle.logos_text.specs.Pieces.{IsEmptySink, NotesLast, Prints}
 use Rattle.logos_text.specs.Runs.{name_runs, this_runs}
@@ -44,7 +44,7 @@ begins_text {front} {last} {xs} {ys} {texts} {a} {b} {c} {d} empty p q tail = re
 }
 
 -- the front of an implementation by tables
-pub is_front : {xs ys zs : List TokenList} {a b c d : Sink} (around : AroundValue) (this : List ℕ) → IsEmptySink a → Prints (opening_text whole_core around this) xs a b →
+pub is_front : {xs ys zs : List TokenList} {a b c d : Sink} (around : AroundValue) (this : List ℕ) → IsEmptySink a → Prints (opening_text tables_lead whole_core around this) xs a b →
     Prints (tables_use_text (library_text around.logos)) ys b c → NotesLast last_arm_text zs c d → IsFront around this (string_bytes d.text)
 is_front {xs} {ys} {zs} {a} {b} {c} {d} around this empty p q last = record {
   functions = last.front;

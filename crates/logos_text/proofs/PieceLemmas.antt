@@ -136,9 +136,9 @@ last_noted p q = record { front = p.text; prints = prints_last p.prints q }
 pub runs_more : {A : Type 0} (f : A → List TokenList) (xs : List A) (i : ℕ) (d : A) (start old new : Sink) → i < length xs → d ≡ get_or xs i d → Notes (f d) old new →
     ((whole : Sink) → Notes (flat_map f (drop i xs)) old whole → Notes (flat_map f xs) start whole) → (whole : Sink) → Notes (flat_map f (drop (i + 1) xs)) new whole →
     Notes (flat_map f xs) start whole
-runs_more f xs i d start old new l is step so_far whole behind =
+runs_more f xs i d start old new l is step so_far whole afterward =
     let next : drop i xs ≡ d ∷ drop (i + 1) xs = rw (add-one, drop-cons xs i d) (ap (λ y. y ∷ drop (suc i) xs) (sym is)) in
-    so_far whole (subst (λ left. Notes (flat_map f left) old whole) (sym next) (notes_both step behind))
+    so_far whole (subst (λ left. Notes (flat_map f left) old whole) (sym next) (notes_both step afterward))
 
 pub runs_all : {A : Type 0} (f : A → List TokenList) (xs : List A) (i : ℕ) (start sink : Sink) → length xs ≤ i →
     ((whole : Sink) → Notes (flat_map f (drop i xs)) sink whole → Notes (flat_map f xs) start whole) → Notes (flat_map f xs) start sink

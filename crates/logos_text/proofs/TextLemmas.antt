@@ -63,7 +63,7 @@ occur_whole {texts} {old} {whole} none p = subst (λ w. OccurInOrder texts w) (s
 -- a result for the rest of a loop's texts completes all of them
 more_added : (all rest texts left : List (List ℕ)) (start old new : List ℕ) → rest ≡ texts ++ left → Adds texts old new →
     ((whole : List ℕ) → Adds rest old whole → Adds all start whole) → (whole : List ℕ) → Adds left new whole → Adds all start whole
-more_added all rest texts left start old new e step so_far whole behind = so_far whole (subst (λ ts. Adds ts old whole) (sym e) (adds_both step behind))
+more_added all rest texts left start old new e step so_far whole afterward = so_far whole (subst (λ ts. Adds ts old whole) (sym e) (adds_both step afterward))
 
 all_added : (all rest : List (List ℕ)) (start text : List ℕ) → rest ≡ [] → ((whole : List ℕ) → Adds rest text whole → Adds all start whole) → Adds all start text
 all_added all rest start text e so_far = so_far text (subst (λ ts. Adds ts text text) (sym e) (adds_nothing text))

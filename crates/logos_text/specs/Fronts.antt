@@ -66,14 +66,18 @@ short_core = codes "core "
 abbrev pub whole_core : List ℕ
 whole_core = codes ":: core "
 
--- The signature of the function that lexes, with this path of `core`.
+-- The text before the function that lexes by tables. Callers inline that function.
+abbrev pub tables_lead : List ℕ
+tables_lead = codes "# [ inline ] "
+
+-- The signature of the function that lexes, with this text before it and this path of `core`.
 abbrev pub answer_text : List ℕ → List ℕ
 answer_text core =
     codes ":: Lexer < 's , Self > ) -> " ++ core ++ codes ":: option :: Option < " ++ core
     ++ codes ":: result :: Result < Self , < Self as "
 
-abbrev pub signature_text : List ℕ → List ℕ → List ℕ
-signature_text core logos = codes "fn lex ( lex : & mut " ++ logos ++ answer_text core ++ logos ++ codes ":: Logos < 's >> :: Error >> { "
+abbrev pub signature_text : List ℕ → List ℕ → List ℕ → List ℕ
+signature_text lead core logos = lead ++ codes "fn lex ( lex : & mut " ++ logos ++ answer_text core ++ logos ++ codes ":: Logos < 's >> :: Error >> { "
 
 -- The imports of that function: of items of the library that only it uses, of types of `core`, and
 -- of `Logos`, with the type of the lexer.
@@ -95,9 +99,9 @@ abbrev pub uses_text : List ℕ → List ℕ → List ℕ → List ℕ
 uses_text core logos this = internals_text logos ++ core_text core ++ lexer_text logos this
 
 -- The text before the body of the function that lexes.
-abbrev pub opening_text : List ℕ → AroundValue → List ℕ → List ℕ
-opening_text core around this =
-    head_text (library_text around.logos) this ++ types_text around ++ signature_text core (library_text around.logos)
+abbrev pub opening_text : List ℕ → List ℕ → AroundValue → List ℕ → List ℕ
+opening_text lead core around this =
+    head_text (library_text around.logos) this ++ types_text around ++ signature_text lead core (library_text around.logos)
     ++ uses_text core (library_text around.logos) this
 
 -- The import of the items of the library that a lexer by tables uses.
@@ -117,4 +121,4 @@ pub record BeginsWith (front text : List ℕ) : Type 0 where
 -- the function that lexes, and the functions for errors, matches and tokens.
 pub record IsFront (around : AroundValue) (this : List ℕ) (text : List ℕ) : Type 0 where
   pub functions : List ℕ
-  pub is : text ≡ opening_text whole_core around this ++ (tables_use_text (library_text around.logos) ++ (functions ++ last_arm_text))
+  pub is : text ≡ opening_text tables_lead whole_core around this ++ (tables_use_text (library_text around.logos) ++ (functions ++ last_arm_text))

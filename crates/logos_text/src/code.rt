@@ -1,6 +1,6 @@
 //! Prints a whole code. Called by `logos_codegen`.
 
-ghost use Rattle.std.specs.Prelude.{IfOk, OnOk, map, string_bytes};
+ghost use Rattle.std.specs.Prelude.{[], IfOk, OnOk, map, string_bytes};
 ghost use Rattle.logos_text.specs.Views.{Adds, ArePrinted, BeginsWith, Grows, IsFront, Notes, OccurInOrder, action_runs, around_value, code_of, flat_map, front_runs, opening_text, printed_type, short_core, state_of, state_texts, text_runs, texts_in, texts_of, type_tree};
 
 use crate::actions::push_table_actions;
@@ -22,6 +22,9 @@ use std::alloc::Global;
 const SHORT_CORE: &str = "core ";
 /// The path of `core` in a text of tables: the whole path, which no module beside the enum changes.
 const WHOLE_CORE: &str = ":: core ";
+/// Precedes the function that lexes by tables. It is short, and a caller that inlines it keeps the
+/// lexer in registers.
+const TABLES_LEAD: &str = "# [ inline ] ";
 
 /// Returns the Rust text of a code, as the body of a function: its tokens, with the gaps that
 /// `print` puts between tokens. The texts of all bit tables, by their numbers, are parts of it, and
@@ -49,7 +52,7 @@ pub fn text(alloc: Global, code: &Code<'_>) -> Result<String, Memory>
 /// Returns `Memory` if memory runs out.
 pub fn text_in(alloc: Global, code: &Code<'_>, around: Around<'_, '_>) -> Result<Sink, Memory>
     ensures occur { IfOk result (λ sink. OccurInOrder (texts_of code.now) (string_bytes sink.text)) }
-    ensures begins { IfOk result (λ sink. BeginsWith (opening_text short_core (around_value around.entry)
+    ensures begins { IfOk result (λ sink. BeginsWith (opening_text [] short_core (around_value around.entry)
         (printed_type (type_tree code.now.header.this))) (string_bytes sink.text)) }
     ensures pieces { IfOk result (λ sink. ArePrinted (text_runs (around_value around.entry) code.now)
         0 sink.pieces.items (string_bytes sink.text)) }
@@ -58,16 +61,16 @@ pub fn text_in(alloc: Global, code: &Code<'_>, around: Around<'_, '_>) -> Result
     let this = print_type(alloc, &parts.header.this)?;
     let names = Names::new(parts, &this);
     let mut sink = Sink::new(alloc);
-    push_front(alloc, &mut sink, around, names, SHORT_CORE)?;
+    push_front(alloc, &mut sink, around, names, "", SHORT_CORE)?;
     push_code(alloc, &mut sink, parts, names)?;
     sink.push(" } }")?;
     Ok(sink)
 }
 
-/// Returns the beginning of the implementation of `Logos` by tables for the enum of a code: its
-/// types, the imports of the function that lexes, and inside that function the functions for
-/// errors, matches and tokens. Text that follows it can continue with the body of that function.
-/// The pieces of the source in it are returned with it.
+/// Returns the first part of the implementation of `Logos` by tables: its associated types, and the
+/// beginning of the function `lex` with its imports and its functions for errors, matches and
+/// tokens. The caller appends the rest of the body. The result also has the spans of the pieces of
+/// the source that the text contains.
 ///
 /// # Errors
 ///
@@ -82,7 +85,7 @@ pub fn front_in(alloc: Global, code: &Code<'_>, around: Around<'_, '_>) -> Resul
     let this = print_type(alloc, &parts.header.this)?;
     let names = Names::new(parts, &this);
     let mut sink = Sink::new(alloc);
-    push_front(alloc, &mut sink, around, names, WHOLE_CORE)?;
+    push_front(alloc, &mut sink, around, names, TABLES_LEAD, WHOLE_CORE)?;
     push_tables_use(alloc, &mut sink, around.logos)?;
     push_table_actions(alloc, &mut sink, parts, names)?;
     Ok(sink)

@@ -28,22 +28,24 @@ pub struct Around<'t, 's> {
     pub source: &'static str,
 }
 
-/// Appends the text before a body. `core` is the path of Rust's `core`, with the gap after it.
+/// Appends the text before a body. `lead` precedes the function that lexes, and `core` is the path
+/// of Rust's `core`, with the gap after it.
 pub(crate) fn push_front(
     alloc: Global,
     sink: &mut Sink,
     around: Around<'_, '_>,
     names: Names<'_>,
+    lead: &str,
     core: &str,
 ) -> Result<(), Memory>
     ensures { OnOk result (Prints
-        (opening_text core.now (around_value around.entry) names.entry.this.now)
+        (opening_text lead.now core.now (around_value around.entry) names.entry.this.now)
         (opening_runs (around_value around.entry) names.entry.name names.entry.this.now)
         sink.old sink.new) }
 {
     push_head(alloc, sink, around.logos, names)?;
     push_types(alloc, sink, around)?;
-    push_signature(alloc, sink, core, around.logos)?;
+    push_signature(alloc, sink, lead, core, around.logos)?;
     push_uses(alloc, sink, core, around.logos, names.this)?;
     Ok(())
 }
@@ -190,17 +192,19 @@ fn push_type(alloc: Global, sink: &mut Sink, tokens: Option<Tokens<'_, '_>>) -> 
     }
 }
 
-/// Appends the signature of the function that lexes.
+/// Appends the signature of the function that lexes, after the text that precedes it.
 fn push_signature(
     alloc: Global,
     sink: &mut Sink,
+    lead: &str,
     core: &str,
     library: Option<Tokens<'_, '_>>,
 ) -> Result<(), Memory>
     ensures { OnOk result (Prints
-        (signature_text core.now (library_text (option_map tokens_of library.entry)))
+        (signature_text lead.now core.now (library_text (option_map tokens_of library.entry)))
         (library_twice (option_map tokens_of library.entry)) sink.old sink.new) }
 {
+    sink.push(lead)?;
     sink.push("fn lex ( lex : & mut ")?;
     push_library(alloc, sink, library)?;
     push_answer(sink, core)?;

@@ -33,9 +33,9 @@ module _ (params : Params) (levels : ℕ) (all : Trees) where
   pub begun : Remains params levels all [] all
   begun = record { completes = λ others h. h; passes = λ h. h }
 
-  pub goes_on : (now then : List TypePart) (rest : Trees) (t : Tree) (ts : Trees) (p : TypePart) → Remains params levels all now rest → rest ≡ also t ts → After params levels t (tree_of p) → then ≡ now ++ p ∷ [] →
+  pub continues : (now then : List TypePart) (rest : Trees) (t : Tree) (ts : Trees) (p : TypePart) → Remains params levels all now rest → rest ≡ also t ts → After params levels t (tree_of p) → then ≡ now ++ p ∷ [] →
       Remains params levels all then ts
-  goes_on now then rest t ts p r e a pushed = record {
+  continues now then rest t ts p r e a pushed = record {
     completes = λ others h. rw (same others) (r.completes (also (tree_of p) others) (rw e (also_after a h)));
     passes = λ h. r.passes (rw e (later_passes h));
   }

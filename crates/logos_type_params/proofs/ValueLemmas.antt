@@ -7,13 +7,13 @@ use Rattle.logos_type.specs.declared.type_expr.TypePart.{TypePart}
 use Rattle.logos_type.specs.declared.type_expr.TypePart.TheVariants.{Whole}
 use Rattle.logos_type.proofs.PartTrees.{tree-Whole}
 use Rattle.logos_type_reader.specs.TypeExprs.{IsTypeExpr}
-use Rattle.logos_type_params.specs.TypeParams.{Value, Named, type_syntax, with_lifetimes, all_with_lifetimes, own_lifetime, own_lifetimes, not_type_parameter, is_declared, former, given_more, given_faults, ReadsValue, is_type, goes_on, IsSet, undeclared, is_given}
+use Rattle.logos_type_params.specs.TypeParams.{Value, Named, type_syntax, with_lifetimes, all_with_lifetimes, own_lifetime, own_lifetimes, not_type_parameter, is_declared, former, given_more, given_faults, ReadsValue, is_type, continues, IsSet, undeclared, is_given}
 use Rattle.logos_lexeme.specs.declared.lexeme.Span.{Span}
 
 pub more_left : {old new : List Fault} {tree : Tree} {at : Span} (run rest : TokenList) → (rest ≡ none → ⊥) → IsTypeExpr run tree rest →
     new ≡ old ++ type_syntax at ∷ [] → ReadsValue run at old new None
 more_left run none some is e = absurd (some refl)
-more_left run (also token rest) some is e = goes_on is e
+more_left run (also token rest) some is e = continues is e
 
 all_lifetimes : (parts : List TypePart) → all_with_lifetimes (trees (map tree_of parts)) ≡ trees (map (λ part. with_lifetimes (tree_of part)) parts)
 all_lifetimes [] = refl

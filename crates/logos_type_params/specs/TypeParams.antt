@@ -119,7 +119,7 @@ value_fault too_deep at = limit_type_nesting at
 -- The whole run is a type, or it is not a type and a fault is reported at this span.
 pub data ReadsValue (run : TokenList) (at : Span) (old new : List Fault) : Option Tree → Type 0 where
   is_type : {tree : Tree} → IsTypeExpr run tree none → new ≡ old → ReadsValue run at old new (Some tree)
-  goes_on : {tree : Tree} {token : Token} {rest : TokenList} → IsTypeExpr run tree (also token rest) →
+  continues : {tree : Tree} {token : Token} {rest : TokenList} → IsTypeExpr run tree (also token rest) →
       new ≡ old ++ type_syntax at ∷ [] → ReadsValue run at old new None
   no_type : {why : Mismatch} → NoTypeExpr run why → new ≡ old ++ (value_fault why at) ∷ [] → ReadsValue run at old new None
 

@@ -13,7 +13,7 @@ use Rattle.logos_type_reader.specs.declared.table.stage.Stage.{Stage}
 use Rattle.logos_type_reader.specs.Table as table
 use Rattle.logos_type_reader.specs.Table.{Spot, First, starts, refused, Fault, unsupported, mismatch, to, begin, name_of, begins_colons, first_span}
 use Rattle.logos_type_reader.specs.FaultStages.{start, past, SameSign, EndsWith, OccursAt, fault_at}
-use Rattle.logos_type_reader.proofs.SameSigns.{ForSame, ForSeen, for_same, colons_after, mark_same, goes_on_same, begins_name, in_front}
+use Rattle.logos_type_reader.proofs.SameSigns.{ForSame, ForSeen, for_same, colons_after, mark_same, continues_same, begins_name, in_front}
 
 -- how a type begins: over tokens, or with a group
 pub data Begun (plus : Bool) (run : TokenList) (barred : Bool) (s : Sign) (spot : Spot) : Type 0 where
@@ -115,7 +115,7 @@ pub record NameLocal (run : TokenList) (text : List ℕ) : Type 0 where
   pub same : (other : TokenList) → SameSign rest other → name_of (also first other) ≡ Some text
 
 pub name_local : (run : TokenList) (text : List ℕ) → name_of run ≡ Some text → NameLocal run text
-name_local (also (identifier x s) rest) text e = record { first = identifier x s; rest = rest; is = refl; same = λ other h. rw (goes_on_same h, mark_same 33 h) e }
+name_local (also (identifier x s) rest) text e = record { first = identifier x s; rest = rest; is = refl; same = λ other h. rw (continues_same h, mark_same 33 h) e }
 name_local (also (punctuation c p s) rest) text e = cc
 name_local (also (literal x s) rest) text e = cc
 name_local (also (doc x s) rest) text e = cc
@@ -124,7 +124,7 @@ name_local none text e = cc
 
 -- and one that is more
 pub unnamed_local : (run : TokenList) → name_of run ≡ None → ForSeen run (λ (x : TokenList). name_of x ≡ None)
-unnamed_local (also (identifier x s) rest) e = λ other h. rw (goes_on_same h, mark_same 33 h) e
+unnamed_local (also (identifier x s) rest) e = λ other h. rw (continues_same h, mark_same 33 h) e
 unnamed_local (also (punctuation c p s) rest) e = λ x j. refl
 unnamed_local (also (literal x s) rest) e = λ x. refl
 unnamed_local (also (doc x s) rest) e = λ x. refl

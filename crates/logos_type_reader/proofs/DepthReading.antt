@@ -6,7 +6,7 @@ use Rattle.logos_type.specs.Parts.{Tree, sign, trees, closing}
 use Rattle.logos_type_reader.specs.StillRuns.{still_token, still_run}
 use Rattle.logos_type.specs.Depth.{depth, depth_of}
 use Rattle.logos_type_reader.specs.Table.{Spot, Fault, too_deep}
-use Rattle.logos_type_reader.specs.Reading.{IsType, just_name, formed, IsMove, a_token, a_bar, a_type, a_still_type, still_tokens, a_nest, AreParts, ended, further, NoType}
+use Rattle.logos_type_reader.specs.Reading.{IsType, name_alone, formed, IsMove, a_token, a_bar, a_type, a_still_type, still_tokens, a_nest, AreParts, ended, further, NoType}
 use Rattle.logos_type_reader.proofs.ReadingLaws.{one_type, refused_type}
 use Rattle.logos_type_reader.proofs.ReadingTotal.{type_or_fault}
 
@@ -28,7 +28,7 @@ mutual
 
 mutual
   pub type_within : {n : ℕ} {plus : Bool} {run rest : TokenList} {t : Tree} → IsType n plus run t rest → depth t ≤ n
-  type_within (just_name a e) = omega (arith, a)
+  type_within (name_alone a e) = omega (arith, a)
   type_within (formed a e b h) = let k = parts_within h in omega (arith, a, k)
 
   move_within : {n : ℕ} {b : Bool} {spot outside : Spot} {ps : List Tree} → IsMove n b spot ps outside → depth_of (trees ps) ≤ n
@@ -66,7 +66,7 @@ after_deep d h = omega (arith, h)
 
 mutual
   pub type_enough : {n m : ℕ} {plus : Bool} {run rest : TokenList} {t : Tree} → IsType n plus run t rest → depth t ≤ m → IsType m plus run t rest
-  type_enough (just_name a e) d = just_name (omega (arith, d)) e
+  type_enough (name_alone a e) d = name_alone (omega (arith, d)) e
   type_enough (formed a e b h) d = formed (whole_some _ d) e b (parts_enough h (whole_deep _ d))
 
   move_enough : {n m : ℕ} {b : Bool} {spot outside : Spot} {ps : List Tree} → IsMove n b spot ps outside → depth_of (trees ps) ≤ m → IsMove m b spot ps outside

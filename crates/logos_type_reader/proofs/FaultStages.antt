@@ -96,21 +96,21 @@ out_fixed P Q run r fault k (inner_stage front left a s d) = outer_stage r front
 out_fixed P Q run r fault k (outer_stage rest front left e a s d) = cc
 
 -- a fault after a move
-later_fixed : {n : ℕ} {now : Bool} {p : Stage} {run : TokenList} {b : Option TokenList} {behind : Spot} {ps : List Tree} {fault : Fault} → MoveLocal n now p run b ps behind →
-    FixedAt (λ x c f. NoParts n (to behind.stage x c) f) behind.run behind.outside fault → FixedAt (λ x c f. NoParts n (to p x c) f) run b fault
-later_fixed {n} {now} {p} {run} {b} {behind} {ps} {fault} (over front e g k) l =
+later_fixed : {n : ℕ} {now : Bool} {p : Stage} {run : TokenList} {b : Option TokenList} {afterward : Spot} {ps : List Tree} {fault : Fault} → MoveLocal n now p run b ps afterward →
+    FixedAt (λ x c f. NoParts n (to afterward.stage x c) f) afterward.run afterward.outside fault → FixedAt (λ x c f. NoParts n (to p x c) f) run b fault
+later_fixed {n} {now} {p} {run} {b} {afterward} {ps} {fault} (over front e g k) l =
     subst (λ (x : TokenList). FixedAt (λ y c f. NoParts n (to p y c) f) x b fault) (sym e)
-    (over_fixed (λ x c f. NoParts n (to behind.stage x c) f) (λ x c f. NoParts n (to p x c) f) front behind.run b fault (λ x c f o h m. later (k x c o h) m)
-    (subst (λ (x : Option TokenList). FixedAt (λ y c f. NoParts n (to behind.stage y c) f) behind.run x fault) (sym g) l))
-later_fixed {n} {now} {p} {run} {b} {behind} {ps} {fault} (into d s after e g h k) l =
+    (over_fixed (λ x c f. NoParts n (to afterward.stage x c) f) (λ x c f. NoParts n (to p x c) f) front afterward.run b fault (λ x c f o h m. later (k x c o h) m)
+    (subst (λ (x : Option TokenList). FixedAt (λ y c f. NoParts n (to afterward.stage y c) f) afterward.run x fault) (sym g) l))
+later_fixed {n} {now} {p} {run} {b} {afterward} {ps} {fault} (into d s after e g h k) l =
     subst (λ (x : Option TokenList). FixedAt (λ y c f. NoParts n (to p y c) f) run x fault) (sym g)
     (subst (λ (x : TokenList). FixedAt (λ y c f. NoParts n (to p y c) f) x None fault) (sym e)
-    (into_fixed (λ x c f. NoParts n (to behind.stage x c) f) (λ x c f. NoParts n (to p x c) f) d s behind.run after fault (λ t i x f m. later (k t i x) m)
-    (subst (λ (x : Option TokenList). FixedAt (λ y c f. NoParts n (to behind.stage y c) f) behind.run x fault) h l)))
-later_fixed {n} {now} {p} {run} {b} {behind} {ps} {fault} (out e g k) l =
+    (into_fixed (λ x c f. NoParts n (to afterward.stage x c) f) (λ x c f. NoParts n (to p x c) f) d s afterward.run after fault (λ t i x f m. later (k t i x) m)
+    (subst (λ (x : Option TokenList). FixedAt (λ y c f. NoParts n (to afterward.stage y c) f) afterward.run x fault) h l)))
+later_fixed {n} {now} {p} {run} {b} {afterward} {ps} {fault} (out e g k) l =
     subst (λ (x : Option TokenList). FixedAt (λ y c f. NoParts n (to p y c) f) run x fault) (sym e)
-    (out_fixed (λ x c f. NoParts n (to behind.stage x c) f) (λ x c f. NoParts n (to p x c) f) run behind.run fault (λ x f m. later (k x) m)
-    (subst (λ (x : Option TokenList). FixedAt (λ y c f. NoParts n (to behind.stage y c) f) behind.run x fault) g l))
+    (out_fixed (λ x c f. NoParts n (to afterward.stage x c) f) (λ x c f. NoParts n (to p x c) f) run afterward.run fault (λ x f m. later (k x) m)
+    (subst (λ (x : Option TokenList). FixedAt (λ y c f. NoParts n (to afterward.stage y c) f) afterward.run x fault) g l))
 
 -- a property of the run from its front on
 from_front : (F : TokenList → Type 0) {front : Front} {run left other l : TokenList} → Fresh front run → ForSeen run F → IsAt front run left → IsAt front other l → SameSign left l → F other

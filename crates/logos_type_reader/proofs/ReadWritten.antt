@@ -17,8 +17,8 @@ use Rattle.logos_type_reader.specs.declared.table.stage.Stage.TheVariants as sta
 use Rattle.logos_type.specs.Parts.{Sign, Tree, sign, name, whole, still, trees, none as no_part_left, also as and_part, word, mark, colons, arrow, value, opening, closing, reference, other_lifetime}
 use Rattle.logos_type_reader.specs.StillRuns.{still_run}
 use Rattle.logos_type_reader.specs.Table as table
-use Rattle.logos_type_reader.specs.Table.{Spot, outer, Move, ends, takes, bars, needs, keeps_type, keeps, nests, stops, First, starts, refused, begin, name_of, is_reserved, goes_on, begins_colons, begins_arrow, begins_mark, begins_bound, begins_dots, typing, argued, next_at, name_end, after_two, to}
-use Rattle.logos_type_reader.specs.Reading.{IsType, just_name, formed, IsMove, a_token, a_bar, a_type as part_type, a_still_type, still_tokens, a_nest, AreParts, ended, further as part}
+use Rattle.logos_type_reader.specs.Table.{Spot, outer, Move, ends, takes, bars, needs, keeps_type, keeps, nests, stops, First, starts, refused, begin, name_of, is_reserved, continues, begins_colons, begins_arrow, begins_mark, begins_bound, begins_dots, typing, argued, next_at, name_end, after_two, to}
+use Rattle.logos_type_reader.specs.Reading.{IsType, name_alone, formed, IsMove, a_token, a_bar, a_type as part_type, a_still_type, still_tokens, a_nest, AreParts, ended, further as part}
 use Rattle.logos_type_reader.specs.Written.{Ending, plain_named, may_follow, name_ending, begins_mut, begins_parameter, begins_for, Lifetimes, in_angles, LifetimeList, no_lifetime, last_lifetime, lifetimes, Written, a_name, a_form, Form, path, rooted, qualified, borrowed, borrowed_for, slice, array, tuple, trait_object, bound_function, function, pointer_const, pointer_mut, Referent, shared, mutable, Listed as ListedTypes, nothing, single, several, Qualified, of_type, of_trait, AnyPath, from_name, from_root, Path, last, longer, Longer, member, angled, angled_member, called, giving, Angled, plain, turbofish, Arguments, finished, final, further, Argument, a_lifetime, a_literal, empty_braces, braces, a_type, a_binding, Bounds, one_bound, last_bound, plus_after, bounds, Bound, lifetime_bound, trait_bound, enclosed, Questioned, unquestioned, questioned, Trait, unbound, for_all, Function, not_safe, safe, Linked, linked, linked_as, unlinked, Taking, takes_only, takes_and_yields, Parameters, no_parameter, last_parameter, parameters, Parameter, unnamed, with_name}
 use Rattle.logos_type_reader.proofs.WrittenReads.{name_is}
 
@@ -316,10 +316,10 @@ or_false : (a b : Bool) → a ≡ false → b ≡ false → (a || b) ≡ false
 or_false a b e f = rw (e, f) refl
 
 -- a type that ends in a name that nothing continues
-free_name : (kind : PathKind) (run : TokenList) → goes_on run ≡ false → begins_mark 33 run ≡ false → may_follow (name_ending kind) run ≡ true
-free_name Plain run e f = not_false (goes_on run || begins_mark 33 run) (or_false (goes_on run) (begins_mark 33 run) e f)
-free_name OfType run e f = not_false (goes_on run) e
-free_name OfBound run e f = not_false (goes_on run) e
+free_name : (kind : PathKind) (run : TokenList) → continues run ≡ false → begins_mark 33 run ≡ false → may_follow (name_ending kind) run ≡ true
+free_name Plain run e f = not_false (continues run || begins_mark 33 run) (or_false (continues run) (begins_mark 33 run) e f)
+free_name OfType run e f = not_false (continues run) e
+free_name OfBound run e f = not_false (continues run) e
 
 angled_name : {levels : ℕ} {kind : PathKind} {run middle rest : TokenList} {front back : List Tree} → Angled levels (argued kind) run front middle → Onward levels (argued kind) middle back rest → AfterName levels kind run (front ++ back) rest
 angled_name {levels} {kind} {run} {front = front} a (stop {rest = rest} n) = subst (λ (ts : List Tree). AfterName levels kind run ts rest) (sym (append-nil front)) (name_longer (angled a) (not_false (begins_colons rest) n))
@@ -533,20 +533,20 @@ typed_in : {levels : ℕ} {text : List ℕ} {s : Span} {after run rest : TokenLi
     InTaken levels after (also (identifier text s) run) (sign (word text) ∷ parts) rest
 typed_in n (at_typed v) = typed_value_in n v
 
-fits_name_end : (levels : ℕ) (kind : PathKind) (run : TokenList) → goes_on run ≡ false → Fits levels (stage.Named kind) run None (name_end kind run None)
+fits_name_end : (levels : ℕ) (kind : PathKind) (run : TokenList) → continues run ≡ false → Fits levels (stage.Named kind) run None (name_end kind run None)
 fits_name_end levels Plain (also (punctuation c p s) rest) g = either (Fits levels (stage.Named Plain) (also (punctuation c p s) rest) None) (c == 33) _ _ (λ e. tt) (λ n. name_last (free_name Plain (also (punctuation c p s) rest) g n))
 fits_name_end levels Plain (also (identifier text s) rest) g = name_last (free_name Plain (also (identifier text s) rest) g refl)
 fits_name_end levels Plain (also (literal text s) rest) g = name_last (free_name Plain (also (literal text s) rest) g refl)
 fits_name_end levels Plain (also (doc text s) rest) g = name_last (free_name Plain (also (doc text s) rest) g refl)
 fits_name_end levels Plain (also (group d s inside) rest) g = name_last (free_name Plain (also (group d s inside) rest) g refl)
 fits_name_end levels Plain none g = name_last refl
-fits_name_end levels OfType run g = name_last (not_false (goes_on run) g)
-fits_name_end levels OfBound run g = name_last (not_false (goes_on run) g)
+fits_name_end levels OfType run g = name_last (not_false (continues run) g)
+fits_name_end levels OfBound run g = name_last (not_false (continues run) g)
 
 named_done : (a b : Bool) → a ≡ false → b ≡ false → ((a || b) || false) ≡ false
 named_done a b e f = rw (e, f) refl
 
-free_end : (levels : ℕ) (kind : PathKind) (run : TokenList) → goes_on run ≡ false → begins_mark 33 run ≡ false → AfterName levels kind run [] run
+free_end : (levels : ℕ) (kind : PathKind) (run : TokenList) → continues run ≡ false → begins_mark 33 run ≡ false → AfterName levels kind run [] run
 free_end levels kind run g n = name_last (free_name kind run g n)
 
 fits_named : (levels : ℕ) (kind : PathKind) (run : TokenList) → Fits levels (stage.Named kind) run None (next_at (stage.Named kind) run None)
@@ -1211,7 +1211,7 @@ either_first F false m n f g = g refl
 
 named_form : {levels : ℕ} {plus : Bool} {text : List ℕ} {s : Span} {run rest : TokenList} {parts : List Tree} → is_reserved text ≡ false → name_of (also (identifier text s) run) ≡ None →
     AfterName levels Plain run parts rest → Last (Form levels plus) (also (identifier text s) run) (sign (word text) ∷ parts) rest
-named_form {text = text} {s = s} r n (name_last {rest = rest} g) = absurd (let k = sym (name_is text s rest r (not_not (goes_on rest || begins_mark 33 rest) g)) ∙ n in cc)
+named_form {text = text} {s = s} r n (name_last {rest = rest} g) = absurd (let k = sym (name_is text s rest r (not_not (continues rest || begins_mark 33 rest) g)) ∙ n in cc)
 named_form r n (name_longer l f) = ending (path r l) f
 
 tuple_form : {levels : ℕ} {plus : Bool} {s : Span} {inside after rest : TokenList} {parts : List Tree} → Among levels Done after inside parts rest →
@@ -1368,10 +1368,10 @@ type_of : {levels : ℕ} {plus : Bool} {run rest : TokenList} {parts : List Tree
 type_of a (ending {e = e} v f) = (e, a_form a v, f)
 
 name_written : (levels : ℕ) (plus : Bool) (run : TokenList) (text : List ℕ) → 0 < levels → name_of run ≡ Some text → IsWritten levels plus run (name text) (rest_of run)
-name_written levels plus (also (identifier other_text s) rest) text a e = go (is_reserved other_text) (goes_on rest || begins_mark 33 rest) refl refl e
+name_written levels plus (also (identifier other_text s) rest) text a e = go (is_reserved other_text) (continues rest || begins_mark 33 rest) refl refl e
   where
-    go : (b d : Bool) → is_reserved other_text ≡ b → (goes_on rest || begins_mark 33 rest) ≡ d → (if b then None else (if d then None else Some other_text)) ≡ Some text → IsWritten levels plus (also (identifier other_text s) rest) (name text) rest
-    go false false r g k = (plain_named, subst (λ (t : List ℕ). Written levels plus (also (identifier other_text s) rest) (name t) rest plain_named) (let l : other_text ≡ text = cc in l) (a_name a r), not_false (goes_on rest || begins_mark 33 rest) g)
+    go : (b d : Bool) → is_reserved other_text ≡ b → (continues rest || begins_mark 33 rest) ≡ d → (if b then None else (if d then None else Some other_text)) ≡ Some text → IsWritten levels plus (also (identifier other_text s) rest) (name text) rest
+    go false false r g k = (plain_named, subst (λ (t : List ℕ). Written levels plus (also (identifier other_text s) rest) (name t) rest plain_named) (let l : other_text ≡ text = cc in l) (a_name a r), not_false (continues rest || begins_mark 33 rest) g)
     go false true r g k = cc
     go true d r g k = cc
 name_written levels plus (also (punctuation c p s) rest) text a e = cc
@@ -1392,7 +1392,7 @@ fit_of levels spot e = subst (Fits levels spot.stage spot.run spot.outside) e (f
 
 mutual
   pub type_written : {levels : ℕ} {plus : Bool} {run rest : TokenList} {t : Tree} → IsType levels plus run t rest → IsWritten levels plus run t rest
-  type_written {levels} {plus} {run} (just_name {text = text} a e) = name_written levels plus run text a e
+  type_written {levels} {plus} {run} (name_alone {text = text} a e) = name_written levels plus run text a e
   type_written (formed a n b h) = type_of a (form_written n b (parts_good refl h))
 
   parts_good : {levels : ℕ} {b : Bool} {spot : Spot} {parts : List Tree} {rest : TokenList} → b ≡ false → AreParts levels b spot parts rest → Good levels spot.stage spot.run spot.outside parts rest

@@ -5,7 +5,7 @@ use Rattle.logos_type_reader.specs.declared.table.stage.Stage.{Stage}
 use Rattle.logos_type.specs.Parts.{Tree, Sign, sign, name, whole, still, trees, none, also}
 use Rattle.logos_type_reader.specs.StillRuns.{still_run}
 use Rattle.logos_type_reader.specs.Table.{Spot, outer, Move, First, ends, takes, bars, needs, keeps_type, keeps, nests, stops, starts, refused, Fault, too_deep, unsupported, begin, name_of}
-use Rattle.logos_type_reader.specs.Reading.{IsType, just_name, formed, IsMove, a_token, a_bar, a_type, a_still_type, still_tokens, a_nest, AreParts, ended, further, NoType, deep_name, deep, unbegun, unended, left_out, NoMove, no_token, no_type, no_still_type, no_nest, NoParts, here, later, next_of, after_type}
+use Rattle.logos_type_reader.specs.Reading.{IsType, name_alone, formed, IsMove, a_token, a_bar, a_type, a_still_type, still_tokens, a_nest, AreParts, ended, further, NoType, deep_name, deep, unbegun, unended, left_out, NoMove, no_token, no_type, no_still_type, no_nest, NoParts, here, later, next_of, after_type}
 
 -- two readings of the same run agree
 abbrev pub Same : Tree → TokenList → Tree → TokenList → Type 0
@@ -48,7 +48,7 @@ data TypeOf (n : ℕ) (plus : Bool) (run : TokenList) (t : Tree) (rest : TokenLi
   of_form : (s : Sign) (spot : Spot) (ps : List Tree) → name_of run ≡ None → begin plus run ≡ starts false s spot → t ≡ whole (trees (sign s ∷ ps)) → AreParts (n - 1) false spot ps rest → TypeOf n plus run t rest
 
 type_of : {n : ℕ} {plus : Bool} {run rest : TokenList} {t : Tree} → IsType n plus run t rest → (0 < n) × TypeOf n plus run t rest
-type_of (just_name {text = text} a e) = (a, of_word text e refl refl)
+type_of (name_alone {text = text} a e) = (a, of_word text e refl refl)
 type_of (formed {s = s} {spot = spot} {parts = ps} a e g h) = (a, of_form s spot ps e g refl h)
 
 ends_no : {n : ℕ} {b : Bool} {spot outside : Spot} {ps : List Tree} → IsMove n b spot ps outside → next_of spot ≡ ends → ⊥
@@ -126,7 +126,7 @@ ended_same e (some_follow now onward front others outside c q g h) = absurd (end
 
 mutual
   pub one_type : {n m : ℕ} {plus : Bool} {run rest other : TokenList} {t u : Tree} → IsType n plus run t rest → IsType m plus run u other → Same t rest u other
-  one_type (just_name a e) g = name_same e (type_of g).1
+  one_type (name_alone a e) g = name_same e (type_of g).1
   one_type (formed a e f h) g = formed_same e f (λ m c qs other x. one_parts h x) (type_of g).1
 
   pub one_move : {n m : ℕ} {b c : Bool} {spot outside other : Spot} {ps qs : List Tree} → IsMove n b spot ps outside → IsMove m c spot qs other → (b ≡ c) × (ps ≡ qs) × (outside ≡ other)

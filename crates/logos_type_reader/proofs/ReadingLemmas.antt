@@ -5,7 +5,7 @@ use Rattle.logos_token.specs.Tokens.{TokenList, append, also as and_token, none 
 use Rattle.logos_type.specs.Parts.{Tree, Sign, sign, whole, trees}
 use Rattle.logos_type_reader.specs.declared.table.stage.Stage.{Stage}
 use Rattle.logos_type_reader.specs.Table.{Spot, outer, Move, Fault, nests, needs, keeps_type, ends, starts, begin, name_of}
-use Rattle.logos_type_reader.specs.Reading.{IsType, just_name, formed, IsMove, a_token, a_bar, a_type, a_still_type, still_tokens, a_nest, AreParts, ended, further, NoType, unbegun, NoMove, no_token, no_type, no_still_type, no_nest, NoParts, later, next_of, after_type}
+use Rattle.logos_type_reader.specs.Reading.{IsType, name_alone, formed, IsMove, a_token, a_bar, a_type, a_still_type, still_tokens, a_nest, AreParts, ended, further, NoType, unbegun, NoMove, no_token, no_type, no_still_type, no_nest, NoParts, later, next_of, after_type}
 use Rattle.logos_type_reader.specs.declared.table.stage.StepFault.{StepFault}
 use Rattle.logos_type_reader.specs.declared.table.stage.StepFault.TheVariants.{Unsupported, Mismatch}
 use Rattle.logos_type_reader.specs.declared.reader.TypeFault.{TypeFault}
@@ -25,9 +25,9 @@ pub rest_self : (run : TokenList) → IsRestOf run run
 rest_self run = record { front = no_token; is = refl }
 
 -- one spot is after another, with less left
-pub record Later (spot behind : Spot) : Type 0 where
-  pub rest : IsRestOf (outer spot.run spot.outside) (outer behind.run behind.outside)
-  pub less : spot_left behind < spot_left spot
+pub record Later (spot afterward : Spot) : Type 0 where
+  pub rest : IsRestOf (outer spot.run spot.outside) (outer afterward.run afterward.outside)
+  pub less : spot_left afterward < spot_left spot
 
 -- a run is after a spot
 pub record Left (spot : Spot) (run : TokenList) : Type 0 where
@@ -39,25 +39,25 @@ pub record Rest (run rest : TokenList) : Type 0 where
   pub is : IsRestOf run rest
   pub less : count_of rest < count_of run
 
-onward : {spot behind : Spot} → Onward spot.run spot.outside behind → Later spot behind
+onward : {spot afterward : Spot} → Onward spot.run spot.outside afterward → Later spot afterward
 onward o = record { rest = o.rest; less = o.less }
 
 moved : (spot : Spot) {m : Move} → next_of spot ≡ m → Moves spot.run spot.outside m
 moved spot e = subst (Moves spot.run spot.outside) e (steps spot.stage spot.run spot.outside)
 
 -- after a type or a path
-after_rest : (run rest : TokenList) (behind : Option TokenList) → Rest run rest → IsRestOf (outer run behind) (outer rest behind) × (left rest behind < left run behind)
+after_rest : (run rest : TokenList) (afterward : Option TokenList) → Rest run rest → IsRestOf (outer run afterward) (outer rest afterward) × (left rest afterward < left run afterward)
 after_rest run rest None r = (r.is, let h = r.less in omega arith)
 after_rest run rest (Some after) r = (rest_self after, let h = r.less in omega arith)
 
 later_rest : (spot : Spot) (stage : Stage) (rest : TokenList) → Rest spot.run rest → Later spot (after_type spot stage rest)
 later_rest spot stage rest r = let x = after_rest spot.run rest spot.outside r in record { rest = x.0; less = x.1 }
 
-left_self : (run : TokenList) (behind : Option TokenList) → IsRestOf (outer run behind) (outer run behind) × (2 * count_of (outer run behind) ≤ left run behind)
+left_self : (run : TokenList) (afterward : Option TokenList) → IsRestOf (outer run afterward) (outer run afterward) × (2 * count_of (outer run afterward) ≤ left run afterward)
 left_self run None = (rest_self run, omega arith)
 left_self run (Some after) = (rest_self after, omega arith)
 
-within_rest : (run within : TokenList) (behind : Option TokenList) (rest : TokenList) → IsRestOf run within → count_of within < count_of run → behind ≡ None → IsRestOf (outer within behind) rest → 2 * count_of rest ≤ left within behind → Rest run rest
+within_rest : (run within : TokenList) (afterward : Option TokenList) (rest : TokenList) → IsRestOf run within → count_of within < count_of run → afterward ≡ None → IsRestOf (outer within afterward) rest → 2 * count_of rest ≤ left within afterward → Rest run rest
 within_rest run within None rest r h n q k = record { is = rest_from r q; less = omega (arith, h, k) }
 within_rest run within (Some after) rest r h n q k = absurd (let z = n in cc)
 
@@ -71,13 +71,13 @@ rest_name (and_token t rest) text e = record { is = record { front = and_token t
 mutual
   -- a type leaves less after it
   pub type_rest : {levels : ℕ} {plus : Bool} {run : TokenList} {t : Tree} {rest : TokenList} → IsType levels plus run t rest → Rest run rest
-  type_rest {run = run} (just_name {text = text} a e) = rest_name run text e
+  type_rest {run = run} (name_alone {text = text} a e) = rest_name run text e
   type_rest {plus = plus} {run = run} {rest = rest} (formed {spot = spot} a n b h) =
       let f : Begins run spot = first_steps plus run b in
       let l : Left spot rest = parts_rest h in
       record { is = rest_from f.rest l.rest; less = let x = f.less in let y = l.less in omega arith }
 
-  pub move_rest : {levels : ℕ} {barred : Bool} {spot : Spot} {parts : List Tree} {behind : Spot} → IsMove levels barred spot parts behind → Later spot behind
+  pub move_rest : {levels : ℕ} {barred : Bool} {spot : Spot} {parts : List Tree} {afterward : Spot} → IsMove levels barred spot parts afterward → Later spot afterward
   move_rest {spot = spot} (a_token e) = onward (moved spot e)
   move_rest {spot = spot} (a_bar e) = onward (moved spot e)
   move_rest {spot = spot} (a_type {stage = stage} {rest = rest} e h) = later_rest spot stage rest (type_rest h)
@@ -109,9 +109,9 @@ pub record Remains (levels : ℕ) (from : Spot) (old now : List Tree) (barred : 
 pub begun : (levels : ℕ) (from : Spot) (old : List Tree) → Remains levels from old old false from
 begun levels from old = record { front = []; is = sym (append-nil old); completes = λ b parts rest a. a; refuses = λ fault f. f; less = omega arith }
 
-pub goes_on : (levels : ℕ) (from : Spot) (old now new front : List Tree) (barred bar : Bool) (spot behind : Spot) → Remains levels from old now barred spot → new ≡ now ++ front → IsMove levels bar spot front behind →
-    Remains levels from old new (barred || bar) behind
-goes_on levels from old now new front barred bar spot behind r e m = record {
+pub continues : (levels : ℕ) (from : Spot) (old now new front : List Tree) (barred bar : Bool) (spot afterward : Spot) → Remains levels from old now barred spot → new ≡ now ++ front → IsMove levels bar spot front afterward →
+    Remains levels from old new (barred || bar) afterward
+continues levels from old now new front barred bar spot afterward r e m = record {
   front = r.front ++ front;
   is = e ∙ ap (λ (x : List Tree). x ++ front) r.is ∙ append_assoc old r.front front;
   completes = λ b parts rest a. rw (← or_assoc barred bar b, append_assoc r.front front parts) (r.completes (bar || b) (front ++ parts) rest (further m a refl));
@@ -170,10 +170,10 @@ formed_type levels plus run b c s spot ps rest ts a e f h n is =
     subst (λ (x : List Tree). IsType levels plus run (whole (trees x)) rest) (sym is) (formed a e f' h')
 
 -- less is left where a path or bounds continue inside
-inner_less_than : (run within : TokenList) (behind other : Option TokenList) → count_of within < count_of run → other ≡ None → left within other < left run behind
+inner_less_than : (run within : TokenList) (afterward other : Option TokenList) → count_of within < count_of run → other ≡ None → left within other < left run afterward
 inner_less_than run within None None h n = omega (arith, h)
 inner_less_than run within (Some after) None h n = omega (arith, h)
-inner_less_than run within behind (Some after) h n = absurd (let z = n in cc)
+inner_less_than run within afterward (Some after) h n = absurd (let z = n in cc)
 
 pub inner_left : (spot : Spot) (s : Sign) (inner : Spot) (stage : Stage) → next_of spot ≡ nests s inner stage → spot_left inner < spot_left spot
 inner_left spot s inner stage e = let i : Inward spot.run inner = moved spot e in inner_less_than spot.run inner.run spot.outside inner.outside i.less i.alone

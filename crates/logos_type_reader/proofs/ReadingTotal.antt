@@ -4,7 +4,7 @@ use Rattle.logos_token.specs.Tokens.{TokenList, count_of, rest_of, run_span}
 use Rattle.logos_type_reader.specs.declared.table.stage.Stage.{Stage}
 use Rattle.logos_type.specs.Parts.{Tree, Sign, sign, name, whole, trees}
 use Rattle.logos_type_reader.specs.Table.{Spot, outer, Move, First, ends, takes, bars, needs, keeps_type, keeps, nests, stops, starts, refused, Fault, too_deep, unsupported, begin, name_of}
-use Rattle.logos_type_reader.specs.Reading.{IsType, just_name, IsMove, a_token, a_bar, a_type, a_still_type, still_tokens, a_nest, AreParts, ended, further, NoType, deep_name, deep, unbegun, unended, left_out, no_token, no_type, no_still_type, no_nest, NoParts, here, later, next_of, after_type}
+use Rattle.logos_type_reader.specs.Reading.{IsType, name_alone, IsMove, a_token, a_bar, a_type, a_still_type, still_tokens, a_nest, AreParts, ended, further, NoType, deep_name, deep, unbegun, unended, left_out, no_token, no_type, no_still_type, no_nest, NoParts, here, later, next_of, after_type}
 use Rattle.logos_type_reader.specs.ReadingViews.{left, spot_left}
 use Rattle.logos_type_reader.proofs.TableSteps.{Begins, first_steps}
 use Rattle.logos_type_reader.proofs.ReadingLemmas.{move_rest, formed_type, begun_rest, inner_left}
@@ -51,7 +51,7 @@ form_case n plus run b s spot a e f (inl (c, ps, rest, h)) = go (b || c) refl
 
 name_case : (n : ℕ) (plus : Bool) (run : TokenList) (text : List ℕ) → name_of run ≡ Some text → (n ≡ 0) ⊎ (0 < n) → TypeOrFault n plus run
 name_case n plus run text e (inl z) = inr (too_deep, deep_name z e)
-name_case n plus run text e (inr a) = inl (name text, rest_of run, just_name a e)
+name_case n plus run text e (inr a) = inl (name text, rest_of run, name_alone a e)
 
 begun_case : (n : ℕ) (plus : Bool) (run : TokenList) (b : Bool) (s : Sign) (spot : Spot) → name_of run ≡ None → begin plus run ≡ starts b s spot → ((spot : Spot) → spot_left spot < 2 * count_of run → PartsOrFault (n - 1) spot) → (n ≡ 0) ⊎ (0 < n) → TypeOrFault n plus run
 begun_case n plus run b s spot e f rec (inl z) = inr (too_deep, deep z e f)

@@ -6,7 +6,7 @@ use Rattle.logos_lexeme.specs.declared.lexeme.Spacing.TheVariants.{Alone, Joint}
 use Rattle.logos_lexeme.specs.declared.lexeme.Delimiter.{Delimiter}
 use Rattle.logos_lexeme.specs.declared.lexeme.Delimiter.TheVariants.{Parenthesis, Bracket, Brace}
 use Rattle.logos_token.specs.Tokens.{Token, TokenList, identifier, punctuation, literal, doc, group, none, also, append, count_of}
-use Rattle.logos_type_reader.specs.Table.{begins_colons, begins_mark, begins_arrow, begins_dots, begins_parenthesis, typing, goes_on}
+use Rattle.logos_type_reader.specs.Table.{begins_colons, begins_mark, begins_arrow, begins_dots, begins_parenthesis, typing, continues}
 use Rattle.logos_type_reader.specs.FaultStages.{Front, start, past, within, IsAt, at_start, past_token, in_group, SameSign, no_sign, same_name, same_mark, same_joint, same_literal, same_doc, same_group, front_of, EndsWith}
 use Rattle.logos_type_reader.proofs.TableSteps.{one_token}
 
@@ -165,8 +165,8 @@ parenthesis_same (same_group {delimiter = Brace}) = refl
 pub typing_same : {run other : TokenList} → SameSign run other → typing other ≡ typing run
 typing_same h = rw (mark_same 58 h, colons_same h) refl
 
-pub goes_on_same : {run other : TokenList} → SameSign run other → goes_on other ≡ goes_on run
-goes_on_same h = rw (mark_same 60 h, colons_same h, parenthesis_same h) refl
+pub continues_same : {run other : TokenList} → SameSign run other → continues other ≡ continues run
+continues_same h = rw (mark_same 60 h, colons_same h, parenthesis_same h) refl
 
 -- the tokens before equal rests are equal
 no_more : (t : Token) (front rest : TokenList) → rest ≡ also t (append front rest) → ⊥

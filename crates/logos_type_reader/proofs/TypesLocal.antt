@@ -7,7 +7,7 @@ use Rattle.logos_type.specs.Parts.{Sign, Tree, sign, name, whole, still, trees, 
 use Rattle.logos_type_reader.specs.StillRuns.{still_run}
 use Rattle.logos_type_reader.specs.declared.table.stage.Stage.{Stage}
 use Rattle.logos_type_reader.specs.Table.{Spot, outer, Move, ends, takes, bars, needs, keeps_type, keeps, nests, starts, to, next_at, begin, name_of}
-use Rattle.logos_type_reader.specs.Reading.{IsType, just_name, formed, IsMove, a_token, a_bar, a_type, a_still_type, still_tokens, a_nest, AreParts, ended, further, next_of}
+use Rattle.logos_type_reader.specs.Reading.{IsType, name_alone, formed, IsMove, a_token, a_bar, a_type, a_still_type, still_tokens, a_nest, AreParts, ended, further, next_of}
 use Rattle.logos_type_reader.specs.FaultStages.{SameSign}
 use Rattle.logos_type_reader.proofs.SameSigns.{ForSeen, for_same, same_self, same_append, seen_after, append_over, append_none}
 use Rattle.logos_type_reader.proofs.TableLocal.{SameOpen, Passes, over, into, out, Local, moves_local}
@@ -36,7 +36,7 @@ pub record PartsLocal (n : ℕ) (b : Bool) (p : Stage) (run : TokenList) (b0 : O
   pub same : (other : TokenList) → SameSign rest other → AreParts n b (with_outer p run b0 (append front other)) ps other
 
 abbrev pub MoveLocal : ℕ → Bool → Stage → TokenList → Option TokenList → List Tree → Spot → Type 0
-MoveLocal n b p run b0 ps behind = Passes (λ x c z. IsMove n b (to p x c) ps z) run b0 behind
+MoveLocal n b p run b0 ps afterward = Passes (λ x c z. IsMove n b (to p x c) ps z) run b0 afterward
 
 map_passes : (P Q : TokenList → Option TokenList → Spot → Type 0) {run : TokenList} {b : Option TokenList} {spot : Spot} → ((x : TokenList) (c : Option TokenList) (z : Spot) → P x c z → Q x c z) → Passes P run b spot → Passes Q run b spot
 map_passes P Q f (over front e g k) = over front e g (λ x c o h. f _ c _ (k x c o h))
@@ -89,18 +89,18 @@ out_parts n now onward barred p q run r ps qs rest e k l = record {
   same = λ other h. further (k (append l.front other)) (l.same other h) e;
 }
 
-further_local : {n : ℕ} {now onward barred : Bool} {p : Stage} {run : TokenList} {b : Option TokenList} {behind : Spot} {ps qs : List Tree} {rest : TokenList} → barred ≡ (now || onward) → MoveLocal n now p run b ps behind →
-    PartsLocal n onward behind.stage behind.run behind.outside qs rest → PartsLocal n barred p run b (ps ++ qs) rest
-further_local {n} {now} {onward} {barred} {p} {run} {b} {behind} {ps} {qs} {rest} e (over front f g k) l =
+further_local : {n : ℕ} {now onward barred : Bool} {p : Stage} {run : TokenList} {b : Option TokenList} {afterward : Spot} {ps qs : List Tree} {rest : TokenList} → barred ≡ (now || onward) → MoveLocal n now p run b ps afterward →
+    PartsLocal n onward afterward.stage afterward.run afterward.outside qs rest → PartsLocal n barred p run b (ps ++ qs) rest
+further_local {n} {now} {onward} {barred} {p} {run} {b} {afterward} {ps} {qs} {rest} e (over front f g k) l =
     subst (λ (x : TokenList). PartsLocal n barred p x b (ps ++ qs) rest) (sym f)
-    (over_parts n now onward barred p behind.stage front behind.run b ps qs rest e k (subst (λ (x : Option TokenList). PartsLocal n onward behind.stage behind.run x qs rest) (sym g) l))
-further_local {n} {now} {onward} {barred} {p} {run} {b} {behind} {ps} {qs} {rest} e (into d s after f g h k) l =
+    (over_parts n now onward barred p afterward.stage front afterward.run b ps qs rest e k (subst (λ (x : Option TokenList). PartsLocal n onward afterward.stage afterward.run x qs rest) (sym g) l))
+further_local {n} {now} {onward} {barred} {p} {run} {b} {afterward} {ps} {qs} {rest} e (into d s after f g h k) l =
     subst (λ (x : Option TokenList). PartsLocal n barred p run x (ps ++ qs) rest) (sym g)
     (subst (λ (x : TokenList). PartsLocal n barred p x None (ps ++ qs) rest) (sym f)
-    (into_parts n now onward barred p behind.stage d s behind.run after ps qs rest e k (subst (λ (x : Option TokenList). PartsLocal n onward behind.stage behind.run x qs rest) h l)))
-further_local {n} {now} {onward} {barred} {p} {run} {b} {behind} {ps} {qs} {rest} e (out f g k) l =
+    (into_parts n now onward barred p afterward.stage d s afterward.run after ps qs rest e k (subst (λ (x : Option TokenList). PartsLocal n onward afterward.stage afterward.run x qs rest) h l)))
+further_local {n} {now} {onward} {barred} {p} {run} {b} {afterward} {ps} {qs} {rest} e (out f g k) l =
     subst (λ (x : Option TokenList). PartsLocal n barred p run x (ps ++ qs) rest) (sym f)
-    (out_parts n now onward barred p behind.stage run behind.run ps qs rest e k (subst (λ (x : Option TokenList). PartsLocal n onward behind.stage behind.run x qs rest) g l))
+    (out_parts n now onward barred p afterward.stage run afterward.run ps qs rest e k (subst (λ (x : Option TokenList). PartsLocal n onward afterward.stage afterward.run x qs rest) g l))
 
 -- a type inside
 needed_local : (n : ℕ) (p q : Stage) (plus : Bool) (run : TokenList) (b : Option TokenList) (t : Tree) (rest : TokenList) → next_at p run b ≡ needs plus q → TypeLocal n plus run t rest → MoveLocal n false p run b (t ∷ []) (to q rest b)
@@ -115,11 +115,11 @@ still_local n p q run b t rest e l =
     let k : ((x : TokenList) (c : Option TokenList) → next_at p x c ≡ keeps_type q) = local_move (to p run b) e in
     over (also l.first l.front) l.is refl (λ x c o h. a_still_type (k (also l.first (append l.front x)) c) (l.same x h))
 
-tokens_local : (n : ℕ) (p : Stage) (run : TokenList) (b : Option TokenList) (other : TokenList) (behind : Spot) → next_at p run b ≡ keeps other behind → MoveLocal n false p run b (still (trees (still_run other)) ∷ []) behind
-tokens_local n p run b other behind e =
-    let k : (other ≡ run) × (behind ≡ to behind.stage none b) × ((c : Option TokenList) → SameOpen b c → next_at p run c ≡ keeps run (to behind.stage none c)) = local_move (to p run b) e in
-    subst (λ (x : TokenList). MoveLocal n false p run b (still (trees (still_run x)) ∷ []) behind) (sym k.0)
-    (subst (MoveLocal n false p run b (still (trees (still_run run)) ∷ [])) (sym k.1) (over run (append_none run) refl (λ x c o h. go behind.stage x c (k.2 c o) h)))
+tokens_local : (n : ℕ) (p : Stage) (run : TokenList) (b : Option TokenList) (other : TokenList) (afterward : Spot) → next_at p run b ≡ keeps other afterward → MoveLocal n false p run b (still (trees (still_run other)) ∷ []) afterward
+tokens_local n p run b other afterward e =
+    let k : (other ≡ run) × (afterward ≡ to afterward.stage none b) × ((c : Option TokenList) → SameOpen b c → next_at p run c ≡ keeps run (to afterward.stage none c)) = local_move (to p run b) e in
+    subst (λ (x : TokenList). MoveLocal n false p run b (still (trees (still_run x)) ∷ []) afterward) (sym k.0)
+    (subst (MoveLocal n false p run b (still (trees (still_run run)) ∷ [])) (sym k.1) (over run (append_none run) refl (λ x c o h. go afterward.stage x c (k.2 c o) h)))
   where
     go : (q : Stage) (x : TokenList) (c : Option TokenList) → next_at p run c ≡ keeps run (to q none c) → SameSign none x → IsMove n false (to p (append run x) c) (still (trees (still_run run)) ∷ []) (to q x c)
     go q none c f h = subst (λ (y : TokenList). IsMove n false (to p y c) (still (trees (still_run run)) ∷ []) (to q none c)) (append_none run) (still_tokens f)
@@ -179,21 +179,21 @@ formed_local {run = run} {rest = rest} a e l = record {
 }
 
 name_type : {n : ℕ} {plus : Bool} (run : TokenList) {text : List ℕ} → 0 < n → NameLocal run text → TypeLocal n plus run (name text) (rest_of run)
-name_type {n} {plus} run {text} a l = subst (TypeLocal n plus run (name text)) (ap rest_of (sym l.is)) (record { first = l.first; front = none; is = l.is; same = λ x h. just_name a (l.same x h) })
+name_type {n} {plus} run {text} a l = subst (TypeLocal n plus run (name text)) (ap rest_of (sym l.is)) (record { first = l.first; front = none; is = l.is; same = λ x h. name_alone a (l.same x h) })
 
 mutual
   pub type_local : {n : ℕ} {plus : Bool} {run : TokenList} {t : Tree} {rest : TokenList} → IsType n plus run t rest → TypeLocal n plus run t rest
-  type_local (just_name {run = run} {text = text} a e) = name_type run a (name_local run text e)
+  type_local (name_alone {run = run} {text = text} a e) = name_type run a (name_local run text e)
   type_local (formed {levels = n} {plus = plus} {run = run} {s = s} {spot = spot} {parts = ps} {rest = rest} a e f h) = formed_local a e (form_local (n - 1) plus false false run s spot ps rest f (parts_local h))
 
-  pub move_local : {n : ℕ} {b : Bool} {spot : Spot} {ps : List Tree} {behind : Spot} → IsMove n b spot ps behind → MoveLocal n b spot.stage spot.run spot.outside ps behind
+  pub move_local : {n : ℕ} {b : Bool} {spot : Spot} {ps : List Tree} {afterward : Spot} → IsMove n b spot ps afterward → MoveLocal n b spot.stage spot.run spot.outside ps afterward
   move_local (a_token {levels = n} {spot = spot} {s = s} e) =
       map_passes (λ x c z. next_at spot.stage x c ≡ takes s z) (λ x c z. IsMove n false (to spot.stage x c) (sign s ∷ []) z) (λ x c z k. a_token k) (local_move spot e)
   move_local (a_bar {levels = n} {spot = spot} {s = s} e) =
       map_passes (λ x c z. next_at spot.stage x c ≡ bars s z) (λ x c z. IsMove n true (to spot.stage x c) (sign s ∷ []) z) (λ x c z k. a_bar k) (local_move spot e)
   move_local (a_type {levels = n} {spot = spot} {plus = plus} {stage = q} {part = t} {rest = rest} e h) = needed_local n spot.stage q plus spot.run spot.outside t rest e (type_local h)
   move_local (a_still_type {levels = n} {spot = spot} {stage = q} {part = t} {rest = rest} e h) = still_local n spot.stage q spot.run spot.outside t rest e (type_local h)
-  move_local (still_tokens {levels = n} {spot = spot} {run = other} {next = behind} e) = tokens_local n spot.stage spot.run spot.outside other behind e
+  move_local (still_tokens {levels = n} {spot = spot} {run = other} {next = afterward} e) = tokens_local n spot.stage spot.run spot.outside other afterward e
   move_local (a_nest {levels = n} {barred = b} {spot = spot} {s = s} {inner = inner} {stage = q} {parts = ps} {rest = rest} e h) = nest_local n b spot.stage q spot.run spot.outside s inner ps rest e (parts_local h)
 
   pub parts_local : {n : ℕ} {b : Bool} {spot : Spot} {ps : List Tree} {rest : TokenList} → AreParts n b spot ps rest → PartsLocal n b spot.stage spot.run spot.outside ps rest

@@ -16,8 +16,8 @@ use Rattle.logos_type_reader.specs.declared.table.stage.Stage.{Stage}
 use Rattle.logos_type_reader.specs.declared.table.stage.Stage.TheVariants as stage
 use Rattle.logos_type.specs.Parts.{Sign, Tree, sign, whole, still, trees, none as no_part_left, also as and_part, word, mark, colons, arrow, value, opening, closing, reference, other_lifetime}
 use Rattle.logos_type_reader.specs.StillRuns.{still_run}
-use Rattle.logos_type_reader.specs.Table.{Spot, Move, ends, takes, needs, keeps_type, keeps, nests, First, starts, unsupported, begin, name_of, is_reserved, goes_on, begins_colons, begins_arrow, begins_mark, begins_bound, begins_dots, typing, argued, argument_lifetime, next_at, name_end, path_move, after_bound, after_for}
-use Rattle.logos_type_reader.specs.Reading.{IsType, just_name, formed, a_token, a_bar, a_type as part_type, a_still_type, still_tokens, a_nest, AreParts, ended, further as part}
+use Rattle.logos_type_reader.specs.Table.{Spot, Move, ends, takes, needs, keeps_type, keeps, nests, First, starts, unsupported, begin, name_of, is_reserved, continues, begins_colons, begins_arrow, begins_mark, begins_bound, begins_dots, typing, argued, argument_lifetime, next_at, name_end, path_move, after_bound, after_for}
+use Rattle.logos_type_reader.specs.Reading.{IsType, name_alone, formed, a_token, a_bar, a_type as part_type, a_still_type, still_tokens, a_nest, AreParts, ended, further as part}
 use Rattle.logos_type_reader.specs.Written.{Ending, closed, named, plain_named, applied, taking, bounded, trailing, may_follow, name_ending, begins_mut, begins_named_argument, begins_parameter, Lifetimes, in_angles, LifetimeList, no_lifetime, last_lifetime, lifetimes, Written, a_name, a_form, Form, path, rooted, qualified, borrowed, borrowed_for, slice, array, tuple, trait_object, bound_function, function, pointer_const, pointer_mut, Referent, shared, mutable, Listed as ListedTypes, nothing, single, several, Qualified, of_type, of_trait, AnyPath, from_name, from_root, Path, last, longer, Longer, member, angled, angled_member, called, giving, Angled, plain, turbofish, Arguments, finished, final, further, Argument, a_lifetime, a_literal, empty_braces, braces, a_type, a_binding, Bounds, one_bound, last_bound, plus_after, bounds, Bound, lifetime_bound, trait_bound, enclosed, Questioned, unquestioned, questioned, Trait, unbound, for_all, Function, not_safe, safe, Linked, linked, linked_as, unlinked, Taking, takes_only, takes_and_yields, Parameters, no_parameter, last_parameter, parameters, Parameter, unnamed, with_name}
 
 -- a spot with the rest there
@@ -218,11 +218,11 @@ path_begins plus text s run e = go (bytes_eq text (codes "dyn")) (bytes_eq text 
     go false false false false false false true e = cc
 
 -- the path continues there
-angled_on : {levels : ℕ} {kind : PathKind} {run rest : TokenList} {parts : List Tree} → Angled levels kind run parts rest → goes_on run ≡ true
+angled_on : {levels : ℕ} {kind : PathKind} {run rest : TokenList} {parts : List Tree} → Angled levels kind run parts rest → continues run ≡ true
 angled_on (plain a) = refl
 angled_on (turbofish a) = refl
 
-longer_on : {levels : ℕ} {kind : PathKind} {run rest : TokenList} {parts : List Tree} {e : Ending} → Longer levels kind run parts rest e → goes_on run ≡ true
+longer_on : {levels : ℕ} {kind : PathKind} {run rest : TokenList} {parts : List Tree} {e : Ending} → Longer levels kind run parts rest e → continues run ≡ true
 longer_on (member p) = refl
 longer_on (angled a) = angled_on a
 longer_on (angled_member a p) = angled_on a
@@ -230,7 +230,7 @@ longer_on (called l) = refl
 longer_on (giving l w) = refl
 
 -- where a path may end
-named_tail : (kind : PathKind) (run : TokenList) → name_end kind run None ≡ ends → goes_on run ≡ false → next_at (stage.Named kind) run None ≡ ends
+named_tail : (kind : PathKind) (run : TokenList) → name_end kind run None ≡ ends → continues run ≡ false → next_at (stage.Named kind) run None ≡ ends
 unfolding next_at
 named_tail kind (also (punctuation c p s) rest) k e = go (c == 60) (begins_colons (also (punctuation c p s) rest)) _ _ e
   where
@@ -255,9 +255,9 @@ plain_end (also (group d s inside) rest) e = refl
 plain_end none e = refl
 
 named_ends : (kind : PathKind) (run : TokenList) → may_follow (name_ending kind) run ≡ true → next_at (stage.Named kind) run None ≡ ends
-named_ends Plain run f = let h = both_false (goes_on run) (begins_mark 33 run) (not_true (goes_on run || begins_mark 33 run) f) in named_tail Plain run (plain_end run h.1) h.0
-named_ends OfType run f = named_tail OfType run refl (not_true (goes_on run) f)
-named_ends OfBound run f = named_tail OfBound run refl (not_true (goes_on run) f)
+named_ends Plain run f = let h = both_false (continues run) (begins_mark 33 run) (not_true (continues run || begins_mark 33 run) f) in named_tail Plain run (plain_end run h.1) h.0
+named_ends OfType run f = named_tail OfType run refl (not_true (continues run) f)
+named_ends OfBound run f = named_tail OfBound run refl (not_true (continues run) f)
 
 segments_ends : (kind : PathKind) (run : TokenList) → begins_colons run ≡ false → next_at (stage.Segments kind) run None ≡ ends
 unfolding next_at
@@ -366,9 +366,9 @@ element_closes : (rest : TokenList) → next_at stage.ElementEnd none (Some rest
 unfolding next_at
 element_closes rest = refl
 
-element_goes_on : (s : Span) (p : Spacing) (run : TokenList) (after : TokenList) → next_at stage.ElementEnd (also (punctuation 59 p s) run) (Some after) ≡ takes (mark 59) (at stage.Length run (Some after))
+element_continues : (s : Span) (p : Spacing) (run : TokenList) (after : TokenList) → next_at stage.ElementEnd (also (punctuation 59 p s) run) (Some after) ≡ takes (mark 59) (at stage.Length run (Some after))
 unfolding next_at
-element_goes_on s p run after = refl
+element_continues s p run after = refl
 
 length_kept : (first : Token) (rest after : TokenList) → next_at stage.Length (also first rest) (Some after) ≡ keeps (also first rest) (at stage.LengthEnd none (Some after))
 unfolding next_at
@@ -494,9 +494,9 @@ self_trait_closes : (s : Span) (p : Spacing) (run : TokenList) → next_at stage
 unfolding next_at
 self_trait_closes s p run = refl
 
-self_goes_on : (s t : Span) (p : Spacing) (run : TokenList) → next_at stage.SelfClosed (also (punctuation 58 Joint s) (also (punctuation 58 p t) run)) None ≡ takes colons (at (stage.Colons OfType false) run None)
+self_continues : (s t : Span) (p : Spacing) (run : TokenList) → next_at stage.SelfClosed (also (punctuation 58 Joint s) (also (punctuation 58 p t) run)) None ≡ takes colons (at (stage.Colons OfType false) run None)
 unfolding next_at
-self_goes_on s t p run = refl
+self_continues s t p run = refl
 
 bound_lifetime : (plus : Bool) (s t : Span) (p : Spacing) (text : List ℕ) (run : TokenList) → next_at (stage.Bound plus) (also (punctuation 39 p s) (also (identifier text t) run)) None ≡ takes (other_lifetime text) (at (stage.BoundEnd plus) run None)
 unfolding next_at
@@ -644,10 +644,10 @@ pub data Begun : ℕ → Bool → TokenList → List Tree → TokenList → Type
 is_type : {levels : ℕ} {plus : Bool} {run rest : TokenList} {parts : List Tree} → 0 < levels → Begun (levels - 1) plus run parts rest → IsType levels plus run (whole (trees parts)) rest
 is_type a (begun n b h) = formed a n b h
 
-pub name_is : (text : List ℕ) (s : Span) (rest : TokenList) → is_reserved text ≡ false → (goes_on rest || begins_mark 33 rest) ≡ false → name_of (also (identifier text s) rest) ≡ Some text
+pub name_is : (text : List ℕ) (s : Span) (rest : TokenList) → is_reserved text ≡ false → (continues rest || begins_mark 33 rest) ≡ false → name_of (also (identifier text s) rest) ≡ Some text
 name_is text s rest r g = rw (r, g) refl
 
-name_not : (text : List ℕ) (s : Span) (rest : TokenList) → is_reserved text ≡ false → goes_on rest ≡ true → name_of (also (identifier text s) rest) ≡ None
+name_not : (text : List ℕ) (s : Span) (rest : TokenList) → is_reserved text ≡ false → continues rest ≡ true → name_of (also (identifier text s) rest) ≡ None
 name_not text s rest r g = rw (r, g) refl
 
 same_parts : {levels : ℕ} {spot : Spot} {ps qs : List Tree} {rest : TokenList} → ps ≡ qs → AreParts levels false spot ps rest → AreParts levels false spot qs rest
@@ -721,7 +721,7 @@ bounds_begin (bounds b f k) = bound_begins b
 
 mutual
   pub type_occurs : {levels : ℕ} {plus : Bool} {run rest : TokenList} {t : Tree} {e : Ending} → Written levels plus run t rest e → may_follow e rest ≡ true → IsType levels plus run t rest
-  type_occurs {rest = rest} (a_name {text = text} {s = s} a r) f = just_name a (name_is text s rest r (not_true (goes_on rest || begins_mark 33 rest) f))
+  type_occurs {rest = rest} (a_name {text = text} {s = s} a r) f = name_alone a (name_is text s rest r (not_true (continues rest || begins_mark 33 rest) f))
   type_occurs (a_form a w) f = is_type a (form_occurs w f)
 
   form_occurs : {levels : ℕ} {plus : Bool} {run rest : TokenList} {parts : List Tree} {e : Ending} → Form levels plus run parts rest e → may_follow e rest ≡ true → Begun levels plus run parts rest
@@ -736,7 +736,7 @@ mutual
       begun refl (bracket_begins plus s inside rest) (next_type (element_needs inside (Some rest)) (type_occurs w (none_follows e)) (next_token (element_closes rest) (no_part (end_ends rest))))
   form_occurs {plus = plus} {rest = rest} (array {s = s} {u = u} {p = p} {inside = inside} {length = length} {first = first} {e = e} w) f =
       begun refl (bracket_begins plus s inside rest) (next_type (element_needs inside (Some rest)) (type_occurs w (mark_follows e 59 p u (also first length) idle_semicolon))
-      (next_token (element_goes_on u p (also first length) rest) (next_kept (length_kept first length rest) (next_token (length_closes none rest) (no_part (end_ends rest))))))
+      (next_token (element_continues u p (also first length) rest) (next_kept (length_kept first length rest) (next_token (length_closes none rest) (no_part (end_ends rest))))))
   form_occurs {plus = plus} {rest = rest} (tuple {s = s} {inside = inside} l) f = begun refl (tuple_begins plus s inside rest) (listed_occurs rest l (no_part (end_ends rest)))
   form_occurs {plus = plus} (trait_object {s = s} {run = run} w) f = begun refl (dyn_begins plus s run) (bounds_occur w f)
   form_occurs {plus = plus} (bound_function {s = s} {run = run} l w) f = begun refl (for_begins plus s run) (lifetimes_occur OfFunction None l (function_occurs w f))
@@ -762,10 +762,10 @@ mutual
 
   qualified_occurs : {levels : ℕ} {run rest : TokenList} {parts : List Tree} {e : Ending} → Qualified levels run parts rest e → may_follow e rest ≡ true → AreParts levels false (at stage.SelfType run None) parts rest
   qualified_occurs (of_type {s = s} {t = t} {u = u} {p = p} {q = q} {run = run} {further = onward} {e = e} w l) f =
-      next_still (self_needs run) (type_occurs w (mark_follows e 62 p s _ idle_angle)) (next_token (self_closes s p _) (next_token (self_goes_on t u q onward) (path_occurs l f false)))
+      next_still (self_needs run) (type_occurs w (mark_follows e 62 p s _ idle_angle)) (next_token (self_closes s p _) (next_token (self_continues t u q onward) (path_occurs l f false)))
   qualified_occurs (of_trait {s = s} {t = t} {u = u} {v = v} {p = p} {q = q} {run = run} {middle = middle} {further = onward} {f = g} w k l m) f =
       next_still (self_needs run) (type_occurs w k) (next_token (self_as v middle)
-      (any_path_occurs (self_path None) l (mark_follows g 62 p s _ idle_angle) (next_token (self_trait_closes s p _) (next_token (self_goes_on t u q onward) (path_occurs m f false)))))
+      (any_path_occurs (self_path None) l (mark_follows g 62 p s _ idle_angle) (next_token (self_trait_closes s p _) (next_token (self_continues t u q onward) (path_occurs m f false)))))
 
   any_path_occurs : {levels : ℕ} {p q : Stage} {kind : PathKind} {b : Option TokenList} {run rest : TokenList} {parts : List Tree} {e : Ending} → PathAt p kind q b → AnyPath levels kind run parts rest e → may_follow e rest ≡ true → {more : TokenList} {back : List Tree} →
       AreParts levels false (at q rest b) back more → AreParts levels false (at p run b) (parts ++ back) more

@@ -19,7 +19,7 @@ mutual
   -- The run begins with this type, and the rest follows. The type is a name, or a first token and
   -- the parts after it, none of which makes it unsupported. `+` joins bounds only if `plus` holds.
   pub data IsType : ℕ → Bool → TokenList → Tree → TokenList → Type 0 where
-    just_name : {levels : ℕ} {plus : Bool} {run : TokenList} {text : List ℕ} →
+    name_alone : {levels : ℕ} {plus : Bool} {run : TokenList} {text : List ℕ} →
         0 < levels → name_of run ≡ Some text → IsType levels plus run (name text) (rest_of run)
     formed : {levels : ℕ} {plus : Bool} {run : TokenList} {s : Sign} {spot : Spot} {parts : List Tree} {rest : TokenList} →
         0 < levels → name_of run ≡ None → begin plus run ≡ starts false s spot → AreParts (levels - 1) false spot parts rest →

@@ -105,8 +105,8 @@ abbrev pub typing : TokenList → Bool
 typing run = begins_mark 58 run && not (begins_colons run)
 
 -- Whether a path continues after a name: with `<`, `::` or a parenthesis.
-abbrev pub goes_on : TokenList → Bool
-goes_on run = (begins_mark 60 run || begins_colons run) || begins_parenthesis run
+abbrev pub continues : TokenList → Bool
+continues run = (begins_mark 60 run || begins_colons run) || begins_parenthesis run
 
 -- Whether a bound comes first: a name, `'`, `?`, `::` or a parenthesis.
 abbrev pub begins_bound : TokenList → Bool
@@ -528,5 +528,5 @@ is_reserved text =
 
 -- The name, if the type at the start of the run is exactly a name.
 abbrev pub name_of : TokenList → Option (List ℕ)
-name_of (also (identifier text span) rest) = if is_reserved text then None else (if goes_on rest || begins_mark 33 rest then None else Some text)
+name_of (also (identifier text span) rest) = if is_reserved text then None else (if continues rest || begins_mark 33 rest then None else Some text)
 name_of run = None

@@ -10,7 +10,7 @@ use Rattle.logos_type_reader.specs.declared.table.stage.PathKind.{PathKind}
 use Rattle.logos_type_reader.specs.declared.table.stage.PathKind.TheVariants.{Plain, OfType, OfBound}
 use Rattle.logos_type.specs.Parts.{Tree, sign, name, whole, still, trees, none as no_part, also as and_part, word, mark, colons, arrow, value, opening, closing, reference, other_lifetime}
 use Rattle.logos_type_reader.specs.StillRuns.{still_run}
-use Rattle.logos_type_reader.specs.Table.{is_reserved, goes_on, begins_colons, begins_arrow, begins_mark, begins_bound, typing, argued, argument_lifetime}
+use Rattle.logos_type_reader.specs.Table.{is_reserved, continues, begins_colons, begins_arrow, begins_mark, begins_bound, typing, argued, argument_lifetime}
 
 -- The ways in which a type ends.
 pub data Ending : Type 0 where
@@ -32,8 +32,8 @@ pub data Ending : Type 0 where
 -- The run does not lengthen a type that ends in this way.
 abbrev pub may_follow : Ending → TokenList → Bool
 may_follow closed run = true
-may_follow named run = not (goes_on run)
-may_follow plain_named run = not (goes_on run || begins_mark 33 run)
+may_follow named run = not (continues run)
+may_follow plain_named run = not (continues run || begins_mark 33 run)
 may_follow applied run = not (begins_colons run)
 may_follow taking run = not (begins_arrow run)
 may_follow (bounded e) run = may_follow e run && not (begins_mark 43 run)

@@ -1,2 +1,3 @@
 pub mod NearLemmas
 pub mod MistakeLemmas
+pub mod ShownLemmas

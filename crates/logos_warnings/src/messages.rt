@@ -1,16 +1,16 @@
 //! The warnings for mistakes. Used by `logos_causes`, `logos_derive` and `logos_file_warnings`.
 
-ghost use Rattle.std.specs.Prelude.{◌≡◌, IfOk};
-ghost use Rattle.logos_warnings.specs.Views.{mistake_value, span_of};
+ghost use Rattle.std.specs.Prelude.{◌≡◌, ◌≢◌, ◌++◌, [], IfOk, OnOk, codes, map, string_bytes};
+ghost use Rattle.logos_warnings.specs.Views.{AddsAbout, AreAbout, AreOfEnum, AreOfText, AreOfTokens, IsAbout, enum_value, mistake_text, mistake_value, span_of, tokens_of};
 
 use crate::mistakes::{Mistake, mistakes_of};
 use crate::origin::{Origin, is_warning};
 use crate::other_attributes::add_others;
-use crate::warning_list::{fixed_warning, plain_warning};
+use crate::warning_list::plain_warning;
 use logos_enum::{ItemEnum, ReadError, read_enum};
 use logos_report::Warning;
 use logos_token::error::Memory;
-use logos_token::token::{TokenError, Tokens, tokenize};
+use logos_token::token::{Span, TokenError, Tokens, tokenize};
 use std::alloc::{AllocError, Global};
 
 /// Returns the warnings for an enum with this text: those for its own attributes and then those for
@@ -26,11 +26,25 @@ pub fn enum_warnings(
     text: &str,
     derives: bool,
     origin: Origin,
-) -> Result<Vec<Warning>, Memory> {
+) -> Result<Vec<Warning>, Memory>
+    ensures { IfOk result (λ warnings. AreOfText text.now derives origin warnings.items) }
+{
     match tokenize(alloc, text) {
         Ok(stream) => token_warnings(alloc, stream.run(), derives, origin),
-        Err(TokenError::Memory) => Err(Memory),
-        Err(_) => Ok(Vec::new(alloc)),
+        Err(error) => warnings_of_unread(alloc, error),
+    }
+}
+
+/// Returns the warnings for a text that cannot be read into tokens, of which there are none.
+fn warnings_of_unread(alloc: Global, error: TokenError) -> Result<Vec<Warning>, Memory>
+    ensures nothing { IfOk result (λ warnings. warnings.items ≡ []) }
+    ensures fault { IfOk result (λ warnings. error ≢ TokenError.Memory) }
+{
+    match error {
+        TokenError::Lexical { .. } => Ok(Vec::new(alloc)),
+        TokenError::LimitSource => Ok(Vec::new(alloc)),
+        TokenError::LimitTokenNesting { .. } => Ok(Vec::new(alloc)),
+        TokenError::Memory => Err(Memory),
     }
 }
 
@@ -44,11 +58,27 @@ pub fn token_warnings(
     tokens: Tokens<'_, '_>,
     derives: bool,
     origin: Origin,
-) -> Result<Vec<Warning>, Memory> {
+) -> Result<Vec<Warning>, Memory>
+    ensures { IfOk result (λ warnings.
+        AreOfTokens (tokens_of tokens.entry) derives origin warnings.items) }
+{
     match read_enum(alloc, tokens) {
         Ok(item) => Ok(item_warnings(alloc, &item, derives, origin)?),
-        Err(ReadError::Memory) => Err(Memory),
-        Err(_) => Ok(Vec::new(alloc)),
+        Err(error) => warnings_of_misread(alloc, error),
+    }
+}
+
+/// Returns the warnings for tokens that do not spell an enum, of which there are none.
+fn warnings_of_misread(alloc: Global, error: ReadError) -> Result<Vec<Warning>, Memory>
+    ensures nothing { IfOk result (λ warnings. warnings.items ≡ []) }
+    ensures fault { IfOk result (λ warnings. error ≢ ReadError.Memory) }
+{
+    match error {
+        ReadError::NotAnEnum { .. } => Ok(Vec::new(alloc)),
+        ReadError::Grammar { .. } => Ok(Vec::new(alloc)),
+        ReadError::TypeUnsupported { .. } => Ok(Vec::new(alloc)),
+        ReadError::LimitTypeNesting { .. } => Ok(Vec::new(alloc)),
+        ReadError::Memory => Err(Memory),
     }
 }
 
@@ -62,52 +92,128 @@ pub fn item_warnings(
     item: &ItemEnum<'_, '_>,
     derives: bool,
     origin: Origin,
-) -> Result<Vec<Warning>, AllocError> {
+) -> Result<Vec<Warning>, AllocError>
+    ensures { IfOk result (λ warnings.
+        AreOfEnum (enum_value item.now) derives origin warnings.items) }
+{
     let mistakes = mistakes_of(alloc, item, derives)?;
-    let mut warnings = Vec::new(alloc);
-    for mistake in &mistakes {
-        if is_warning(*mistake, origin) {
-            warnings.push(warning_of(alloc, item.name.text, *mistake)?)?;
-        }
+    let mut warnings = warnings_about(alloc, item.name.text, &mistakes, origin)?;
+    if !derives {
+        return Ok(warnings);
     }
-    if derives {
-        add_others(item, &mut warnings)?;
+    add_others(item, &mut warnings)?;
+    Ok(warnings)
+}
+
+/// Returns the warnings for mistakes in the enum with this name.
+fn warnings_about(
+    alloc: Global,
+    name: &str,
+    mistakes: &[Mistake<'_>],
+    origin: Origin,
+) -> Result<Vec<Warning>, AllocError>
+    ensures { IfOk result (λ warnings.
+        AreAbout name.now origin (map mistake_value mistakes.now) warnings.items) }
+{
+    let mut warnings = Vec::new(alloc);
+    for mistake in mistakes {
+        add_about(name, *mistake, origin, &mut warnings)?;
     }
     Ok(warnings)
 }
 
+/// Adds the warning for a mistake in the enum with this name, if it is one.
+fn add_about(
+    name: &str,
+    mistake: Mistake<'_>,
+    origin: Origin,
+    warnings: &mut Vec<Warning>,
+) -> Result<(), AllocError>
+    ensures { OnOk result (AddsAbout name.now origin (mistake_value mistake.entry)
+        warnings.old.items warnings.new.items) }
+{
+    if is_warning(mistake, origin) {
+        let warning = warning_of(*warnings.allocator(), name, mistake)?;
+        warnings.push(warning)?;
+    }
+    Ok(())
+}
+
 /// Returns the warning for a mistake in the enum with this name.
 fn warning_of(alloc: Global, name: &str, mistake: Mistake<'_>) -> Result<Warning, AllocError>
-    ensures { IfOk result (λ warning. warning.span ≡ span_of (mistake_value mistake.entry)) }
+    ensures { IfOk result (IsAbout name.now (mistake_value mistake.entry)) }
+{
+    let message = message_of(alloc, name, mistake)?;
+    Ok(plain_warning(message, span_of(mistake), help_for(mistake)))
+}
+
+/// Returns the message about a mistake in the enum with this name.
+fn message_of(alloc: Global, name: &str, mistake: Mistake<'_>) -> Result<String, AllocError>
+    ensures { IfOk result (λ message.
+        string_bytes message ≡ mistake_text name.now (mistake_value mistake.entry)) }
 {
     match mistake {
-        Mistake::Misspelled {
-            name,
-            intended,
-            span,
-        } => {
-            let intended = intended.name();
-            let message = format!(in alloc; "`{name}` looks like a misspelling of `{intended}`")?;
-            Ok(plain_warning(message, span, None))
-        }
-        Mistake::Qualified { span } => fixed_warning(alloc, PATH, span, Some(PATH_HELP)),
-        Mistake::Useless { span } => fixed_warning(alloc, USELESS, span, Some(USELESS_HELP)),
-        Mistake::Conditional { span } => fixed_warning(
-            alloc,
-            CONDITION,
-            span,
-            Some(CONDITION_HELP),
-        ),
-        Mistake::NoPattern { span } => {
-            let message = format!(in alloc; "no variant of `{name}` has a pattern")?;
-            Ok(plain_warning(message, span, Some(PATTERN_HELP)))
-        }
-        Mistake::NoDerive { span } => {
-            let message = format!(in alloc;
-                "`{name}` has attributes of a lexer and does not derive `Logos`"
-            )?;
-            Ok(plain_warning(message, span, None))
-        }
+        Mistake::Misspelled { name, intended, .. } => misspelled_text(alloc, name, intended.name()),
+        Mistake::Qualified { .. } => String::from_str(alloc, PATH),
+        Mistake::Useless { .. } => String::from_str(alloc, USELESS),
+        Mistake::Conditional { .. } => String::from_str(alloc, CONDITION),
+        Mistake::NoPattern { .. } => no_pattern_text(alloc, name),
+        Mistake::NoDerive { .. } => no_derive_text(alloc, name),
+    }
+}
+
+/// Returns the message about a misspelled name.
+fn misspelled_text(alloc: Global, name: &str, intended: &str) -> Result<String, AllocError>
+    ensures { IfOk result (λ message. string_bytes message ≡ codes "`" ++ (name.now
+        ++ (codes "` looks like a misspelling of `" ++ (intended.now ++ codes "`")))) }
+{
+    let message = format!(in alloc; "`{name}` looks like a misspelling of `{intended}`")?;
+    Ok(message)
+}
+
+/// Returns the message about an enum without patterns.
+fn no_pattern_text(alloc: Global, name: &str) -> Result<String, AllocError>
+    ensures { IfOk result (λ message. string_bytes message
+        ≡ codes "no variant of `" ++ (name.now ++ codes "` has a pattern")) }
+{
+    let message = format!(in alloc; "no variant of `{name}` has a pattern")?;
+    Ok(message)
+}
+
+/// Returns the message about an enum with attributes of a lexer that does not derive `Logos`.
+fn no_derive_text(alloc: Global, name: &str) -> Result<String, AllocError>
+    ensures { IfOk result (λ message. string_bytes message ≡ codes "`" ++ (name.now
+        ++ codes "` has attributes of a lexer and does not derive `Logos`")) }
+{
+    let message = format!(in alloc;
+        "`{name}` has attributes of a lexer and does not derive `Logos`"
+    )?;
+    Ok(message)
+}
+
+/// Returns the span of a mistake.
+fn span_of(mistake: Mistake<'_>) -> Span
+    ensures { result ≡ span_of (mistake_value mistake.entry) }
+{
+    match mistake {
+        Mistake::Misspelled { span, .. } => span,
+        Mistake::Qualified { span } => span,
+        Mistake::Useless { span } => span,
+        Mistake::Conditional { span } => span,
+        Mistake::NoPattern { span } => span,
+        Mistake::NoDerive { span } => span,
+    }
+}
+
+/// Returns the help for a mistake, if there is one.
+fn help_for(mistake: Mistake<'_>) -> Option<&'static str> {
+    match mistake {
+        Mistake::Misspelled { .. } => None,
+        Mistake::Qualified { .. } => Some(PATH_HELP),
+        Mistake::Useless { .. } => Some(USELESS_HELP),
+        Mistake::Conditional { .. } => Some(CONDITION_HELP),
+        Mistake::NoPattern { .. } => Some(PATTERN_HELP),
+        Mistake::NoDerive { .. } => None,
     }
 }
 

@@ -1,6 +1,9 @@
 //! Entries of `derive` that name the derive macro and are ignored, since the enum is not found or
 //! the entry is unknown. Used by `logos_file_warnings`.
 
+ghost use Rattle.std.specs.Prelude.{All, IfOk};
+ghost use Rattle.logos_warnings.specs.Views.{IsPassedOver};
+
 use crate::warning_list::fixed_warning;
 use logos_report::Warning;
 use logos_token::error::Memory;
@@ -24,18 +27,18 @@ pub fn passed_over(
     alloc: Global,
     tokens: Tokens<'_, '_>,
     found: &[Span],
-) -> Result<Vec<Warning>, Memory> {
+) -> Result<Vec<Warning>, Memory>
+    ensures { IfOk result (λ warnings. All IsPassedOver warnings.items) }
+{
     let mut derives = Vec::new(alloc);
     search_run(tokens, &mut derives)?;
     Ok(warnings_of(alloc, &derives, found)?)
 }
 
 /// Returns the warnings for the spans that are outside of the spans `found`. Both are in order.
-fn warnings_of(
-    alloc: Global,
-    derives: &[Span],
-    found: &[Span],
-) -> Result<Vec<Warning>, AllocError> {
+fn warnings_of(alloc: Global, derives: &[Span], found: &[Span]) -> Result<Vec<Warning>, AllocError>
+    ensures { IfOk result (λ warnings. All IsPassedOver warnings.items) }
+{
     let mut warnings = Vec::new(alloc);
     let mut left = found;
     for span in derives {

@@ -1,5 +1,8 @@
 //! The origin of an enum, which determines the mistakes that are warnings.
 
+ghost use Rattle.std.specs.Prelude.{◌≡◌};
+ghost use Rattle.logos_warnings.specs.Views.{is_warning, mistake_value};
+
 use crate::mistakes::Mistake;
 
 /// The origin of the text of an enum.
@@ -12,9 +15,15 @@ pub enum Origin {
 }
 
 /// Returns whether a mistake is a warning for an enum from this origin.
-pub(crate) fn is_warning(mistake: Mistake<'_>, origin: Origin) -> bool {
-    match (mistake, origin) {
-        (Mistake::Conditional { .. }, Origin::Macro) => false,
-        _ => true,
+pub(crate) fn is_warning(mistake: Mistake<'_>, origin: Origin) -> bool
+    ensures { result ≡ is_warning (mistake_value mistake.entry) origin }
+{
+    match mistake {
+        Mistake::Misspelled { .. } => true,
+        Mistake::Qualified { .. } => true,
+        Mistake::Useless { .. } => true,
+        Mistake::Conditional { .. } => matches!(origin, Origin::File),
+        Mistake::NoPattern { .. } => true,
+        Mistake::NoDerive { .. } => true,
     }
 }

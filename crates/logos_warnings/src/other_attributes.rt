@@ -1,10 +1,13 @@
 //! Attributes of an enum and of its variants that a lexer ignores for reasons other than their
 //! names: those of older lexers, and those under a condition. Used by `messages`.
 
+ghost use Rattle.std.specs.Prelude.{OnOk, map};
+ghost use Rattle.logos_warnings.specs.Views.{AddsEach, IsAboutIgnored, IsAt, IsIgnored, IsIgnoredIn, IsIgnoredOn, attribute_value, enum_value, tokens_of, variant_value};
+
 use crate::attributes::name_of;
 use crate::helper::is_helper_name;
 use crate::warning_list::fixed_warning;
-use logos_enum::{Attribute, ItemEnum, split_attribute};
+use logos_enum::{Attribute, ItemEnum, Variant, split_attribute};
 use logos_report::Warning;
 use logos_token::token::{Span, TokenTree, Tokens};
 use std::alloc::AllocError;
@@ -21,9 +24,20 @@ const CONDITION_HELP: &str = "write it alone, or derive the lexer in place";
 pub(crate) fn add_others(
     item: &ItemEnum<'_, '_>,
     warnings: &mut Vec<Warning>,
-) -> Result<(), AllocError> {
+) -> Result<(), AllocError>
+    ensures { OnOk result (AddsEach (IsIgnored (enum_value item.now)) warnings.old.items
+        warnings.new.items) }
+{
     add_run(item.attributes, false, warnings)?;
-    for variant in &item.variants {
+    add_variants(item.variants.as_slice(), warnings)
+}
+
+/// Adds the warnings for the attributes of these variants.
+fn add_variants(variants: &[Variant<'_, '_>], warnings: &mut Vec<Warning>) -> Result<(), AllocError>
+    ensures { OnOk result (AddsEach (IsIgnoredOn (map variant_value variants.now)) warnings.old.items
+        warnings.new.items) }
+{
+    for variant in variants {
         add_run(variant.attributes, true, warnings)?;
     }
     Ok(())
@@ -34,7 +48,10 @@ fn add_run(
     run: Tokens<'_, '_>,
     is_variant: bool,
     warnings: &mut Vec<Warning>,
-) -> Result<(), AllocError> {
+) -> Result<(), AllocError>
+    ensures { OnOk result (AddsEach (IsIgnoredIn (tokens_of run.entry)) warnings.old.items
+        warnings.new.items) }
+{
     let mut rest = run;
     while let Some((attribute, next)) = split_attribute(rest) {
         add_attribute(attribute, is_variant, warnings)?;
@@ -48,14 +65,20 @@ fn add_attribute(
     attribute: Attribute<'_, '_>,
     is_variant: bool,
     warnings: &mut Vec<Warning>,
-) -> Result<(), AllocError> {
-    match name_of(attribute) {
-        Some("end") if is_variant => add(END, END_HELP, attribute.span, warnings),
-        Some("cfg_attr") if hides_helper(attribute) => {
-            add(CONDITION, CONDITION_HELP, attribute.span, warnings)
-        }
-        _ => Ok(()),
+) -> Result<(), AllocError>
+    ensures { OnOk result (AddsEach (IsAboutIgnored (attribute_value attribute.entry))
+        warnings.old.items warnings.new.items) }
+{
+    let Some(name) = name_of(attribute) else {
+        return Ok(());
+    };
+    if is_variant & (name == "end") {
+        return add(END, END_HELP, attribute.span, warnings);
     }
+    if name == "cfg_attr" && hides_helper(attribute) {
+        return add(CONDITION, CONDITION_HELP, attribute.span, warnings);
+    }
+    Ok(())
 }
 
 /// Adds a warning.
@@ -64,7 +87,9 @@ fn add(
     help: &'static str,
     span: Span,
     warnings: &mut Vec<Warning>,
-) -> Result<(), AllocError> {
+) -> Result<(), AllocError>
+    ensures { OnOk result (AddsEach (IsAt span) warnings.old.items warnings.new.items) }
+{
     let alloc = *warnings.allocator();
     warnings.push(fixed_warning(alloc, message, span, Some(help))?)?;
     Ok(())

@@ -3,6 +3,7 @@
 
 use crate::logos_host::ComparableFiles;
 use std::alloc::{Global, set_budget_of_program};
+use std::env::Env;
 use std::io::{Input, Write};
 use std::prelude::{HostRuntime, String, Vec};
 use std::process::ExitCode;
@@ -25,9 +26,10 @@ pub fn run(program: fn(&HostRuntime) -> u8) -> ExitCode {
     ExitCode::from(program(&HostRuntime))
 }
 
-/// Runs `logos_show` with these arguments, without its name, on other files, another clock and
-/// another standard input. Returns the exit status, and appends its output to `err` and `out`.
-pub fn show<F: ComparableFiles, S: Clock + Input>(
+/// Runs `logos_show` with these arguments, without its name, on other files and on another system,
+/// which has a clock, a standard input and variables. Returns the exit status, and appends its
+/// output to `err` and `out`.
+pub fn show<F: ComparableFiles, S: Clock + Input + Env>(
     arguments: &[String],
     files: &mut F,
     system: &S,

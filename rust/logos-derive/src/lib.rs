@@ -98,8 +98,8 @@ use question::Question;
 /// - `type T = Type`, repeatable: the type for a type parameter.
 /// - `utf8 = false`: inputs are `[u8]` instead of `str`.
 /// - `crate = path`: the path of the crate `logos`, if it has another name.
-/// - `export_dir = "path"`: accepted, but without effect here. `logos export` writes state
-///   diagrams.
+/// - `export_dir = "path"`: the macro writes no file, and the path need not exist. The program
+///   `logos export` writes the state diagram there. With the feature `debug` the macro prints this.
 #[proc_macro_derive(Logos, attributes(logos, extras, error, end, token, regex))]
 pub fn derive(item: TokenStream) -> TokenStream {
     let question = Question::new(item.clone());
@@ -119,6 +119,10 @@ pub fn derive(item: TokenStream) -> TokenStream {
     tokens
 }
 
+/// The note about `export_dir`.
+const UNWRITTEN: &str =
+    "[logos] export_dir: the macro writes no file; `logos export FILE` writes the state diagram";
+
 /// Returns the answer about an enum: the stored one, otherwise the library's.
 fn answer_to(question: &Question, shape: ShapeName) -> Result<Answer, Failure> {
     let place = kept::Place::new(&question.text, shape);
@@ -132,6 +136,9 @@ fn answer_to(question: &Question, shape: ShapeName) -> Result<Answer, Failure> {
     };
     if let (true, Some(found)) = (cfg!(feature = "debug"), &answer.implementation) {
         eprintln!("[logos] {}: {}", shape.0, found.text);
+        if question.has_option("export_dir") {
+            eprintln!("{UNWRITTEN}");
+        }
     }
     Ok(answer)
 }

@@ -84,10 +84,19 @@ impl Question {
     }
 
     fn name_node(&self) -> Option<&Node> {
-        let is_enum = |node: &Node| {
-            matches!(&node.tree, TokenTree::Ident(_)) && node.tree.to_string() == "enum"
-        };
-        self.nodes.get(self.nodes.iter().position(is_enum)? + 1)
+        let start = self.nodes.iter().position(|node| is_named(node, "enum"))?;
+        self.nodes.get(start + 1)
+    }
+
+    /// Returns whether an attribute `#[logos(..)]` of the enum has an argument with this name.
+    pub fn has_option(&self, name: &str) -> bool {
+        self.nodes.iter().any(|node| match node.inner.as_slice() {
+            [head, arguments] if is_named(head, "logos") => arguments
+                .inner
+                .split(is_comma)
+                .any(|argument| argument.first().is_some_and(|node| is_named(node, name))),
+            _ => false,
+        })
     }
 
     /// Returns the tokens that overlap a byte range.
@@ -202,6 +211,14 @@ fn cut(nodes: &[Node], from: usize, to: usize) -> Option<Vec<TokenTree>> {
         [node] => cut(&node.inner, from, to),
         _ => None,
     }
+}
+
+fn is_named(node: &Node, name: &str) -> bool {
+    matches!(&node.tree, TokenTree::Ident(_)) && node.tree.to_string() == name
+}
+
+fn is_comma(node: &Node) -> bool {
+    matches!(&node.tree, TokenTree::Punct(punct) if punct.as_char() == ',')
 }
 
 fn is_parenthesized(node: &Node) -> bool {

@@ -34,6 +34,8 @@ pub(crate) enum Next {
     Attempts(usize),
     /// By a match of the leaf with this number, or an error if no leaf has it.
     Match(usize, Span),
+    /// By repeating the attempt that begins at a byte offset.
+    Repeat(usize),
     /// There is no further item of a part after this byte offset.
     End(usize),
 }
@@ -111,6 +113,26 @@ impl Ahead {
         self.tokens &= self.tokens.wrapping_sub(1);
     }
 
+    /// Skips the tokens of the word that end up to a byte offset, where an item ends that was made
+    /// longer. If no match of the word ends there, forgets the word.
+    #[inline(always)]
+    pub(crate) fn pass_to(&mut self, end: usize) {
+        match &self.room {
+            Some(room) if room.word.ends_at(end) => {
+                self.tokens &= !1 << (end - room.word.here);
+            }
+            _ => self.forget(),
+        }
+    }
+
+    /// Ends the match of the word that ends at a byte offset one byte before.
+    #[inline(always)]
+    pub(crate) fn end_before(&mut self, end: usize) {
+        if let Some(room) = &mut self.room {
+            room.word.end_before(end);
+        }
+    }
+
     /// Moves to the next word of the chunk, if there is one.
     #[inline(always)]
     pub(crate) fn next_word(&mut self) -> bool {
@@ -146,9 +168,12 @@ impl Ahead {
         } else if let Some(cut) = room.cut() {
             // The match may have moved the lexer: the walk begins at its offset after that.
             let start = room.word.last_end();
-            let (leaf, end) = room.found_at::<T>(bytes, cut, start);
+            let found = room.found_at::<T>(cut, start);
             room.is_moved = true;
-            return Next::Match(leaf, start..end);
+            return match found {
+                Some((leaf, end)) => Next::Match(leaf, start..end),
+                None => Next::Repeat(start),
+            };
         }
         T::refill(self, bytes)
     }

@@ -1,5 +1,5 @@
-//! The items that a lexer has found ahead of its own offset, for builds without memory to look
-//! ahead: none.
+//! Replaces `ahead` in builds without memory to look ahead: a lexer has never found items ahead of
+//! its own offset.
 
 use crate::Way;
 

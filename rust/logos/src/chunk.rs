@@ -1,12 +1,14 @@
 //! The entries for a chunk of an input, computed with folded tables. Called by `walk`.
 
 use crate::folded::{leaf_of, Folded, ENDED, OFFSET_MASK};
+use crate::guess::{guess_parts, Guesser, Guesses, AGAIN, LEAST_PART};
 use crate::internal::Tables;
 use crate::Span;
+use std::boxed::Box;
 
 /// The number of bytes of a block, and of a chunk, whose blocks are processed at once.
-const BLOCK: usize = 768;
-const BLOCKS: usize = 6;
+pub(crate) const BLOCK: usize = 768;
+pub(crate) const BLOCKS: usize = 6;
 /// The number of bytes of a block that are processed in one step.
 const STEPS: usize = 6;
 const _: () = assert!(BLOCK % STEPS == 0);
@@ -15,11 +17,13 @@ pub(crate) const CHUNK: usize = BLOCKS * BLOCK;
 /// chunk.
 pub(crate) const WORD: usize = 64;
 const WORDS: usize = CHUNK / WORD;
-/// The numbers of bytes before a block that are examined: to guess its row, and to find a line end.
-const NEAR: usize = 32;
-const FAR: usize = 384;
-/// Fewer bytes than these are not worth a part of their own.
-const LEAST_PART: usize = 2 * NEAR;
+/// The number of bytes of a block within which most walks from a wrong row reach the right one.
+const SOON: usize = 48;
+/// The number of bytes of each block that second walks process at once.
+const PART: usize = 96;
+const _: () = assert!(BLOCK % PART == 0 && PART % STEPS == 0);
+/// The last block from which on all blocks are walked over a second time at once.
+const LAST_SECOND: usize = BLOCKS - 3;
 
 /// The matches that a walk over a chunk has found.
 pub(crate) struct Chunk {
@@ -29,28 +33,32 @@ pub(crate) struct Chunk {
     /// that is set only in `tokens` marks a byte that needs a separate match attempt.
     ends: [u64; WORDS],
     tokens: [u64; WORDS],
+    /// The entries of second walks, once there was one.
+    others: Option<Box<[u32; CHUNK]>>,
+}
+
+/// The result of second walks over blocks.
+struct Second {
+    /// The row offsets before and after each block, and the number of bytes of each.
+    before: [u32; BLOCKS],
+    after: [u32; BLOCKS],
+    len: usize,
 }
 
 /// The result of a walk over a whole chunk.
 pub(crate) struct Walked {
     /// The row offset after the chunk.
     pub(crate) row_start: u32,
-    /// The number of bytes that were processed again.
-    pub(crate) again: usize,
-    /// The number of bytes that guesses by lines examined.
-    pub(crate) looked: usize,
-    /// Whether a guess was wrong up to the end of its block.
-    pub(crate) missed: bool,
+    /// The cost of guesses, and of bytes that were processed again.
+    pub(crate) cost: usize,
 }
-
-/// Guesses of the row offsets of blocks, and the number of bytes that were examined for line ends.
-type Guesses = ([u32; BLOCKS], usize);
 
 impl Chunk {
     pub(crate) const NEW: Chunk = Chunk {
         trace: [0; CHUNK],
         ends: [0; WORDS],
         tokens: [0; WORDS],
+        others: None,
     };
 
     /// Returns the leaf of the entry of a byte.
@@ -94,32 +102,102 @@ impl Chunk {
         }
     }
 
-    /// Walks over all bytes of a chunk, from a row on. The other blocks begin in guessed rows: by
-    /// lines or by a few bytes, and from `start` on after a line end.
+    /// Walks over all bytes of a chunk, from a row on. The other blocks begin in guessed rows.
     #[inline]
     pub(crate) fn walk<'s, T: Tables<'s>>(
         &mut self,
         input: &[u8; CHUNK],
         row_start: u32,
-        start: u32,
-        by_lines: bool,
+        guesser: &mut Guesser,
     ) -> Walked {
-        let (mut guesses, looked) = if by_lines {
-            T::guess_by_lines(input, start)
-        } else {
-            (guess_row_offsets::<T>(input, BLOCK - NEAR, start), 0)
-        };
-        guesses[0] = row_start;
-        let row_starts = T::walk_blocks(input, &mut self.trace, guesses);
-        let walked = self.repair::<T>(input, BLOCK, guesses, row_starts);
+        let mut guesses = guesser.guess::<T>(input);
+        guesses.first[0] = row_start;
+        let row_starts = T::walk_blocks(input, &mut self.trace, guesses.first);
+        let walked = self.repair::<T>(input, guesses, row_starts, guesser);
         self.set_bits(0, CHUNK);
-        Walked { looked, ..walked }
+        walked
     }
 
-    /// Walks again over the blocks, of `size` bytes each, whose rows were guessed wrong, as far as
-    /// that changes entries.
+    /// Walks again over the blocks whose rows were guessed wrong, as far as that changes entries.
     #[inline]
     fn repair<'s, T: Tables<'s>>(
+        &mut self,
+        input: &[u8; CHUNK],
+        mut guesses: Guesses,
+        row_starts: [u32; BLOCKS],
+        guesser: &mut Guesser,
+    ) -> Walked {
+        let (mut row_start, mut again, mut second) = (row_starts[0], 0, None);
+        for (k, after) in row_starts.into_iter().enumerate().skip(1) {
+            let right = core::mem::replace(&mut row_start, after);
+            guesser.learn(&guesses, k, right);
+            if right == guesses.first[k] {
+                continue;
+            }
+            if let Some(after) = self.take_second(&second, k, right) {
+                row_start = after.unwrap_or(row_start);
+                continue;
+            }
+            let (from, soon, to) = (k * BLOCK, k * BLOCK + SOON, (k + 1) * BLOCK);
+            let (at, there) = self.walk_again::<T>(input, from..soon, right);
+            again += at - from;
+            if at < soon {
+                continue;
+            }
+            guesser.miss(&guesses, k, right, &self.trace);
+            if second.is_none() && k <= LAST_SECOND {
+                let before = guesser.second::<T>(input, &mut guesses, k, right);
+                let walked = self.walk_second::<T>(input, before);
+                again += walked.len;
+                second = Some(walked);
+                let taken = self.take_second(&second, k, right);
+                row_start = taken.flatten().unwrap_or(row_start);
+                continue;
+            }
+            let (at, there) = self.walk_again::<T>(input, soon..to, there);
+            again += at - soon;
+            if at == to {
+                row_start = there;
+            }
+        }
+        let cost = guesser.cost(&guesses, again);
+        Walked { row_start, cost }
+    }
+
+    /// Walks over all blocks but the first a second time, from other rows.
+    #[cold]
+    fn walk_second<'s, T: Tables<'s>>(
+        &mut self,
+        input: &[u8; CHUNK],
+        before: [u32; BLOCKS],
+    ) -> Second {
+        let others = self.others.get_or_insert_with(|| Box::new([0; CHUNK]));
+        let (after, len) = T::walk_others(input, &self.trace, others, before);
+        Second { before, after, len }
+    }
+
+    /// Takes the entries of a block from its second walk, if that began in the right row. Returns
+    /// the row offset after the block, or nothing within that if it is that of the first walk.
+    #[inline]
+    fn take_second(
+        &mut self,
+        second: &Option<Second>,
+        k: usize,
+        right: u32,
+    ) -> Option<Option<u32>> {
+        let Second { before, after, len } = second.as_ref()?;
+        if before[k] != right {
+            return None;
+        }
+        let range = k * BLOCK..k * BLOCK + len;
+        self.trace[range.clone()].copy_from_slice(&self.others.as_ref()?[range]);
+        Some((*len == BLOCK).then_some(after[k]))
+    }
+
+    /// Walks again over the parts, of `size` bytes each, whose rows were guessed wrong, as far as
+    /// that changes entries.
+    #[inline]
+    fn repair_parts<'s, T: Tables<'s>>(
         &mut self,
         input: &[u8],
         size: usize,
@@ -128,19 +206,16 @@ impl Chunk {
     ) -> Walked {
         let mut walked = Walked {
             row_start: row_starts[0],
-            again: 0,
-            looked: 0,
-            missed: false,
+            cost: 0,
         };
         for k in 1..BLOCKS {
             let (from, to) = (k * size, (k + 1) * size);
             let mut row_start = row_starts[k];
             if walked.row_start != guesses[k] {
                 let (at, there) = self.walk_again::<T>(input, from..to, walked.row_start);
-                walked.again += at - from;
+                walked.cost += AGAIN * (at - from);
                 if at == to {
                     row_start = there;
-                    walked.missed = true;
                 }
             }
             walked.row_start = row_start;
@@ -153,17 +228,12 @@ impl Chunk {
     #[inline]
     pub(crate) fn walk_rest<'s, T: Tables<'s>>(&mut self, rest: &[u8], row_start: u32) -> Walked {
         let size = rest.len() / BLOCKS;
-        let mut walked = Walked {
-            row_start,
-            again: 0,
-            looked: 0,
-            missed: false,
-        };
+        let mut walked = Walked { row_start, cost: 0 };
         let mut done = 0;
         if size >= LEAST_PART {
             let guesses = guess_parts::<T>(rest, size, row_start);
             let row_starts = T::walk_parts(rest, &mut self.trace, size, guesses);
-            walked = self.repair::<T>(rest, size, guesses, row_starts);
+            walked = self.repair_parts::<T>(rest, size, guesses, row_starts);
             done = BLOCKS * size;
         }
         for (entry, byte) in self.trace.iter_mut().zip(rest).skip(done) {
@@ -283,17 +353,38 @@ trait Blocks<'source>: Tables<'source> {
         row_starts.map(|row_start| row_start & OFFSET_MASK)
     }
 
-    /// Guesses the row offsets by more bytes: from the last line end before each block.
-    #[cold]
+    /// Walks over all blocks but the first in parallel, each from its row, until all are in the
+    /// rows of the trace. Returns the row offsets after that, and the number of bytes of each.
     #[inline(never)]
-    fn guess_by_lines(input: &[u8; CHUNK], start: u32) -> Guesses {
-        let mut from = BLOCK - NEAR;
-        for k in 1..BLOCKS {
-            let window = input[k * BLOCK - FAR..].first_chunk();
-            from = from.min(BLOCK - FAR + last_line_end(window.expect("a window")));
+    fn walk_others(
+        input: &[u8; CHUNK],
+        trace: &[u32; CHUNK],
+        others: &mut [u32; CHUNK],
+        row_starts: [u32; BLOCKS],
+    ) -> ([u32; BLOCKS], usize) {
+        let mut row_starts = row_starts;
+        let blocks: [&[u8; BLOCK]; BLOCKS] =
+            core::array::from_fn(|k| input[k * BLOCK..].first_chunk().expect("a block"));
+        for from in (0..BLOCK).step_by(PART) {
+            for at in (from..from + PART).step_by(STEPS) {
+                let part: Option<&mut [u32; CHUNK - BLOCK + STEPS]> =
+                    others[at..].first_chunk_mut();
+                let part = core::hint::black_box(part.expect("a part"));
+                for n in 0..STEPS {
+                    for k in 1..BLOCKS {
+                        let entry = step::<Self>(blocks[k][at + n], row_starts[k]);
+                        part[k * BLOCK + n] = entry;
+                        row_starts[k] = entry;
+                    }
+                }
+            }
+            let last = from + PART - 1;
+            let differ = |k: usize| (row_starts[k] ^ trace[k * BLOCK + last]) & OFFSET_MASK;
+            if (1..BLOCKS).fold(0, |all, k| all | differ(k)) == 0 {
+                return (row_starts.map(|it| it & OFFSET_MASK), from + PART);
+            }
         }
-        let looked = (BLOCKS - 1) * (BLOCK - from);
-        (guess_row_offsets::<Self>(input, from, start), looked)
+        (row_starts.map(|it| it & OFFSET_MASK), BLOCK)
     }
 }
 
@@ -331,66 +422,8 @@ fn bits_of(flags: &[u32; 8]) -> (u64, u64) {
 /// Returns the entry of a byte in the row at an offset. The offset may have the upper bits of an
 /// entry.
 #[inline(always)]
-fn step<'s, T: Tables<'s>>(byte: u8, row_start: u32) -> u32 {
+pub(crate) fn step<'s, T: Tables<'s>>(byte: u8, row_start: u32) -> u32 {
     T::entry_of(byte, row_start)
-}
-
-/// Guesses the row offsets of all parts of `size` bytes but the first, as [`guess_row_offsets`]
-/// does.
-#[inline]
-fn guess_parts<'s, T: Tables<'s>>(rest: &[u8], size: usize, first: u32) -> [u32; BLOCKS] {
-    let mut row_starts = [T::ROOT; BLOCKS];
-    for at in size - NEAR..size {
-        for k in 1..BLOCKS {
-            let byte = rest[(k - 1) * size + at];
-            let entry = step::<T>(byte, row_starts[k]);
-            row_starts[k] = if byte == b'\n' { T::ROOT } else { entry };
-        }
-    }
-    row_starts[0] = first;
-    row_starts.map(|row_start| row_start & OFFSET_MASK)
-}
-
-/// Guesses the row offsets of all blocks but the first: those after the bytes that follow the last
-/// line end, from byte `from` of the previous block on. All guesses are made in parallel, as blocks
-/// are walked.
-#[inline(always)]
-fn guess_row_offsets<'s, T: Tables<'s>>(
-    input: &[u8; CHUNK],
-    from: usize,
-    start: u32,
-) -> [u32; BLOCKS] {
-    let mut row_starts = [start; BLOCKS];
-    for at in from..BLOCK {
-        for k in 1..BLOCKS {
-            let byte = input[(k - 1) * BLOCK + at];
-            let entry = step::<T>(byte, row_starts[k]);
-            row_starts[k] = if byte == b'\n' { start } else { entry };
-        }
-    }
-    row_starts.map(|row_start| row_start & OFFSET_MASK)
-}
-
-/// Returns which byte of a window is the last line end, or the first of the last few bytes if none
-/// is.
-fn last_line_end(window: &[u8; FAR]) -> usize {
-    for (n, eight) in window.chunks_exact(8).enumerate().rev() {
-        let ends = line_ends(eight);
-        if ends != 0 {
-            return 8 * n + 7 - ends.leading_zeros() as usize / 8;
-        }
-    }
-    FAR - NEAR
-}
-
-/// Returns which of eight bytes are line ends, in their upper bits.
-fn line_ends(eight: &[u8]) -> u64 {
-    const ONES: u64 = 0x7F7F_7F7F_7F7F_7F7F;
-    let eight = u64::from_le_bytes([
-        eight[0], eight[1], eight[2], eight[3], eight[4], eight[5], eight[6], eight[7],
-    ]);
-    let other = eight ^ 0x0A0A_0A0A_0A0A_0A0A;
-    !(((other & ONES) + ONES) | other | ONES)
 }
 
 #[cfg(test)]

@@ -4,7 +4,8 @@
 //! `logos_cli` prints. [`Logos::lexer`] begins a run over an input, and the run is an iterator over
 //! tokens. Where the lexer is tables, the run looks ahead by chunks of the input where that pays.
 //! A `for` loop is as fast as `for_each` if the run stays in registers: if there is one call of
-//! `next`, and each function that takes the run is inlined.
+//! `next`, and each function that takes the run is inlined. With several calls of `next` the run is
+//! in memory, and each token costs some more loads and stores.
 //!
 //! # Features
 //!
@@ -32,6 +33,8 @@ mod chunk;
 mod data;
 #[cfg_attr(not(feature = "std"), allow(dead_code))]
 mod folded;
+#[cfg(feature = "std")]
+mod guess;
 #[allow(missing_docs)]
 pub mod internal;
 mod lexer;

@@ -195,41 +195,43 @@ pub(crate) trait Loops<'source>: Tables<'source> {
         };
         let mask = &Self::MASKS[number & Self::LOOP];
         let Some(block) = rest.first_chunk::<8>() else {
-            return Self::stop_late(number, bytes, from);
+            return Self::stop_late(Self::MASKS, number, bytes, from);
         };
         let bits = bits(mask, block);
         if bits == 0 {
-            return Self::stop_far(number, bytes, from + 8);
+            return Self::stop_far(Self::MASKS, number, bytes, from + 8);
         }
         from + bits.trailing_zeros() as usize
     }
 
     /// Like [`Loops::stop`], for bytes after the first ones. Each of the first four loops has its
-    /// own function, chosen by a branch, so that the search does not wait for a table load.
+    /// own function, chosen by a branch, so that the search does not wait for a table load. The
+    /// masks are those of the caller, which may be in another part of the program: so that has the
+    /// only copy.
     #[inline(never)]
-    fn stop_far(number: usize, bytes: &[u8], from: usize) -> usize {
+    fn stop_far(masks: &'static [Mask], number: usize, bytes: &[u8], from: usize) -> usize {
         match number {
-            0 => Self::stop_by::<0>(bytes, from),
-            1 => Self::stop_by::<1>(bytes, from),
-            2 => Self::stop_by::<2>(bytes, from),
-            3 => Self::stop_by::<3>(bytes, from),
-            _ => Self::stop_by_loop(number, bytes, from),
+            0 => Self::stop_by::<0>(masks, bytes, from),
+            1 => Self::stop_by::<1>(masks, bytes, from),
+            2 => Self::stop_by::<2>(masks, bytes, from),
+            3 => Self::stop_by::<3>(masks, bytes, from),
+            _ => Self::stop_by_loop(masks, number, bytes, from),
         }
     }
 
     #[inline(never)]
-    fn stop_by<const NUMBER: usize>(bytes: &[u8], from: usize) -> usize {
-        Self::stop_by_loop(NUMBER, bytes, from)
+    fn stop_by<const NUMBER: usize>(masks: &'static [Mask], bytes: &[u8], from: usize) -> usize {
+        Self::stop_by_loop(masks, NUMBER, bytes, from)
     }
 
     #[inline(always)]
-    fn stop_by_loop(number: usize, bytes: &[u8], from: usize) -> usize {
+    fn stop_by_loop(masks: &'static [Mask], number: usize, bytes: &[u8], from: usize) -> usize {
         let Some(mut rest) = bytes.get(from..) else {
             return from;
         };
         let ranges = &Self::RANGES[number & Self::LOOP];
         if !Self::VECTORS || ranges.1 > Self::MOST {
-            return Self::stop_by_masks(number, bytes, from);
+            return Self::stop_by_masks(masks, number, bytes, from);
         }
         while let Some((blocks, tail)) = rest.split_first_chunk::<32>() {
             let (Some(first), Some(last)) = (blocks.first_chunk(), blocks.last_chunk()) else {
@@ -253,15 +255,15 @@ pub(crate) trait Loops<'source>: Tables<'source> {
             }
             rest = tail;
         }
-        Self::stop_late(number, bytes, bytes.len() - rest.len())
+        Self::stop_late(masks, number, bytes, bytes.len() - rest.len())
     }
 
     #[inline(never)]
-    fn stop_by_masks(number: usize, bytes: &[u8], from: usize) -> usize {
+    fn stop_by_masks(masks: &'static [Mask], number: usize, bytes: &[u8], from: usize) -> usize {
         let Some(mut rest) = bytes.get(from..) else {
             return from;
         };
-        let mask = &Self::MASKS[number & Self::LOOP];
+        let mask = &masks[number & Self::LOOP];
         while let Some((block, tail)) = rest.split_first_chunk::<8>() {
             let bits = bits(mask, block);
             if bits != 0 {
@@ -269,15 +271,15 @@ pub(crate) trait Loops<'source>: Tables<'source> {
             }
             rest = tail;
         }
-        Self::stop_late(number, bytes, bytes.len() - rest.len())
+        Self::stop_late(masks, number, bytes, bytes.len() - rest.len())
     }
 
     /// Like [`Loops::stop`], byte by byte.
     #[cold]
     #[inline(never)]
-    fn stop_late(number: usize, bytes: &[u8], from: usize) -> usize {
-        let mut at = from;
-        while at < bytes.len() && Self::stays(number, bytes[at]) {
+    fn stop_late(masks: &'static [Mask], number: usize, bytes: &[u8], from: usize) -> usize {
+        let (mask, mut at) = (&masks[number & Self::LOOP], from);
+        while at < bytes.len() && mask[bytes[at] as usize][0] == 0 {
             at += 1;
         }
         at

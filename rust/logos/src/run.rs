@@ -4,6 +4,8 @@
 #[cfg(feature = "std")]
 use crate::ahead::{Looks, Next};
 use crate::data::END;
+#[cfg(feature = "std")]
+use crate::folded::ERROR;
 use crate::internal::{CallbackResult, Tables};
 use crate::loops::Loops;
 use crate::rows::{AGAIN, CLOSES, ENDS, FORTH, NEVER, NOWHERE, NUMBERS, SINGLY, STAYS, VARIES};
@@ -57,12 +59,17 @@ pub(crate) trait Run<'source>: Loops<'source> {
     /// first, because the state is known last, from the step before.
     #[inline(always)]
     fn step(state: u32, byte: u8) -> u32 {
-        let column = if Self::BY_BYTES {
-            byte
+        Self::ROWS[Self::column(byte)..][state as usize]
+    }
+
+    /// Returns the column of a byte.
+    #[inline(always)]
+    fn column(byte: u8) -> usize {
+        if Self::BY_BYTES {
+            byte as usize
         } else {
-            Self::CLASSES[byte as usize]
-        };
-        Self::ROWS[column as usize..][state as usize]
+            Self::CLASSES[byte as usize] as usize
+        }
     }
 
     /// Returns whether the entry is of this kind, which has a leaf. The leaf is not extracted here,
@@ -76,8 +83,8 @@ pub(crate) trait Run<'source>: Loops<'source> {
     /// match.
     #[cold]
     #[inline(never)]
-    fn end_entry(state: u32) -> u32 {
-        let entry = Self::ROWS[state as usize + Self::END_COLUMN];
+    fn end_entry(rows: &'static [u32], state: u32) -> u32 {
+        let entry = rows[state as usize + Self::END_COLUMN];
         if entry < ENDS {
             AGAIN
         } else {
@@ -87,15 +94,17 @@ pub(crate) trait Run<'source>: Loops<'source> {
 
     /// Repeats an attempt, byte by byte, with the marks on its way. Returns the last leaf and the
     /// end of its match; or a number that no leaf has, and the offset at which the attempt ended.
+    /// The rows are those of the caller, which may be in another part of the program: so that has
+    /// the only copy.
     #[cold]
     #[inline(never)]
-    fn try_again(bytes: &[u8], start: usize) -> (usize, usize) {
+    fn try_again(rows: &'static [u32], bytes: &[u8], start: usize) -> (usize, usize) {
         let (mut state, mut at) = (Self::START, start);
         let (mut leaf, mut end) = (Self::LEAVES, start);
         loop {
             let next = match bytes.get(at) {
-                Some(byte) => Self::step(state, *byte),
-                None => Self::ROWS[state as usize + Self::END_COLUMN],
+                Some(byte) => rows[state as usize + Self::column(*byte)],
+                None => rows[state as usize + Self::END_COLUMN],
             };
             if (STAYS..ENDS).contains(&next) {
                 at += 1;
@@ -129,7 +138,7 @@ pub(crate) trait Run<'source>: Loops<'source> {
     ) -> (usize, usize) {
         let last = Self::LASTS[state as usize / Self::COLUMNS];
         if entry != NOWHERE || last == VARIES {
-            return Self::try_again(bytes, start);
+            return Self::try_again(Self::ROWS, bytes, start);
         }
         if last == NEVER {
             return (Self::LEAVES, at);
@@ -150,7 +159,7 @@ pub(crate) trait Run<'source>: Loops<'source> {
         let (mut state, mut at) = (first, from);
         'walk: loop {
             let Some(byte) = bytes.get(at) else {
-                return (Self::end_entry(state), at + 1, state);
+                return (Self::end_entry(Self::ROWS, state), at + 1, state);
             };
             let mut next = Self::step(state, *byte);
             at += 1;
@@ -176,12 +185,12 @@ pub(crate) trait Run<'source>: Loops<'source> {
                             continue 'walk;
                         }
                     }
-                    at = Self::stop_far(number, bytes, at + 14);
+                    at = Self::stop_far(Self::MASKS, number, bytes, at + 14);
                 } else {
-                    at = Self::stop_late(number, bytes, at);
+                    at = Self::stop_late(Self::MASKS, number, bytes, at);
                 }
                 let Some(byte) = bytes.get(at) else {
-                    return (Self::end_entry(state), at + 1, state);
+                    return (Self::end_entry(Self::ROWS, state), at + 1, state);
                 };
                 next = Self::step(state, *byte);
                 at += 1;
@@ -249,7 +258,14 @@ pub(crate) trait Run<'source>: Loops<'source> {
             lex.set_span(span);
             return match token {
                 Some(token) => Break(Some(Ok(token))),
-                None => Continue(Some(leaf)),
+                None if leaf < Self::LEAVES => Continue(Some(leaf)),
+                None if leaf == ERROR => Break(Some(Err(Self::error_ahead(lex)))),
+                None => {
+                    let end = lex.end();
+                    lex.set_end(end - 1);
+                    lex.ahead.end_before(end);
+                    Self::found(lex, leaf - Self::LEAVES)
+                }
             };
         }
         if lex.ahead.next_word() {
@@ -266,6 +282,11 @@ pub(crate) trait Run<'source>: Loops<'source> {
             }
             Next::Match(leaf, span) => {
                 lex.set_span(span);
+                Self::found(lex, leaf)
+            }
+            Next::Repeat(start) => {
+                let (leaf, end) = Self::try_again(Self::ROWS, bytes, start);
+                lex.set_span(start..end);
                 Self::found(lex, leaf)
             }
             Next::End(end) => {
@@ -293,6 +314,19 @@ pub(crate) trait Run<'source>: Loops<'source> {
     #[inline(never)]
     fn plain_apart(leaf: usize) -> Option<Self> {
         Self::plain(leaf)
+    }
+
+    /// Makes the error that the lexer has found ahead. It ends at the first boundary from its end
+    /// on.
+    #[cfg(feature = "std")]
+    #[inline(always)]
+    fn error_ahead(lex: &mut Lexer<'source, Self>) -> Self::Error {
+        let end = lex.source().find_boundary(lex.end());
+        if end != lex.end() {
+            lex.set_end(end);
+            lex.ahead.pass_to(end);
+        }
+        Self::error(lex)
     }
 
     /// Makes the error of an attempt that is over at a position. It ends at the first boundary from

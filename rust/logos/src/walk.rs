@@ -2,24 +2,22 @@
 
 use crate::chunk::{Chunk, CHUNK, WORD};
 use crate::folded::{Folded, Last};
+use crate::guess::{Guesser, AGAIN};
 use crate::internal::Tables;
-use crate::run::Run;
 use crate::word::Word;
 use crate::{Span, Way};
 
-/// The costs: for a walk of each byte, each byte that is processed again, each that a guess by
-/// lines examines, each undecided entry, and each repeated attempt; for `Logos::lex` of each match
-/// and each state that it enters. The numbers are not times: they were chosen to separate measured
-/// texts on which walks are faster from those on which they are slower.
+/// The costs: for a walk of each byte, each undecided entry, and each repeated attempt; for
+/// `Logos::lex` of each match and each state that it enters. The numbers are not times: they were
+/// chosen to separate measured texts on which walks are faster from those on which they are slower.
 const STEP: usize = 6;
-const AGAIN: usize = 24;
-const EXAMINE: usize = 10;
 const UNDECIDED: usize = 400;
 const ATTEMPT: usize = 400;
 const MATCH: usize = 39;
 const ENTER: usize = 19;
-/// The mean length of matches, in bytes, below which walks are slower than match attempts.
-const SHORTEST: usize = 2;
+/// If more than three of these many bytes end a match, walks are slower than match attempts:
+/// processors foresee these then.
+const ALMOST_ALL: usize = 4;
 /// The numbers of chunks that match attempts process if walks do not save time: the least, and the
 /// greatest after several such decisions in a row.
 const FEWEST_PLAIN: usize = 4;
@@ -55,12 +53,9 @@ pub(crate) struct Walk {
     gain: isize,
     /// The number of chunks that are not walked if walks do not pay off.
     plain: usize,
-    /// Whether a guess was wrong up to the end of its block.
-    missed: bool,
     /// Fewer bytes than a chunk has are walked over next.
     tries: bool,
-    /// The recent costs, in a chunk, of guesses by few bytes and of guesses by lines.
-    guesses: [usize; 2],
+    guesser: Guesser,
 }
 
 pub(crate) type Room = std::boxed::Box<Walk>;
@@ -82,12 +77,11 @@ pub(crate) fn new_room(way: Way) -> Room {
         moves: 0,
         gain: 0,
         plain: 0,
-        missed: false,
         tries: false,
-        guesses: [0; 2],
+        guesser: Guesser::NEW,
     };
     let mut room = std::boxed::Box::new(NEW);
-    (room.way, room.guesses[1]) = (way, EXAMINE * 500);
+    room.way = way;
     room.tries = way == Way::ByRule;
     room
 }
@@ -167,46 +161,34 @@ impl Walk {
         self.begin_word(0, self.base, !0, start)
     }
 
-    /// Walks over a whole chunk with the kind of guesses that costs less. The recorded cost of the
-    /// other kind decreases, so that it is tried again at times.
+    /// Walks over a whole chunk.
     #[inline]
     fn walk_chunk<'s, T: Tables<'s>>(&mut self, input: &[u8; CHUNK]) {
-        let start = if self.missed {
-            self.row_start
-        } else {
-            <T as Folded>::ROOT
-        };
-        let by_lines = self.guesses[1] < self.guesses[0];
-        let walked = self.chunk.walk::<T>(input, self.row_start, start, by_lines);
-        (self.len, self.row_start, self.missed) = (CHUNK, walked.row_start, walked.missed);
-        self.cost = AGAIN * walked.again + EXAMINE * walked.looked;
-        let (this, other) = (by_lines as usize, !by_lines as usize);
-        self.guesses[this] = (3 * self.guesses[this] + self.cost) / 4;
-        self.guesses[other] -= self.guesses[other] / 16;
+        let guesser = &mut self.guesser;
+        let walked = self.chunk.walk::<T>(input, self.row_start, guesser);
+        (self.len, self.row_start, self.cost) = (CHUNK, walked.row_start, walked.cost);
     }
 
     /// Walks over fewer bytes than a chunk has.
     #[inline]
     fn walk_rest<'s, T: Tables<'s>>(&mut self, rest: &[u8]) {
         let walked = self.chunk.walk_rest::<T>(rest, self.row_start);
-        (self.len, self.row_start) = (rest.len(), walked.row_start);
-        self.cost = AGAIN * walked.again;
+        (self.len, self.row_start, self.cost) = (rest.len(), walked.row_start, walked.cost);
     }
 
     /// Returns the leaf of the match attempt that ended at a byte of the chunk and began at a byte
     /// offset, and the end of its match; or a number that no leaf has, and the offset at which the
-    /// attempt ended.
+    /// attempt ended. Returns nothing if the attempt must be repeated.
     #[inline]
     pub(crate) fn found_at<'s, T: Tables<'s>>(
         &mut self,
-        bytes: &[u8],
         cut: usize,
         start: usize,
-    ) -> (usize, usize) {
+    ) -> Option<(usize, usize)> {
         let end = self.base + cut;
         let leaf = self.chunk.leaf(cut).unwrap_or_default();
         if leaf != 0 {
-            return (leaf - 1, end);
+            return Some((leaf - 1, end));
         }
         let row_start = match cut.checked_sub(1) {
             _ if end == start => <T as Folded>::ROOT,
@@ -214,11 +196,11 @@ impl Walk {
             None => self.first,
         };
         match T::last(row_start) {
-            Last::Never => (usize::MAX, end),
-            Last::Back(leaf, bytes) => (leaf, end - bytes),
+            Last::Never => Some((usize::MAX, end)),
+            Last::Back(leaf, bytes) => Some((leaf, end - bytes)),
             Last::Varies => {
                 self.moves += ATTEMPT;
-                T::try_again(bytes, start)
+                None
             }
         }
     }
@@ -269,7 +251,7 @@ impl Walk {
             SAMPLED
         };
         let [bytes, ends, entered] = self.chunk.sample(self.len, sampled);
-        let lexer = if ends > bytes / SHORTEST {
+        let lexer = if ends * ALMOST_ALL > bytes * 3 {
             0
         } else {
             sampled * (MATCH * ends + ENTER * entered)

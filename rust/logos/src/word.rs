@@ -33,6 +33,23 @@ impl Word {
         self.after(self.ends & !tokens & tokens.wrapping_sub(1))..end
     }
 
+    /// Returns whether a match of the word ends at a byte offset.
+    #[inline(always)]
+    pub(crate) fn ends_at(&self, offset: usize) -> bool {
+        let bit = offset.wrapping_sub(self.here);
+        bit < 64 && self.ends >> bit & 1 == 1
+    }
+
+    /// Ends the match that ends at a byte offset of the word one byte before.
+    #[inline(always)]
+    pub(crate) fn end_before(&mut self, end: usize) {
+        let bit = 1 << (end.wrapping_sub(self.here) & 63);
+        self.ends = self.ends & !bit | bit >> 1;
+        if bit == 1 {
+            self.start = end - 1;
+        }
+    }
+
     /// Returns the end of the last match.
     #[inline(always)]
     pub(crate) fn last_end(&self) -> usize {

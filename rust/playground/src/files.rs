@@ -1,8 +1,9 @@
-//! The system on which the programs run in a page: two texts as files, no standard input, and no
-//! clock.
+//! The system on which the programs run in a page: two texts as files, no standard input, no clock
+//! and no variables.
 
 use logos_build::logos_host::{ComparableFiles, FileError, Files, Occurrence, Reason};
 use rattle_std::alloc::{AllocError, Global};
+use rattle_std::env::{Env, FillError};
 use rattle_std::io::{self, ErrorKind, Input, Read};
 use rattle_std::time::{Clock, Duration};
 use rattle_std::vec::Vec;
@@ -54,7 +55,7 @@ impl ComparableFiles for Texts<'_> {
     }
 }
 
-/// A system without a clock, whose standard input is empty.
+/// A system without a clock and variables, whose standard input is empty.
 pub struct NoSystem;
 
 impl Clock for NoSystem {
@@ -68,6 +69,16 @@ impl Input for NoSystem {
 
     fn reader(&self) -> Empty {
         Empty
+    }
+}
+
+impl Env for NoSystem {
+    fn arg(&self, _i: usize, _buf: &mut [u8]) -> Result<usize, FillError> {
+        Err(FillError::NotPresent)
+    }
+
+    fn var(&self, _name: &str, _buf: &mut [u8]) -> Result<usize, FillError> {
+        Err(FillError::NotPresent)
     }
 }
 

@@ -9,8 +9,8 @@ use Rattle.logos_attribute.specs.Reports.{IsReport}
 use Rattle.logos_attribute.specs.Flags.{flags_report, after_flag}
 
 -- After `case` the flags continue after a comma, or they end.
-abbrev pub GoesOn : Slice → TokenList → List Fault → List Fault → Option Tokens → Type 0
-GoesOn name run old new next = MatchOption next
+abbrev pub Continues : Slice → TokenList → List Fault → List Fault → Option Tokens → Type 0
+Continues name run old new next = MatchOption next
     (IsReport (after_flag name run) true old new)
     (λ rest. (after_flag name run ≡ flags_report name true true (tokens_of rest)) × (new ≡ old) × (count_of (tokens_of rest) < count_of run))
 

@@ -4,7 +4,7 @@
 //! maximal.
 
 ghost use Rattle.std.specs.Prelude.{◌≡◌, ◌<◌, ◌≤◌, ◌==◌, IfSome, None, map, slice_index_or};
-ghost use Rattle.logos_code.specs.Views.{EndsRun, comparison_of, compares, some_compares, is_among, passes_test, by_conditions, NamesTest, NamesCondition, NamesFork, NamesWhatIsThere, stays, target, passes, condition_of, branch_of, fork_of, jumps_of, state_of, code_of};
+ghost use Rattle.logos_code.specs.Views.{EndsRun, comparison_of, compares, some_compares, is_among, passes_test, by_conditions, NamesTest, NamesCondition, NamesFork, NamesExisting, stays, target, passes, condition_of, branch_of, fork_of, jumps_of, state_of, code_of};
 
 use super::{CodeParts, CodeState, Condition, Fork};
 use logos_byte_class::byte_class::Comparisons;
@@ -12,7 +12,7 @@ use logos_byte_class::byte_class::Comparisons;
 impl CodeParts<'_> {
     /// Returns the end of a run of bytes with the same step in the state as the first byte.
     pub(super) fn run_end(&self, state: &CodeState, byte: usize) -> usize
-        requires there { NamesWhatIsThere (code_of self.now)
+        requires there { NamesExisting (code_of self.now)
             (state_of self.now.jump_tables.items state.now) }
         requires byte { byte < 256 }
         ensures stays { EndsRun (stays (code_of self.now) state.now.fast_loop) byte 256 result }

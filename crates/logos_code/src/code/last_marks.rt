@@ -66,39 +66,39 @@ fn find(alloc: Global, parts: &CodeParts) -> Result<Vec<LastMark>, AllocError> {
         let Some(state) = search.open.pop() else {
             return Ok(search.found);
         };
-        search.go_on(parts, state)?;
+        search.update_targets(parts, state)?;
     }
     Ok(search.found)
 }
 
 impl Search {
     /// Updates all states to which the fork of a state leads.
-    fn go_on(&mut self, parts: &CodeParts, state: usize) -> Result<(), AllocError> {
+    fn update_targets(&mut self, parts: &CodeParts, state: usize) -> Result<(), AllocError> {
         let mark = last_mark_at(&self.found, state);
         let Some(state) = parts.states.get(state) else {
             return Ok(());
         };
         match &state.fork {
-            Fork::Conditions(branches) => self.go_on_by_conditions(parts, branches, mark),
-            Fork::Table(k) => self.go_on_by_table(parts, *k, mark),
+            Fork::Conditions(branches) => self.update_by_conditions(parts, branches, mark),
+            Fork::Table(k) => self.update_by_table(parts, *k, mark),
         }
     }
 
     /// Updates all states to which the branches lead, given the last mark before them.
-    fn go_on_by_conditions(
+    fn update_by_conditions(
         &mut self,
         parts: &CodeParts,
         branches: &[(Condition, usize)],
         mark: LastMark,
     ) -> Result<(), AllocError> {
         for branch in branches {
-            self.go_to(parts, branch.1, mark)?;
+            self.update_target(parts, branch.1, mark)?;
         }
         Ok(())
     }
 
     /// Updates all states to which the jump table leads, given the last mark before them.
-    fn go_on_by_table(
+    fn update_by_table(
         &mut self,
         parts: &CodeParts,
         k: usize,
@@ -108,13 +108,18 @@ impl Search {
             return Ok(());
         };
         for entry in table {
-            self.go_to(parts, *entry as usize, mark)?;
+            self.update_target(parts, *entry as usize, mark)?;
         }
         Ok(())
     }
 
     /// Updates the state `to`, if it exists, given the last mark before it.
-    fn go_to(&mut self, parts: &CodeParts, to: usize, mark: LastMark) -> Result<(), AllocError> {
+    fn update_target(
+        &mut self,
+        parts: &CodeParts,
+        to: usize,
+        mark: LastMark,
+    ) -> Result<(), AllocError> {
         match parts.states.get(to) {
             Some(next) => self.find_more(to, entered(next, mark)),
             None => Ok(()),

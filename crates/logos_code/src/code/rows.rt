@@ -25,7 +25,7 @@
 //! other step. A step that is too large for an entry is `UNDESCRIBED`.
 
 ghost use Rattle.std.specs.Prelude.{◌≡◌, ◌+◌, ◌*◌, ◌<◌, ◌≤◌, ◌⊎◌, false, ℕ, List, length, map, None, Some, option_map, IfOk, IfSome, slice_index, slice_index_or};
-ghost use Rattle.logos_code.specs.Views.{comparison_of, some_compares, passes_test, by_conditions, IsSound, NamesTest, NamesState, NamesCondition, NamesFork, NamesWhatIsThere, stays, target, passes, mark_of, condition_of, branch_of, fork_of, use_of, jumps_of, state_of, has_mask, code_of, closing, IsStepOf, first_halting, first_closing, IsUse, IsPlainUse, Says, IsHalting, IsEntry, IsRow, AreRows, IsFirstEntry, IsFirstOf};
+ghost use Rattle.logos_code.specs.Views.{comparison_of, some_compares, passes_test, by_conditions, IsSound, NamesTest, NamesState, NamesCondition, NamesFork, NamesExisting, stays, target, passes, mark_of, condition_of, branch_of, fork_of, use_of, jumps_of, state_of, has_mask, code_of, closing, IsStepOf, first_halting, first_closing, IsUse, IsPlainUse, Describes, IsHalting, IsEntry, IsRow, AreRows, IsFirstEntry, IsFirstOf};
 
 use super::{CodeLeaf, CodeParts, CodeState, Condition, Fork, Mark, target_of};
 use logos_byte_class::byte_class::Comparisons;
@@ -33,7 +33,8 @@ use logos_hir::leaf::LeafId;
 use logos_pattern::leaf::VariantKind;
 use std::alloc::{AllocError, Global};
 
-/// The number of entries of one kind.
+/// The distance between the first entries of two consecutive kinds, since the lower 28 bits of an
+/// entry are its operand.
 const NAMED: u32 = 1 << 28;
 
 /// The number of entries of a row: one for each byte, and 16 unused ones. With them, the entries of
@@ -65,16 +66,16 @@ pub const CLOSES: u32 = 4 * NAMED;
 pub const SHUTS: u32 = 5 * NAMED;
 
 /// The first entry of a leaf whose match ends before the byte, and which may have a callback.
-pub const ASKS: u32 = 6 * NAMED;
+pub const CALLS_BACK: u32 = 6 * NAMED;
 
 /// The first entry of a leaf whose match ends after the byte, and which may have a callback.
-pub const ASKS_AFTER: u32 = 7 * NAMED;
+pub const CALLS_BACK_AFTER: u32 = 7 * NAMED;
 
 /// The first entry of a byte that leads nowhere from a state without an early mark.
 pub const STUCK: u32 = 8 * NAMED;
 
 /// The first entry that does not describe the step for its byte.
-pub const UNSAID: u32 = 9 * NAMED;
+pub const UNDESCRIBED: u32 = 9 * NAMED;
 
 /// How the matches of a leaf are used, as far as entries describe it.
 #[derive(Clone, Copy)]
@@ -104,12 +105,12 @@ pub enum Step {
     /// It leads nowhere.
     Stuck,
     /// The step cannot be described by an entry.
-    Unsaid,
+    Undescribed,
 }
 
 /// Returns the entry that represents the step, or `UNDESCRIBED`.
 pub(super) fn entry_of_step(step: Step) -> u32
-    ensures { IsStepOf result step ⊎ IsStepOf result Step.Unsaid }
+    ensures { IsStepOf result step ⊎ IsStepOf result Step.Undescribed }
 {
     match step {
         Step::Leads(state) if state < STATES => WIDTH as u32 * state as u32,
@@ -120,7 +121,7 @@ pub(super) fn entry_of_step(step: Step) -> u32
         }
         Step::Closes(leaf, used) if leaf.0 < NAMED as usize => first_closing(used) + leaf.0 as u32,
         Step::Stuck => STUCK,
-        _ => UNSAID,
+        _ => UNDESCRIBED,
     }
 }
 
@@ -131,7 +132,7 @@ fn first_halting(used: MatchUse) -> u32
     match used {
         MatchUse::Emits => HALTS,
         MatchUse::Skips => LEAVES,
-        MatchUse::CallsBack => ASKS,
+        MatchUse::CallsBack => CALLS_BACK,
     }
 }
 
@@ -142,7 +143,7 @@ fn first_closing(used: MatchUse) -> u32
     match used {
         MatchUse::Emits => CLOSES,
         MatchUse::Skips => SHUTS,
-        MatchUse::CallsBack => ASKS_AFTER,
+        MatchUse::CallsBack => CALLS_BACK_AFTER,
     }
 }
 
@@ -164,11 +165,11 @@ pub(super) fn rows_of(alloc: Global, parts: &CodeParts) -> Result<Vec<u32>, Allo
 
 /// Returns the entries of all bytes in the state.
 fn row_of(parts: &CodeParts, state: &CodeState) -> [u32; 272]
-    requires { NamesWhatIsThere (code_of parts.now)
+    requires { NamesExisting (code_of parts.now)
         (state_of parts.now.jump_tables.items state.now) }
     ensures { IsRow (code_of parts.now) (state_of parts.now.jump_tables.items state.now) result }
 {
-    let mut row = [UNSAID; 272];
+    let mut row = [UNDESCRIBED; 272];
     let mut b = 0;
     while b < 256 {
         let end = parts.run_end(state, b);
@@ -191,7 +192,7 @@ fn fill(row: &mut [u32; 272], byte: usize, end: usize, entry: u32)
 
 /// Returns the entry of the byte in the state.
 fn entry_at(parts: &CodeParts, state: &CodeState, byte: u8) -> u32
-    requires { NamesWhatIsThere (code_of parts.now)
+    requires { NamesExisting (code_of parts.now)
         (state_of parts.now.jump_tables.items state.now) }
     ensures { IsEntry (code_of parts.now)
         (state_of parts.now.jump_tables.items state.now) byte result }
@@ -205,7 +206,7 @@ pub(super) fn first_row(rows: &[u32], root: usize) -> [u32; 256]
     requires { WIDTH * root + 256 ≤ length rows.now }
     ensures { IsFirstOf rows.now root result }
 {
-    let mut first = [UNSAID; 256];
+    let mut first = [UNDESCRIBED; 256];
     for b in 0..256 {
         first[b] = first_entry(rows[WIDTH * root + b]);
     }
@@ -219,7 +220,7 @@ fn first_entry(entry: u32) -> u32
     if entry < STAYS || entry >= CLOSES {
         entry
     } else {
-        UNSAID
+        UNDESCRIBED
     }
 }
 
@@ -262,9 +263,9 @@ impl CodeParts<'_> {
 
     /// Returns the step for the byte in the state.
     fn step(&self, state: &CodeState, byte: u8) -> Step
-        requires { NamesWhatIsThere (code_of self.now)
+        requires { NamesExisting (code_of self.now)
             (state_of self.now.jump_tables.items state.now) }
-        ensures { Says (code_of self.now)
+        ensures { Describes (code_of self.now)
             (state_of self.now.jump_tables.items state.now) byte result }
     {
         if !self.stays(state.fast_loop, byte) {
@@ -272,16 +273,16 @@ impl CodeParts<'_> {
         }
         match state.fast_loop {
             Some(test) => Step::Stays(test),
-            None => Step::Unsaid,
+            None => Step::Undescribed,
         }
     }
 
     /// Returns the step for a byte that does not pass the test of the fast loop.
     fn step_out(&self, state: &CodeState, byte: u8) -> Step
-        requires there { NamesWhatIsThere (code_of self.now)
+        requires there { NamesExisting (code_of self.now)
             (state_of self.now.jump_tables.items state.now) }
         requires out { stays (code_of self.now) state.now.fast_loop byte ≡ false }
-        ensures { Says (code_of self.now)
+        ensures { Describes (code_of self.now)
             (state_of self.now.jump_tables.items state.now) byte result }
     {
         let Some(target) = self.target(&state.fork, byte) else {

@@ -53,7 +53,7 @@ impl<'s> Parser<'s> {
         ensures ok { OnOk result (ReadsAttribute
             (parser_view self.old) (parser_view self.new) self.old.errors self.new.errors
             (attribute_value attribute.entry)) }
-        ensures going { OnOk result (HasNotFailed self.old self.new) }
+        ensures not_failed { OnOk result (HasNotFailed self.old self.new) }
         ensures err { OnErr result (self.new.failed ≡ true) }
     {
         unless_failed!(self, self.add_attribute(attribute))
@@ -74,7 +74,7 @@ impl<'s> Parser<'s> {
             (meta_report (meta_of (attribute_value attribute.entry)))
             (option_map definition_view definition) self.old.errors self.new.errors) }
         ensures options { OnOk result (parser_view self.new ≡ parser_view self.old) }
-        ensures going { OnOk result (HasNotFailed self.old self.new) }
+        ensures not_failed { OnOk result (HasNotFailed self.old self.new) }
         ensures err { OnErr result (self.new.failed ≡ true) }
     {
         unless_failed!(self, self.definition_in(attribute))
@@ -90,7 +90,7 @@ impl<'s> Parser<'s> {
             (meta_report (meta_of (attribute_value attribute.entry)))
             (option_map definition_view definition) self.old.errors self.new.errors) }
         ensures options { OnOk result (parser_view self.new ≡ parser_view self.old) }
-        ensures going { self.new.failed ≡ self.old.failed }
+        ensures not_failed { self.new.failed ≡ self.old.failed }
     {
         let Some(meta) = meta_of(attribute) else {
             return Ok(None);

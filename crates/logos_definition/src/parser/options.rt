@@ -199,9 +199,9 @@ impl<'s> Parser<'s> {
 
     /// Adds the argument `error(..)`. Returns whether the arguments after it are read.
     fn add_error_group(&mut self, name: Ident<'s>, group: Tokens<'_, 's>) -> Result<bool, Memory>
-        ensures { IfOk result (λ goes_on. ReadsError (ident_slice name.entry)
+        ensures { IfOk result (λ continues. ReadsError (ident_slice name.entry)
             (parser_view self.old) (parser_view self.new) self.old.errors self.new.errors
-            (grouped (tokens_of group.entry)) goes_on) }
+            (grouped (tokens_of group.entry)) continues) }
     {
         let Some(error) = error_in(group, &mut self.errors)? else {
             return Ok(false);
@@ -212,9 +212,9 @@ impl<'s> Parser<'s> {
 
     /// Adds the argument `error`. Returns whether the arguments after it are read.
     fn add_error(&mut self, name: Ident<'s>, value: &NestedValue<'_, 's>) -> Result<bool, Memory>
-        ensures { IfOk result (λ goes_on. ReadsError (ident_slice name.entry)
+        ensures { IfOk result (λ continues. ReadsError (ident_slice name.entry)
             (parser_view self.old) (parser_view self.new) self.old.errors self.new.errors
-            (value_of value.now) goes_on) }
+            (value_of value.now) continues) }
     {
         if let NestedValue::Group(group) = value {
             return self.add_error_group(name, *group);

@@ -50,7 +50,7 @@ impl<'s> Parser<'s> {
             (parameter_report parameter.entry.kind (ident_slice parameter.entry.name)
             (run_span (tokens_of parameter.entry.run)) (parser_view self.old))
             (parser_view self.new) self.old.errors self.new.errors) }
-        ensures going { OnOk result (HasNotFailed self.old self.new) }
+        ensures not_failed { OnOk result (HasNotFailed self.old self.new) }
         ensures err { OnErr result (self.new.failed ≡ true) }
     {
         unless_failed!(self, self.add_parameter(parameter))
@@ -69,7 +69,7 @@ impl<'s> Parser<'s> {
         ensures faults { OnOk result (self.new.errors ≡ self.old.errors ++ missing_types
             (value_of self.old.types).types [] (value_of self.old.types).names) }
         ensures options { OnOk result (parser_view self.new ≡ parser_view self.old) }
-        ensures going { OnOk result (HasNotFailed self.old self.new) }
+        ensures not_failed { OnOk result (HasNotFailed self.old self.new) }
         ensures err { OnErr result (self.new.failed ≡ true) }
     {
         unless_failed!(self, self.types.generics(&mut self.errors))
@@ -80,7 +80,7 @@ impl<'s> Parser<'s> {
         ensures got { IfOk result (λ got. GetsUnheld self.old.types (type_tree written.now) span
             self.old.errors self.new.errors (type_tree got)) }
         ensures options { parser_view self.new ≡ parser_view self.old }
-        ensures going { self.new.failed ≡ self.old.failed }
+        ensures not_failed { self.new.failed ≡ self.old.failed }
     {
         let held = self.types.held_names()?;
         let got = self.types.get_type(&held, written, span, &mut self.errors)?;
@@ -99,7 +99,7 @@ impl<'s> Parser<'s> {
         ensures ok { IfOk result (λ got. GetsUnheld self.old.types (type_tree written.now) span
             self.old.errors self.new.errors (type_tree got)) }
         ensures options { OnOk result (parser_view self.new ≡ parser_view self.old) }
-        ensures going { OnOk result (HasNotFailed self.old self.new) }
+        ensures not_failed { OnOk result (HasNotFailed self.old self.new) }
         ensures err { OnErr result (self.new.failed ≡ true) }
     {
         unless_failed!(self, self.written_type(written, span))

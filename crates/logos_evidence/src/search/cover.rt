@@ -31,7 +31,7 @@ struct Cover {
     inputs: Vec<Vec<u8>>,
 }
 
-/// A byte that is read at the pending point with a number.
+/// A pending point, identified by its number, and a byte that is read there.
 #[derive(Clone, Copy)]
 struct PointByte {
     number: usize,

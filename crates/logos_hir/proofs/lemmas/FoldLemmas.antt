@@ -27,11 +27,11 @@ same_tests false false f g = refl
 -- ---- some element passes
 
 -- where no element before an index passes
-any_behind : (f : ℕ × ℕ → Bool) (xs : List (ℕ × ℕ)) (i : ℕ) → ((k : ℕ) → k < i → k < length xs → f (get_or xs k (0, 0)) ≡ false) → list_any f xs ≡ list_any f (drop i xs)
-any_behind f xs zero h = refl
-any_behind f [] (suc i) h = refl
-any_behind f (x ∷ xs) (suc i) h =
-    ap (λ b. b || list_any f xs) (h 0 (omega arith) (omega arith)) ∙ any_behind f xs i (λ k lt within. h (suc k) (omega arith) (omega arith))
+any_afterward : (f : ℕ × ℕ → Bool) (xs : List (ℕ × ℕ)) (i : ℕ) → ((k : ℕ) → k < i → k < length xs → f (get_or xs k (0, 0)) ≡ false) → list_any f xs ≡ list_any f (drop i xs)
+any_afterward f xs zero h = refl
+any_afterward f [] (suc i) h = refl
+any_afterward f (x ∷ xs) (suc i) h =
+    ap (λ b. b || list_any f xs) (h 0 (omega arith) (omega arith)) ∙ any_afterward f xs i (λ k lt within. h (suc k) (omega arith) (omega arith))
 
 -- where none from an index on passes, and the others pass another test alike
 any_front : (f g : ℕ × ℕ → Bool) (xs : List (ℕ × ℕ)) (i : ℕ) → ((k : ℕ) → i ≤ k → k < length xs → f (get_or xs k (0, 0)) ≡ false) →
@@ -50,16 +50,16 @@ pub within_image : (xs : List (ℕ × ℕ)) (r : ℕ × ℕ) (i j c : ℕ) →
     ((k : ℕ) → k < j → k < length (drop i xs) → (get_or (drop i xs) k (0, 0)).0 ≤ r.1) → ((k : ℕ) → j ≤ k → k < length (drop i xs) → r.1 < (get_or (drop i xs) k (0, 0)).0) →
     in_values (take j (drop i xs)) c ≡ in_image xs (in_range r) c
 within_image xs r i j c below from to above =
-    sym (any_behind (λ p. in_range r p.0 && (p.1 == c)) xs i (λ k lt h. before (get_or xs k (0, 0)) (below k lt h))
+    sym (any_afterward (λ p. in_range r p.0 && (p.1 == c)) xs i (λ k lt h. before (get_or xs k (0, 0)) (below k lt h))
     ∙ any_front (λ p. in_range r p.0 && (p.1 == c)) (λ p. p.1 == c) (drop i xs) j
-    (λ k le h. behind (get_or (drop i xs) k (0, 0)) (above k le h))
+    (λ k le h. afterward (get_or (drop i xs) k (0, 0)) (above k le h))
     (λ k lt h. inside (get_or (drop i xs) k (0, 0)) (from k h) (to k lt h)))
   where
     before : (p : ℕ × ℕ) → p.0 < r.0 → (in_range r p.0 && (p.1 == c)) ≡ false
     before p lt = ap (λ b. (b && nat_le p.0 r.1) && (p.1 == c)) (lt-leb r.0 p.0 lt)
 
-    behind : (p : ℕ × ℕ) → r.1 < p.0 → (in_range r p.0 && (p.1 == c)) ≡ false
-    behind p lt = ap (λ b. (nat_le r.0 p.0 && b) && (p.1 == c)) (lt-leb p.0 r.1 lt) ∙ none (nat_le r.0 p.0)
+    afterward : (p : ℕ × ℕ) → r.1 < p.0 → (in_range r p.0 && (p.1 == c)) ≡ false
+    afterward p lt = ap (λ b. (nat_le r.0 p.0 && b) && (p.1 == c)) (lt-leb p.0 r.1 lt) ∙ none (nat_le r.0 p.0)
       where
         none : (b : Bool) → ((b && false) && (p.1 == c)) ≡ false
         none true = refl

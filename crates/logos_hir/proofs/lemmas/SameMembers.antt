@@ -49,8 +49,8 @@ not_before n y ys c h lt =
     and_false true = refl
     and_false false = refl
 
-not_behind : (n : ℕ) (x : ℕ × ℕ) (xs : List (ℕ × ℕ)) → rises_from n (x ∷ xs) ≡ true → in_ranges (x ∷ xs) (next x.1) ≡ false
-not_behind n x xs h =
+not_afterward : (n : ℕ) (x : ℕ × ℕ) (xs : List (ℕ × ℕ)) → rises_from n (x ∷ xs) ≡ true → in_ranges (x ∷ xs) (next x.1) ≡ false
+not_afterward n x xs h =
     let p = rises_parts n x xs h in
     ap₂ ◌||◌ (in_range_false_above x (next x.1) (next_above x.1)) (below_free (next x.1 + 1) xs (next x.1) p.2 (omega arith))
 
@@ -70,7 +70,7 @@ ends_first n x y xs ys hx hy same start =
     let there : members (y ∷ ys) (next x.1) ≡ true =
     and_from (scalar (next x.1)) (in_range y (next x.1) || in_ranges ys (next x.1)) m.0
     (ap (λ b. b || in_ranges ys (next x.1)) (in_range_true y (next x.1) (omega (arith, start, rx.2, next_above x.1)) m.1)) in
-    let gone : members (x ∷ xs) (next x.1) ≡ false = ap (λ b. b && in_ranges (x ∷ xs) (next x.1)) m.0 ∙ not_behind n x xs hx in
+    let gone : members (x ∷ xs) (next x.1) ≡ false = ap (λ b. b && in_ranges (x ∷ xs) (next x.1)) m.0 ∙ not_afterward n x xs hx in
     absurd (both_ways _ gone (same (next x.1) ∙ there)))
     (λ ge. ge) (cases_lt x.1 y.1)
 

@@ -98,13 +98,13 @@ with_text-push a (z ∷ zs) y h = go (part z)
 join-add_text : (x : Tree) (zs : List Tree) (b : List ℕ) → join x (add_text zs b) ≡ add_text (join x zs) b
 join-add_text x zs b = go (part x)
   where
-    behind : (x : Tree) (zs : List Tree) → part_text x b ≡ x ∷ literal b ∷ [] → x ∷ add_text zs b ≡ add_text (x ∷ zs) b
-    behind x [] e = sym e
-    behind x (z ∷ zs) e = refl
+    afterward : (x : Tree) (zs : List Tree) → part_text x b ≡ x ∷ literal b ∷ [] → x ∷ add_text zs b ≡ add_text (x ∷ zs) b
+    afterward x [] e = sym e
+    afterward x (z ∷ zs) e = refl
 
     go : Part x → join x (add_text zs b) ≡ add_text (join x zs) b
     go (is_text a e) = rw e (with_text-add_text a b zs)
-    go (is_other f g p w) = f (add_text zs b) ∙ behind x zs (p b) ∙ ap (λ t. add_text t b) (sym (f zs))
+    go (is_other f g p w) = f (add_text zs b) ∙ afterward x zs (p b) ∙ ap (λ t. add_text t b) (sym (f zs))
 
 join-push : (x y : Tree) (zs : List Tree) → ((a : List ℕ) (rest : List Tree) → with_text a (y ∷ rest) ≡ literal a ∷ y ∷ rest) → join x (zs ++ y ∷ []) ≡ join x zs ++ y ∷ []
 join-push x y zs h = go (part x)
@@ -138,22 +138,22 @@ junction-append xs (y ∷ ys) =
 join-apart : (t : Tree) (rest : List Tree) → are_apart (is_literal_tree t) rest ≡ true → join t rest ≡ t ∷ rest
 join-apart t rest h = go (part t)
   where
-    behind : (a : List ℕ) (rest : List Tree) → are_apart true rest ≡ true → with_text a rest ≡ literal a ∷ rest
-    behind a [] h = refl
-    behind a (u ∷ us) h = at (part u)
+    afterward : (a : List ℕ) (rest : List Tree) → are_apart true rest ≡ true → with_text a rest ≡ literal a ∷ rest
+    afterward a [] h = refl
+    afterward a (u ∷ us) h = at (part u)
       where
         at : Part u → with_text a (u ∷ us) ≡ literal a ∷ u ∷ us
         at (is_text b e) = absurd (both_ways _ (ap (λ (x : Tree). not (is_literal_tree x)) e) (and_parts (not (is_literal_tree u)) (are_apart (is_literal_tree u) us) h).0)
         at (is_other f g p w) = w a us
 
     go : Part t → join t rest ≡ t ∷ rest
-    go (is_text a e) = ap (λ (x : Tree). join x rest) e ∙ behind a rest (ap (λ (x : Tree). are_apart (is_literal_tree x) rest) (sym e) ∙ h) ∙ ap (λ (x : Tree). x ∷ rest) (sym e)
+    go (is_text a e) = ap (λ (x : Tree). join x rest) e ∙ afterward a rest (ap (λ (x : Tree). are_apart (is_literal_tree x) rest) (sym e) ∙ h) ∙ ap (λ (x : Tree). x ∷ rest) (sym e)
     go (is_other f g p w) = f rest
 
-junction-apart : (behind : Bool) (ts : List Tree) → are_apart behind ts ≡ true → junction ts ≡ ts
-junction-apart behind [] h = refl
-junction-apart behind (t ∷ rest) h =
-    let p = and_parts (not (behind && is_literal_tree t)) (are_apart (is_literal_tree t) rest) h in
+junction-apart : (afterward : Bool) (ts : List Tree) → are_apart afterward ts ≡ true → junction ts ≡ ts
+junction-apart afterward [] h = refl
+junction-apart afterward (t ∷ rest) h =
+    let p = and_parts (not (afterward && is_literal_tree t)) (are_apart (is_literal_tree t) rest) h in
     ap (join t) (junction-apart (is_literal_tree t) rest p.1) ∙ join-apart t rest p.1
 
 pub first_parts : (ts : List Tree) → are_apart false ts ≡ true → ts ≡ add_parts [] ts

@@ -250,8 +250,8 @@ option_parts tokens name value o v p =
 same_options : (tokens : TokenList) (o new : OptionsView) → new ≡ o → SkipParts tokens o → SkipParts tokens new
 same_options tokens o new e p = subst (SkipParts tokens) (sym e) p
 
-reads_error : (tokens : TokenList) {name : Slice} {o : OptionsView} {o' : OptionsView} {old new : List Fault} {value : PieceValue} {goes_on : Bool} →
-    ReadsError name o o' old new value goes_on → SkipParts tokens o → SkipParts tokens o'
+reads_error : (tokens : TokenList) {name : Slice} {o : OptionsView} {o' : OptionsView} {old new : List Fault} {value : PieceValue} {continues : Bool} →
+    ReadsError name o o' old new value continues → SkipParts tokens o → SkipParts tokens o'
 reads_error tokens {name} {o} {o'} (alone {value = value} g t) p = same_options tokens (error_report name value o).value o' t.0 (error_parts tokens name value o p)
 reads_error tokens {name} {o} {o'} (with_arguments {group = run} {error = error} g t) p = same_options tokens (error_set run error o).value o' t.0 p
 reads_error tokens {name} {o} {o'} (without_type g e) p = same_options tokens o o' e p
@@ -260,8 +260,8 @@ reads_type : (tokens : TokenList) {name : Slice} {o : OptionsView} {o' : Options
 reads_type tokens {name} {o} {o'} (is_given s e) p = same_options tokens _ o' e p
 reads_type tokens {name} {o} {o'} (other_form k t) p = same_options tokens o o' t.0 p
 
-reads_piece : (tokens : TokenList) {o : OptionsView} {o' : OptionsView} {old new : List Fault} {piece : Piece} {goes_on : Bool} →
-    ReadsPiece o o' old new piece goes_on → PieceParts tokens piece → SkipParts tokens o → SkipParts tokens o'
+reads_piece : (tokens : TokenList) {o : OptionsView} {o' : OptionsView} {old new : List Fault} {piece : Piece} {continues : Bool} →
+    ReadsPiece o o' old new piece continues → PieceParts tokens piece → SkipParts tokens o → SkipParts tokens o'
 reads_piece tokens (on_error b s) v p = reads_error tokens s p
 reads_piece tokens (on_type b c s) v p = reads_type tokens s p
 reads_piece tokens {o} {o'} (on_other {name = name} {value = value} b c t) v p = same_options tokens (option_report name value o).value o' t.0 (option_parts tokens name value o v p)

@@ -137,7 +137,7 @@ attributes_parts tokens {run = run} (one_attribute {split = split} e s rest) r p
 source_parts : (tokens : TokenList) (enum : EnumValue) (o : OptionsView) (leaves : List LeafView) (faults : List Fault) → ReadsSource enum o leaves faults → EnumParts tokens enum → Each (OccursIn tokens) leaves
 source_parts tokens enum o leaves faults s p =
     let skips = attributes_parts tokens s.attributes p.0 (parameters_parts tokens s.parameters tt) in
-    variants_add tokens s.leaves_say.variants_add p.1 (skips_add tokens s.leaves_say.skips_add skips tt)
+    variants_add tokens s.leaves_read.variants_add p.1 (skips_add tokens s.leaves_read.skips_add skips tt)
 
 all_each : {A : Type 0} (P : A → Type 0) (list : List A) → Each P list → All P list
 all_each P [] e = All-nil P
@@ -145,7 +145,7 @@ all_each P (first ∷ rest) e = All-cons P first rest e.0 (all_each P rest e.1)
 
 module _ (tokens : TokenList) (enum : EnumValue) (leaves : List LeafView) (others : OptionsView) (faults : List Fault) (reads : Reads tokens (Ok enum)) (read : IsSourceRead enum leaves others faults) where
   each_occurs : Each (OccursIn tokens) leaves
-  each_occurs = source_parts tokens enum read.options leaves faults read.says (enum_parts tokens enum reads)
+  each_occurs = source_parts tokens enum read.options leaves faults read.reads_as (enum_parts tokens enum reads)
 
   pub leaves_occur : All (OccursIn tokens) leaves
   leaves_occur = all_each (OccursIn tokens) leaves each_occurs

@@ -85,9 +85,9 @@ leaves_grow a =
 pub source_once : {item : EnumValue} {o : OptionsView} {p : OptionsView} {leaves others : List LeafView} {faults : List Fault} → ReadsSource item o leaves [] → ReadsSource item p others faults →
     (faults ≡ []) × (o ≡ p) × (map shown leaves ≡ map shown others)
 source_once {item} {others = others} {faults = faults} a b =
-    let after_attributes = none_before (leaves_grow a.leaves_say) refl in
+    let after_attributes = none_before (leaves_grow a.leaves_read) refl in
     let after_parameters = none_before (attributes_grow a.attributes) after_attributes in
     let k = parameters_once refl after_parameters a.parameters b.parameters in
     let j = attributes_once refl k.1 after_attributes a.attributes b.attributes in
-    let h = leaves_once refl a.leaves_say (subst (λ (x : OptionsView). YieldsLeaves x item.variants others b.of_attributes faults) (sym j.1) b.leaves_say) in
+    let h = leaves_once refl a.leaves_read (subst (λ (x : OptionsView). YieldsLeaves x item.variants others b.of_attributes faults) (sym j.1) b.leaves_read) in
     (h.0 ∙ (j.0 ∙ k.0), j.1, h.1)

@@ -10,7 +10,7 @@ use Rattle.logos_type_reader.proofs.ReadingLaws.{one_type, refused_type, not_les
 use Rattle.logos_type_params.specs.Substitution.{ParamValue, Params, nothing, given, given_first, is_among, After, token, stays, named, put, inside, stays_still, AllAfter, none_after, also_after}
 use Rattle.logos_type_params.specs.SelfReference.{Has}
 use Rattle.logos_type_params.specs.SelfFaults.{IsChecked, declared_again, leads_on, leads_back, AreChecked, no_name, one_more}
-use Rattle.logos_type_params.specs.TypeParams.{Named, Value, ReadsValue, is_type, goes_on, no_type, with_lifetimes, is_declared, former, given_more, given_faults, IsSet, no_value, undeclared, is_given}
+use Rattle.logos_type_params.specs.TypeParams.{Named, Value, ReadsValue, is_type, continues, no_type, with_lifetimes, is_declared, former, given_more, given_faults, IsSet, no_value, undeclared, is_given}
 use Rattle.logos_type_params.specs.WrittenTypes.{AreHeld, GetsType, replaced, as_written}
 use Rattle.logos_type_params.proofs.SubstitutionLaws.{one_after, deeper}
 use Rattle.logos_leaf.proofs.agreement.Report.{Grows, Agree, grows_by, grows_same, grows_then, none_before, never, none_added, added_none, no_some, the_same, not_both}
@@ -19,17 +19,17 @@ use Rattle.logos_leaf.proofs.agreement.Report.{Grows, Agree, grows_by, grows_sam
 
 pub read_grows : {run : TokenList} {at : Span} {old new : List Fault} {read : Option Tree} → ReadsValue run at old new read → Grows old new
 read_grows (is_type t e) = grows_same e
-read_grows (goes_on t e) = grows_by _ e
+read_grows (continues t e) = grows_by _ e
 read_grows (no_type t e) = grows_by _ e
 
 pub none_read : {run : TokenList} {at : Span} {old new : List Fault} → ReadsValue run at old new None → new ≡ [] → ⊥
-none_read (goes_on t e) n = never _ _ _ e n
+none_read (continues t e) n = never _ _ _ e n
 none_read (no_type t e) n = never _ _ _ e n
 
 pub read_once : {run : TokenList} {at : Span} {old new old' new' : List Fault} {tree : Tree} {read : Option Tree} → ReadsValue run at old new (Some tree) → ReadsValue run at old' new' read →
     Agree (Some tree) read old' new'
 read_once (is_type t e) (is_type u f) = (f, ap (λ (x : Tree). Some x) (one_type t u).0)
-read_once (is_type t e) (goes_on u f) = absurd (let k = (one_type t u).1 in cc)
+read_once (is_type t e) (continues u f) = absurd (let k = (one_type t u).1 in cc)
 read_once (is_type t e) (no_type u f) = absurd (not_less (refused_type u t))
 
 -- ---- types that are given to names

@@ -6,16 +6,16 @@ use Rattle.std.specs.Str.{IsCharBoundary}
 use Rattle.unicode_ident.proofs.IdentLemmas.{is_xid_continue-ascii, is_xid_start-is_xid_continue}
 use Rattle.logos_lexeme.specs.LexemeCharacters.{character, past, is_start, is_continuing}
 use Rattle.logos_lexeme.specs.LexemeRuns.{Steps, here, step, IsLast, Run, IsFirst, Passes}
-use Rattle.logos_lexeme.specs.LexemeEnds.{IsSuffix, has_base, GoesOn, letter, point, sign}
+use Rattle.logos_lexeme.specs.LexemeEnds.{IsSuffix, has_base, Continues, letter, point, sign}
 use Rattle.logos_lexeme.specs.LexemeOpenings.{name_at}
 use Rattle.logos_lexeme.specs.LiteralBodies.{is_simple, is_hex, digits_between, is_blank, BreaksLine, IsHexEscape, IsUnicodeEscape, IsEscape, simple, hex, unicode, IsContinuation, IsAllowed, plain, return, escape, continuation, IsPiece, IsCharacterPiece, unescaped, escaped}
 use Rattle.logos_lexeme.specs.declared.lexeme.openings.Content.{Content}
 use Rattle.logos_lexeme.proofs.CharacterLaws.{inside_from_byte, character-ascii}
 use Rattle.logos_lexeme.proofs.RunLaws.{Steps-le}
-use Rattle.logos_lexeme.proofs.EndLaws.{GoesOn-moves, step-boundary}
+use Rattle.logos_lexeme.proofs.EndLaws.{Continues-moves, step-boundary}
 use Rattle.logos_lexeme.proofs.BodyLaws.{piece-moves}
 use Rattle.logos_lexeme.proofs.again.PrintWindows.{Window, blank_fails, blank_character, same_slice}
-use Rattle.logos_lexeme.proofs.again.PrintEnds.{steps_same, goes_on_same, passes_same}
+use Rattle.logos_lexeme.proofs.again.PrintEnds.{steps_same, continues_same, passes_same}
 use Rattle.logos_lexeme.proofs.again.PrintNames.{Names, raw, plain as plain_name, nothing, names, raw_parts, continuing-32, continuing-10, continuing-0}
 
 blank-13 : is_blank 13 ≡ true
@@ -120,8 +120,8 @@ digit-continuing c e =
     let small : c ≤ 57 = leb-true c 57 r.1 in
     is_xid_continue-ascii c (omega (arith, small)) ∙ rw e refl
 
-pub digit_goes_on : (based : Bool) (bytes : List ℕ) (at : ℕ) → is_ascii_digit (get_or bytes at 0) ≡ true → GoesOn based bytes at (past bytes at)
-digit_goes_on based bytes at e =
+pub digit_continues : (based : Bool) (bytes : List ℕ) (at : ℕ) → is_ascii_digit (get_or bytes at 0) ≡ true → Continues based bytes at (past bytes at)
+digit_continues based bytes at e =
     let r = and_parts _ _ e in
     let small : get_or bytes at 0 ≤ 57 = leb-true (get_or bytes at 0) 57 r.1 in
     let large : 48 ≤ get_or bytes at 0 = leb-true 48 (get_or bytes at 0) r.0 in
@@ -140,7 +140,7 @@ continuing-inside bytes at e = elim (cases_lt 0 (get_or bytes at 0)) [
   | inr l ↦ absurd (let z : get_or bytes at 0 ≡ 0 = omega arith in false≢true (sym continuing-0 ∙ ap is_continuing (sym (character-ascii bytes at (omega arith) ∙ z)) ∙ e))
 ]
 
-letter_at : (based : Bool) (bytes : List ℕ) (at : ℕ) → is_continuing (character bytes at) ≡ true → GoesOn based bytes at (past bytes at)
+letter_at : (based : Bool) (bytes : List ℕ) (at : ℕ) → is_continuing (character bytes at) ≡ true → Continues based bytes at (past bytes at)
 letter_at based bytes at e = letter (record { inside = continuing-inside bytes at e; passes = e; moves = refl })
 
 continuing-114 : is_continuing 114 ≡ true
@@ -148,12 +148,12 @@ unfolding is_continuing
 continuing-114 = rw (is_xid_continue-ascii 114 (omega arith)) refl
 
 -- after a number there is no suffix
-no_suffix_by : (based : Bool) (bytes : List ℕ) (at to : ℕ) (o : Option ℕ) → IsLast (GoesOn based bytes) at → Names bytes at o → MatchOption o (to ≡ at) (λ n. Run (Passes is_continuing bytes) (past bytes n) to) → to ≡ at
+no_suffix_by : (based : Bool) (bytes : List ℕ) (at to : ℕ) (o : Option ℕ) → IsLast (Continues based bytes) at → Names bytes at o → MatchOption o (to ≡ at) (λ n. Run (Passes is_continuing bytes) (past bytes n) to) → to ≡ at
 no_suffix_by based bytes at to o last (raw t) r = absurd (let l = (raw_parts bytes at t).0 in last (past bytes at) (letter_at based bytes at (ap is_continuing (character-ascii bytes at (omega arith) ∙ l) ∙ continuing-114)))
 no_suffix_by based bytes at to o last (plain_name t) r = absurd (last (past bytes at) (letter_at based bytes at (start-continuing (character bytes at) t)))
 no_suffix_by based bytes at to o last (nothing t) r = r
 
-pub number_no_suffix : (based : Bool) (bytes : List ℕ) (at to : ℕ) → IsLast (GoesOn based bytes) at → IsSuffix bytes at to → to ≡ at
+pub number_no_suffix : (based : Bool) (bytes : List ℕ) (at to : ℕ) → IsLast (Continues based bytes) at → IsSuffix bytes at to → to ≡ at
 number_no_suffix based bytes at to last r = no_suffix_by based bytes at to (name_at bytes at) last (names bytes at) r
 
 module _ (a b : List ℕ) (p q k : ℕ) (w : Window a b p q k) where
@@ -161,34 +161,34 @@ module _ (a b : List ℕ) (p q k : ℕ) (w : Window a b p q k) where
   Spots x y = (x + q ≡ y + p) × (p ≤ x)
 
   -- the last step of a number is over a letter
-  last_step : (based : Bool) (x y : ℕ) → Spots x y → IsLast (GoesOn based a) (p + k) → IsCharBoundary a x → GoesOn based a x (p + k) → GoesOn based b y (q + k)
+  last_step : (based : Bool) (x y : ℕ) → Spots x y → IsLast (Continues based a) (p + k) → IsCharBoundary a x → Continues based a x (p + k) → Continues based b y (q + k)
   last_step based x y e last bound (letter r) = letter (passes_same a b p q k w is_continuing x y (p + k) (q + k) e (omega arith, omega arith) (omega arith) bound r)
-  last_step based x y e last bound (point t d g m) = absurd (last (past a (p + k)) (digit_goes_on based a (p + k) (rw m g)))
-  last_step based x y e last bound (sign t c d g m) = absurd (last (past a (p + k)) (digit_goes_on based a (p + k) (rw m g)))
+  last_step based x y e last bound (point t d g m) = absurd (last (past a (p + k)) (digit_continues based a (p + k) (rw m g)))
+  last_step based x y e last bound (sign t c d g m) = absurd (last (past a (p + k)) (digit_continues based a (p + k) (rw m g)))
 
-  number_steps : (based : Bool) → IsLast (GoesOn based a) (p + k) → {x z : ℕ} → Steps (GoesOn based a) x z → (y v : ℕ) → Spots x y → Spots z v → z ≡ p + k → p < x → IsCharBoundary a x → Steps (GoesOn based b) y v
-  number_steps based last {x} here y v e f is low bound = let same : y ≡ v = omega (arith, e.0, f.0) in subst (λ m. Steps (GoesOn based b) y m) same here
+  number_steps : (based : Bool) → IsLast (Continues based a) (p + k) → {x z : ℕ} → Steps (Continues based a) x z → (y v : ℕ) → Spots x y → Spots z v → z ≡ p + k → p < x → IsCharBoundary a x → Steps (Continues based b) y v
+  number_steps based last {x} here y v e f is low bound = let same : y ≡ v = omega (arith, e.0, f.0) in subst (λ m. Steps (Continues based b) y m) same here
   number_steps based last {x} {z} (step {mid = m} s r) y v e f is low bound =
       let n = m + q - p in
-      let ahead = GoesOn-moves based a x m s in
-      let le = Steps-le (GoesOn based a) (GoesOn-moves based a) r in
+      let ahead = Continues-moves based a x m s in
+      let le = Steps-le (Continues based a) (Continues-moves based a) r in
       let at : Spots m n = (omega (arith, e.1, e.0), omega (arith, e.1)) in
-      let one : GoesOn based b y n = elim (cases_lt m (p + k)) [
-        | inl l ↦ goes_on_same a b p q k w based x y m n e at l low bound s
+      let one : Continues based b y n = elim (cases_lt m (p + k)) [
+        | inl l ↦ continues_same a b p q k w based x y m n e at l low bound s
         | inr l ↦
             let here : m ≡ p + k = omega arith in
             let there : n ≡ q + k = omega (arith, at.0) in
-            rw there (last_step based x y e last bound (subst (GoesOn based a x) here s))
+            rw there (last_step based x y e last bound (subst (Continues based a x) here s))
       ] in
       step one (number_steps based last r n v at f is (omega arith) (step-boundary a w.utf8 based x m bound s))
 
-  blank_stops : (based : Bool) → IsLast (GoesOn based b) (q + k)
+  blank_stops : (based : Bool) → IsLast (Continues based b) (q + k)
   blank_stops based next (letter r) = false≢true (sym (blank_character a b p q k w is_continuing continuing-32 continuing-10 continuing-0 (q + k) refl) ∙ r.passes)
   blank_stops based next (point t d g m) = false≢true (sym (blank_fails a b p q k w (λ c. c == 46) refl refl refl (q + k) refl) ∙ ap (λ c. c == 46) d)
   blank_stops based next (sign t c (inl d) g m) = false≢true (sym (blank_fails a b p q k w (λ c. c == 43) refl refl refl (q + k) refl) ∙ ap (λ c. c == 43) d)
   blank_stops based next (sign t c (inr d) g m) = false≢true (sym (blank_fails a b p q k w (λ c. c == 45) refl refl refl (q + k) refl) ∙ ap (λ c. c == 45) d)
 
-  pub number_same : (based : Bool) (x y : ℕ) → Spots x y → p < x → IsCharBoundary a x → Run (GoesOn based a) x (p + k) → Run (GoesOn based b) y (q + k)
+  pub number_same : (based : Bool) (x y : ℕ) → Spots x y → p < x → IsCharBoundary a x → Run (Continues based a) x (p + k) → Run (Continues based b) y (q + k)
   number_same based x y e low bound r = record {
     steps = number_steps based r.stop r.steps y (q + k) e (omega arith, omega arith) refl low bound;
     stop = blank_stops based;
@@ -212,7 +212,7 @@ module _ (a b : List ℕ) (p q k : ℕ) (w : Window a b p q k) where
     | inl r ↦ elim (or_cases (c == 120) (c == 111) r) [ inl f ↦ let g = eqb-true c 120 f in omega arith | inr f ↦ let g = eqb-true c 111 f in omega arith ]
   ]
 
-  no_base : (based : Bool) → IsLast (GoesOn based a) (p + 1) → has_base a p ≡ false
+  no_base : (based : Bool) → IsLast (Continues based a) (p + 1) → has_base a p ≡ false
   unfolding has_base
   no_base based last =
       let c = get_or a (p + 1) 0 in
@@ -232,8 +232,8 @@ module _ (a b : List ℕ) (p q k : ℕ) (w : Window a b p q k) where
   unfolding has_base
   base_inside l = rw (w.same p q (omega arith) (omega arith) (omega arith), w.same (p + 1) (q + 1) (omega arith) (omega arith) l) refl
 
-  pub based_same : IsLast (GoesOn (has_base a p) a) (p + k) → has_base b q ≡ has_base a p
+  pub based_same : IsLast (Continues (has_base a p) a) (p + k) → has_base b q ≡ has_base a p
   based_same last = elim (cases_lt (p + 1) (p + k)) [
     | inl l ↦ base_inside l
-    | inr l ↦ let e : p + k ≡ p + 1 = omega (arith, w.filled) in base_blank (omega arith) ∙ sym (no_base (has_base a p) (subst (IsLast (GoesOn (has_base a p) a)) e last))
+    | inr l ↦ let e : p + k ≡ p + 1 = omega (arith, w.filled) in base_blank (omega arith) ∙ sym (no_base (has_base a p) (subst (IsLast (Continues (has_base a p) a)) e last))
   ]

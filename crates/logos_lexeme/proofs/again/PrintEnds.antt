@@ -5,7 +5,7 @@ use Rattle.std.specs.Char.{is_ascii_digit}
 use Rattle.std.specs.Str.{IsCharBoundary}
 use Rattle.logos_lexeme.specs.LexemeCharacters.{is_continuing}
 use Rattle.logos_lexeme.specs.LexemeRuns.{Steps, here, step, IsLast, Run, IsFirst, Passes}
-use Rattle.logos_lexeme.specs.LexemeEnds.{IsLineEnd, IsPair, Closes, closed, opens, closes, inside, GoesOn, letter, point, sign, InQuotes, escaped, plain, IsQuoted, IsRawEnd, IsRaw}
+use Rattle.logos_lexeme.specs.LexemeEnds.{IsLineEnd, IsPair, Closes, closed, opens, closes, inside, Continues, letter, point, sign, InQuotes, escaped, plain, IsQuoted, IsRawEnd, IsRaw}
 use Rattle.logos_lexeme.proofs.CharacterLaws.{past-boundary, past-moves}
 use Rattle.logos_lexeme.proofs.RunLaws.{Steps-le}
 use Rattle.logos_lexeme.proofs.EndLaws.{InQuotes-moves, Passes-moves, Closes-le}
@@ -138,11 +138,11 @@ module _ (a b : List ℕ) (p q k : ℕ) (w : Window a b p q k) where
 
   -- numbers
 
-  pub goes_on_same : (based : Bool) → (x y z v : ℕ) → At x y → At z v → z < p + k → p < x → IsCharBoundary a x → GoesOn based a x z → GoesOn based b y v
-  goes_on_same based x y z v e f high low bound (letter r) = letter (passes_same is_continuing x y z v e f (omega arith) bound r)
-  goes_on_same based x y z v e f high low bound (point t d g m) =
+  pub continues_same : (based : Bool) → (x y z v : ℕ) → At x y → At z v → z < p + k → p < x → IsCharBoundary a x → Continues based a x z → Continues based b y v
+  continues_same based x y z v e f high low bound (letter r) = letter (passes_same is_continuing x y z v e f (omega arith) bound r)
+  continues_same based x y z v e f high low bound (point t d g m) =
       point t (w.same x y e.0 e.1 (omega arith) ∙ d) (ap is_ascii_digit (w.same (x + 1) (y + 1) (omega (arith, e.0)) (omega (arith, e.1)) (omega arith)) ∙ g) (omega (arith, e.0, f.0))
-  goes_on_same based x y z v e f high low bound (sign t c d g m) =
+  continues_same based x y z v e f high low bound (sign t c d g m) =
       let here = w.same x y e.0 e.1 (omega arith) in
       let front = w.same (x - 1) (y - 1) (omega (arith, e.0)) (omega arith) (omega arith) in
       sign t (elim c [ inl i ↦ inl (front ∙ i) | inr i ↦ inr (front ∙ i) ]) (elim d [ inl i ↦ inl (here ∙ i) | inr i ↦ inr (here ∙ i) ])

@@ -8,7 +8,7 @@ use Rattle.std.specs.Str.{IsCharBoundary}
 use Rattle.logos_lexeme.specs.LexemeCharacters.{character, past, is_space, is_start, is_continuing, is_mark}
 use Rattle.logos_lexeme.specs.LexemeRuns.{IsFirst, Run, Passes}
 use Rattle.logos_lexeme.specs.LexemeOpenings.{hashes, raw_opening, string_opening, character_opening, bytes_opening, literal_opening, line_kind, block_kind, comment_opening, name_at, spacing, delimiter_kind, single_kind, other_opening, follows_apostrophe, is_lifetime_name, literal_at, opening_at, kind_of, prefix_of}
-use Rattle.logos_lexeme.specs.LexemeEnds.{Ends, IsLineEnd, IsSuffix, IsName, GoesOn, has_base}
+use Rattle.logos_lexeme.specs.LexemeEnds.{Ends, IsLineEnd, IsSuffix, IsName, Continues, has_base}
 use Rattle.logos_lexeme.specs.LiteralBodies.{IsSound}
 use Rattle.logos_lexeme.specs.Lexemes.{IsNext, IsSuffixed}
 use Rattle.logos_lexeme.specs.declared.lexeme.Spacing.{Spacing}
@@ -165,13 +165,13 @@ module _ (a b : List ℕ) (p q k : ℕ) (w : Window a b p q k) (bound : IsCharBo
   literal_next before o end (number d) e ends sound suffix =
       let le = IsSuffix-le a end (p + k) suffix in
       let is : p + k ≡ end = number_no_suffix (has_base a p) a end (p + k) ends.stop suffix in
-      let ends' : Run (GoesOn (has_base a p) a) (past a p) (p + k) = subst (λ m. Run (GoesOn (has_base a p) a) (past a p) m) (sym is) ends in
+      let ends' : Run (Continues (has_base a p) a) (past a p) (p + k) = subst (λ m. Run (Continues (has_base a p) a) (past a p) m) (sym is) ends in
       let suffix' : IsSuffix a (p + k) (p + k) = subst (λ m. IsSuffix a m (p + k)) (sym is) suffix in
       let moves = past-moves a p in
       let f = same_past a b p q k w p q (omega arith) (omega arith) (omega (arith, w.filled)) bound in
       let run = number_same a b p q k w (has_base a p) (past a p) (past b q) (f, omega arith) moves (past-boundary a p w.utf8 bound inside_a) ends' in
       let based = based_same a b p q k w ends'.stop in
-      made b q Literal Number (q + k) (q + k) (opens_literal b q Number (literal_there before Number end e ends le)) (subst (λ t. Run (GoesOn t b) (past b q) (q + k)) (sym based) run) tt refl
+      made b q Literal Number (q + k) (q + k) (opens_literal b q Number (literal_there before Number end e ends le)) (subst (λ t. Run (Continues t b) (past b q) (q + k)) (sym based) run) tt refl
       (suffix_same a b p q k w (p + k) (q + k) (omega arith) (omega arith) w.ends suffix') w.holds
   literal_next before o end (quotes content) e ends sound suffix =
       let le = IsSuffix-le a end (p + k) suffix in

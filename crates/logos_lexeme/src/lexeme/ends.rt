@@ -2,7 +2,7 @@
 //! knows the opening.
 
 ghost use Rattle.std.specs.Prelude.{◌≡◌, ◌≢◌, ℕ, ◌+◌, ◌-◌, ◌<◌, ◌≤◌, ◌↔◌, length, slice_index, MatchOption, IsTrue};
-ghost use Rattle.logos_lexeme.specs.Views.{IsCharBoundary, past, is_space, is_continuing, Run, IsFirst, Passes, opening_at, prefix_of, IsLineEnd, Closes, IsName, IsSuffix, has_base, GoesOn, ReachesQuote, IsRawEnd, IsQuoted, IsRaw, Ends, IsOnward};
+ghost use Rattle.logos_lexeme.specs.Views.{IsCharBoundary, past, is_space, is_continuing, Run, IsFirst, Passes, opening_at, prefix_of, IsLineEnd, Closes, IsName, IsSuffix, has_base, Continues, ReachesQuote, IsRawEnd, IsQuoted, IsRaw, Ends, IsOnward};
 
 use crate::lexeme::characters::{byte_at, char_at, is_continuing, is_space, past};
 use crate::lexeme::openings::{Content, Opening, name_at};
@@ -48,8 +48,8 @@ fn number_step(source: &str, based: bool, at: usize) -> Option<usize>
     requires boundary { IsCharBoundary source.now at }
     requires begun { 0 < at }
     ensures { MatchOption result
-        ((next : ℕ) → GoesOn based source.now at next → ⊥)
-        (GoesOn based source.now at) }
+        ((next : ℕ) → Continues based source.now at next → ⊥)
+        (Continues based source.now at) }
 {
     if is_continuing(char_at(source, at)) {
         return Some(past(source, at));
@@ -72,7 +72,7 @@ fn number_step(source: &str, based: bool, at: usize) -> Option<usize>
 fn number_end(source: &str, based: bool, from: usize) -> usize
     requires boundary { IsCharBoundary source.now from }
     requires begun { 0 < from }
-    ensures { Run (GoesOn based source.now) from result }
+    ensures { Run (Continues based source.now) from result }
 {
     let mut end = from;
     while end < source.len()

@@ -4,13 +4,13 @@ use Rattle.std.specs.List.{prefix_len}
 use Rattle.logos_automaton.specs.Munch.{Found, ended, matched, failed}
 use Rattle.logos_code.specs.Bytes.{passes_test}
 use Rattle.logos_code.specs.Code.{CodeValue}
-use Rattle.logos_code.specs.LastMarks.{Stood}
+use Rattle.logos_code.specs.LastMarks.{IsOfAttempt}
 use Rattle.logos_code.specs.Rows.{IsStepOf, IsUse, LeadsToRowStart}
-use Rattle.logos_code.specs.Runs.{enters, acts, Does, Goes, Attempts}
+use Rattle.logos_code.specs.Runs.{enters, acts, Does, AttemptsFrom, Attempts}
 use Rattle.logos_machine.specs.inside.IsAt.{IsStatus, StaysWithin}
 use Rattle.logos_code.specs.declared.code.rows.MatchUse.TheVariants.{Emits, Skips}
 use Rattle.logos_code.specs.declared.code.rows.Step.{Step}
-use Rattle.logos_code.specs.declared.code.rows.Step.TheVariants.{Leads, Stays, Halts, Looks, Closes, Stuck, Unsaid}
+use Rattle.logos_code.specs.declared.code.rows.Step.TheVariants.{Leads, Stays, Halts, Looks, Closes, Stuck, Undescribed}
 use Rattle.logos_machine.specs.declared.machine.walk.Outcome.{Outcome}
 use Rattle.logos_machine.specs.declared.machine.walk.Outcome.TheVariants.{Skips as SkipsTo, Emits as EmitsTo, CallsBack as CallsBackTo, Fails, Ends}
 
@@ -48,16 +48,16 @@ module _ (code : CodeValue) (bytes : List ℕ) (start : ℕ) where
   Sees state offset stop (Looks leaf used) = EndsNext state offset stop leaf.0 stop × IsUse code leaf.0 used
   Sees state offset stop (Closes leaf used) = EndsNext state offset stop leaf.0 (stop + 1) × IsUse code leaf.0 used
   Sees state offset stop Stuck = stop < length bytes → EndsStuck state offset stop
-  Sees state offset stop Unsaid = Unit {0}
+  Sees state offset stop Undescribed = Unit {0}
 
   -- The attempt enters the state after `before` others, and its continuation from there is the
   -- whole attempt.
   pub record Comes (state offset before : ℕ) : Type 0 where
     pub context : Option (ℕ × ℕ)
     pub is_at : IsStatus code bytes start (record { state = state; offset = offset; context = context })
-    pub stood : Stood code bytes start (record { state = state; offset = offset; context = context })
+    pub of_attempt : IsOfAttempt code bytes start (record { state = state; offset = offset; context = context })
     pub few : before + start ≤ offset
-    pub goes_on : (found : Found) (n : ℕ) → Goes code bytes start (record { state = state; offset = offset; context = context }) found n → Attempts code bytes start found (before + n)
+    pub continues : (found : Found) (n : ℕ) → AttemptsFrom code bytes start (record { state = state; offset = offset; context = context }) found n → Attempts code bytes start found (before + n)
 
   -- The attempt enters the state after `before` others, its fast loop ends at the stop, and the
   -- entry represents the step of the state there.
@@ -70,28 +70,28 @@ module _ (code : CodeValue) (bytes : List ℕ) (start : ℕ) where
     pub row_start : LeadsToRowStart entry
 
   -- An attempt has this result in this number of states.
-  pub record Tried (found : Found) (steps : ℕ) : Type 0 where
+  pub record Attempted (found : Found) (steps : ℕ) : Type 0 where
     pub attempts : Attempts code bytes start found steps
     pub within : StaysWithin code bytes start found
     pub few : steps ≤ (length bytes - start) + 2
 
   -- The meaning of an outcome.
   abbrev pub IsOutcome : Outcome → Type 0
-  IsOutcome (SkipsTo to) = (leaf : ℕ) × (steps : ℕ) × Tried (matched leaf to) steps × IsUse code leaf Skips
-  IsOutcome (EmitsTo leaf to steps) = Tried (matched leaf.0 to) steps × IsUse code leaf.0 Emits
-  IsOutcome (CallsBackTo leaf to steps) = Tried (matched leaf.0 to) steps
-  IsOutcome (Fails to steps) = Tried (failed to) steps
-  IsOutcome (Ends steps) = Tried ended steps
+  IsOutcome (SkipsTo to) = (leaf : ℕ) × (steps : ℕ) × Attempted (matched leaf to) steps × IsUse code leaf Skips
+  IsOutcome (EmitsTo leaf to steps) = Attempted (matched leaf.0 to) steps × IsUse code leaf.0 Emits
+  IsOutcome (CallsBackTo leaf to steps) = Attempted (matched leaf.0 to) steps
+  IsOutcome (Fails to steps) = Attempted (failed to) steps
+  IsOutcome (Ends steps) = Attempted ended steps
 
 -- An entry whose kind comes after those that continue an attempt, or one that continues it on a
 -- byte.
-abbrev pub GoesOnOrEnds : List ℕ → (entry stop : ℕ) → Type 0
-GoesOnOrEnds bytes entry stop = ((entry < 268435456) × (stop < length bytes)) ⊎ (536870912 ≤ entry)
+abbrev pub ContinuesOrEnds : List ℕ → (entry stop : ℕ) → Type 0
+ContinuesOrEnds bytes entry stop = ((entry < 268435456) × (stop < length bytes)) ⊎ (536870912 ≤ entry)
 
 -- The meaning of the entry at the stop for the state that is entered at the offset.
 pub record LooksAhead (code : CodeValue) (bytes : List ℕ) (state offset entry stop : ℕ) : Type 0 where
   pub past : offset ≤ stop
   pub within : stop ≤ length bytes
-  pub moves : GoesOnOrEnds bytes entry stop
+  pub moves : ContinuesOrEnds bytes entry stop
   pub sees : (start : ℕ) → start ≤ offset → (step : Step) → IsStepOf entry step → Sees code bytes start state offset stop step
   pub row_start : LeadsToRowStart entry

@@ -19,13 +19,13 @@ module _ (code : CodeValue) (part : List ℕ) (start : ℕ) where
   Moves at Waits = LooksPast code part start at
 
   -- An attempt has this result in this number of states, and depends only on the part.
-  pub record TriedWithin (found : Found) (steps : ℕ) : Type 0 where
+  pub record AttemptedWithin (found : Found) (steps : ℕ) : Type 0 where
     pub attempts : AttemptsWithin code part start (length part) found steps
     pub within : StaysWithin code part start found
     pub few : steps ≤ (length part - start) + 2
 
   -- The meaning of the result of an attempt in the part.
   abbrev pub IsSettled : Settled → Type 0
-  IsSettled (Matched leaf to steps) = TriedWithin (matched leaf.0 to) steps
-  IsSettled (Failed to steps) = TriedWithin (failed to) steps
+  IsSettled (Matched leaf to steps) = AttemptedWithin (matched leaf.0 to) steps
+  IsSettled (Failed to steps) = AttemptedWithin (failed to) steps
   IsSettled Open = LooksPast code part start (first_status code start)

@@ -9,7 +9,8 @@ use super::fast_loop::stop;
 use logos_code::code::Code;
 use logos_code::code::last_marks::LastMark;
 use logos_code::code::rows::{
-    ASKS, ASKS_AFTER, CLOSES, HALTS, LATE, LEAVES, SHUTS, STAYS, STUCK, UNSAID, WIDTH,
+    CALLS_BACK, CALLS_BACK_AFTER, CLOSES, HALTS, LATE, LEAVES, SHUTS, STAYS, STUCK, UNDESCRIBED,
+    WIDTH,
 };
 use logos_hir::leaf::LeafId;
 
@@ -87,17 +88,21 @@ fn end_of(code: &Code, input: &[u8], start: usize, last: (u32, usize, usize, usi
     if entry < SHUTS {
         return Outcome::Emits(LeafId((entry - CLOSES) as usize), stop + 1, before + 2);
     }
-    if entry < ASKS {
+    if entry < CALLS_BACK {
         return Outcome::Skips(stop + 1);
     }
-    if entry < ASKS_AFTER {
-        let (leaf, late) = halted(entry - ASKS);
+    if entry < CALLS_BACK_AFTER {
+        let (leaf, late) = halted(entry - CALLS_BACK);
         return Outcome::CallsBack(leaf, stop, before + 1 + late);
     }
     if entry < STUCK {
-        return Outcome::CallsBack(LeafId((entry - ASKS_AFTER) as usize), stop + 1, before + 2);
+        return Outcome::CallsBack(
+            LeafId((entry - CALLS_BACK_AFTER) as usize),
+            stop + 1,
+            before + 2,
+        );
     }
-    if entry < UNSAID && stop < input.len() {
+    if entry < UNDESCRIBED && stop < input.len() {
         return stuck(code, input, start, (entry, stop, before, row_start));
     }
     attempt_slowly(code, input, start)
@@ -110,7 +115,7 @@ fn stuck(code: &Code, input: &[u8], start: usize, last: (u32, usize, usize, usiz
     requires sound { IsSound code.now }
     requires start { start ≤ length input.now }
     requires reaches { Reaches code.now input.now start (last.3 / WIDTH) last.0 last.1 last.2 }
-    requires nowhere { (STUCK ≤ last.0) × (last.0 < UNSAID) }
+    requires nowhere { (STUCK ≤ last.0) × (last.0 < UNDESCRIBED) }
     requires inside { last.1 < length input.now }
     ensures { IsOutcome code.now input.now start result }
 {

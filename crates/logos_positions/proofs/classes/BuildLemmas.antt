@@ -15,8 +15,8 @@ use Rattle.logos_positions.proofs.classes.TableLemmas.{got_at}
 lead_bound : (b : ℕ) (l : Lead) → lead b ≡ Some l → b < 256
 lead_bound = at_leads (λ b l. b < 256) (λ b h. omega arith) (λ b g h. omega arith) (λ b g h. omega arith) (λ b g h. omega arith)
 
-goes_on : (b : ℕ) → 0x80 ≤ b → b < 0xC0 → (nat_le 0x80 b && nat_lt b 0xC0) ≡ true
-goes_on b ge lt = and_from _ _ (le-leb 0x80 b ge) (lt-ltb b 0xC0 lt)
+continues : (b : ℕ) → 0x80 ≤ b → b < 0xC0 → (nat_le 0x80 b && nat_lt b 0xC0) ≡ true
+continues b ge lt = and_from _ _ (le-leb 0x80 b ge) (lt-ltb b 0xC0 lt)
 
 stops : (b : ℕ) → (b < 0x80) ⊎ (0xC0 ≤ b) → (nat_le 0x80 b && nat_lt b 0xC0) ≡ false
 stops b (inl h) = and_left _ _ (below b h)
@@ -89,7 +89,7 @@ module _ (ks : List CharacterRest) where
           let left : k.0.left ≡ suc n = sym (ap (λ x. x.left) r) ∙ e in
           let found = subst (λ m. FindsNext ks k.0 m b (slice_index_or follow (q * 64 + (b - 0x80)) None)) left k.2 in
           subst (LeadsTo (rest_of ks) (length ks - 1) n (after_byte n (rest_of ks q).has b))
-          (sym (cond_at _ _ None (goes_on b ge lt)))
+          (sym (cond_at _ _ None (continues b ge lt)))
           (subst (λ (x : Remainder). LeadsTo (rest_of ks) (length ks - 1) n (after_byte n x.has b) (slice_index_or follow (q * 64 + (b - 0x80)) None)) (sym r)
           (leads n (after_byte n (in_ranges k.0.offsets) b) (slice_index_or follow (q * 64 + (b - 0x80)) None) found));
       no_follow = λ q b le h. cond_off _ _ None (stops b h);
@@ -97,7 +97,7 @@ module _ (ks : List CharacterRest) where
           (λ ge. ⊎_elim (λ lt.
           let k = cell_at q b le ge lt in
           let left : k.0.left ≡ 0 = sym (ap (λ x. x.left) (rest_is q k.0 k.1)) ∙ e in
-          cond_at _ _ None (goes_on b ge lt) ∙ subst (λ m. FindsNext ks k.0 m b (slice_index_or follow (q * 64 + (b - 0x80)) None)) left k.2)
+          cond_at _ _ None (continues b ge lt) ∙ subst (λ m. FindsNext ks k.0 m b (slice_index_or follow (q * 64 + (b - 0x80)) None)) left k.2)
           (λ high. cond_off _ _ None (stops b (inr high)))
           (cases_lt b 0xC0)) (cases_lt b 0x80);
     }

@@ -91,7 +91,7 @@ module _ (table : Table) (splits more : List Split) (old new : ℕ → ℕ) (x :
     history-extended = record { at = at_time; last = last; below = below; step = step; parted = parted }
       where
         last : (s : ℕ) → s < size table → at_time (length more) s ≡ new s
-        last s l = at_mid (length more) s x.goes_on.longer l ∙ mid_new (length more) s (x.within s l)
+        last s l = at_mid (length more) s x.continues.longer l ∙ mid_new (length more) s (x.within s l)
 
         below : (j s : ℕ) → 0 < j → j ≤ length more → s < size table → at_time j s < j
         below j s p m l = go (cases_lt (length splits) j)
@@ -126,7 +126,7 @@ module _ (table : Table) (splits more : List Split) (old new : ℕ → ℕ) (x :
             early q (inr e) =
                 inr (
                   ap (λ (f : ℕ → ℕ). f s) (at_first (j + 1) (omega arith)) ∙ e.0,
-                  ap (λ (f : ℕ → ℕ). f s) (at_first j (omega arith)) ∙ e.1 ∙ ap (λ (c : Split). c.parent) (sym (x.goes_on.same j q)),
+                  ap (λ (f : ℕ → ℕ). f s) (at_first j (omega arith)) ∙ e.1 ∙ ap (λ (c : Split). c.parent) (sym (x.continues.same j q)),
                 )
 
             go : (j < length splits) ⊎ (length splits ≤ j) → (at_time (j + 1) s ≡ at_time j s) ⊎ ((at_time (j + 1) s ≡ j) × (at_time j s ≡ (split_at more j).parent))
@@ -139,7 +139,7 @@ module _ (table : Table) (splits more : List Split) (old new : ℕ → ℕ) (x :
           where
             early : j < length splits → ArePartedBy table (at_time j) (split_at more j).symbol s t
             early n =
-                let same = x.goes_on.same j n in
+                let same = x.continues.same j n in
                 let e' : h.at (j + 1) s ≡ j = sym (ap (λ (f : ℕ → ℕ). f s) (at_first (j + 1) (omega arith))) ∙ e in
                 let q' : h.at (j + 1) t ≡ (split_at splits j).parent = sym (ap (λ (f : ℕ → ℕ). f t) (at_first (j + 1) (omega arith))) ∙ q ∙ ap (λ (c : Split). c.parent) same in
                 let a = h.parted j s t p n hs ht e' q' in

@@ -119,7 +119,7 @@ module _ (table : Table) (splits more : List Split) (old new twins hits sources 
 
   pub extension-hits : IsExtension table splits more (slice_index old) (slice_index new)
   extension-hits = record {
-    goes_on = on;
+    continues = on;
     within = within;
     before = was;
     older = tw.older;

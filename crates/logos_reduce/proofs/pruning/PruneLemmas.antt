@@ -38,15 +38,15 @@ pub seeds_more : (table : Table) (s : ℕ) (old new : List ℕ) (wanted : Bool) 
     ((t : ℕ) → IsMet old t → IsSeed table t) → ((t : ℕ) → t < s → IsSeed table t → IsMet old t) → (wanted ≡ true → IsMet new s) →
     ((t : ℕ) → IsMet new t → IsMet old t ⊎ ((t ≡ s) × (wanted ≡ true))) →
     ((t : ℕ) → IsMet new t → IsSeed table t) × ((t : ℕ) → t < s + 1 → IsSeed table t → IsMet new t)
-seeds_more table s old new wanted g tells sound all one only = (λ t m. there t (only t m), λ t l k. back t k (cases_lt t s) l)
+seeds_more table s old new wanted g decided sound all one only = (λ t m. there t (only t m), λ t l k. back t k (cases_lt t s) l)
   where
     there : (t : ℕ) → IsMet old t ⊎ ((t ≡ s) × (wanted ≡ true)) → IsSeed table t
     there t (inl m) = sound t m
-    there t (inr e) = subst (IsSeed table) (sym e.0) (tells.0 e.1)
+    there t (inr e) = subst (IsSeed table) (sym e.0) (decided.0 e.1)
 
     back : (t : ℕ) → IsSeed table t → (t < s) ⊎ (s ≤ t) → t < s + 1 → IsMet new t
     back t k (inl m) l = met_kept old new g t (all t m k)
-    back t k (inr m) l = let e : t ≡ s = omega arith in subst (IsMet new) (sym e) (one (tells.1 (subst (IsSeed table) e k)))
+    back t k (inr m) l = let e : t ≡ s = omega arith in subst (IsMet new) (sym e) (one (decided.1 (subst (IsSeed table) e k)))
 
 -- a seed is of use
 pub seed_of_use : (table : Table) (s : ℕ) → IsSeed table s → IsOfUse table s

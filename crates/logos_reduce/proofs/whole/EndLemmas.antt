@@ -118,19 +118,19 @@ module _ (raw : Table) (root : ℕ) (reduction : Reduction) (made : IsReductionO
     pruned_end : (s t k : ℕ) → to pruned s 256 ≡ Some t → to pruned t k ≡ None
     pruned_end s t k e = go (to pruned t k) refl
       where
-        behind : to raw s 256 ≡ Some t
-        behind = sym (raw_edge s 256) ∙ (mid_edge s 256 t e).0
+        afterward : to raw s 256 ≡ Some t
+        afterward = sym (raw_edge s 256) ∙ (mid_edge s 256 t e).0
 
         dead : (u : ℕ) → to mid t k ≡ Some u → IsOfUse mid u → (k < 256) ⊎ (256 ≤ k) → ⊥
-        dead u q (inl m) (inl l) = dead_end s t behind (to_mark k l q m)
-        dead u q (inr m) (inl l) = dead_end s t behind (onward k l q m)
+        dead u q (inl m) (inl l) = dead_end s t afterward (to_mark k l q m)
+        dead u q (inr m) (inl l) = dead_end s t afterward (onward k l q m)
         dead u q x (inr l) =
             let m = edge_symbol mid t k u q in
             let z : k ≡ 256 = omega arith in
             at_end u (ap (to mid t) (sym z) ∙ q) x
           where
             at_end : (u : ℕ) → to mid t 256 ≡ Some u → IsOfUse mid u → ⊥
-            at_end u q (inl m) = dead_end s t behind (to_end q m)
+            at_end u q (inl m) = dead_end s t afterward (to_end q m)
             at_end u q (inr m) = dead_end t u (sym (raw_edge t 256) ∙ q) m
 
         go : (o : Option ℕ) → to pruned t k ≡ o → o ≡ None

@@ -54,7 +54,7 @@ block_before splits fresh c = if nat_lt c fresh then c else (split_at splits c).
 -- The new blocks are the old ones, some of which some states have left, each for the reason in its
 -- split.
 pub record IsExtension (table : Table) (splits more : List Split) (old new : ℕ → ℕ) : Type 0 where
-  pub goes_on : Continues splits more
+  pub continues : Continues splits more
   pub within : IsWithin (size table) new (length more)
   pub before : (s : ℕ) → s < size table → old s ≡ block_before more (length splits) (new s)
   pub older : (j : ℕ) → length splits ≤ j → j < length more →

@@ -73,7 +73,7 @@ fn add_twin(cuts: &mut Cuts, fresh: usize, block: usize, symbol: usize) -> Resul
     ensures below { OnOk result ((c : ℕ) →
         slice_index cuts.new.twins.items c < vec_len cuts.new.splits) }
     ensures twins { OnOk result (AreTwins fresh symbol cuts.new.twins.items cuts.new.splits.items) }
-    ensures goes_on { OnOk result (Continues cuts.old.splits.items cuts.new.splits.items) }
+    ensures continues { OnOk result (Continues cuts.old.splits.items cuts.new.splits.items) }
 {
     let twin = cuts.splits.len();
     if twin < cuts.twins.len() && cuts.twins[block] < fresh && cuts.hints.is_cut(block) {
@@ -103,7 +103,7 @@ fn add_twins(cuts: &mut Cuts, homes: &Vec<usize>, symbol: usize) -> Result<(), A
         slice_index cuts.new.twins.items c < vec_len cuts.new.splits) }
     ensures twins { OnOk result
         (AreTwins (vec_len cuts.old.splits) symbol cuts.new.twins.items cuts.new.splits.items) }
-    ensures goes_on { OnOk result (Continues cuts.old.splits.items cuts.new.splits.items) }
+    ensures continues { OnOk result (Continues cuts.old.splits.items cuts.new.splits.items) }
 {
     let fresh = cuts.splits.len();
     for home in homes {
@@ -234,7 +234,7 @@ pub fn split_on(
         w.cuts.twins.items hits.now.items w.filing.lists.items) }
     ensures twins { IfOk result (λ w.
         AreTwins (vec_len parts.cuts.splits) symbol w.cuts.twins.items w.cuts.splits.items) }
-    ensures goes_on { IfOk result (λ w. Continues parts.cuts.splits.items w.cuts.splits.items) }
+    ensures continues { IfOk result (λ w. Continues parts.cuts.splits.items w.cuts.splits.items) }
     ensures falls { IfOk result (λ w.
         2 * (vec_len w.filing.lists - vec_len w.cuts.splits) + vec_len w.cuts.hints.todo
         ≤ 2 * (vec_len parts.filing.lists - vec_len parts.cuts.splits)

@@ -5,7 +5,7 @@ use Rattle.std.proofs.lemmas.Nat.{and_mask}
 use Rattle.std.proofs.lemmas.Option.{slice_get-get_or}
 use Rattle.logos_code.specs.Code.{CodeValue}
 use Rattle.logos_code.specs.CodeView.{state_at, no_state}
-use Rattle.logos_code.specs.Headline.{IsSound, NamesWhatIsThere}
+use Rattle.logos_code.specs.Headline.{IsSound, NamesExisting}
 use Rattle.logos_code.specs.Runs.{stays, target}
 use Rattle.logos_code.specs.declared.code.rows.MatchUse.{MatchUse}
 use Rattle.logos_code.specs.declared.code.rows.MatchUse.TheVariants.{Emits, Skips, CallsBack}
@@ -21,7 +21,7 @@ small code s few there = omega (arith, few, there)
 pub goes_target : (code : CodeValue) (s b next : ℕ) → IsSound code → s < length code.states → stays code (state_at code s).fast_loop b ≡ false →
     target code (state_at code s).fork b ≡ Some next → Goes code s b (272 * next)
 goes_target code s b next sound there out leads =
-    let names = All-slice_get (NamesWhatIsThere code) code.states s (state_at code s) sound.states (slice_get-get_or code.states s no_state there) in
+    let names = All-slice_get (NamesExisting code) code.states s (state_at code s) sound.states (slice_get-get_or code.states s no_state there) in
     record {
       next = next;
       there = target_there code (state_at code s).fork b next names.fork leads;
@@ -32,7 +32,7 @@ goes_target code s b next sound there out leads =
 pub target_small : (code : CodeValue) (s b next : ℕ) → IsFew code → IsSound code → s < length code.states → target code (state_at code s).fork b ≡ Some next →
     272 * next + 272 ≤ 1048576
 target_small code s b next few sound there leads =
-    let names = All-slice_get (NamesWhatIsThere code) code.states s (state_at code s) sound.states (slice_get-get_or code.states s no_state there) in
+    let names = All-slice_get (NamesExisting code) code.states s (state_at code s) sound.states (slice_get-get_or code.states s no_state there) in
     small code next few (target_there code (state_at code s).fork b next names.fork leads)
 
 -- one that stays

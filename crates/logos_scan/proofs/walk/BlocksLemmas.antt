@@ -65,26 +65,26 @@ stepped_on rows text from trace new at k r next to after few low long lt n e f g
     }
 
 -- The blocks before the one are one walk, and the others are walks from guesses.
-pub record AreMended (rows text from ends trace : List ℕ) (row_start block now : ℕ) : Type 0 where
+pub record AreRepaired (rows text from ends trace : List ℕ) (row_start block now : ℕ) : Type 0 where
   pub whole : Walked rows text row_start trace 0 (768 * block) now
   pub left : (b : ℕ) → block ≤ b → b < 6 → IsWalked rows text from trace 768 ends b
 
-pub mended_first : (rows text from ends trace : List ℕ) (row_start : ℕ) → slice_index from 0 ≡ row_start → AreWalked rows text from trace 768 ends → AreMended rows text from ends trace row_start 1 (slice_index ends 0)
-mended_first rows text from ends trace row_start e w = record {
+pub repaired_first : (rows text from ends trace : List ℕ) (row_start : ℕ) → slice_index from 0 ≡ row_start → AreWalked rows text from trace 768 ends → AreRepaired rows text from ends trace row_start 1 (slice_index ends 0)
+repaired_first rows text from ends trace row_start e w = record {
   whole = subst (λ p. Walked rows text p trace 0 768 (slice_index ends 0)) e (w 0 (omega arith));
   left = λ b l h. w b h;
 }
 
 -- the walk of a block as a stretch
-pub stretched : (rows text from ends trace : List ℕ) (row_start block now : ℕ) → block < 6 → AreMended rows text from ends trace row_start block now
+pub stretched : (rows text from ends trace : List ℕ) (row_start block now : ℕ) → block < 6 → AreRepaired rows text from ends trace row_start block now
     → Walked rows text (slice_index from block) trace (768 * block) (768 * block + 768) (slice_index ends block)
 stretched rows text from ends trace row_start block now few m =
     subst (λ k. Walked rows text (slice_index from block) trace (768 * block) k (slice_index ends block)) (omega arith) (m.left block (omega arith) few)
 
-pub mended_on : (rows text from ends trace new : List ℕ) (row_start block now after next : ℕ) → next ≡ block + 1
+pub repaired_on : (rows text from ends trace new : List ℕ) (row_start block now after next : ℕ) → next ≡ block + 1
     → Walked rows text now new (768 * block) (768 * block + 768) after → IsSameBeside (768 * block) (768 * block + 768) trace new
-    → AreMended rows text from ends trace row_start block now → AreMended rows text from ends new row_start next after
-mended_on rows text from ends trace new row_start block now after next n w same m = record {
+    → AreRepaired rows text from ends trace row_start block now → AreRepaired rows text from ends new row_start next after
+repaired_on rows text from ends trace new row_start block now after next n w same m = record {
   whole = subst (λ k. Walked rows text row_start new 0 k after) (omega (arith, n))
       (walked_join rows text row_start new 0 (768 * block) (768 * block + 768) now after (omega arith) (omega arith)
       (walked_out rows text row_start trace new 0 (768 * block) now (768 * block) (768 * block + 768) (inr (omega arith)) same m.whole) w);

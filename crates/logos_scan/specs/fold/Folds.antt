@@ -5,7 +5,7 @@ use Rattle.std.specs.Int.{bit_at}
 use Rattle.logos_code.specs.Code.{CodeValue}
 use Rattle.logos_code.specs.CodeView.{state_at}
 use Rattle.logos_code.specs.Headline.{IsSound}
-use Rattle.logos_code.specs.Rows.{Says}
+use Rattle.logos_code.specs.Rows.{Describes}
 use Rattle.logos_code.specs.Runs.{stays, target}
 use Rattle.logos_code.specs.declared.code.rows.MatchUse.{MatchUse}
 use Rattle.logos_code.specs.declared.code.rows.MatchUse.TheVariants.{Emits, Skips, CallsBack}
@@ -66,7 +66,7 @@ pub record IsEnded (entry leaf : ℕ) (used : MatchUse) (row_start : ℕ) : Type
 pub record EndsAs (code : CodeValue) (s b entry : ℕ) : Type 0 where
   pub used : MatchUse
   pub has_use : HasUse entry used
-  pub says : Says code (state_at code s) b (Halts (record { 0 = leaf_of entry }) used) ⊎ Says code (state_at code s) b (Looks (record { 0 = leaf_of entry }) used)
+  pub describes : Describes code (state_at code s) b (Halts (record { 0 = leaf_of entry }) used) ⊎ Describes code (state_at code s) b (Looks (record { 0 = leaf_of entry }) used)
 
 -- The folded entry of a byte in a state. Without flags it has the row offset of the state after the
 -- byte. With the flag of an end, a match of its leaf ends before the byte, and it has the row

@@ -1,13 +1,13 @@
 //! Entries of folded rows. `folded` computes them.
 
 ghost use Rattle.std.specs.Prelude.{◌≡◌, ◌+◌, ◌<◌, false, length, IfSome};
-ghost use Rattle.logos_scan.specs.fold.Imports.{first_halting, flags_of, row_start_of, state_at, stays, Goes, IsEnded, IsFew, IsFolded, IsFoldedRow, IsSound, IsStepOf, IsWithin, LeadsToRowStart, Says};
+ghost use Rattle.logos_scan.specs.fold.Imports.{first_halting, flags_of, row_start_of, state_at, stays, Goes, IsEnded, IsFew, IsFolded, IsFoldedRow, IsSound, IsStepOf, IsWithin, LeadsToRowStart, Describes};
 
 use crate::walk::{ENDED, TOKEN};
 use logos_code::code::Code;
 use logos_code::code::rows::{
-    ASKS, ASKS_AFTER, CLOSES, HALTS, LATE, LEAVES, MatchUse, SHUTS, STAYS, STUCK, Step, UNSAID,
-    WIDTH,
+    CALLS_BACK, CALLS_BACK_AFTER, CLOSES, HALTS, LATE, LEAVES, MatchUse, SHUTS, STAYS, STUCK, Step,
+    UNDESCRIBED, WIDTH,
 };
 use logos_hir::leaf::LeafId;
 
@@ -37,14 +37,14 @@ fn step_of(entry: u32) -> Step
         LEAVES..HALTS => before(entry - LEAVES, MatchUse::Skips),
         HALTS..CLOSES => before(entry - HALTS, MatchUse::Emits),
         CLOSES..SHUTS => Step::Closes(LeafId((entry - CLOSES) as usize), MatchUse::Emits),
-        SHUTS..ASKS => Step::Closes(LeafId((entry - SHUTS) as usize), MatchUse::Skips),
-        ASKS..ASKS_AFTER => before(entry - ASKS, MatchUse::CallsBack),
-        ASKS_AFTER..STUCK => Step::Closes(
-            LeafId((entry - ASKS_AFTER) as usize),
+        SHUTS..CALLS_BACK => Step::Closes(LeafId((entry - SHUTS) as usize), MatchUse::Skips),
+        CALLS_BACK..CALLS_BACK_AFTER => before(entry - CALLS_BACK, MatchUse::CallsBack),
+        CALLS_BACK_AFTER..STUCK => Step::Closes(
+            LeafId((entry - CALLS_BACK_AFTER) as usize),
             MatchUse::CallsBack,
         ),
-        STUCK..UNSAID => Step::Stuck,
-        _ => Step::Unsaid,
+        STUCK..UNDESCRIBED => Step::Stuck,
+        _ => Step::Undescribed,
     }
 }
 
@@ -64,7 +64,7 @@ fn before(named: u32, used: MatchUse) -> Step
 fn step_at(code: &Code, state: usize, byte: u8) -> Step
     requires few { IsFew code.now }
     requires state { state < length code.now.states }
-    ensures { Says code.now (state_at code.now state) byte result }
+    ensures { Describes code.now (state_at code.now state) byte result }
 {
     step_of(code.entry(WIDTH * state, byte))
 }

@@ -85,7 +85,7 @@ pub fn walk_chunk(
             begin: from[block],
             end: ends[block],
         };
-        now = mended(rows, text, now, trace, stretch);
+        now = repaired_block(rows, text, now, trace, stretch);
     }
     now
 }
@@ -93,7 +93,13 @@ pub fn walk_chunk(
 /// Steps again over a block that began in a guessed row, if the guess was wrong. Returns the row
 /// after the block.
 #[inline(always)]
-fn mended(rows: &[u32], text: &[u8], row_start: usize, trace: &mut [u32], stretch: Stretch) -> usize
+fn repaired_block(
+    rows: &[u32],
+    text: &[u8],
+    row_start: usize,
+    trace: &mut [u32],
+    stretch: Stretch,
+) -> usize
     requires closed { IsClosed rows.now }
     requires row_start { IsRowStart rows.now row_start }
     requires holds { HoldsStretch rows.now text.now trace.old stretch }

@@ -4,7 +4,7 @@ ghost use Rattle.std.specs.Prelude.{◌≡◌, ◌<◌, length};
 ghost use Rattle.logos_scan.specs.walk.Views.{IsClosed, IsRowStart, AreRowStarts};
 
 use crate::walk::blocks::{BLOCK, BLOCKS, CHUNK};
-use crate::walk::{PLACE, entry_of};
+use crate::walk::{OFFSET_MASK, entry_of};
 
 /// The number of bytes before a block that a guess examines.
 const WINDOW: usize = 48;
@@ -17,7 +17,7 @@ fn after(rows: &[u32], byte: u8, row_start: usize, root: usize) -> usize
     requires root { IsRowStart rows.now root }
     ensures { IsRowStart rows.now result }
 {
-    let next = (entry_of(rows, byte, row_start) & PLACE) as usize;
+    let next = (entry_of(rows, byte, row_start) & OFFSET_MASK) as usize;
     if byte == b'\n' { root } else { next }
 }
 

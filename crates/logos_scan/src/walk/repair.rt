@@ -4,7 +4,7 @@
 ghost use Rattle.std.specs.Prelude.{◌≡◌, ◌<◌, ◌≤◌, length};
 ghost use Rattle.logos_scan.specs.walk.Views.{IsClosed, IsRowStart, IsSameBeside, Walked, HoldsStretch, IsRepaired};
 
-use crate::walk::{PLACE, step};
+use crate::walk::{OFFSET_MASK, step};
 
 /// A walk that is stored in a trace: over the bytes from `from` up to `to`, from the row `begin` to
 /// the row `end`.
@@ -41,7 +41,7 @@ pub fn repair(
 {
     let mut now = row_start;
     for at in stretch.from..stretch.to {
-        let before = (trace[at] & PLACE) as usize;
+        let before = (trace[at] & OFFSET_MASK) as usize;
         now = step(rows, text, now, trace, at);
         if before == now {
             return Repaired {

@@ -35,7 +35,7 @@ read_adds remaining reader next items after held count before over fits same fro
       consumed = consumed;
       bound = same;
       before = refl;
-      goes_on = λ h. omega (arith, some_read count h, fits, length-take (held + count - held) (drop held after), length-drop held after);
+      continues = λ h. omega (arith, some_read count h, fits, length-take (held + count - held) (drop held after), length-drop held after);
       over = λ h. (no_bytes (held + count - held) (drop held after) (e ∙ none_read count h), end (none_read count h));
     }
 

@@ -29,7 +29,7 @@ pub record Reads {R : Type 0} (remaining : R → Option (List ℕ)) (old new : P
   pub consumed : Consumes (remaining old.reader) (remaining new.reader) added
   pub bound : new.bound ≡ old.bound
   pub before : new.before ≡ old.before
-  pub goes_on : IsFalse new.is_over → 0 < length added
+  pub continues : IsFalse new.is_over → 0 < length added
   pub over : IsTrue new.is_over → (added ≡ []) × IsAtEnd (remaining new.reader)
 
 -- Nothing is read, and the remaining bytes of the reader are unchanged.

@@ -23,7 +23,7 @@ use Rattle.logos_token.specs.Spelling.{Piece, Pieces, Lexeme, leaf, lexeme_of, s
 use Rattle.logos_token.specs.Printing.{Part}
 use Rattle.logos_token.proofs.reading.PieceLemmas.{piece-advances, piece-boundary}
 use Rattle.logos_token.proofs.printing.PrintParts.{parts, parts-append, after, bare_lexeme}
-use Rattle.logos_token.proofs.printing.PrintPieces.{gap_of, IsSeparator, joint_or_not, joint_from, separates, second_slash, whole_length, drop_on, byte_behind, gap_first, slice_same, Shown, HasText, HasDocs}
+use Rattle.logos_token.proofs.printing.PrintPieces.{gap_of, IsSeparator, joint_or_not, joint_from, separates, second_slash, whole_length, drop_on, byte_afterward, gap_first, slice_same, Shown, HasText, HasDocs}
 use Rattle.logos_token.proofs.printing.PrintAgain.{IsBlankByte, gap_next, same_lexeme, HasNoSpace}
 use Rattle.logos_enum.specs.Marks.{comma}
 use Rattle.logos_strip.proofs.again.CommaLemmas.{comma_space, comma_next}
@@ -96,7 +96,7 @@ module _ (a : List ℕ) (utf8 : IsUtf8 a) (text : HasText a) (docs : HasDocs a) 
       let adv = piece-advances a p kind to next in
       let long = length-between a p to adv.1 in
       let total = whole_length b (slice_range a p to) (after gap ps) q (to - p) long inside e in
-      let first = byte_behind b (slice_range a p to) (after gap ps) q (to - p) long inside e in
+      let first = byte_afterward b (slice_range a p to) (after gap ps) q (to - p) long inside e in
       elim (gap_first ps gap c g) [ inl h ↦ inl (first ∙ h) | inr h ↦ inr (omega (arith, ap length h)) ]
 
   -- such a lexeme is a window

@@ -87,8 +87,8 @@ ends_there negated lead os ts =
     ∙ close_at_bottom negated lead os ts
 
 -- a walk of all operands continues from each point on it
-goes_on : (negated : Bool) (lead : Lead) (os : Operands) (ts front : List BracketToken) (p : Slot) → operands_tokens os ≡ ts ++ front → walk (starting negated lead bottom) ts ≡ Some p → walk p front ≡ Some (slot_of negated lead os bottom)
-goes_on negated lead os ts front p e w =
+continues : (negated : Bool) (lead : Lead) (os : Operands) (ts front : List BracketToken) (p : Slot) → operands_tokens os ≡ ts ++ front → walk (starting negated lead bottom) ts ≡ Some p → walk p front ≡ Some (slot_of negated lead os bottom)
+continues negated lead os ts front p e w =
     sym (ap (option_and_then (λ q. walk q front)) w) ∙ sym (walk_more (starting negated lead bottom) ts front) ∙ ap (walk (starting negated lead bottom)) (sym e) ∙ operands_walk os negated lead bottom
 
 -- ---- the part of a bracket that a reader has read, at a point inside of it
@@ -267,7 +267,7 @@ too_deep flags base negated lead text here after p n d h e deep inside rest k =
     next [] others f g = absurd cc
     next (t ∷ front) others f g =
         let is : Open n d ≡ t = cc in
-        let w = goes_on negated lead inside h.tokens (t ∷ front) p g h.walks in
+        let w = continues negated lead inside h.tokens (t ∷ front) p g h.walks in
         let v : walk p (Open n d ∷ front) ≡ Some (slot_of negated lead inside bottom) = ap (λ x. walk p (x ∷ front)) is ∙ w in
         let grown = walk_deeper flags base (starting n d (over p.stack p.level)) front (slot_of negated lead inside bottom) v in
         let total = slot_depth flags base negated lead inside in

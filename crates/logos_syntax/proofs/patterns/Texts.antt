@@ -27,7 +27,7 @@ use Rattle.logos_syntax.specs.Grammar.{written_tree, branches_depth, TokenFits, 
 use Rattle.logos_syntax.specs.inside.Groups.{State, start, whole_tree, step, Runs, stays, deepest}
 use Rattle.logos_syntax.specs.inside.GroupsView.{Steps, Ends}
 use Rattle.logos_syntax.specs.inside.GroupNames.{HasNames, Admits}
-use Rattle.logos_syntax.specs.inside.Reading.{GoesOn, StopsAt, ReadsToken, ReadsSimple, names_after, HasRead, StopsText}
+use Rattle.logos_syntax.specs.inside.Reading.{Continues, StopsAt, ReadsToken, ReadsSimple, names_after, HasRead, StopsText}
 use Rattle.logos_pattern_tokens.proofs.Picks.{IsTaken}
 use Rattle.logos_pattern_tokens.proofs.TokenLemmas.{is_taken, taken_is}
 use Rattle.logos_syntax.proofs.brackets.Texts.{one_bracket}
@@ -114,7 +114,7 @@ differ_after seen (t ∷ ts) us h = differ_after (with_name seen t) ts us h.1
 pub nothing_read : (flags : Flags) (text : Text) (s : State) (names : GroupNames) → s ≡ start flags → HasNames names [] → HasRead flags text text s names
 nothing_read flags text s names is has = record { tokens = []; cut = refl; run = subst (Runs (start flags) []) (sym is) (stays (start flags)); differ = tt; has = has }
 
-pub reads_on : (flags : Flags) (text rest after : Text) (s u : State) (names others : GroupNames) → (r : HasRead flags text rest s names) → GoesOn s (names_after [] r.tokens) rest u others after → HasRead flags text after u others
+pub reads_on : (flags : Flags) (text rest after : Text) (s u : State) (names others : GroupNames) → (r : HasRead flags text rest s names) → Continues s (names_after [] r.tokens) rest u others after → HasRead flags text after u others
 reads_on flags text rest after s u names others r g = record {
   tokens = r.tokens ++ g.token ∷ [];
   cut = cuts_more text r.tokens rest g.token after r.cut g.starts;
@@ -215,7 +215,7 @@ bracket_stops s seen text flags base stops.LimitPatternNesting set is h t rest (
 bracket_stops s seen text flags base stops.Memory set is h t rest (enclosed b x r k) = tt
 
 pub bracket_goes : (s u : State) (seen : List Text) (names : GroupNames) (text rest : Text) (flags : Flags) (base : ℕ) (f : FoundSet) → flags ≡ s.top.flags → base ≡ length s.below → HasNames names seen → IsBracketValue flags base text f rest →
-    ((b : Bracket) → set_of f.set ≡ bracket_set s.top.flags b → f.depth ≡ length s.below + bracket_depth b → step s (bracketed b) ≡ Some u) → GoesOn s seen (91 ∷ text) u names rest
+    ((b : Bracket) → set_of f.set ≡ bracket_set s.top.flags b → f.depth ≡ length s.below + bracket_depth b → step s (bracketed b) ≡ Some u) → Continues s seen (91 ∷ text) u names rest
 bracket_goes s u seen names text rest flags base f set is has b h = record {
   token = bracketed b.written;
   starts = enclosed b.written text rest b.encloses;
@@ -248,7 +248,7 @@ step_stops s u seen text rest token stop is h t after k = let e = one_taken text
     from stops.LimitPatternNesting h = h.1
     from stops.Memory h = tt
 
-pub simple_goes : (s u : State) (seen : List Text) (text rest : Text) (token : Token) (names : GroupNames) (r : Unit {0}) → token_at text ≡ Some (token, rest) → Admits seen token true names → Steps s token (Ok r) u → GoesOn s seen text u names rest
+pub simple_goes : (s u : State) (seen : List Text) (text rest : Text) (token : Token) (names : GroupNames) (r : Unit {0}) → token_at text ≡ Some (token, rest) → Admits seen token true names → Steps s token (Ok r) u → Continues s seen text u names rest
 simple_goes s u seen text rest token names r is new h = record {
   token = token;
   starts = taken token text rest (taken_here text rest token is);

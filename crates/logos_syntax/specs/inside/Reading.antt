@@ -17,7 +17,7 @@ use Rattle.logos_syntax.specs.inside.GroupNames.{HasNames}
 
 -- The text begins with a token that is allowed after these names, and the parser continues after
 -- it.
-pub record GoesOn (old : State) (seen : List Text) (text : Text) (new : State) (names : GroupNames) (rest : Text) : Type 0 where
+pub record Continues (old : State) (seen : List Text) (text : Text) (new : State) (names : GroupNames) (rest : Text) : Type 0 where
   pub token : Token
   pub starts : Starts token text rest
   pub fits : TokenFits old.top.flags token
@@ -33,7 +33,7 @@ StopsAt stops.Memory old seen token = Unit {0}
 
 -- The parser exceeds the limit at the front of the text: after a token, or in a bracket.
 pub data IsDeepAt (old : State) (seen : List Text) (names : GroupNames) : Text → Type 0 where
-  token_deep : (text rest : Text) (new : State) → GoesOn old seen text new names rest → 250 < deepest new → IsDeepAt old seen names text
+  token_deep : (text rest : Text) (new : State) → Continues old seen text new names rest → 250 < deepest new → IsDeepAt old seen names text
   bracket_deep : (following : Text) (count : ℕ) → BracketFront old.top.flags following count → 250 < length old.below + count → IsDeepAt old seen names (91 ∷ following)
 
 -- If the parser stops at the limit, it is at such a position.
@@ -43,14 +43,14 @@ IfDeepToken stops.LimitPatternNesting old seen text names = IsDeepAt old seen na
 IfDeepToken stops.Memory old seen text names = Unit {0}
 
 abbrev pub ReadsToken : State → List Text → Text → Result (Bor Text) Stop → State → GroupNames → Type 0
-ReadsToken old seen text (Ok rest) new names = GoesOn old seen text new names rest.now
+ReadsToken old seen text (Ok rest) new names = Continues old seen text new names rest.now
 ReadsToken old seen text (Err stop) new names =
     ((token : Token) (rest : Text) → Starts token text rest → StopsAt stop old seen token)
     × IfDeepToken stop old seen text names
 
 -- The contract of reading one token, for tokens that do not begin a bracket.
 abbrev pub ReadsSimple : State → List Text → Text → Result (Bor Text) Stop → State → GroupNames → Type 0
-ReadsSimple old seen text (Ok rest) new names = GoesOn old seen text new names rest.now
+ReadsSimple old seen text (Ok rest) new names = Continues old seen text new names rest.now
 ReadsSimple old seen text (Err stop) new names =
     ((token : Token) (rest : Text) → Takes token text rest → StopsAt stop old seen token)
     × IfDeepToken stop old seen text names

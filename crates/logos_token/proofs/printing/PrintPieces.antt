@@ -69,8 +69,8 @@ module _ (b front rest : List ℕ) (q n : ℕ) (long : length front ≡ n) (insi
   pub drop_on : drop (q + n) b ≡ rest
   drop_on = let f : drop n (drop q b) ≡ rest = ap (drop n) e ∙ ap (λ m. drop m (front ++ rest)) (sym long) ∙ front_rest (front ++ rest) front rest refl in sym (drop-drop n q b) ∙ f
 
-  pub byte_behind : get_or b (q + n) 0 ≡ get_or rest 0 0
-  byte_behind = let f : q + n + 0 ≡ q + n = omega arith in sym (ap (λ i. get_or b i 0) f) ∙ sym (get_or-drop (q + n) b 0 0) ∙ ap (λ (xs : List ℕ). get_or xs 0 0) drop_on
+  pub byte_afterward : get_or b (q + n) 0 ≡ get_or rest 0 0
+  byte_afterward = let f : q + n + 0 ≡ q + n = omega arith in sym (ap (λ i. get_or b i 0) f) ∙ sym (get_or-drop (q + n) b 0 0) ∙ ap (λ (xs : List ℕ). get_or xs 0 0) drop_on
 
 -- a text that begins with a gap begins with its byte
 pub gap_first : (ps : List Part) (gap : List ℕ) (c : ℕ) → gap ≡ c ∷ [] → (get_or (after gap ps) 0 0 ≡ c) ⊎ (after gap ps ≡ [])
@@ -126,7 +126,7 @@ module _ (a : List ℕ) (utf8 : IsUtf8 a) (text : HasText a) (docs : HasDocs a) 
       let long = length-between a p to fits in
       let tail = after (gap_of a kind p to) (parts (seen a rest)) in
       let total = whole_length b (slice_range a p to) tail q n long inside e in
-      let first = byte_behind b (slice_range a p to) tail q n long inside e in
+      let first = byte_afterward b (slice_range a p to) tail q n long inside e in
       let is : p + n ≡ to = omega arith in
       let blank : (c : ℕ) → gap_of a kind p to ≡ c ∷ [] → (get_or b (q + n) 0 ≡ c) ⊎ (q + n ≡ length b) = λ c g. elim (gap_first (parts (seen a rest)) (gap_of a kind p to) c g) [
         | inl h ↦ inl (first ∙ h)
@@ -197,10 +197,10 @@ module _ (a : List ℕ) (utf8 : IsUtf8 a) (text : HasText a) (docs : HasDocs a) 
         let tail = after (gap_of a kind p to) (parts (seen a (piece ∷ rest))) in
         let total = whole_length b (slice_range a p to) tail q (to - p) long inside e in
         let at : piece.span ≡ (record { from = to; to = piece.span.to }) = ap (λ f. let s : Span = record { from = f; to = piece.span.to } in s) filled.0 in
-        let behind : drop (q + (to - p)) b ≡ slice_range a to piece.span.to ++ after (gap_of a piece.kind to piece.span.to) (parts (seen a rest)) =
+        let afterward : drop (q + (to - p)) b ≡ slice_range a to piece.span.to ++ after (gap_of a piece.kind to piece.span.to) (parts (seen a rest)) =
         drop_on b (slice_range a p to) tail q (to - p) long inside e
         ∙ ap (λ g. after g (parts (seen a (piece ∷ rest)))) (ap (λ x. gap_of a x p to) j)
         ∙ ap (after []) (parts-append (lexeme_of a piece.kind piece.span) (seen a rest) ∙ ap (λ s. parts (lexeme_of a piece.kind s) ++ parts (seen a rest)) at ∙ ap (λ ps. ps ++ parts (seen a rest)) (text piece.kind to piece.span.to (piece-boundary a p kind to utf8 bound next) filled.1 follows)) in
         more_shown kind p to q tail j next inside e
-        (shown rest piece.kind to piece.span.to (q + (to - p)) end filled.1 filled.2 joined.0 joined.1 (piece-boundary a p kind to utf8 bound next) (omega (arith, total)) behind)
+        (shown rest piece.kind to piece.span.to (q + (to - p)) end filled.1 filled.2 joined.0 joined.1 (piece-boundary a p kind to utf8 bound next) (omega (arith, total)) afterward)
   ]

@@ -87,14 +87,14 @@ lies run tokens (here front back e) = record {
 }
 lies run tokens (within front delimiter span inside back e r) =
     let l = lies run inside r in
-    let behind = closes delimiter span.to ∷ lexemes back in
+    let afterward = closes delimiter span.to ∷ lexemes back in
     record {
       front = lexemes front ++ (opens delimiter span.from ∷ l.front);
-      back = l.back ++ behind;
+      back = l.back ++ afterward;
       is = ap lexemes e ∙ lexemes-append front (also (group delimiter span inside) back)
           ∙ ap (λ ls. lexemes front ++ (opens delimiter span.from ∷ ls))
-          (append_assoc (lexemes inside) (closes delimiter span.to ∷ []) (lexemes back) ∙ ap (λ ls. ls ++ behind) l.is ∙ append_assoc l.front (lexemes run ++ l.back) behind ∙ ap (λ ls. l.front ++ ls) (append_assoc (lexemes run) l.back behind))
-          ∙ sym (append_assoc (lexemes front) (opens delimiter span.from ∷ l.front) (lexemes run ++ (l.back ++ behind)));
+          (append_assoc (lexemes inside) (closes delimiter span.to ∷ []) (lexemes back) ∙ ap (λ ls. ls ++ afterward) l.is ∙ append_assoc l.front (lexemes run ++ l.back) afterward ∙ ap (λ ls. l.front ++ ls) (append_assoc (lexemes run) l.back afterward))
+          ∙ sym (append_assoc (lexemes front) (opens delimiter span.from ∷ l.front) (lexemes run ++ (l.back ++ afterward)));
     }
 
 module _ (a : List ℕ) where
@@ -114,21 +114,21 @@ module _ (a : List ℕ) where
     back : List Piece
     is : pieces ≡ front ++ back
     before : seen a front ≡ first
-    behind : seen a back ≡ second
+    afterward : seen a back ≡ second
 
   part : (pieces : List Piece) (first second : List Lexeme) → seen a pieces ≡ first ++ second → Parted pieces first second
-  part pieces [] second e = record { front = []; back = pieces; is = refl; before = refl; behind = e }
+  part pieces [] second e = record { front = []; back = pieces; is = refl; before = refl; afterward = e }
   part [] (l ∷ first) second e = absurd (cc)
   part (piece ∷ rest) (l ∷ first) second e = elim (at_most_one piece.kind piece.span) [
     | inl f ↦
         let r = part rest (l ∷ first) second (sym (ap (λ ls. ls ++ seen a rest) f) ∙ e) in
-        record { front = piece ∷ r.front; back = r.back; is = ap (λ ps. piece ∷ ps) r.is; before = ap (λ ls. ls ++ seen a r.front) f ∙ r.before; behind = r.behind }
+        record { front = piece ∷ r.front; back = r.back; is = ap (λ ps. piece ∷ ps) r.is; before = ap (λ ls. ls ++ seen a r.front) f ∙ r.before; afterward = r.afterward }
     | inr f ↦
         let both : f.0 ∷ seen a rest ≡ l ∷ (first ++ second) = sym (ap (λ ls. ls ++ seen a rest) f.1) ∙ e in
         let same : f.0 ≡ l = cc in
         let others : seen a rest ≡ first ++ second = cc in
         let r = part rest first second others in
-        record { front = piece ∷ r.front; back = r.back; is = ap (λ ps. piece ∷ ps) r.is; before = ap (λ ls. ls ++ seen a r.front) f.1 ∙ ap (λ x. x ∷ seen a r.front) same ∙ ap (λ ls. l ∷ ls) r.before; behind = r.behind }
+        record { front = piece ∷ r.front; back = r.back; is = ap (λ ps. piece ∷ ps) r.is; before = ap (λ ls. ls ++ seen a r.front) f.1 ∙ ap (λ x. x ∷ seen a r.front) same ∙ ap (λ ls. l ∷ ls) r.before; afterward = r.afterward }
   ]
 
   -- where the first of two parts of the pieces ends
@@ -161,7 +161,7 @@ pub prints_run_again : (bytes : List ℕ) → IsUtf8 bytes → (tokens : TokenLi
 prints_run_again bytes utf8 tokens s run is other =
     let l = lies run tokens is in
     let first = part bytes s.pieces l.front (lexemes run ++ l.back) (sym s.nested ∙ l.is) in
-    let second = part bytes first.back (lexemes run) l.back first.behind in
+    let second = part bytes first.back (lexemes run) l.back first.afterward in
     let start = IsCharBoundary-start bytes utf8 in
     let outer = divide bytes utf8 first.front first.back 0 (length bytes) start (subst (λ ps. Pieces bytes 0 ps (length bytes)) first.is s.filled) in
     let rest : Pieces bytes outer.at (second.front ++ second.back) (length bytes) = subst (λ ps. Pieces bytes outer.at ps (length bytes)) second.is outer.second in

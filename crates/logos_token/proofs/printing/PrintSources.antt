@@ -290,11 +290,11 @@ module _ (a : List ℕ) (utf8 : IsUtf8 a) where
     ]);
   }
 
-  joint_behind : (p to : ℕ) → Form a p (Punctuation Joint) to → IsCharacterHere to
-  joint_behind p to (literal_form e) = absurd (cc)
-  joint_behind p to (doc_form e l) = absurd (cc)
-  joint_behind p to (word_form e) = absurd (cc)
-  joint_behind p to (single_form e f) = elim (which a p (Punctuation Joint) e) [
+  joint_afterward : (p to : ℕ) → Form a p (Punctuation Joint) to → IsCharacterHere to
+  joint_afterward p to (literal_form e) = absurd (cc)
+  joint_afterward p to (doc_form e l) = absurd (cc)
+  joint_afterward p to (word_form e) = absurd (cc)
+  joint_afterward p to (single_form e f) = elim (which a p (Punctuation Joint) e) [
     | inl r ↦ let g : spacing a (past a p) ≡ Joint = let h = r.1 in cc in rw f (joint_here (past a p) g)
     | inr r ↦ elim r [
       | inl s ↦ let t = and_parts (character a p == 39) (is_start (character a (past a p))) s.0 in rw f (start_here (past a p) t.1)
@@ -310,9 +310,9 @@ module _ (a : List ℕ) (utf8 : IsUtf8 a) where
       no_mark c kind (closing d e f) g = absurd (cc)
 
   pub has_joints : HasJoints a
-  has_joints p to [] bound n filled = let h = joint_behind p to (occurs_at (Punctuation Joint) p to bound n (λ e. absurd (cc))).form in let l = h.inside in omega arith
+  has_joints p to [] bound n filled = let h = joint_afterward p to (occurs_at (Punctuation Joint) p to bound n (λ e. absurd (cc))).form in let l = h.inside in omega arith
   has_joints p to (piece ∷ rest) bound n filled = λ gap.
-      let h = joint_behind p to (occurs_at (Punctuation Joint) p to bound n (λ e. absurd (cc))).form in
+      let h = joint_afterward p to (occurs_at (Punctuation Joint) p to bound n (λ e. absurd (cc))).form in
       let adv = piece-advances a p (Punctuation Joint) to n in
       let next : IsNext a to Gap piece.span.to = subst (λ k. IsNext a to k piece.span.to) gap filled.1 in
       let ahead = piece-advances a to Gap piece.span.to next in

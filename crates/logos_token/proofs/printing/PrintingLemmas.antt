@@ -20,12 +20,12 @@ outer_left-push : (outer : List Outer) (o : Outer) → outer_left (outer ++ o �
 outer_left-push [] o = omega arith
 outer_left-push (first ∷ outer) o = omega (arith, outer_left-push outer o)
 
-pub leaf-whole : (p : Printed) (token : Token) (behind : TokenList) (outer : List Outer) → whole (fold print_part p (token_parts token)) outer behind ≡ whole p outer (also token behind)
-leaf-whole p token behind outer =
-    sym (fold-append print_part p (token_parts token) (run_parts behind ++ outer_parts outer)) ∙ ap (fold print_part p) (sym (append_assoc (token_parts token) (run_parts behind) (outer_parts outer)))
+pub leaf-whole : (p : Printed) (token : Token) (afterward : TokenList) (outer : List Outer) → whole (fold print_part p (token_parts token)) outer afterward ≡ whole p outer (also token afterward)
+leaf-whole p token afterward outer =
+    sym (fold-append print_part p (token_parts token) (run_parts afterward ++ outer_parts outer)) ∙ ap (fold print_part p) (sym (append_assoc (token_parts token) (run_parts afterward) (outer_parts outer)))
 
-pub leaf-left : (token : Token) (behind : TokenList) (outer : List Outer) → left_of outer behind < left_of outer (also token behind)
-leaf-left token behind outer = omega (arith, token_count-positive token)
+pub leaf-left : (token : Token) (afterward : TokenList) (outer : List Outer) → left_of outer afterward < left_of outer (also token afterward)
+leaf-left token afterward outer = omega (arith, token_count-positive token)
 
 pub leave-whole : (p : Printed) (outer : List Outer) (o : Outer) → whole (print_part p (spaced (closing_text o.delimiter))) outer (tokens_of o.rest) ≡ whole p (outer ++ o ∷ []) none
 leave-whole p outer o = sym (ap (fold print_part p) (outer_parts-push outer o))
@@ -38,9 +38,9 @@ pub enter-whole : (p : Printed) (span : Span) (inside : TokenList) (outer : List
 enter-whole p span inside outer o =
     let opening = spaced (opening_text o.delimiter) in
     let closing = spaced (closing_text o.delimiter) in
-    let behind = run_parts (tokens_of o.rest) in
+    let afterward = run_parts (tokens_of o.rest) in
     ap (λ ps. fold print_part (print_part p opening) (run_parts inside ++ ps)) (outer_parts-push outer o)
-    ∙ ap (fold print_part (print_part p opening)) (sym (append_assoc (run_parts inside) (closing ∷ []) (behind ++ outer_parts outer)) ∙ sym (append_assoc (run_parts inside ++ closing ∷ []) behind (outer_parts outer)))
+    ∙ ap (fold print_part (print_part p opening)) (sym (append_assoc (run_parts inside) (closing ∷ []) (afterward ++ outer_parts outer)) ∙ sym (append_assoc (run_parts inside ++ closing ∷ []) afterward (outer_parts outer)))
 
 pub enter-left : (span : Span) (inside : TokenList) (outer : List Outer) (o : Outer) → left_of (outer ++ o ∷ []) inside < left_of outer (also (group o.delimiter span inside) (tokens_of o.rest))
 enter-left span inside outer o = omega (arith, outer_left-push outer o)

@@ -33,23 +33,23 @@ flat-from_flat tokens entries is = ap flat (tokens-from_flat tokens entries is) 
 pub record OpensRun (delimiter : Delimiter) (span : Span) (size : ℕ) (entries : List EntryValue) : Type 0 where
   pub within : size ≤ length entries
   pub inside : flat (trees_of size (take size entries)) ≡ take size entries
-  pub behind : flat (trees_of (length entries - size) (drop size entries)) ≡ drop size entries
+  pub afterward : flat (trees_of (length entries - size) (drop size entries)) ≡ drop size entries
   pub tokens : trees_of (suc (length entries)) (group_entry delimiter span size ∷ entries) ≡ also (group delimiter span (trees_of size (take size entries))) (trees_of (length entries - size) (drop size entries))
 
 module _ (delimiter : Delimiter) (span : Span) where
-  opens-parts : (size : ℕ) (entries : List EntryValue) (inside behind : TokenList) → length (flat inside) ≡ size → flat inside ++ flat behind ≡ entries →
-      trees_of (length entries) (take size entries) ≡ inside → trees_of (length entries) (drop size entries) ≡ behind → OpensRun delimiter span size entries
-  opens-parts size entries inside behind size-is entries-is inside-is behind-is =
-      let front : take size entries ≡ flat inside = rw (← entries-is, ← size-is) (take-append_seam (flat inside) (flat behind)) in
-      let back : drop size entries ≡ flat behind = rw (← entries-is, ← size-is) (drop-append_seam (flat inside) (flat behind)) in
-      let whole : length (flat inside) + length (flat behind) ≡ length entries = rw (← entries-is) (sym (length-append (flat inside) (flat behind))) in
+  opens-parts : (size : ℕ) (entries : List EntryValue) (inside afterward : TokenList) → length (flat inside) ≡ size → flat inside ++ flat afterward ≡ entries →
+      trees_of (length entries) (take size entries) ≡ inside → trees_of (length entries) (drop size entries) ≡ afterward → OpensRun delimiter span size entries
+  opens-parts size entries inside afterward size-is entries-is inside-is afterward-is =
+      let front : take size entries ≡ flat inside = rw (← entries-is, ← size-is) (take-append_seam (flat inside) (flat afterward)) in
+      let back : drop size entries ≡ flat afterward = rw (← entries-is, ← size-is) (drop-append_seam (flat inside) (flat afterward)) in
+      let whole : length (flat inside) + length (flat afterward) ≡ length entries = rw (← entries-is) (sym (length-append (flat inside) (flat afterward))) in
       let first : trees_of size (take size entries) ≡ inside = rw front (trees-flat inside size (omega arith)) in
-      let rest : trees_of (length entries - size) (drop size entries) ≡ behind = rw back (trees-flat behind (length entries - size) (omega arith)) in
+      let rest : trees_of (length entries - size) (drop size entries) ≡ afterward = rw back (trees-flat afterward (length entries - size) (omega arith)) in
       record {
         within = omega arith;
         inside = rw (first, front) refl;
-        behind = rw (rest, back) refl;
-        tokens = rw (first, rest, inside-is, behind-is) refl;
+        afterward = rw (rest, back) refl;
+        tokens = rw (first, rest, inside-is, afterward-is) refl;
       }
 
   pub opens-run : (size : ℕ) (entries : List EntryValue) → flat (trees_of (suc (length entries)) (group_entry delimiter span size ∷ entries)) ≡ group_entry delimiter span size ∷ entries → OpensRun delimiter span size entries

@@ -50,43 +50,43 @@ most_open-lexemes (also (punctuation character spacing span) rest) n more = omeg
 most_open-lexemes (also (literal text span) rest) n more = omega (arith, most_open-lexemes rest n more)
 most_open-lexemes (also (doc text span) rest) n more = omega (arith, most_open-lexemes rest n more)
 most_open-lexemes (also (group delimiter span inside) rest) n more =
-    let behind : most_open (n + 1 - 1) (lexemes rest ++ more) ≡ max (n + depth_of rest) (most_open n more) = let e : n + 1 - 1 ≡ n = omega arith in rw e (most_open-lexemes rest n more) in
+    let afterward : most_open (n + 1 - 1) (lexemes rest ++ more) ≡ max (n + depth_of rest) (most_open n more) = let e : n + 1 - 1 ≡ n = omega arith in rw e (most_open-lexemes rest n more) in
     let within = most_open-lexemes inside (n + 1) (closes delimiter span.to ∷ (lexemes rest ++ more)) in
     let least = most_open-least n more in
-    ap (most_open n) (run-lexemes delimiter span inside rest more) ∙ within ∙ omega (arith, behind, least)
+    ap (most_open n) (run-lexemes delimiter span inside rest more) ∙ within ∙ omega (arith, afterward, least)
 
-closed-append : (front back : List Lexeme) (around behind : List (Delimiter × ℕ)) (partner : Bool) → (opened around front ≡ Some behind → opened around (front ++ back) ≡ opened behind back) →
-    cond partner (opened around front) None ≡ Some behind → cond partner (opened around (front ++ back)) None ≡ opened behind back
-closed-append front back around behind true goes is = goes is
-closed-append front back around behind false goes is = cc
+closed-append : (front back : List Lexeme) (around afterward : List (Delimiter × ℕ)) (partner : Bool) → (opened around front ≡ Some afterward → opened around (front ++ back) ≡ opened afterward back) →
+    cond partner (opened around front) None ≡ Some afterward → cond partner (opened around (front ++ back)) None ≡ opened afterward back
+closed-append front back around afterward true goes is = goes is
+closed-append front back around afterward false goes is = cc
 
-pub opened-append : (front back : List Lexeme) (around behind : List (Delimiter × ℕ)) → opened around front ≡ Some behind → opened around (front ++ back) ≡ opened behind back
-opened-append [] back around behind is = let e : around ≡ behind = cc in rw e refl
-opened-append (leaf token ∷ front) back around behind is = opened-append front back around behind is
-opened-append (opens delimiter from ∷ front) back around behind is = opened-append front back ((delimiter, from) ∷ around) behind is
-opened-append (closes delimiter to ∷ front) back [] behind is = cc
-opened-append (closes delimiter to ∷ front) back (innermost ∷ around) behind is =
-    closed-append front back around behind (is_partner innermost.0 delimiter) (opened-append front back around behind) is
+pub opened-append : (front back : List Lexeme) (around afterward : List (Delimiter × ℕ)) → opened around front ≡ Some afterward → opened around (front ++ back) ≡ opened afterward back
+opened-append [] back around afterward is = let e : around ≡ afterward = cc in rw e refl
+opened-append (leaf token ∷ front) back around afterward is = opened-append front back around afterward is
+opened-append (opens delimiter from ∷ front) back around afterward is = opened-append front back ((delimiter, from) ∷ around) afterward is
+opened-append (closes delimiter to ∷ front) back [] afterward is = cc
+opened-append (closes delimiter to ∷ front) back (innermost ∷ around) afterward is =
+    closed-append front back around afterward (is_partner innermost.0 delimiter) (opened-append front back around afterward) is
 
-closed-most_open : (front back : List Lexeme) (around behind : List (Delimiter × ℕ)) (n : ℕ) (partner : Bool) → n ≡ length around →
-    (opened around front ≡ Some behind → most_open (length around) (front ++ back) ≡ max (most_open (length around) front) (most_open (length behind) back)) →
-    cond partner (opened around front) None ≡ Some behind → most_open n (front ++ back) ≡ max (most_open n front) (most_open (length behind) back)
-closed-most_open front back around behind n true e goes is = rw e (goes is)
-closed-most_open front back around behind n false e goes is = cc
+closed-most_open : (front back : List Lexeme) (around afterward : List (Delimiter × ℕ)) (n : ℕ) (partner : Bool) → n ≡ length around →
+    (opened around front ≡ Some afterward → most_open (length around) (front ++ back) ≡ max (most_open (length around) front) (most_open (length afterward) back)) →
+    cond partner (opened around front) None ≡ Some afterward → most_open n (front ++ back) ≡ max (most_open n front) (most_open (length afterward) back)
+closed-most_open front back around afterward n true e goes is = rw e (goes is)
+closed-most_open front back around afterward n false e goes is = cc
 
 -- most delimiters are open in the front or in the tokens after it
-pub most_open-append : (front back : List Lexeme) (around behind : List (Delimiter × ℕ)) → opened around front ≡ Some behind →
-    most_open (length around) (front ++ back) ≡ max (most_open (length around) front) (most_open (length behind) back)
-most_open-append [] back around behind is = let e : around ≡ behind = cc in rw e (omega (arith, most_open-least (length behind) back))
-most_open-append (leaf token ∷ front) back around behind is = most_open-append front back around behind is
-most_open-append (opens delimiter from ∷ front) back around behind is =
-    let P : ℕ → Type 0 = λ m. most_open m (front ++ back) ≡ max (most_open m front) (most_open (length behind) back) in
+pub most_open-append : (front back : List Lexeme) (around afterward : List (Delimiter × ℕ)) → opened around front ≡ Some afterward →
+    most_open (length around) (front ++ back) ≡ max (most_open (length around) front) (most_open (length afterward) back)
+most_open-append [] back around afterward is = let e : around ≡ afterward = cc in rw e (omega (arith, most_open-least (length afterward) back))
+most_open-append (leaf token ∷ front) back around afterward is = most_open-append front back around afterward is
+most_open-append (opens delimiter from ∷ front) back around afterward is =
+    let P : ℕ → Type 0 = λ m. most_open m (front ++ back) ≡ max (most_open m front) (most_open (length afterward) back) in
     let e : suc (length around) ≡ length around + 1 = omega arith in
-    subst P e (most_open-append front back ((delimiter, from) ∷ around) behind is)
-most_open-append (closes delimiter to ∷ front) back [] behind is = cc
-most_open-append (closes delimiter to ∷ front) back (innermost ∷ around) behind is =
+    subst P e (most_open-append front back ((delimiter, from) ∷ around) afterward is)
+most_open-append (closes delimiter to ∷ front) back [] afterward is = cc
+most_open-append (closes delimiter to ∷ front) back (innermost ∷ around) afterward is =
     let e : suc (length around) - 1 ≡ length around = omega arith in
-    omega (arith, closed-most_open front back around behind (suc (length around) - 1) (is_partner innermost.0 delimiter) e (most_open-append front back around behind) is)
+    omega (arith, closed-most_open front back around afterward (suc (length around) - 1) (is_partner innermost.0 delimiter) e (most_open-append front back around afterward) is)
 
 -- The tokens of lexemes: a stack of groups that are begun, innermost first, and the tokens read
 -- after them.

@@ -20,7 +20,7 @@ record NextLexeme (bytes : List ℕ) (from : ℕ) (lexeme : Lexeme) (more : List
   is : lexeme_of bytes kind span ≡ lexeme ∷ []
   rest : List Piece
   filled : Pieces bytes span.to rest to
-  behind : seen bytes rest ≡ more
+  afterward : seen bytes rest ≡ more
 
 -- a gap has no lexeme, another piece has one
 one-lexeme : (bytes : List ℕ) (kind : LexemeKind) (span : Span) → (lexeme_of bytes kind span ≡ []) ⊎ ((l : Lexeme) × (lexeme_of bytes kind span ≡ l ∷ []))
@@ -47,7 +47,7 @@ next-lexeme bytes (piece ∷ pieces) from lexeme more to filled is =
             is = n.is;
             rest = n.rest;
             filled = n.filled;
-            behind = n.behind;
+            afterward = n.afterward;
           }
       | inr l ↦
           let e : l.0 ∷ seen bytes pieces ≡ lexeme ∷ more = ap (λ ls. ls ++ seen bytes pieces) (sym l.1) ∙ is in
@@ -61,7 +61,7 @@ next-lexeme bytes (piece ∷ pieces) from lexeme more to filled is =
             is = l.1 ∙ ap (λ x. x ∷ []) first;
             rest = pieces;
             filled = filled.2;
-            behind = cc;
+            afterward = cc;
           }
     ]
 
@@ -128,7 +128,7 @@ record Placed (bytes : List ℕ) (from : ℕ) (tokens : TokenList) (more : List 
   mid : ℕ
   rest : List Piece
   filled : Pieces bytes mid rest to
-  behind : seen bytes rest ≡ more
+  afterward : seen bytes rest ≡ more
   occurs : RunOccurs bytes from tokens mid
 
 token-order : (bytes : List ℕ) (from : ℕ) (token : Token) → TokenOccurs bytes from token → from < (span_of token).to
@@ -163,7 +163,7 @@ leaf-placed bytes from token rest more to end is s p = record {
   mid = p.mid;
   rest = p.rest;
   filled = p.filled;
-  behind = p.behind;
+  afterward = p.afterward;
   occurs = (s, let P : ℕ → Type 0 = λ k. RunOccurs bytes k rest p.mid in subst P is p.occurs);
 }
 
@@ -177,27 +177,27 @@ character-occurs bytes from character s span begins begun is =
     let P : Span → Type 0 = λ x. (from ≤ x.from) × (x.from < x.to) × (character ≡ slice_index bytes x.from) in subst P is.0 (begins, begun, is.1)
 
 placed : (bytes : List ℕ) (tokens : TokenList) (pieces : List Piece) (from : ℕ) (more : List Lexeme) (to : ℕ) → Pieces bytes from pieces to → seen bytes pieces ≡ lexemes tokens ++ more → Placed bytes from tokens more to
-placed bytes none pieces from more to filled is = record { mid = from; rest = pieces; filled = filled; behind = is; occurs = omega arith }
+placed bytes none pieces from more to filled is = record { mid = from; rest = pieces; filled = filled; afterward = is; occurs = omega arith }
 placed bytes (also (identifier text span) rest) pieces from more to filled is =
     let n = next-lexeme bytes pieces from (leaf (identifier text span)) (lexemes rest ++ more) to filled is in
     let e = identifier-is bytes n.kind n.span text span n.is in
-    leaf-placed bytes from (identifier text span) rest more to n.span.to (ap (λ s. s.to) e.0) (text-occurs bytes from text n.span span n.begins n.begun e) (placed bytes rest n.rest n.span.to more to n.filled n.behind)
+    leaf-placed bytes from (identifier text span) rest more to n.span.to (ap (λ s. s.to) e.0) (text-occurs bytes from text n.span span n.begins n.begun e) (placed bytes rest n.rest n.span.to more to n.filled n.afterward)
 placed bytes (also (punctuation character spacing span) rest) pieces from more to filled is =
     let n = next-lexeme bytes pieces from (leaf (punctuation character spacing span)) (lexemes rest ++ more) to filled is in
     let e = punctuation-is bytes n.kind n.span character spacing span n.is in
-    leaf-placed bytes from (punctuation character spacing span) rest more to n.span.to (ap (λ s. s.to) e.0) (character-occurs bytes from character n.span span n.begins n.begun e) (placed bytes rest n.rest n.span.to more to n.filled n.behind)
+    leaf-placed bytes from (punctuation character spacing span) rest more to n.span.to (ap (λ s. s.to) e.0) (character-occurs bytes from character n.span span n.begins n.begun e) (placed bytes rest n.rest n.span.to more to n.filled n.afterward)
 placed bytes (also (literal text span) rest) pieces from more to filled is =
     let n = next-lexeme bytes pieces from (leaf (literal text span)) (lexemes rest ++ more) to filled is in
     let e = literal-is bytes n.kind n.span text span n.is in
-    leaf-placed bytes from (literal text span) rest more to n.span.to (ap (λ s. s.to) e.0) (text-occurs bytes from text n.span span n.begins n.begun e) (placed bytes rest n.rest n.span.to more to n.filled n.behind)
+    leaf-placed bytes from (literal text span) rest more to n.span.to (ap (λ s. s.to) e.0) (text-occurs bytes from text n.span span n.begins n.begun e) (placed bytes rest n.rest n.span.to more to n.filled n.afterward)
 placed bytes (also (doc text span) rest) pieces from more to filled is =
     let n = next-lexeme bytes pieces from (leaf (doc text span)) (lexemes rest ++ more) to filled is in
     let e = doc-is bytes n.kind n.span text span n.is in
-    leaf-placed bytes from (doc text span) rest more to n.span.to (ap (λ s. s.to) e.0) (text-occurs bytes from text n.span span n.begins n.begun e) (placed bytes rest n.rest n.span.to more to n.filled n.behind)
+    leaf-placed bytes from (doc text span) rest more to n.span.to (ap (λ s. s.to) e.0) (text-occurs bytes from text n.span span n.begins n.begun e) (placed bytes rest n.rest n.span.to more to n.filled n.afterward)
 placed bytes (also (group delimiter span inside) rest) pieces from more to filled is =
     let o = next-lexeme bytes pieces from (opens delimiter span.from) (lexemes inside ++ (closes delimiter span.to ∷ (lexemes rest ++ more))) to filled (is ∙ run-lexemes delimiter span inside rest more) in
-    let i = placed bytes inside o.rest o.span.to (closes delimiter span.to ∷ (lexemes rest ++ more)) to o.filled o.behind in
-    let c = next-lexeme bytes i.rest i.mid (closes delimiter span.to) (lexemes rest ++ more) to i.filled i.behind in
+    let i = placed bytes inside o.rest o.span.to (closes delimiter span.to ∷ (lexemes rest ++ more)) to o.filled o.afterward in
+    let c = next-lexeme bytes i.rest i.mid (closes delimiter span.to) (lexemes rest ++ more) to i.filled i.afterward in
     let first = opening-is bytes o.kind o.span delimiter span.from o.is in
     let last = closing-is bytes c.kind c.span delimiter span.to c.is in
     let between = run-order bytes o.span.to inside i.mid i.occurs in
@@ -206,7 +206,7 @@ placed bytes (also (group delimiter span inside) rest) pieces from more to fille
     let upper : i.mid ≤ span.to - 1 = omega arith in
     leaf-placed bytes from (group delimiter span inside) rest more to c.span.to last
     (omega arith, omega arith, run-later bytes (span.from + 1) inside i.mid (span.to - 1) upper (run-earlier bytes o.span.to (span.from + 1) inside i.mid lower i.occurs))
-    (placed bytes rest c.rest c.span.to more to c.filled c.behind)
+    (placed bytes rest c.rest c.span.to more to c.filled c.afterward)
 
 pub spelled-in_order : (bytes : List ℕ) (tokens : TokenList) → Spells bytes tokens → RunOccurs bytes 0 tokens (length bytes)
 spelled-in_order bytes tokens s =

@@ -15,7 +15,7 @@ module _ (delimiter : Delimiter) (span : Span) (size : ℕ) (after : List Entry)
   pub record OpensGroup : Type 0 where
     pub within : size ≤ length after
     pub inside : IsFlat (take size after)
-    pub behind : IsFlat (drop size after)
+    pub afterward : IsFlat (drop size after)
     pub tokens : tokens_in (Group delimiter span size ∷ after) ≡ also (group delimiter span (tokens_in (take size after))) (tokens_in (drop size after))
 
   pub opens-group : IsFlat (Group delimiter span size ∷ after) → OpensGroup
@@ -30,24 +30,24 @@ module _ (delimiter : Delimiter) (span : Span) (size : ℕ) (after : List Entry)
       record {
         within = within;
         inside = rw (← front, front-length) r.inside;
-        behind = rw (← back, back-length) (rw lengths at r.behind);
+        afterward = rw (← back, back-length) (rw lengths at r.afterward);
         tokens = rw (← front, ← back, front-length, back-length) (rw lengths at r.tokens);
       }
 
 -- an entry in front of others
 pub record BeginsRun (entry : Entry) (after : List Entry) : Type 0 where
   pub within : size_of entry ≤ length after
-  pub behind : IsFlat (drop (size_of entry) after)
+  pub afterward : IsFlat (drop (size_of entry) after)
   pub rest : tokens_in (drop (size_of entry) after) ≡ rest_of (tokens_in (entry ∷ after))
 
 pub begins-run : (entry : Entry) (after : List Entry) → IsFlat (entry ∷ after) → BeginsRun entry after
-begins-run (Ident i) after nested = record { within = omega arith; behind = cc; rest = refl }
-begins-run (Punct p) after nested = record { within = omega arith; behind = cc; rest = refl }
-begins-run (Literal l) after nested = record { within = omega arith; behind = cc; rest = refl }
-begins-run (Doc d) after nested = record { within = omega arith; behind = cc; rest = refl }
+begins-run (Ident i) after nested = record { within = omega arith; afterward = cc; rest = refl }
+begins-run (Punct p) after nested = record { within = omega arith; afterward = cc; rest = refl }
+begins-run (Literal l) after nested = record { within = omega arith; afterward = cc; rest = refl }
+begins-run (Doc d) after nested = record { within = omega arith; afterward = cc; rest = refl }
 begins-run (Group delimiter span size) after nested =
     let opened = opens-group delimiter span size after nested in
-    record { within = opened.within; behind = opened.behind; rest = sym (ap rest_of opened.tokens) }
+    record { within = opened.within; afterward = opened.afterward; rest = sym (ap rest_of opened.tokens) }
 
 -- entries whose values are the flat form of tokens
 pub IsFlat-from_flat : (tokens : TokenList) (entries : List Entry) → flat tokens ≡ map value_of entries → IsFlat entries

@@ -44,7 +44,7 @@ not-broken bytes at kind span (piece ∷ rest) inside stuck filled = no-piece by
 
 -- a piece that is at the offset of others is the first of these
 begins-with : (bytes : List ℕ) (from : ℕ) (kind : LexemeKind) (to : ℕ) (rest : List Piece) → IsNext bytes from kind to → Pieces bytes from rest (length bytes) →
-    (behind : List Lexeme) × (seen bytes rest ≡ lexeme_of bytes kind (record { from = from; to = to }) ++ behind)
+    (afterward : List Lexeme) × (seen bytes rest ≡ lexeme_of bytes kind (record { from = from; to = to }) ++ afterward)
 begins-with bytes from kind to [] next filled = absurd (let a = piece-advances bytes from kind to next in omega (arith, a.0, a.1))
 begins-with bytes from kind to (piece ∷ rest) next filled =
     let one = piece-one bytes from piece.kind kind piece.span.to to filled.1 next in
@@ -71,7 +71,7 @@ deep-excludes bytes span tokens d s =
     let rest = part bytes span.from d.around d.front tokens s in
     let first = begins-with bytes span.from (Opening d.delimiter) span.to rest.rest d.piece rest.filled in
     let whole = most_open-append (seen bytes d.front.pieces) (seen bytes rest.rest) [] d.around d.front.nested in
-    let behind : most_open (length d.around) (seen bytes rest.rest) ≡ most_open (length d.around + 1) first.0 = ap (most_open (length d.around)) first.1 in
+    let afterward : most_open (length d.around) (seen bytes rest.rest) ≡ most_open (length d.around + 1) first.0 = ap (most_open (length d.around)) first.1 in
     let least = most_open-least (length d.around + 1) first.0 in
     let full = d.full in
     let depth : max (0 + depth_of tokens) 0 ≡ most_open 0 (seen bytes d.front.pieces ++ seen bytes rest.rest) =

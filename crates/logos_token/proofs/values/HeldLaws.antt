@@ -24,7 +24,7 @@ use Rattle.logos_lexeme.proofs.OpeningLaws.{at_least}
 use Rattle.logos_lexeme.proofs.EndLaws.{InQuotes-one, InQuotes-apart, InQuotes-moves, quote-back, quote-here, quote-inside}
 use Rattle.logos_lexeme.proofs.BodyLaws.{Represents-moves}
 use Rattle.logos_token.proofs.values.ValueLaws.{Holds-le}
-use Rattle.logos_lexeme.proofs.PieceLaws.{Tells, piece-tells, piece-all}
+use Rattle.logos_lexeme.proofs.PieceLaws.{Characterizes, piece-characterizes, piece-all}
 
 -- how a kind of string closes
 record Closing (escapes : Bool) (content : Content) (bytes : List ℕ) (closes : ℕ → Bool) (Close : ℕ → ℕ → Type 0) : Type 0 where
@@ -32,8 +32,8 @@ record Closing (escapes : Bool) (content : Content) (bytes : List ℕ) (closes :
   pub one : (at to : ℕ) → closes at ≡ true → Close at to → at ≡ to
   pub ahead : (at to : ℕ) → closes at ≡ false → Close at to → at < to
   pub inside : (at to : ℕ) → Close at to → to < length bytes
-  pub back : (at next to : ℕ) (said : List ℕ) → closes at ≡ false → Represents escapes content bytes at next said → Close at to → Close next to
-  pub on : (at next to : ℕ) (said : List ℕ) → closes at ≡ false → Represents escapes content bytes at next said → Close next to → Close at to
+  pub back : (at next to : ℕ) (stated : List ℕ) → closes at ≡ false → Represents escapes content bytes at next stated → Close at to → Close next to
+  pub on : (at next to : ℕ) (stated : List ℕ) → closes at ≡ false → Represents escapes content bytes at next stated → Close next to → Close at to
 
 -- the bytes up to the closing offset are those of the pieces that fill the span
 module _ (escapes : Bool) (content : Content) (bytes : List ℕ) (closes : ℕ → Bool) (Close : ℕ → ℕ → Type 0) (closing : Closing escapes content bytes closes Close) where
@@ -43,19 +43,19 @@ module _ (escapes : Bool) (content : Content) (bytes : List ℕ) (closes : ℕ �
   abbrev from : ℕ → ℕ → Option (List ℕ)
   from most at = held_from escapes content closes bytes most at
 
-  abbrev behind : ℕ → Option (List ℕ × ℕ) → Option (List ℕ)
-  behind most found = option_and_then (λ piece. option_map (λ rest. piece.0 ++ rest) (from most piece.1)) found
+  abbrev afterward : ℕ → Option (List ℕ × ℕ) → Option (List ℕ)
+  afterward most found = option_and_then (λ piece. option_map (λ rest. piece.0 ++ rest) (from most piece.1)) found
 
-  rest-some : (most at next : ℕ) (said held : List ℕ) → closes at ≡ false → Represents escapes content bytes at next said → ((rest : List ℕ) → from most next ≡ Some rest → Filled next rest) →
-      (rest : Option (List ℕ)) → from most next ≡ rest → option_map (λ xs. said ++ xs) rest ≡ Some held → Filled at held
-  rest-some most at next said held c s all None e f = absurd (cc)
-  rest-some most at next said held c s all (Some rest) e f =
+  rest-some : (most at next : ℕ) (stated held : List ℕ) → closes at ≡ false → Represents escapes content bytes at next stated → ((rest : List ℕ) → from most next ≡ Some rest → Filled next rest) →
+      (rest : Option (List ℕ)) → from most next ≡ rest → option_map (λ xs. stated ++ xs) rest ≡ Some held → Filled at held
+  rest-some most at next stated held c s all None e f = absurd (cc)
+  rest-some most at next stated held c s all (Some rest) e f =
       let filled = all rest e in
-      let whole : said ++ rest ≡ held = cc in
-      (filled.0, closing.on at next filled.0 said c s filled.1, more s filled.2 (sym whole))
+      let whole : stated ++ rest ≡ held = cc in
+      (filled.0, closing.on at next filled.0 stated c s filled.1, more s filled.2 (sym whole))
 
   piece-some : (most at : ℕ) (held : List ℕ) → closes at ≡ false → ((next : ℕ) (rest : List ℕ) → from most next ≡ Some rest → Filled next rest) →
-      (found : Option (List ℕ × ℕ)) → Tells (Represents escapes content bytes at) found → behind most found ≡ Some held → Filled at held
+      (found : Option (List ℕ × ℕ)) → Characterizes (Represents escapes content bytes at) found → afterward most found ≡ Some held → Filled at held
   piece-some most at held c all None t f = absurd (cc)
   piece-some most at held c all (Some piece) t f = rest-some most at piece.1 piece.0 held c t (all piece.1) (from most piece.1) refl f
 
@@ -63,23 +63,23 @@ module _ (escapes : Bool) (content : Content) (bytes : List ℕ) (closes : ℕ �
   held-some zero at held e = absurd (cc)
   held-some (suc most) at held e = elim (cases_Bool (closes at)) [
     | inl c ↦ let f : ◌≡◌ {A = Option (List ℕ)} (Some []) (Some held) = rw c at e in let g : [] ≡ held = cc in (at, closing.at_once at c, subst (λ xs. Holds escapes content bytes at at xs) g none)
-    | inr c ↦ piece-some most at held c (λ next rest g. held-some most next rest g) (piece_at escapes content bytes at) (piece-tells content bytes at escapes) (rw c at e)
+    | inr c ↦ piece-some most at held c (λ next rest g. held-some most next rest g) (piece_at escapes content bytes at) (piece-characterizes content bytes at escapes) (rw c at e)
   ]
 
   nothing_more : (at to : ℕ) (held : List ℕ) → at ≡ to → Holds escapes content bytes at to held → held ≡ []
   nothing_more at to held e none = refl
-  nothing_more at to held e (more {mid = mid} {first = said} {rest = rest} s h f) = absurd (omega (arith, Represents-moves escapes content bytes at mid said s, Holds-le escapes content bytes mid to rest h))
+  nothing_more at to held e (more {mid = mid} {first = stated} {rest = rest} s h f) = absurd (omega (arith, Represents-moves escapes content bytes at mid stated s, Holds-le escapes content bytes mid to rest h))
 
   still_open : (at to : ℕ) → Close at to → to < at + 0 → (b : Bool) → closes at ≡ b → ⊥
   still_open at to c l true e = let f = closing.one at to e c in omega arith
   still_open at to c l false e = let f = closing.ahead at to e c in omega arith
 
   goes : (most at to : ℕ) (held : List ℕ) → closes at ≡ false → Close at to → ((next : ℕ) (rest : List ℕ) → Close next to → Holds escapes content bytes next to rest → at < next → from most next ≡ Some rest) →
-      Holds escapes content bytes at to held → behind most (piece_at escapes content bytes at) ≡ Some held
+      Holds escapes content bytes at to held → afterward most (piece_at escapes content bytes at) ≡ Some held
   goes most at to held e c all none = absurd (let f = closing.ahead at to e c in omega arith)
-  goes most at to held e c all (more {mid = mid} {first = said} {rest = rest} s h f) =
-      let others = all mid rest (closing.back at mid to said e s c) h (Represents-moves escapes content bytes at mid said s) in
-      rw (piece-all content bytes at escapes mid said s) (rw others (ap Some (sym f)))
+  goes most at to held e c all (more {mid = mid} {first = stated} {rest = rest} s h f) =
+      let others = all mid rest (closing.back at mid to stated e s c) h (Represents-moves escapes content bytes at mid stated s) in
+      rw (piece-all content bytes at escapes mid stated s) (rw others (ap Some (sym f)))
 
   held-all : (most at to : ℕ) (held : List ℕ) → Close at to → Holds escapes content bytes at to held → to < at + most → from most at ≡ Some held
   held-all zero at to held c h l = absurd (still_open at to c l (closes at) refl)
@@ -172,14 +172,14 @@ module _ (bytes : List ℕ) where
     | inr l ↦ l
   ]
 
-  says-steps : (content : Content) (at next : ℕ) (held : List ℕ) → at < length bytes → get_or bytes at 0 ≢ 34 → Represents true content bytes at next held → Steps (InQuotes 34 bytes) at next
-  says-steps content at next held i q (plain e a v) = step (step_plain i (e refl) q v) here
-  says-steps content at next held i q (return r) = inner-steps 2 at next (omega (arith, r.2)) (λ j b l. elim (cases_lt j (at + 1)) [
+  represents-steps : (content : Content) (at next : ℕ) (held : List ℕ) → at < length bytes → get_or bytes at 0 ≢ 34 → Represents true content bytes at next held → Steps (InQuotes 34 bytes) at next
+  represents-steps content at next held i q (plain e a v) = step (step_plain i (e refl) q v) here
+  represents-steps content at next held i q (return r) = inner-steps 2 at next (omega (arith, r.2)) (λ j b l. elim (cases_lt j (at + 1)) [
     | inl m ↦ let e : at ≡ j = omega (arith, r.2) in byte-inner (get_or bytes j 0) 13 (rw e at r.0) (omega arith) (λ e. absurd (omega arith)) (λ e. absurd (omega arith))
     | inr m ↦ let e : at + 1 ≡ j = omega (arith, r.2) in byte-inner (get_or bytes j 0) 10 (rw e at r.1) (omega arith) (λ e. absurd (omega arith)) (λ e. absurd (omega arith))
   ])
-  says-steps content at next held i q (escape t e) = escape-steps content at next held e
-  says-steps content at next held i q (continuation t k) = continuation-steps at next (passes_break at next k) k
+  represents-steps content at next held i q (escape t e) = escape-steps content at next held e
+  represents-steps content at next held i q (continuation t k) = continuation-steps at next (passes_break at next k) k
 
   steps-back : {at mid to : ℕ} → Steps (InQuotes 34 bytes) at mid → ReachesQuote 34 bytes at to → ReachesQuote 34 bytes mid to
   steps-back here u = u
@@ -203,15 +203,15 @@ module _ (bytes : List ℕ) where
     one = λ at to t u. Until-one (InQuotes 34 bytes) (InQuotes-one 34 bytes) (λ i. get_or bytes i 0 ≡ 34) (InQuotes-apart 34 bytes (λ e. absurd (omega arith))) (quote-here 34 bytes at (eqb-true (get_or bytes at 0) 34 t)) u;
     ahead = quote-ahead;
     inside = quote-within;
-    back = λ at next to said f s u.
+    back = λ at next to stated f s u.
         let l = quote-ahead at to f u in
         let m = quote-within at to u in
-        steps-back (says-steps content at next said (omega arith) (other_quote at f) s) u;
-    on = λ at next to said f s u.
+        steps-back (represents-steps content at next stated (omega arith) (other_quote at f) s) u;
+    on = λ at next to stated f s u.
         let l = quote-le next to u in
         let m = quote-within next to u in
-        let moves = Represents-moves true content bytes at next said s in
-        record { steps = Steps-join (InQuotes 34 bytes) (says-steps content at next said (omega arith) (other_quote at f) s) u.steps; stop = u.stop };
+        let moves = Represents-moves true content bytes at next stated s in
+        record { steps = Steps-join (InQuotes 34 bytes) (represents-steps content at next stated (omega arith) (other_quote at f) s) u.steps; stop = u.stop };
   }
 
 -- raw strings
@@ -240,8 +240,8 @@ module _ (count : ℕ) (bytes : List ℕ) where
   raw-ahead : (at to : ℕ) → is_raw_quote count bytes at ≡ false → Close at to → at < to
   raw-ahead at to f c = elim (eq-or-lt_of_le c.begun) [ inl e ↦ absurd (no_raw at f (rw (sym e) at c.holds)) | inr l ↦ l ]
 
-  behind_one : (at to : ℕ) → is_raw_quote count bytes at ≡ false → Close at to → at + 1 ≤ to
-  behind_one at to f c = let l = raw-ahead at to f c in omega arith
+  afterward_one : (at to : ℕ) → is_raw_quote count bytes at ≡ false → Close at to → at + 1 ≤ to
+  afterward_one at to f c = let l = raw-ahead at to f c in omega arith
 
   -- a piece is one byte, or a line break of two
   data IsShort (at : ℕ) : ℕ → Type 0 where
@@ -260,7 +260,7 @@ module _ (count : ℕ) (bytes : List ℕ) where
   raw-back : (at next to : ℕ) → is_raw_quote count bytes at ≡ false → IsShort at next → Close at to → Close next to
   raw-back at next to f byte c = record { begun = let l = raw-ahead at to f c in omega arith; holds = c.holds; first = λ i b l. c.first i (omega arith) l }
   raw-back at next to f (pair e) c = record {
-    begun = elim (eq-or-lt_of_le (behind_one at to f c)) [ inl g ↦ absurd (no_feed (at + 1) e (rw (sym g) at c.holds)) | inr l ↦ omega arith ];
+    begun = elim (eq-or-lt_of_le (afterward_one at to f c)) [ inl g ↦ absurd (no_feed (at + 1) e (rw (sym g) at c.holds)) | inr l ↦ omega arith ];
     holds = c.holds;
     first = λ i b l. c.first i (omega arith) l;
   }
@@ -286,8 +286,8 @@ module _ (count : ℕ) (bytes : List ℕ) where
     one = λ at to t c. IsFirst-one (record { begun = omega arith; holds = raw-from at t; first = λ i b l. absurd (omega arith) }) c;
     ahead = raw-ahead;
     inside = λ at to c. inside_from_byte bytes to (let q = c.holds.quote in omega arith);
-    back = λ at next to said f s c. raw-back at next to f (short content at next said s) c;
-    on = λ at next to said f s c. raw-on at next to f (short content at next said s) c;
+    back = λ at next to stated f s c. raw-back at next to f (short content at next stated s) c;
+    on = λ at next to stated f s c. raw-on at next to f (short content at next stated s) c;
   }
 
 -- a literal

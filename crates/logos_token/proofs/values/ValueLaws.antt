@@ -30,54 +30,54 @@ use Rattle.logos_lexeme.proofs.BodyLaws.{Represents-one, Represents-moves}
 module _ (escapes : Bool) (content : Content) (bytes : List ℕ) where
   pub Holds-le : (at to : ℕ) (held : List ℕ) → Holds escapes content bytes at to held → at ≤ to
   Holds-le at to held none = omega arith
-  Holds-le at to held (more {mid = mid} {first = said} {rest = rest} s h e) = omega (arith, Represents-moves escapes content bytes at mid said s, Holds-le mid to rest h)
+  Holds-le at to held (more {mid = mid} {first = stated} {rest = rest} s h e) = omega (arith, Represents-moves escapes content bytes at mid stated s, Holds-le mid to rest h)
 
   -- the first piece is the one at this offset
-  first_piece : (at next to : ℕ) (said held : List ℕ) → Represents escapes content bytes at next said → at < to → Holds escapes content bytes at to held → (rest : List ℕ) × Holds escapes content bytes next to rest
-  first_piece at next to said held s ahead none = absurd (omega arith)
-  first_piece at next to said held s ahead (more {mid = mid} {first = other} {rest = rest} t h e) =
-      (rest, subst (λ m. Holds escapes content bytes m to rest) (Represents-one escapes content bytes at mid next other said t s).0 h)
+  first_piece : (at next to : ℕ) (stated held : List ℕ) → Represents escapes content bytes at next stated → at < to → Holds escapes content bytes at to held → (rest : List ℕ) × Holds escapes content bytes next to rest
+  first_piece at next to stated held s ahead none = absurd (omega arith)
+  first_piece at next to stated held s ahead (more {mid = mid} {first = other} {rest = rest} t h e) =
+      (rest, subst (λ m. Holds escapes content bytes m to rest) (Represents-one escapes content bytes at mid next other stated t s).0 h)
 
   -- a span holds the same bytes, however it is cut
   Holds-one : (at to end : ℕ) (xs ys : List ℕ) → Holds escapes content bytes at to xs → Holds escapes content bytes at end ys → to ≡ end → xs ≡ ys
   Holds-one at to end xs ys none none d = refl
-  Holds-one at to end xs ys none (more {mid = mid} {first = said} {rest = rest} s h e) d = absurd (omega (arith, Represents-moves escapes content bytes at mid said s, Holds-le mid end rest h))
-  Holds-one at to end xs ys (more {mid = mid} {first = said} {rest = rest} s h e) none d = absurd (omega (arith, Represents-moves escapes content bytes at mid said s, Holds-le mid to rest h))
-  Holds-one at to end xs ys (more {mid = mid} {first = said} {rest = rest} s h e) (more {mid = next} {first = other} {rest = others} t i f) d =
-      let same = Represents-one escapes content bytes at mid next said other s t in
+  Holds-one at to end xs ys none (more {mid = mid} {first = stated} {rest = rest} s h e) d = absurd (omega (arith, Represents-moves escapes content bytes at mid stated s, Holds-le mid end rest h))
+  Holds-one at to end xs ys (more {mid = mid} {first = stated} {rest = rest} s h e) none d = absurd (omega (arith, Represents-moves escapes content bytes at mid stated s, Holds-le mid to rest h))
+  Holds-one at to end xs ys (more {mid = mid} {first = stated} {rest = rest} s h e) (more {mid = next} {first = other} {rest = others} t i f) d =
+      let same = Represents-one escapes content bytes at mid next stated other s t in
       let rests = Holds-one mid to end rest others h (subst (λ n. Holds escapes content bytes n end others) (sym same.0) i) d in
       e ∙ ap (λ ws. ws ++ rest) same.1 ∙ ap (λ ws. other ++ ws) rests ∙ sym f
 
   pub rest-none : (at to : ℕ) → IsRest escapes content bytes at at to []
   rest-none at to = record { on = λ held h. h; back = λ held h. (held, h) }
 
-  pub rest-piece : (at next to : ℕ) (said : List ℕ) → Represents escapes content bytes at next said → at < to → IsRest escapes content bytes at next to said
-  rest-piece at next to said s ahead = record {
+  pub rest-piece : (at next to : ℕ) (stated : List ℕ) → Represents escapes content bytes at next stated → at < to → IsRest escapes content bytes at next to stated
+  rest-piece at next to stated s ahead = record {
     on = λ held h. more s h refl;
-    back = λ held h. first_piece at next to said held s ahead h;
+    back = λ held h. first_piece at next to stated held s ahead h;
   }
 
-  pub rest-join : (from at next to : ℕ) (said new : List ℕ) → IsRest escapes content bytes from at to said → IsRest escapes content bytes at next to new → IsRest escapes content bytes from next to (said ++ new)
-  rest-join from at next to said new r s = record {
+  pub rest-join : (from at next to : ℕ) (stated new : List ℕ) → IsRest escapes content bytes from at to stated → IsRest escapes content bytes at next to new → IsRest escapes content bytes from next to (stated ++ new)
+  rest-join from at next to stated new r s = record {
     on = λ held h. rw append_assoc (r.on (new ++ held) (s.on held h));
     back = λ held h. let t = r.back held h in s.back t.0 t.1;
   }
 
-  pub rest-end : (from at to : ℕ) (said : List ℕ) → at ≡ to → IsRest escapes content bytes from at to said → Holds escapes content bytes from to said
-  rest-end from at to said e r = rw append-nil at (r.on [] (subst (λ n. Holds escapes content bytes at n []) e none))
+  pub rest-end : (from at to : ℕ) (stated : List ℕ) → at ≡ to → IsRest escapes content bytes from at to stated → Holds escapes content bytes from to stated
+  rest-end from at to stated e r = rw append-nil at (r.on [] (subst (λ n. Holds escapes content bytes at n []) e none))
 
-  pub rest-past : (from at to : ℕ) (said : List ℕ) → to < at → IsRest escapes content bytes from at to said → (held : List ℕ) → Holds escapes content bytes from to held → ⊥
-  rest-past from at to said ahead r held h = let t = r.back held h in omega (arith, Holds-le at to t.0 t.1)
+  pub rest-past : (from at to : ℕ) (stated : List ℕ) → to < at → IsRest escapes content bytes from at to stated → (held : List ℕ) → Holds escapes content bytes from to held → ⊥
+  rest-past from at to stated ahead r held h = let t = r.back held h in omega (arith, Holds-le at to t.0 t.1)
 
-  no_piece : (at to : ℕ) (held : List ℕ) → at < to → ((next : ℕ) (said : List ℕ) → Represents escapes content bytes at next said → ⊥) → Holds escapes content bytes at to held → ⊥
+  no_piece : (at to : ℕ) (held : List ℕ) → at < to → ((next : ℕ) (stated : List ℕ) → Represents escapes content bytes at next stated → ⊥) → Holds escapes content bytes at to held → ⊥
   no_piece at to held ahead other none = omega arith
-  no_piece at to held ahead other (more {mid = mid} {first = said} s h e) = other mid said s
+  no_piece at to held ahead other (more {mid = mid} {first = stated} s h e) = other mid stated s
 
-  pub rest-stuck : (at to : ℕ) → at < to → ((next : ℕ) (said : List ℕ) → Represents escapes content bytes at next said → ⊥) → (held : List ℕ) → Holds escapes content bytes at to held → ⊥
+  pub rest-stuck : (at to : ℕ) → at < to → ((next : ℕ) (stated : List ℕ) → Represents escapes content bytes at next stated → ⊥) → (held : List ℕ) → Holds escapes content bytes at to held → ⊥
   rest-stuck at to ahead other held h = no_piece at to held ahead other h
 
-  pub rest-refuted : (from at to : ℕ) (said : List ℕ) → IsRest escapes content bytes from at to said → ((held : List ℕ) → Holds escapes content bytes at to held → ⊥) → (held : List ℕ) → Holds escapes content bytes from to held → ⊥
-  rest-refuted from at to said r other held h = let t = r.back held h in other t.0 t.1
+  pub rest-refuted : (from at to : ℕ) (stated : List ℕ) → IsRest escapes content bytes from at to stated → ((held : List ℕ) → Holds escapes content bytes at to held → ⊥) → (held : List ℕ) → Holds escapes content bytes from to held → ⊥
+  rest-refuted from at to stated r other held h = let t = r.back held h in other t.0 t.1
 
 -- a run of bytes that represent themselves
 
@@ -132,15 +132,15 @@ module _ (escapes : Bool) (bytes : List ℕ) (at next : ℕ) where
   escape_small held (hex h v) x f = let k : hex_value (slice_range bytes (at + 2) (at + 4)) ≡ x = cc in omega (arith, h.small)
   escape_small held (unicode {brace} c u v) x f = one_byte (hex_value (digits_between bytes (at + 3) brace)) x f
 
-  said_small : (held : List ℕ) → Represents escapes Text bytes at next held → get_or bytes at 0 < 128 → (x : ℕ) → held ≡ x ∷ [] → x < 128
-  said_small held (plain e a v) l x f = let k : get_or bytes at 0 ≡ x = cc in omega arith
-  said_small held (return r) l x f = let k : ◌≡◌ {A = ℕ} 10 x = cc in omega arith
-  said_small held (escape t e) l x f = escape_small held e x f
-  said_small held (continuation t k) l x f = absurd (cc)
+  stated_small : (held : List ℕ) → Represents escapes Text bytes at next held → get_or bytes at 0 < 128 → (x : ℕ) → held ≡ x ∷ [] → x < 128
+  stated_small held (plain e a v) l x f = let k : get_or bytes at 0 ≡ x = cc in omega arith
+  stated_small held (return r) l x f = let k : ◌≡◌ {A = ℕ} 10 x = cc in omega arith
+  stated_small held (escape t e) l x f = escape_small held e x f
+  stated_small held (continuation t k) l x f = absurd (cc)
 
   pub ascii_piece : (piece : Piece) → Represents escapes Text bytes at next (bytes_of piece) → get_or bytes at 0 < 128 → IsAscii piece
   ascii_piece Nothing s l = tt
-  ascii_piece (Byte b) s l = said_small (b ∷ []) s l b refl
+  ascii_piece (Byte b) s l = stated_small (b ∷ []) s l b refl
   ascii_piece (Character c) s l = tt
 
 module _ (escapes : Bool) (bytes : List ℕ) (utf8 : IsUtf8 bytes) (at next : ℕ) where
@@ -155,12 +155,12 @@ module _ (escapes : Bool) (bytes : List ℕ) (utf8 : IsUtf8 bytes) (at next : �
       let ahead : at + 1 < next = elim (eq-or-lt_of_le k.blanks.begun) [ inl e ↦ absurd (false≢true (sym (rw (← e) at k.blanks.holds) ∙ first)) | inr l ↦ l ] in
       (ahead, true_from_ne_false (is_blank (get_or bytes (next - 1) 0)) (k.blanks.first (next - 1) (omega arith) (omega arith)))
 
-  pub says-boundary : (held : List ℕ) → Represents escapes Text bytes at next held → (get_or bytes at 0 ≡ 13) ⊎ (get_or bytes at 0 ≡ 92) → IsCharBoundary bytes next
-  says-boundary held (plain e a v) (inl f) = boundary-after bytes utf8 at next (omega arith) (omega arith) v
-  says-boundary held (plain e a v) (inr f) = boundary-after bytes utf8 at next (omega arith) (omega arith) v
-  says-boundary held (return r) f = let e = r.1 in boundary-after bytes utf8 (at + 1) next (omega arith) (omega arith) (omega (arith, r.2))
-  says-boundary held (escape t e) f = escape-boundary held e
-  says-boundary held (continuation t k) f =
+  pub represents-boundary : (held : List ℕ) → Represents escapes Text bytes at next held → (get_or bytes at 0 ≡ 13) ⊎ (get_or bytes at 0 ≡ 92) → IsCharBoundary bytes next
+  represents-boundary held (plain e a v) (inl f) = boundary-after bytes utf8 at next (omega arith) (omega arith) v
+  represents-boundary held (plain e a v) (inr f) = boundary-after bytes utf8 at next (omega arith) (omega arith) v
+  represents-boundary held (return r) f = let e = r.1 in boundary-after bytes utf8 (at + 1) next (omega arith) (omega arith) (omega (arith, r.2))
+  represents-boundary held (escape t e) f = escape-boundary held e
+  represents-boundary held (continuation t k) f =
       let b = last_blank k in
       let a = blank_ascii (get_or bytes (next - 1) 0) b.1 in
       boundary-after bytes utf8 (next - 1) next (omega (arith, a.0)) (omega (arith, a.1)) (omega (arith, b.0))

@@ -43,7 +43,11 @@ fn add_all(traversal: &mut Traversal, targets: &[usize]) -> Result<(), AllocErro
 }
 
 /// Adds the nodes to which the edges of `from` lead.
-fn go_on(lists: &[Vec<usize>], from: usize, traversal: &mut Traversal) -> Result<(), AllocError>
+fn add_targets(
+    lists: &[Vec<usize>],
+    from: usize,
+    traversal: &mut Traversal,
+) -> Result<(), AllocError>
     ensures { OnOk result (Reaches (targets_of (graph lists.now) from)
         traversal.old.found.items traversal.old.waiting.items
         traversal.new.found.items traversal.new.waiting.items) }
@@ -63,9 +67,9 @@ fn leads_back(alloc: Global, lists: &[Vec<usize>], node: usize) -> Result<bool, 
         found: vec![in alloc; false; lists.len()]?,
         waiting: Vec::new(alloc),
     };
-    go_on(lists, node, &mut traversal)?;
+    add_targets(lists, node, &mut traversal)?;
     while let Some(from) = traversal.waiting.pop() {
-        go_on(lists, from, &mut traversal)?;
+        add_targets(lists, from, &mut traversal)?;
     }
     Ok(traversal.found[node])
 }

@@ -7,7 +7,7 @@ use crate::table::actions::begin_by;
 use crate::table::stage::{
     Beginning, Binder, First, FirstEntry, FrontToken, PathKind, Prefix, Stage, StepFault,
 };
-use crate::table::tokens::{begins_colons, begins_mark, first_span, first_text, goes_on, look};
+use crate::table::tokens::{begins_colons, begins_mark, continues, first_span, first_text, look};
 use logos_token::token::{Delimiter, Tokens};
 
 /// Returns the step at `&` at the start of a type.
@@ -130,7 +130,7 @@ pub(crate) fn read_name<'t, 's>(tokens: Tokens<'t, 's>) -> Option<(&'s str, Toke
     };
     let name = first_text(tokens);
     let rest = tokens.rest();
-    if is_reserved(name) | (goes_on(rest) | begins_mark('!', rest)) {
+    if is_reserved(name) | (continues(rest) | begins_mark('!', rest)) {
         return None;
     }
     Some((name, rest))

@@ -1,7 +1,7 @@
 //! Classifies the first tokens of a run. The steps of the grammar call it.
 
 ghost use Rattle.std.specs.Prelude.{◌≡◌};
-ghost use Rattle.logos_type_reader.specs.Views.{rest_of, tokens_of, mismatches, first_span, begins_colons, begins_mark, begins_arrow, begins_dots, begins_parenthesis, begins_bound, typing, goes_on, spot_of, Looks, first_text, begins_word, IsAction};
+ghost use Rattle.logos_type_reader.specs.Views.{rest_of, tokens_of, mismatches, first_span, begins_colons, begins_mark, begins_arrow, begins_dots, begins_parenthesis, begins_bound, typing, continues, spot_of, Looks, first_text, begins_word, IsAction};
 
 use crate::table::stage::{FrontToken, Next, Spot, StepFault};
 use logos_token::token::{Delimiter, Spacing, Span, TokenTree, Tokens};
@@ -121,8 +121,8 @@ pub(super) fn is_typing(run: Tokens<'_, '_>) -> bool
 }
 
 /// Returns whether a path continues after a name.
-pub(super) fn goes_on(run: Tokens<'_, '_>) -> bool
-    ensures { result ≡ goes_on (tokens_of run.entry) }
+pub(super) fn continues(run: Tokens<'_, '_>) -> bool
+    ensures { result ≡ continues (tokens_of run.entry) }
 {
     begins_mark('<', run) | begins_colons(run) | begins_parenthesis(run)
 }

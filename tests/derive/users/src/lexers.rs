@@ -1,6 +1,7 @@
 //! The methods of lexers.
 
 use logos::{Lexer, Logos};
+use std::panic::{AssertUnwindSafe, catch_unwind};
 
 #[derive(Logos, Clone, Copy, Debug, PartialEq)]
 #[logos(skip " ")]
@@ -97,6 +98,23 @@ fn a_bump_into_a_character() {
     let mut lexer = Token::lexer("1é");
     lexer.next();
     lexer.bump(1);
+}
+
+/// Also where the offset would wrap around.
+#[test]
+fn a_bump_that_panics_changes_nothing() {
+    let mut lexer = Token::lexer("a1 é");
+    lexer.next();
+    for n in [3, 5, usize::MAX - 1, usize::MAX] {
+        let bumped = catch_unwind(AssertUnwindSafe(|| lexer.bump(n)));
+        assert!(bumped.is_err());
+        assert_eq!(
+            (lexer.span(), lexer.slice(), lexer.remainder()),
+            (0..1, "a", "1 é")
+        );
+    }
+    assert_eq!(lexer.next(), Some(Ok(Number)));
+    assert_eq!(lexer.span(), 1..2);
 }
 
 #[test]

@@ -42,7 +42,7 @@ returns-in-Ok-clause-ok c =
     together made.result (λ x. IsFaultless analysis.leaves.items (utf8_mode (parser_view analysis.parser)) analysis.span analysis.parser.errors x.0) (λ x. IsHeadOf (analysis_view analysis) x.1)
     (λ x. IsGraphMade c.args.src.now (ident_slice x.1.name) (parser_view x.1.options) x.0)
     (λ x found head. subst (λ (o : OptionsView). IsGraphMade c.args.src.now (ident_slice x.1.name) o x.0) (sym head.same_options)
-    (graph_made c.args.src.now read.enum analysis.span analysis.leaves.items (parser_view analysis.parser) analysis.parser.errors read.says read.enum_says
+    (graph_made c.args.src.now read.enum analysis.span analysis.leaves.items (parser_view analysis.parser) analysis.parser.errors read.reads_as read.enum_reads
     (ident_slice x.1.name) x.0 c.in-Ok.ensures.short c.in-Ok.ensures.shallow (read.is_name ∙ sym head.same_name) found))
     made.ensures.ok made.ensures.head
 
@@ -60,5 +60,5 @@ returns-in-Ok-clause-err c =
     let analysis = c.in-Ok.analysis in
     let made = c.accept_analysis in
     by_error made.result (Refuses (AreGraphFaults analysis.leaves.items (utf8_mode (parser_view analysis.parser)) analysis.span analysis.parser.errors)) (Refuses (IsRefused c.args.src.now))
-    (graph_refuses c.args.src.now read.enum analysis.span analysis.leaves.items (parser_view analysis.parser) analysis.parser.errors read.says read.enum_says
+    (graph_refuses c.args.src.now read.enum analysis.span analysis.leaves.items (parser_view analysis.parser) analysis.parser.errors read.reads_as read.enum_reads
     c.in-Ok.ensures.short c.in-Ok.ensures.shallow) made.ensures.err

@@ -11,7 +11,7 @@ loop-item-init g c =
       within = omega (arith, run.start);
       few = c.requires.room.0;
       room = c.requires.room.1;
-      goes_on = λ rest new r a. record { items = rest; runs = rw run.start at r; appends = a };
+      continues = λ rest new r a. record { items = rest; runs = rw run.start at r; appends = a };
     }
 
 pub loop-item-preserved : goal.loop-item-preserved
@@ -24,8 +24,8 @@ loop-item-preserved g c =
       within = rw read.input at given.1.within;
       few = c.in_ok-write_if_full.ensures.few;
       room = omega (arith, i.room, c.push_line.ensures.room, c.in_ok-write_if_full.ensures.room);
-      goes_on = one_more _ (answers_of g.C.Fn c.args.callback.now) c.args.folded.now.code c.args.input.now _ _ 0 _ _ _ _ _ _ _ (item_of c.in-Some.item) given.1
-          read.code read.input read.code read.input (λ leaf slice answer w. w) (λ leaf slice answer w. w) i.goes_on
+      continues = one_more _ (answers_of g.C.Fn c.args.callback.now) c.args.folded.now.code c.args.input.now _ _ 0 _ _ _ _ _ _ _ (item_of c.in-Some.item) given.1
+          read.code read.input read.code read.input (λ leaf slice answer w. w) (λ leaf slice answer w. w) i.continues
           c.push_line.ensures.text c.in_ok-write_if_full.ensures.written;
     }
 
@@ -33,5 +33,5 @@ pub returns-clause-lines : goal.returns-clause-lines
 returns-clause-lines g c =
     let read = c.new-reading.ensures in
     all_done _ (answers_of g.C.Fn c.args.callback.now) c.args.folded.now.code c.args.input.now _ _ 0 _ _ _ _ _
-    c.in_default.ensures.item read.code read.input (λ leaf slice answer w. w) c.loop-item.invariant.goes_on
+    c.in_default.ensures.item read.code read.input (λ leaf slice answer w. w) c.loop-item.invariant.continues
     c.print_bytes.result (rw c.deref.ensures.value at c.print_bytes.ensures.printed)

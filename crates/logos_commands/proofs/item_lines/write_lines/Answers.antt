@@ -15,9 +15,9 @@ loop-item-preserved g c =
       same_callback = keeps.callback ∙ c.loop-item.invariant.same_callback;
       few = c.in_ok-write_if_full.ensures.few;
       room = omega (arith, c.loop-item.invariant.room, c.push_line.ensures.room, c.in_ok-write_if_full.ensures.room);
-      goes_on = one_more _ (answers_of g.C.Fn c.args.lexer.now.callback) c.args.lexer.now.code c.args.lexer.now.input _ _ c.args.lexer.now.to _ _ _ _ _ _ _ (item_of c.in-Some.item) given
+      continues = one_more _ (answers_of g.C.Fn c.args.lexer.now.callback) c.args.lexer.now.code c.args.lexer.now.input _ _ c.args.lexer.now.to _ _ _ _ _ _ _ (item_of c.in-Some.item) given
           c.loop-item.invariant.same_code c.loop-item.invariant.same_input code input
-          (λ leaf slice answer w. w) (λ leaf slice answer w. w) c.loop-item.invariant.goes_on
+          (λ leaf slice answer w. w) (λ leaf slice answer w. w) c.loop-item.invariant.continues
           c.push_line.ensures.text c.in_ok-write_if_full.ensures.written;
     }
 
@@ -25,4 +25,4 @@ pub returns-clause-lines : goal.returns-clause-lines
 returns-clause-lines g c =
     all_done _ (answers_of g.C.Fn c.args.lexer.now.callback) c.args.lexer.now.code c.args.lexer.now.input _ _ c.args.lexer.now.to _ _ _ _ _
     (rw c.loop-item.invariant.same_callback at c.in_default.ensures.item) c.loop-item.invariant.same_code c.loop-item.invariant.same_input
-    (λ leaf slice answer w. w) c.loop-item.invariant.goes_on c.print_bytes.result (rw c.deref.ensures.value at c.print_bytes.ensures.printed)
+    (λ leaf slice answer w. w) c.loop-item.invariant.continues c.print_bytes.result (rw c.deref.ensures.value at c.print_bytes.ensures.printed)

@@ -15,13 +15,13 @@ returns-then-eq-clause-given c =
 pub returns-then-eq-2-clause-given : goal.returns-then-eq-2-clause-given
 returns-then-eq-2-clause-given c =
     IfOk-weaker c.read_token.result _ _
-    (λ leaf says. on_token (ap (λ m. is_named m (codes "token")) c.in-Some.ensures ∙ (sym c.eq-2.ensures ∙ c.if-eq-2.true)) says)
+    (λ leaf reads_as. on_token (ap (λ m. is_named m (codes "token")) c.in-Some.ensures ∙ (sym c.eq-2.ensures ∙ c.if-eq-2.true)) reads_as)
     c.read_token.ensures.given
 
 pub returns-then-eq-3-clause-given : goal.returns-then-eq-3-clause-given
 returns-then-eq-3-clause-given c =
     IfOk-weaker c.read_regex.result _ _
-    (λ leaf says. on_regex (ap (λ m. is_named m (codes "regex")) c.in-Some.ensures ∙ (sym c.eq-3.ensures ∙ c.if-eq-3.true)) says)
+    (λ leaf reads_as. on_regex (ap (λ m. is_named m (codes "regex")) c.in-Some.ensures ∙ (sym c.eq-3.ensures ∙ c.if-eq-3.true)) reads_as)
     c.read_regex.ensures.given
 
 pub returns-clause-given : goal.returns-clause-given

@@ -10,7 +10,7 @@ loop-item-init g c =
     record {
       ready = run.ready;
       within = omega (arith, run.start);
-      goes_on = λ rest r. rw c.new-items.ensures.items (rw run.start at r);
+      continues = λ rest r. rw c.new-items.ensures.items (rw run.start at r);
     }
 
 pub loop-item-preserved : goal.loop-item-preserved
@@ -21,13 +21,13 @@ loop-item-preserved g c =
     record {
       ready = c.in-Some.ensures.ready;
       within = rw read.input at given.1.within;
-      goes_on = λ rest r. rw (c.in_ok-push.ensures.items, map-append) (more_items _ (answers_of g.C.Fn c.args.callback.now) c.args.folded.now.code c.args.input.now _ _ 0
+      continues = λ rest r. rw (c.in_ok-push.ensures.items, map-append) (more_items _ (answers_of g.C.Fn c.args.callback.now) c.args.folded.now.code c.args.input.now _ _ 0
           (map item_of c.loop-item.items.items) (item_of c.in-Some.item) given.1 read.code read.input read.code read.input
-          (λ leaf slice answer w. w) (λ leaf slice answer w. w) i.goes_on rest r);
+          (λ leaf slice answer w. w) (λ leaf slice answer w. w) i.continues rest r);
     }
 
 pub returns : goal.returns
 returns g c =
     let read = c.new-reading.ensures in
     no_items _ (answers_of g.C.Fn c.args.callback.now) c.args.folded.now.code c.args.input.now _ _ 0 (map item_of c.loop-item.items.items)
-    c.in_default.ensures.item read.code read.input (λ leaf slice answer w. w) c.loop-item.invariant.goes_on
+    c.in_default.ensures.item read.code read.input (λ leaf slice answer w. w) c.loop-item.invariant.continues

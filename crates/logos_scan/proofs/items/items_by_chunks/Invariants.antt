@@ -11,7 +11,7 @@ abbrev pub invariant-loop-item : goal.invariant-loop-item
 invariant-loop-item g l = record {
   ready : IsReady l.reading (with_chunk l.chunk l.run);
   within : (start_of l.run.cursor) ≤ length l.input;
-  goes_on : (rest : List Item) → Runs l.folded.code (answers_of g.C.Fn l.callback) l.input (start_of l.run.cursor) rest →
+  continues : (rest : List Item) → Runs l.folded.code (answers_of g.C.Fn l.callback) l.input (start_of l.run.cursor) rest →
       Runs l.folded.code (answers_of g.C.Fn l.callback) l.input 0 (map item_of l.items.items ++ rest);
 }
 

@@ -1,7 +1,7 @@
 use Rattle.std.proofs.Common.{ℕ, sym, subst}
 use Rattle.logos_scan.specs.Attempts.{ComesTo}
 use Rattle.logos_scan.proofs.LoadLemmas.{root_is_row_start}
-use Rattle.logos_scan.proofs.TryLemmas.{is_at_begun}
+use Rattle.logos_scan.proofs.AttemptLemmas.{is_at_begun}
 use Rattle.logos_scan.proofs.run.restarted.Goals as goal
 
 pub filled-requires-clause-is_at : goal.filled-requires-clause-is_at

@@ -1,4 +1,4 @@
-use Rattle.std.proofs.Common.{string_bytes, subst}
+use Rattle.std.proofs.Common.{[], string_bytes, subst}
 use Rattle.logos_type.specs.Printed.{printed_type}
 use Rattle.logos_type.specs.TypeTrees.{type_tree}
 use Rattle.logos_code.specs.Code.{CodeValue}
@@ -24,7 +24,7 @@ pub returns-clause-begins : goal.returns-clause-begins
 returns-clause-begins c =
     let front = rw (c.new-names.ensures.this, c.deref.ensures, c.in_ok-this.ensures) at c.in_ok-push_front.ensures in
     let whole = begins_text c.new-sink.ensures front c.in_ok-push_code.ensures.adds c.in_ok-push.ensures in
-    subst (λ (code : CodeValue). BeginsWith (opening_text short_core (around_value c.args.around) (printed_type (type_tree code.header.this))) (string_bytes c.push.new.self.text))
+    subst (λ (code : CodeValue). BeginsWith (opening_text [] short_core (around_value c.args.around) (printed_type (type_tree code.header.this))) (string_bytes c.push.new.self.text))
     c.parts-parts.ensures.is whole
 
 pub returns-clause-pieces : goal.returns-clause-pieces

@@ -4,7 +4,7 @@ use Rattle.std.proofs.lemmas.List.{at_drop_all}
 use Rattle.logos_type.specs.Parts.{name, whole, Trees, trees, tree_of}
 use Rattle.logos_type_params.specs.Substitution.{token, stays, named, put, inside, name_here, type_here, put_inside, type_inside, SomePasses, Passes}
 use Rattle.logos_type.proofs.PartTrees.{tree-Leaf, tree-Name, tree-Whole, tree-Still}
-use Rattle.logos_type_params.proofs.SubstitutionLemmas.{goes_on, finished, stopped, if_deep-map, rest_front, still_after, still_passes}
+use Rattle.logos_type_params.proofs.SubstitutionLemmas.{continues, finished, stopped, if_deep-map, rest_front, still_after, still_passes}
 use Rattle.logos_type_params.specs.inside.Given.{params_of}
 use Rattle.logos_type_params.proofs.substitution.+after.Goals as goal
 
@@ -42,7 +42,7 @@ parts_after-returns-in_err-type_after-clause-err t c =
 pub parts_after-loop-part-preserved : goal.parts_after-loop-part-preserved
 parts_after-loop-part-preserved t c =
     let e = rest_front c.args.parts.now c.loop-part.part-index c.part-item.result c.loop-part-test.true c.part-item.is in
-    goes_on (params_of c.args.params) c.args.levels (trees (map tree_of c.args.parts.now)) c.loop-part.after.items _ _ _ _ _ c.loop-part.invariant e c.in_ok-type_after.ensures.ok c.in_ok-push.ensures.items
+    continues (params_of c.args.params) c.args.levels (trees (map tree_of c.args.parts.now)) c.loop-part.after.items _ _ _ _ _ c.loop-part.invariant e c.in_ok-type_after.ensures.ok c.in_ok-push.ensures.items
 
 pub parts_after-returns-clause-ok : goal.parts_after-returns-clause-ok
 parts_after-returns-clause-ok t c =

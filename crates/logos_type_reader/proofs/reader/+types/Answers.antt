@@ -3,10 +3,10 @@ use Rattle.std.proofs.lemmas.Result.{err_from_is_err_and}
 use Rattle.logos_token.specs.Views.{tokens_of}
 use Rattle.logos_type.specs.declared.type_expr.TypePart.{TypePart}
 use Rattle.logos_type.specs.Parts.{Tree, sign, sign_of, tree_of}
-use Rattle.logos_type_reader.specs.Reading.{NoType, NoMove, NoParts, just_name, a_token, a_bar, a_type, a_still_type, still_tokens, a_nest, deep_name, deep, unended, left_out, here}
+use Rattle.logos_type_reader.specs.Reading.{NoType, NoMove, NoParts, name_alone, a_token, a_bar, a_type, a_still_type, still_tokens, a_nest, deep_name, deep, unended, left_out, here}
 use Rattle.logos_type_reader.specs.ReadingViews.{spot_of}
 use Rattle.logos_type.proofs.PartTrees.{tree-Leaf, tree-Name, tree-Whole}
-use Rattle.logos_type_reader.proofs.ReadingLemmas.{goes_on, finished, stop_move, stop_type, needed_fault, still_fault, nest_fault, inner_left, begun_falls, begun_rest, formed_type, if_fault-map, move_rest}
+use Rattle.logos_type_reader.proofs.ReadingLemmas.{continues, finished, stop_move, stop_type, needed_fault, still_fault, nest_fault, inner_left, begun_falls, begun_rest, formed_type, if_fault-map, move_rest}
 use Rattle.logos_type_reader.proofs.reader.+types.Goals as goal
 
 pub parts_at-returns-in_err-bars : goal.parts_at-returns-in_err-bars
@@ -22,7 +22,7 @@ parts_at-loop-bars-smaller t c =
 pub parts_at-loop-bars-preserved : goal.parts_at-loop-bars-preserved
 parts_at-loop-bars-preserved t c =
     let h = rw c.in-Some.is at c.in_ok-bars.ensures in
-    goes_on c.args.levels (spot_of c.args.from) (map tree_of c.args.parts.now.items) (map tree_of c.loop-bars.parts.items) _ h.0 c.loop-bars.barred c.in-Some.bars (spot_of c.loop-bars.spot) (spot_of c.in-Some.next) c.loop-bars.invariant h.1 h.2
+    continues c.args.levels (spot_of c.args.from) (map tree_of c.args.parts.now.items) (map tree_of c.loop-bars.parts.items) _ h.0 c.loop-bars.barred c.in-Some.bars (spot_of c.loop-bars.spot) (spot_of c.in-Some.next) c.loop-bars.invariant h.1 h.2
 
 pub parts_at-returns : goal.parts_at-returns
 parts_at-returns t c =
@@ -67,7 +67,7 @@ pub type_at-returns-then-levels-eq0-clause-err : goal.type_at-returns-then-level
 type_at-returns-then-levels-eq0-clause-err t c = let none : c.args.levels ≡ 0 = omega (arith, c.if-levels-eq0.true) in deep_name none c.in-Some.ensures.0
 
 pub type_at-returns-clause-ok : goal.type_at-returns-clause-ok
-type_at-returns-clause-ok t c = let allowed : 0 < c.args.levels = omega (arith, c.if-levels-eq0.false) in rw (tree-Name c.in-Some.name, c.in-Some.ensures.1) (just_name allowed c.in-Some.ensures.0)
+type_at-returns-clause-ok t c = let allowed : 0 < c.args.levels = omega (arith, c.if-levels-eq0.false) in rw (tree-Name c.in-Some.name, c.in-Some.ensures.1) (name_alone allowed c.in-Some.ensures.0)
 
 pub move_on-returns-in-Err : goal.move_on-returns-in-Err
 move_on-returns-in-Err t c = rw c.from.ensures (stop_move c.args.levels (spot_of c.args.spot) _ c.in-Err.ensures)

@@ -18,7 +18,7 @@ invariant_of-result c =
       accepted = made.accepted;
       lexer = rw c.code_in-code.ensures made.lexer;
       kinds = (rw c.leaves.ensures at (rw c.in-Ok.is at c.kinds_of-kinds.ensures)) ∙ kinds_viewed leaves
-          ∙ kinds_as_analyzed SOURCE.now _ _ analysis.enum analysis.item (map leaf_view leaves) made.given.options analysis.says analysis.enum_says made.accepted;
+          ∙ kinds_as_analyzed SOURCE.now _ _ analysis.enum analysis.item (map leaf_view leaves) made.given.options analysis.reads_as analysis.enum_reads made.accepted;
     }
 
 pub returns-in-Ok-clause-ok : goal.returns-in-Ok-clause-ok
@@ -32,7 +32,7 @@ returns-in-Ok-clause-ok c =
       accepted = made.accepted;
       lexer = rw c.code_in-code.ensures made.lexer;
       kinds = (rw c.leaves.ensures at (rw c.in-Ok.is at c.kinds_of-kinds.ensures)) ∙ kinds_viewed leaves
-          ∙ kinds_as_analyzed SOURCE.now _ _ analysis.enum analysis.item (map leaf_view leaves) made.given.options analysis.says analysis.enum_says made.accepted;
+          ∙ kinds_as_analyzed SOURCE.now _ _ analysis.enum analysis.item (map leaf_view leaves) made.given.options analysis.reads_as analysis.enum_reads made.accepted;
     }
 
 pub returns-in_err-made-clause-err : goal.returns-in_err-made-clause-err

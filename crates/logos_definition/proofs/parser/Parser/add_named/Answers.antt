@@ -4,7 +4,7 @@ use Rattle.logos_definition.specs.Arguments.{on_error, on_type, on_other}
 use Rattle.logos_definition.proofs.parser.Parser.add_named.Goals as goal
 
 pub returns-then-eq : goal.returns-then-eq
-returns-then-eq c = IfOk-weaker c.add_error.result _ _ (λ goes_on says. on_error (sym c.eq.ensures ∙ c.if-eq.true) says) c.add_error.ensures
+returns-then-eq c = IfOk-weaker c.add_error.result _ _ (λ continues reads_as. on_error (sym c.eq.ensures ∙ c.if-eq.true) reads_as) c.add_error.ensures
 
 pub returns-then-eq-2 : goal.returns-then-eq-2
 returns-then-eq-2 c = on_type (sym c.eq.ensures ∙ c.if-eq.false) (sym c.eq-2.ensures ∙ c.if-eq-2.true) c.in_ok-add_type.ensures

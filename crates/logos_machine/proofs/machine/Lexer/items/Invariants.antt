@@ -11,7 +11,7 @@ invariant-loop-item g l = record {
   same_input : l.lexer.input ≡ l.fn.self.input;
   same_callback : l.lexer.callback ≡ l.fn.self.callback;
   within : l.lexer.to ≤ length l.fn.self.input;
-  goes_on : (rest : List Item) → Runs l.fn.self.code (answers_of g.C.Fn l.fn.self.callback) l.fn.self.input l.lexer.to rest →
+  continues : (rest : List Item) → Runs l.fn.self.code (answers_of g.C.Fn l.fn.self.callback) l.fn.self.input l.lexer.to rest →
       Runs l.fn.self.code (answers_of g.C.Fn l.fn.self.callback) l.fn.self.input l.fn.self.to (map item_of l.items.items ++ rest);
 }
 

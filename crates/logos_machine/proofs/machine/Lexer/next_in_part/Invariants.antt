@@ -1,6 +1,6 @@
 use Rattle.std.proofs.Common.{◌≡◌, ◌-◌, length}
 use Rattle.logos_machine.specs.LexerValue.{answers_of}
-use Rattle.logos_machine.proofs.WithinLemmas.{GoesOnWithin}
+use Rattle.logos_machine.proofs.WithinLemmas.{ContinuesWithin}
 use Rattle.logos_machine.proofs.machine.Lexer.next_in_part.Given as goal
 
 -- a continuation after the matches without an item continues after the last item, regardless of the
@@ -8,7 +8,7 @@ use Rattle.logos_machine.proofs.machine.Lexer.next_in_part.Given as goal
 abbrev pub invariant-loop-leaf : goal.invariant-loop-leaf
 invariant-loop-leaf g l = record {
   same : l.self ≡ l.fn.self;
-  on : GoesOnWithin (answers_of g.C.Fn l.fn.self.callback) l.fn.self l.from;
+  on : ContinuesWithin (answers_of g.C.Fn l.fn.self.callback) l.fn.self l.from;
 }
 
 abbrev pub decreases-loop-leaf : goal.decreases-loop-leaf

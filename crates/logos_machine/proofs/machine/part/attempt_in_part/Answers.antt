@@ -13,7 +13,7 @@ returns-in-Acts-Some-default c =
     let d : StopsWithin c.args.code.now c.args.part.now c.args.start (length c.args.part.now) (status_of c.loop-next.at) × Does c.args.code.now c.args.part.now c.args.start (status_of c.loop-next.at) (acts (Some (w.leaf.0, w.to)) w.field-1) = rw w.field-0-is at w.ensures in
     let few = i.few in
     record {
-      attempts = i.goes_on (matched w.leaf.0 w.to) 1 (acts_within _ _ w.field-1 _ d.0 d.1 refl tt);
+      attempts = i.continues (matched w.leaf.0 w.to) 1 (acts_within _ _ w.field-1 _ d.0 d.1 refl tt);
       within = is_at_match c.args.code.now c.root.ensures.sound c.args.part.now c.args.start c.requires (status_of c.loop-next.at) _ w.field-1 i.is_at d.1;
       few = ⊎_elim (λ h. omega (arith, few, h)) (λ h. let past = h.offset in omega (arith, few, past)) i.is_at.within;
     }
@@ -39,7 +39,7 @@ returns-in-Acts-None-default c =
     let few = i.few in
     let past = e.ends.past in
     record {
-      attempts = i.goes_on (failed c.error_end.result) 1 (acts_within _ None w.offset _ d.0 d.1 e.ends (λ _. e.within));
+      attempts = i.continues (failed c.error_end.result) 1 (acts_within _ None w.offset _ d.0 d.1 e.ends (λ _. e.within));
       within = (omega (arith, past), e.within);
       few = ⊎_elim (λ h. omega (arith, few, h)) (λ h. let past = h.offset in omega (arith, few, past)) i.is_at.within;
     }
@@ -57,8 +57,8 @@ loop-next-preserved c =
     record {
       is_at = n.0;
       few = omega (arith, few, moves);
-      goes_on = λ found m g.
+      continues = λ found m g.
           let e : c.loop-next.before + suc m ≡ c.loop-next.before + 1 + m = omega arith in
-          rw (← e) (i.goes_on found (suc m) (leads_within _ _ found m d.0 d.1 g));
+          rw (← e) (i.continues found (suc m) (leads_within _ _ found m d.0 d.1 g));
       looks = λ l. i.looks (looks_later _ _ d.1 l);
     }

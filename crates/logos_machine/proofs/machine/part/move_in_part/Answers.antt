@@ -1,7 +1,7 @@
 use Rattle.std.proofs.lemmas.Option.{slice_get-get_or}
 use Rattle.logos_code.specs.CodeView.{state_at, no_state}
 use Rattle.logos_machine.specs.inside.Attempts.{context_of, status_of}
-use Rattle.logos_machine.proofs.StepLemmas.{late_behind}
+use Rattle.logos_machine.proofs.StepLemmas.{late_afterward}
 use Rattle.logos_machine.proofs.MoveLemmas.{comes_to_end, moves_on}
 use Rattle.std.proofs.Common.{sym}
 use Rattle.logos_machine.proofs.machine.part.move_in_part.Goals as goal
@@ -17,7 +17,7 @@ pub marked-context-requires : goal.marked-context-requires
 marked-context-requires c =
     let code = c.args.code.now in
     let there = slice_get-get_or code.states c.args.at.state no_state c.requires.state in
-    late_behind code c.args.part.now c.args.start (status_of c.args.at) (state_at code c.args.at.state) there c.requires.second c.stop_of-stop.result.offset c.stop_of-stop.ensures.offset _ (sym c.sign.ensures)
+    late_afterward code c.args.part.now c.args.start (status_of c.args.at) (state_at code c.args.at.state) there c.requires.second c.stop_of-stop.result.offset c.stop_of-stop.ensures.offset _ (sym c.sign.ensures)
 
 pub returns-in-Some-target : goal.returns-in-Some-target
 returns-in-Some-target c =

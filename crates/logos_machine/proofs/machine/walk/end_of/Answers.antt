@@ -25,23 +25,23 @@ returns-then-entry-lt-SHUTS c =
     (c.args.last.0 - 1073741824) Emits (omega (arith, ends, c.if-entry-lt-HALTS.false, c.if-entry-lt-CLOSES.false)) (omega (arith, ends, c.if-entry-lt-HALTS.false, c.if-entry-lt-CLOSES.false, c.if-entry-lt-SHUTS.true)) in
     f
 
-pub returns-then-entry-lt-ASKS : goal.returns-then-entry-lt-ASKS
-returns-then-entry-lt-ASKS c =
+pub returns-then-entry-lt-CALLS_BACK : goal.returns-then-entry-lt-CALLS_BACK
+returns-then-entry-lt-CALLS_BACK c =
     let ends = c.requires.ends in
     let f = closes_soon c.args.code.now c.requires.sound c.args.input.now c.args.start c.requires.start (c.args.last.3 / 272) c.args.last.0 c.args.last.1 c.args.last.2 c.requires.reaches
-    (c.args.last.0 - 1342177280) Skips (omega (arith, ends, c.if-entry-lt-HALTS.false, c.if-entry-lt-CLOSES.false, c.if-entry-lt-SHUTS.false)) (omega (arith, ends, c.if-entry-lt-HALTS.false, c.if-entry-lt-CLOSES.false, c.if-entry-lt-SHUTS.false, c.if-entry-lt-ASKS.true)) in
+    (c.args.last.0 - 1342177280) Skips (omega (arith, ends, c.if-entry-lt-HALTS.false, c.if-entry-lt-CLOSES.false, c.if-entry-lt-SHUTS.false)) (omega (arith, ends, c.if-entry-lt-HALTS.false, c.if-entry-lt-CLOSES.false, c.if-entry-lt-SHUTS.false, c.if-entry-lt-CALLS_BACK.true)) in
     (c.args.last.0 - 1342177280, c.args.last.2 + 2, f.0, f.1)
 
-pub returns-then-entry-lt-ASKS_AFTER : goal.returns-then-entry-lt-ASKS_AFTER
-returns-then-entry-lt-ASKS_AFTER c =
+pub returns-then-entry-lt-CALLS_BACK_AFTER : goal.returns-then-entry-lt-CALLS_BACK_AFTER
+returns-then-entry-lt-CALLS_BACK_AFTER c =
     let ends = c.requires.ends in
     let f = ends_before c.args.code.now c.requires.sound c.args.input.now c.args.start c.requires.start (c.args.last.3 / 272) c.args.last.0 c.args.last.1 c.args.last.2 c.requires.reaches
-    (c.args.last.0 - 1610612736) CallsBack (omega (arith, ends, c.if-entry-lt-HALTS.false, c.if-entry-lt-CLOSES.false, c.if-entry-lt-SHUTS.false, c.if-entry-lt-ASKS.false)) (omega (arith, ends, c.if-entry-lt-HALTS.false, c.if-entry-lt-CLOSES.false, c.if-entry-lt-SHUTS.false, c.if-entry-lt-ASKS.false, c.if-entry-lt-ASKS_AFTER.true)) in
-    rw (c.halted-late-then-entry-lt-ASKS_AFTER.ensures.leaf, c.halted-late-then-entry-lt-ASKS_AFTER.ensures.late) f.0
+    (c.args.last.0 - 1610612736) CallsBack (omega (arith, ends, c.if-entry-lt-HALTS.false, c.if-entry-lt-CLOSES.false, c.if-entry-lt-SHUTS.false, c.if-entry-lt-CALLS_BACK.false)) (omega (arith, ends, c.if-entry-lt-HALTS.false, c.if-entry-lt-CLOSES.false, c.if-entry-lt-SHUTS.false, c.if-entry-lt-CALLS_BACK.false, c.if-entry-lt-CALLS_BACK_AFTER.true)) in
+    rw (c.halted-late-then-entry-lt-CALLS_BACK_AFTER.ensures.leaf, c.halted-late-then-entry-lt-CALLS_BACK_AFTER.ensures.late) f.0
 
 pub returns-then-entry-lt-STUCK : goal.returns-then-entry-lt-STUCK
 returns-then-entry-lt-STUCK c =
     let ends = c.requires.ends in
     let f = closes_soon c.args.code.now c.requires.sound c.args.input.now c.args.start c.requires.start (c.args.last.3 / 272) c.args.last.0 c.args.last.1 c.args.last.2 c.requires.reaches
-    (c.args.last.0 - 1879048192) CallsBack (omega (arith, ends, c.if-entry-lt-HALTS.false, c.if-entry-lt-CLOSES.false, c.if-entry-lt-SHUTS.false, c.if-entry-lt-ASKS.false, c.if-entry-lt-ASKS_AFTER.false)) (omega (arith, ends, c.if-entry-lt-HALTS.false, c.if-entry-lt-CLOSES.false, c.if-entry-lt-SHUTS.false, c.if-entry-lt-ASKS.false, c.if-entry-lt-ASKS_AFTER.false, c.if-entry-lt-STUCK.true)) in
+    (c.args.last.0 - 1879048192) CallsBack (omega (arith, ends, c.if-entry-lt-HALTS.false, c.if-entry-lt-CLOSES.false, c.if-entry-lt-SHUTS.false, c.if-entry-lt-CALLS_BACK.false, c.if-entry-lt-CALLS_BACK_AFTER.false)) (omega (arith, ends, c.if-entry-lt-HALTS.false, c.if-entry-lt-CLOSES.false, c.if-entry-lt-SHUTS.false, c.if-entry-lt-CALLS_BACK.false, c.if-entry-lt-CALLS_BACK_AFTER.false, c.if-entry-lt-STUCK.true)) in
     f.0

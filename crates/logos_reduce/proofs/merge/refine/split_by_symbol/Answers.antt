@@ -19,7 +19,7 @@ extension c =
     rw (← states, ← many, ← first) c.in_ok-split.ensures.moved in
     let twins : AreTwins (length w.cuts.splits.items) c.args.k x.cuts.twins.items x.cuts.splits.items = rw (← first) c.in_ok-split.ensures.twins in
     extension-hits c.args.table.now w.cuts.splits.items x.cuts.splits.items w.filing.blocks.items x.filing.blocks.items x.cuts.twins.items hits.items c.args.by.now.sources.items x.filing.lists.items c.args.by.now.block c.args.k
-    moved twins c.in_ok-split.ensures.goes_on (λ s l. let b = w.within s (omega arith) in omega arith) (λ s l. let b = x.within s (omega (arith, c.in_ok-split.ensures.len)) in omega arith)
+    moved twins c.in_ok-split.ensures.continues (λ s l. let b = w.within s (omega arith) in omega arith) (λ s l. let b = x.within s (omega (arith, c.in_ok-split.ensures.len)) in omega arith)
     c.in_ok-hits.ensures.hits c.requires.sources
 
 pub returns-clause-sound : goal.returns-clause-sound

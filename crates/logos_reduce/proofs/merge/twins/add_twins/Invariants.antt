@@ -10,5 +10,5 @@ invariant-loop-home l = record {
   todo : vec_len l.cuts.hints.todo + 2 * vec_len l.initial.cuts.splits ≤ vec_len l.initial.cuts.hints.todo + 2 * vec_len l.cuts.splits;
   below : (c : ℕ) → slice_index l.cuts.twins.items c < vec_len l.cuts.splits;
   twins : AreTwins (vec_len l.initial.cuts.splits) l.symbol l.cuts.twins.items l.cuts.splits.items;
-  goes_on : Continues l.initial.cuts.splits.items l.cuts.splits.items;
+  continues : Continues l.initial.cuts.splits.items l.cuts.splits.items;
 }

@@ -7,5 +7,5 @@ overflow_mul-result c = omega (arith, target_small c.args.code.now c.args.state 
 
 pub returns-in-Leads : goal.returns-in-Leads
 returns-in-Leads c =
-    let says = c.in-Leads.ensures in
-    goes_target c.args.code.now c.args.state c.args.byte c.in-Leads.next c.requires.sound c.requires.state says.0 says.1
+    let describes = c.in-Leads.ensures in
+    goes_target c.args.code.now c.args.state c.args.byte c.in-Leads.next c.requires.sound c.requires.state describes.0 describes.1

@@ -2,7 +2,7 @@ use Rattle.std.proofs.Common.{◌≡◌, ℕ, min, sym, subst, arith}
 use Rattle.logos_scan.specs.Runs.{with_chunk}
 use Rattle.logos_scan.specs.Attempts.{ComesTo}
 use Rattle.logos_scan.proofs.LoadLemmas.{ready_run, root_is_row_start}
-use Rattle.logos_scan.proofs.TryLemmas.{is_at_begun}
+use Rattle.logos_scan.proofs.AttemptLemmas.{is_at_begun}
 use Rattle.logos_scan.proofs.run.Run.new.Goals as goal
 
 pub filled-requires-clause-row_start : goal.filled-requires-clause-row_start

@@ -1,6 +1,6 @@
 use Rattle.std.proofs.Common.{◌≡◌, ℕ, ◌+◌, ◌/◌, bit_and, min, slice_index, subst, sym, arith}
 use Rattle.logos_automaton.specs.Munch.{matched}
-use Rattle.logos_machine.specs.inside.Looks.{Tried}
+use Rattle.logos_machine.specs.inside.Looks.{Attempted}
 use Rattle.logos_scan.specs.Attempts.{SkipsTo}
 use Rattle.logos_scan.specs.Runs.{with_chunk}
 use Rattle.logos_scan.proofs.LoadLemmas.{bytes_at, calls_not, found_match, found_next, found_use, is_ended, leaf_is, ready_run, taken_after}
@@ -49,7 +49,7 @@ returns-then-calls-eq0-clause-taken c =
     let ended = is_ended entry (omega (arith, c.if-ended-eq0.false)) in
     let m = found_match code rows c.requires.reading input are n start at f.is_at f.inside ended in (
       subst (λ (k : ℕ). SkipsTo code input (start_of c.args.self.now.cursor) k) back f.skips,
-      (m.0, subst (λ (k : ℕ). Tried code input k (matched (bit_and (entry / 1048576) 511) (n.cursor.base + at)) m.0) back (rw (leaf_is entry) m.1)),
+      (m.0, subst (λ (k : ℕ). Attempted code input k (matched (bit_and (entry / 1048576) 511) (n.cursor.base + at)) m.0) back (rw (leaf_is entry) m.1)),
       rw (leaf_is entry) (found_use code rows c.requires.reading input are n start at f.is_at f.inside ended f.token (calls_not entry c.if-calls-eq0.true)),
       f.ended ended,
     )
@@ -82,6 +82,6 @@ returns-else-calls-eq0-clause-taken c =
     let ended = is_ended entry (omega (arith, c.if-ended-eq0.false)) in
     let m = found_match code rows c.requires.reading input are n start at f.is_at f.inside ended in (
       subst (λ (k : ℕ). SkipsTo code input (start_of c.args.self.now.cursor) k) back f.skips,
-      (m.0, subst (λ (k : ℕ). Tried code input k (matched (bit_and (entry / 1048576) 511) (n.cursor.base + at)) m.0) back (rw (leaf_is entry) m.1)),
+      (m.0, subst (λ (k : ℕ). Attempted code input k (matched (bit_and (entry / 1048576) 511) (n.cursor.base + at)) m.0) back (rw (leaf_is entry) m.1)),
       f.ended ended,
     )

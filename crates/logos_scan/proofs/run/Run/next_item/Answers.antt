@@ -2,7 +2,7 @@ use Rattle.std.proofs.Common.{◌≡◌, ℕ, ◌-◌, ◌<◌, length, [], ◌�
 use Rattle.logos_code.specs.Items.{items_of}
 use Rattle.logos_machine.specs.LexerValue.{Yields, answers_of, item_of}
 use Rattle.logos_machine.specs.inside.IsAt.{IsMatch}
-use Rattle.logos_machine.proofs.LexerLemmas.{GoesOn, none_of}
+use Rattle.logos_machine.proofs.LexerLemmas.{Continues, none_of}
 use Rattle.logos_scan.specs.Items.{lexer_at}
 use Rattle.logos_scan.specs.Runs.{IsTaken}
 use Rattle.logos_scan.specs.declared.attempts.Taken.TheVariants.{Emits, CallsBack, Fails, Ends}
@@ -52,8 +52,8 @@ loop-leaf-smaller g c =
     let start = (start_of c.loop-leaf.self.cursor) in
     let span = c.in-CallsBack.span in
     let t : IsTaken reading.code.now reading.input.now start (CallsBack c.in-CallsBack.leaf span) (start_of c.next.new.self.cursor) = c.in-CallsBack.ensures.taken in
-    let tried = t.1.1 in
-    let fits : IsMatch reading.code.now reading.input.now span.from c.in-CallsBack.leaf.0 span.to = tried.within in
+    let attempted = t.1.1 in
+    let fits : IsMatch reading.code.now reading.input.now span.from c.in-CallsBack.leaf.0 span.to = attempted.within in
     let smaller : length reading.input.now - (start_of c.next.new.self.cursor) < length reading.input.now - start =
     omega (arith, skips_le reading.code.now reading.input.now start span.from t.0, fits.1, fits.2, t.2) in
     smaller
@@ -72,7 +72,7 @@ loop-leaf-preserved g c =
     let is : items_of reading.code.now.leaves answers reading.input.now yields.answer leaf span.from span.to ≡ [] = rw (none_of c.matched_item.result c.in_default.not-Some) at yields.is in
     record {
       ready = c.next.ensures.ready;
-      on = subst (λ (to : ℕ). GoesOn answers old to) (sym t.2)
+      on = subst (λ (to : ℕ). Continues answers old to) (sym t.2)
           (goes_calls_back answers old start span.from span.to t.1.0 c.loop-leaf.invariant.on t.0 leaf yields.answer t.1.1 yields.may is);
     }
 

@@ -1,6 +1,6 @@
 use Rattle.std.proofs.Common.{◌-◌, length}
 use Rattle.logos_machine.specs.LexerValue.{answers_of}
-use Rattle.logos_machine.proofs.LexerLemmas.{GoesOn}
+use Rattle.logos_machine.proofs.LexerLemmas.{Continues}
 use Rattle.logos_scan.specs.Items.{lexer_at}
 use Rattle.logos_scan.specs.Runs.{IsReady, with_chunk}
 use Rattle.logos_scan.specs.walk.Cursors.{start_of}
@@ -10,7 +10,7 @@ use Rattle.logos_scan.proofs.run.Run.next_item.Given as goal
 abbrev pub invariant-loop-leaf : goal.invariant-loop-leaf
 invariant-loop-leaf g l = record {
   ready : IsReady l.reading (with_chunk l.chunk l.self);
-  on : GoesOn (answers_of g.C.Fn l.callback) (lexer_at l.reading l.callback (start_of l.initial.self.cursor) (start_of l.initial.self.cursor)) (start_of l.self.cursor);
+  on : Continues (answers_of g.C.Fn l.callback) (lexer_at l.reading l.callback (start_of l.initial.self.cursor) (start_of l.initial.self.cursor)) (start_of l.self.cursor);
 }
 
 abbrev pub decreases-loop-leaf : goal.decreases-loop-leaf

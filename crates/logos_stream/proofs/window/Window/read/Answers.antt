@@ -35,7 +35,7 @@ returns-clause-read g c =
     subst (λ (r : g.row.R.Denot). Consumes (g.R.Read.remaining r) (g.R.Read.remaining c.read.new.self.reader) e.added) p.reader e.consumed in
     let made = reads_on s.is_utf8 s.parts.part s.parts.bound s.parts.is_over s.before s.from s.at s.ready s.is_last s.bound s.wanted c.self.invariant
     e.added c.read.new.self.part (e.part ∙ ap (λ l. l ++ e.added) p.part) c.tail_of-tail.result tail
-    g.R.Read.remaining s.parts.reader c.read.new.self.reader s.offset s.bound s.wanted s.bound s.wanted c.read.new.self.is_over c.if-self.false refl refl consumed e.goes_on (λ h. (e.over h).1) in
+    g.R.Read.remaining s.parts.reader c.read.new.self.reader s.offset s.bound s.wanted s.bound s.wanted c.read.new.self.is_over c.if-self.false refl refl consumed e.continues (λ h. (e.over h).1) in
     let now = subst (λ (b : Bool). ReadsOn {R = g.row.R.Denot} g.R.Read.remaining
     (record {
       reader = s.parts.reader;

@@ -1,7 +1,7 @@
 use Rattle.std.proofs.Common.{◌≡◌, ◌⊎◌, get_or, arith}
 use Rattle.logos_lexeme.specs.LiteralBodies.{bytes_of}
 use Rattle.logos_lexeme.specs.declared.lexeme.openings.Content.TheVariants.{Text}
-use Rattle.logos_token.proofs.values.ValueLaws.{rest-stuck, rest-piece, ascii_piece, says-boundary, special_ascii}
+use Rattle.logos_token.proofs.values.ValueLaws.{rest-stuck, rest-piece, ascii_piece, represents-boundary, special_ascii}
 use Rattle.logos_lexeme.proofs.BodyLaws.{Represents-moves}
 use Rattle.logos_token.proofs.token.value.add_text.Goals as goal
 use Rattle.logos_token.proofs.token.value.add_text.Goals.{In-Some}
@@ -24,5 +24,5 @@ returns c = record {
   added = c.in_ok-push_text.ensures;
   rest = rest-piece c.args.escapes Text c.args.source.now c.args.at c.in-Some.next c.args.to (bytes_of c.in-Some.piece) c.in-Some.ensures c.requires.before;
   moves = Represents-moves c.args.escapes Text c.args.source.now c.args.at c.in-Some.next (bytes_of c.in-Some.piece) c.in-Some.ensures;
-  boundary = says-boundary c.args.escapes c.args.source.now c.utf8.source c.args.at c.in-Some.next (bytes_of c.in-Some.piece) c.in-Some.ensures (special (goal.at.returns c).In-Some);
+  boundary = represents-boundary c.args.escapes c.args.source.now c.utf8.source c.args.at c.in-Some.next (bytes_of c.in-Some.piece) c.in-Some.ensures (special (goal.at.returns c).In-Some);
 }

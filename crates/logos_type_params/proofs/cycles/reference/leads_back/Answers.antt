@@ -10,21 +10,21 @@ loop-from-init c =
     let is = c.in_ok-vec.ensures.items_if_clones_equal (λ y e. e) in
     let long = c.in_ok-vec.ensures.len in
     let same = length-map lists (λ v. v.items) in
-    walk_begun (graph lists) c.args.node c.in_ok-vec.field-0.items c.go_on.new.traversal.found.items c.go_on.new.traversal.waiting.items
+    walk_begun (graph lists) c.args.node c.in_ok-vec.field-0.items c.add_targets.new.traversal.found.items c.add_targets.new.traversal.waiting.items
     (omega (arith, long, same)) (λ node h. none_found c.in_ok-vec.field-0.items (length lists) node is h)
-    (rw c.new.ensures.items at c.in_ok-go_on.ensures)
+    (rw c.new.ensures.items at c.in_ok-add_targets.ensures)
 
 pub loop-from-preserved : goal.loop-from-preserved
 loop-from-preserved c =
-    walk_on (graph c.args.lists.now) c.args.node c.in-Some.from c.loop-from.traversal.found.items c.go_on-in-Some.new.traversal.found.items
-    c.loop-from.traversal.waiting.items c.pop.new.self.items c.go_on-in-Some.new.traversal.waiting.items
-    c.in-Some.ensures.items c.loop-from.invariant c.in_ok-go_on-2.ensures
+    walk_on (graph c.args.lists.now) c.args.node c.in-Some.from c.loop-from.traversal.found.items c.add_targets-in-Some.new.traversal.found.items
+    c.loop-from.traversal.waiting.items c.pop.new.self.items c.add_targets-in-Some.new.traversal.waiting.items
+    c.in-Some.ensures.items c.loop-from.invariant c.in_ok-add_targets-2.ensures
 
 pub loop-from-smaller : goal.loop-from-smaller
 loop-from-smaller c =
-    walk_smaller c.loop-from.traversal.found.items c.go_on-in-Some.new.traversal.found.items
-    c.loop-from.traversal.waiting.items c.pop.new.self.items c.go_on-in-Some.new.traversal.waiting.items c.in-Some.from
-    c.in-Some.ensures.items c.in_ok-go_on-2.ensures.left
+    walk_smaller c.loop-from.traversal.found.items c.add_targets-in-Some.new.traversal.found.items
+    c.loop-from.traversal.waiting.items c.pop.new.self.items c.add_targets-in-Some.new.traversal.waiting.items c.in-Some.from
+    c.in-Some.ensures.items c.in_ok-add_targets-2.ensures.left
 
 pub returns : goal.returns
 returns c =

@@ -12,7 +12,7 @@ begins c = begins-run _ _ (rw c.in-Some.ensures.cases.0 at c.args.self.nested)
 pub invariant_of-result : goal.invariant_of-result
 invariant_of-result c =
     let d : After-size = (goal.at.invariant_of-result c).After-size in
-    record { nested = rw (d.size.ensures, take_rest) (begins d).behind }
+    record { nested = rw (d.size.ensures, take_rest) (begins d).afterward }
 
 pub returns : goal.returns
 returns c =

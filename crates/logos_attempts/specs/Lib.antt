@@ -1,0 +1,4 @@
+pub mod Around
+pub mod Partials
+pub mod Imports
+pub mod Views

@@ -1,0 +1,149 @@
+//! The match or the error around an offset of an input. Called for `--at`.
+
+ghost use Rattle.std.specs.Prelude.{◌≡◌, ◌<◌, ◌≤◌, ℕ, List, IfSome, length};
+ghost use Rattle.logos_attempts.specs.Views.{Finds, Gains, IsAround, IsAroundText, LeadsTo, around_text, kind_text, location_in, location_text};
+
+use logos_answers::{bytes_between, push_leaf, push_quoted};
+use logos_code::code::Code;
+use logos_lines::{Cursor, Location};
+use logos_machine::machine::walk::{Outcome, attempt};
+use logos_page::Page;
+use logos_pattern::leaf::Leaf;
+use std::str;
+
+/// The kind of the result of a match attempt.
+#[derive(Clone, Copy, Debug, PartialEq, Eq)]
+pub enum SurroundingKind {
+    /// A skipped match.
+    Skip,
+    /// A match of the leaf with this number.
+    Leaf(usize),
+    /// Bytes that no leaf matches.
+    Error,
+}
+
+/// A match or an error that a lexer finds, with its span.
+#[derive(Clone, Copy, Debug, PartialEq, Eq)]
+pub struct Surrounding {
+    pub kind: SurroundingKind,
+    pub from: usize,
+    pub to: usize,
+}
+
+/// Returns the match or the error that begins before an offset of an input and ends after it, if a
+/// lexer finds one from the beginning on. No callback is called. An input that the lexer refuses,
+/// since it is not UTF-8, has none.
+pub fn match_around(code: &Code<'_>, input: &[u8], offset: usize) -> Option<Surrounding>
+    requires { offset ≤ length input.now }
+    ensures { IfSome result (IsAround code.now input.now offset) }
+{
+    if is_refused(code, input) {
+        return None;
+    }
+    found_around(code, input, offset)
+}
+
+/// Returns whether a lexer refuses an input, since it is not UTF-8.
+fn is_refused(code: &Code<'_>, input: &[u8]) -> bool {
+    code.is_utf8() & str::from_utf8(input).is_err()
+}
+
+/// Returns the match or the error that begins before an offset of an input and ends after it.
+fn found_around(code: &Code<'_>, input: &[u8], offset: usize) -> Option<Surrounding>
+    requires { offset ≤ length input.now }
+    ensures { IfSome result (IsAround code.now input.now offset) }
+{
+    let mut at = 0;
+    while at < offset {
+        let found = found_at(code, input, at);
+        if offset < found.to {
+            return Some(found);
+        }
+        at = found.to;
+    }
+    None
+}
+
+/// Returns the match or the error at an offset before the end of an input.
+pub(crate) fn found_at(code: &Code<'_>, input: &[u8], from: usize) -> Surrounding
+    requires { from < length input.now }
+    ensures finds { Finds code.now input.now result }
+    ensures from { result.from ≡ from }
+    ensures past { from < result.to }
+{
+    match attempt(code, input, from) {
+        Outcome::Skips(to) => around_of(SurroundingKind::Skip, from, to),
+        Outcome::Emits(leaf, to, _) => around_of(SurroundingKind::Leaf(leaf.0), from, to),
+        Outcome::CallsBack(leaf, to, _) => around_of(SurroundingKind::Leaf(leaf.0), from, to),
+        Outcome::Fails(to, _) => around_of(SurroundingKind::Error, from, to),
+        Outcome::Ends(_) => around_of(SurroundingKind::Error, from, input.len()),
+    }
+}
+
+/// Returns a match or an error with this span.
+fn around_of(kind: SurroundingKind, from: usize, to: usize) -> Surrounding
+    ensures { result ≡ record { kind = kind; from = from; to = to } }
+{
+    Surrounding { kind, from, to }
+}
+
+/// Appends a line with the match or the error around an offset of an input, if there is one.
+pub fn push_around(
+    page: &mut Page,
+    code: &Code<'_>,
+    leaves: &[Leaf<'_>],
+    input: &[u8],
+    offset: usize,
+)
+    requires { offset ≤ length input.now }
+    ensures { (text : List ℕ) × IsAroundText code.now leaves.now input.now offset text
+        × Gains text page.old page.new }
+{
+    if let Some(found) = match_around(code, input, offset) {
+        push_found(page, leaves, input, found);
+    }
+}
+
+/// Appends the line of a match or an error.
+fn push_found(page: &mut Page, leaves: &[Leaf<'_>], input: &[u8], found: Surrounding)
+    ensures { Gains (around_text leaves.now input.now found) page.old page.new }
+{
+    page.push("inside ");
+    push_kind(page, leaves, found.kind);
+    page.push(" from ");
+    push_location(page, location_in(input, found.from));
+    page.push(" to ");
+    push_location(page, location_in(input, found.to));
+    page.push("  ");
+    push_quoted(page, bytes_between(input, found.from, found.to));
+    page.push("\n");
+}
+
+/// Appends the kind of a match or an error.
+fn push_kind(page: &mut Page, leaves: &[Leaf<'_>], kind: SurroundingKind)
+    ensures { Gains (kind_text leaves.now kind) page.old page.new }
+{
+    match kind {
+        SurroundingKind::Skip => page.push("a skipped match"),
+        SurroundingKind::Leaf(leaf) => push_leaf(page, leaves, leaf),
+        SurroundingKind::Error => page.push("an error"),
+    }
+}
+
+/// Returns the location of an offset of an input, or of its end if the offset is past it.
+pub(crate) fn location_in(input: &[u8], offset: usize) -> Location
+    ensures { result ≡ location_in input.now offset }
+{
+    let mut cursor = Cursor::new(input);
+    cursor.go_to(offset);
+    cursor.location()
+}
+
+/// Appends a location.
+pub(crate) fn push_location(page: &mut Page, location: Location)
+    ensures { Gains (location_text location) page.old page.new }
+{
+    page.push_number(location.line);
+    page.push(":");
+    page.push_number(location.column);
+}

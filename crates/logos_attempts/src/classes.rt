@@ -1,0 +1,152 @@
+//! Sets of bytes in a short form, as in a pattern. Used by `partial_lines` and `logos_html`.
+
+ghost use Rattle.std.specs.Prelude.{◌<◌};
+
+use logos_graph::byte_class::ByteClass;
+use logos_page::Page;
+use std::ops::RangeInclusive;
+
+/// The maximum number of ranges of needed bytes that are shown.
+const NEEDED: usize = 12;
+
+/// The number of bytes that are ASCII.
+const ASCII: usize = 128;
+
+/// Appends a set of bytes, one of which a leaf needs next. If it has the first byte of every
+/// character outside ASCII, the ASCII characters are shown that it excludes.
+pub(crate) fn push_needed(page: &mut Page, class: &ByteClass) {
+    if !is_wide(class) {
+        return push_class(page, class, NEEDED);
+    }
+    if has_run(class, 0, 255) {
+        return page.push("any byte");
+    }
+    if has_run(class, 0, 127) {
+        return page.push("any character");
+    }
+    push_excluded(page, &class.to_table());
+}
+
+/// Returns whether a set has all bytes that begin a character outside ASCII.
+fn is_wide(class: &ByteClass) -> bool {
+    has_run(class, 0xC2, 0xF4)
+}
+
+/// Returns whether a range of a set has all bytes from one to another.
+fn has_run(class: &ByteClass, first: u8, last: u8) -> bool {
+    class
+        .ranges
+        .iter()
+        .any(|range| (*range.start() <= first) & (last <= *range.end()))
+}
+
+/// Appends the ASCII characters that are not in a set, between brackets, as an excluding set.
+pub fn push_excluded(page: &mut Page, table: &[bool; 256]) {
+    page.push("[^");
+    for byte in 0..ASCII {
+        push_run(page, run_at(&table[..ASCII], false, byte));
+    }
+    page.push("]");
+}
+
+/// Appends a range of bytes, if there is one.
+fn push_run(page: &mut Page, range: Option<RangeInclusive<u8>>) {
+    if let Some(range) = range {
+        push_range(page, &range);
+    }
+}
+
+/// Returns the range of equal flags that begins at a byte, if one with this flag does.
+pub(crate) fn run_at(table: &[bool], flag: bool, from: usize) -> Option<RangeInclusive<u8>> {
+    if !has_flag(table, flag, from) {
+        return None;
+    }
+    if (from > 0) & has_flag(table, flag, from.saturating_sub(1)) {
+        return None;
+    }
+    let end = run_end(table, flag, from);
+    Some(RangeInclusive::new((from % 256) as u8, (end.saturating_sub(1) % 256) as u8))
+}
+
+/// Returns whether a byte has this flag.
+fn has_flag(table: &[bool], flag: bool, byte: usize) -> bool {
+    match table.get(byte) {
+        Some(found) => *found == flag,
+        None => false,
+    }
+}
+
+/// Returns the first byte from another one on that does not have this flag, or the length.
+fn run_end(table: &[bool], flag: bool, from: usize) -> usize {
+    for byte in from..table.len() {
+        if table[byte] != flag {
+            return byte;
+        }
+    }
+    table.len()
+}
+
+/// Appends at most `most` ranges of a set of bytes, between brackets, and the number of the others.
+pub fn push_class(page: &mut Page, class: &ByteClass, most: usize) {
+    page.push("[");
+    for range in class.ranges.iter().take(most) {
+        push_range(page, range);
+    }
+    page.push("]");
+    push_others(page, class.ranges.len().saturating_sub(most));
+}
+
+/// Appends the number of the ranges that are left out, if there are some.
+fn push_others(page: &mut Page, count: usize) {
+    if count > 0 {
+        page.push(" +");
+        page.push_number(count);
+    }
+}
+
+/// Appends a range of bytes.
+fn push_range(page: &mut Page, range: &RangeInclusive<u8>) {
+    let first = *range.start();
+    let last = *range.end();
+    push_byte(page, first);
+    if first < last {
+        page.push("-");
+        push_byte(page, last);
+    }
+}
+
+/// Appends a byte as it is written between brackets in a pattern.
+fn push_byte(page: &mut Page, byte: u8) {
+    match byte {
+        b'\n' => page.push("\\n"),
+        b'\r' => page.push("\\r"),
+        b'\t' => page.push("\\t"),
+        b'\\' | b'[' | b']' | b'^' | b'-' => push_escaped(page, byte),
+        b'!'..=b'~' => page.push_char(byte as char),
+        _ => push_byte_escape(page, byte),
+    }
+}
+
+/// Appends a byte that has a meaning between brackets.
+fn push_escaped(page: &mut Page, byte: u8) {
+    page.push("\\");
+    page.push_char(byte as char);
+}
+
+/// Appends the escape of a byte, such as `\xFF`.
+fn push_byte_escape(page: &mut Page, byte: u8) {
+    page.push("\\x");
+    page.push_char(hex_digit(byte / 16));
+    page.push_char(hex_digit(byte % 16));
+}
+
+/// Returns the hexadecimal digit of a number below 16.
+fn hex_digit(number: u8) -> char
+    requires { number < 16 }
+{
+    if number < 10 {
+        (b'0' + number) as char
+    } else {
+        (b'A' + (number - 10)) as char
+    }
+}

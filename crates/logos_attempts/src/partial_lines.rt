@@ -1,0 +1,252 @@
+//! The lines of partial matches. Called for `--at`, where no leaf matches.
+
+ghost use Rattle.std.specs.Prelude.{◌≡◌, ◌≤◌, ℕ, List, IfOk, IsTrue, OnErr, OnOk, length, string_bytes};
+ghost use Rattle.logos_attempts.specs.Views.{AddsLine, ArePartialLines, CodeFinds, Gains, IsPartialText, failed, partial_line, read_text, reader_text};
+
+use crate::around::{location_in, push_location};
+use crate::classes::push_needed;
+use crate::partials::{PartialMatch, partial_matches};
+use logos_answers::{bytes_between, name_at, push_quoted};
+use logos_code::code::Code;
+use logos_graph::graph::Graph;
+use logos_machine::machine::walk::{Outcome, attempt};
+use logos_page::Page;
+use logos_pattern::leaf::Leaf;
+use std::alloc::{AllocError, Global};
+
+/// The maximum number of leaves that are shown.
+const SHOWN: usize = 8;
+
+/// An offset of an input, with the leaves that read from it.
+#[derive(Clone, Copy)]
+struct ReadStart<'a, 's> {
+    leaves: &'a [Leaf<'s>],
+    input: &'a [u8],
+    from: usize,
+}
+
+/// Appends a line for each of at most eight leaves that read at least one byte from an offset of an
+/// input, if no leaf matches from there: how far the leaf reads, and the bytes that continue it.
+/// Those that read furthest come first, and the number of the others comes last.
+///
+/// # Errors
+///
+/// Returns `AllocError` if memory runs out. Then nothing was appended.
+pub fn push_partials(
+    alloc: Global,
+    page: &mut Page,
+    graph: &Graph<'_>,
+    code: &Code<'_>,
+    input: &[u8],
+    from: usize,
+) -> Result<(), AllocError>
+    requires { from ≤ length input.now }
+    ensures shows { OnOk result ((text : List ℕ)
+        × IsPartialText graph.now.leaves input.now from code.now text
+        × Gains text page.old page.new) }
+    ensures err { OnErr result (page.new ≡ page.old) }
+{
+    if !fails_at(code, input, from) {
+        return Ok(());
+    }
+    let text = lines_of(alloc, graph, input, from)?;
+    page.push(text.as_str());
+    Ok(())
+}
+
+/// Returns whether a lexer finds an error at an offset.
+fn fails_at(code: &Code<'_>, input: &[u8], from: usize) -> bool
+    requires { from ≤ length input.now }
+    ensures { IsTrue result → (to : ℕ) × CodeFinds code.now input.now from (failed to) }
+{
+    match attempt(code, input, from) {
+        Outcome::Fails(_, _) => true,
+        _ => false,
+    }
+}
+
+/// Returns the lines of partial matches.
+fn lines_of(
+    alloc: Global,
+    graph: &Graph<'_>,
+    input: &[u8],
+    from: usize,
+) -> Result<String, AllocError>
+    ensures { IfOk result (λ text.
+        ArePartialLines graph.now.leaves input.now from (string_bytes text)) }
+{
+    let partials = partial_matches(alloc, graph, input, from)?;
+    let mut page = Page::new(alloc, false);
+    let start = ReadStart {
+        leaves: graph.leaves(),
+        input,
+        from,
+    };
+    push_lines(alloc, &mut page, start, &partials)?;
+    page.finish()
+}
+
+/// Appends the lines of partial matches.
+///
+/// # Errors
+///
+/// Returns `AllocError` if memory runs out. Then a part may have been appended.
+fn push_lines(
+    alloc: Global,
+    page: &mut Page,
+    start: ReadStart<'_, '_>,
+    partials: &[PartialMatch],
+) -> Result<(), AllocError>
+    ensures { OnOk result ((text : List ℕ) × ArePartialLines start.entry.leaves.now
+        start.entry.input.now start.entry.from text × Gains text page.old page.new) }
+{
+    for rank in 0..SHOWN {
+        push_ranked(alloc, page, start, partials, rank)?;
+    }
+    let rest = others_text(alloc, partials.len().saturating_sub(SHOWN))?;
+    page.push(rest.as_str());
+    Ok(())
+}
+
+/// Returns a line with the number of the partial matches that are not shown, or no text if it is 0.
+fn others_text(alloc: Global, count: usize) -> Result<String, AllocError> {
+    let mut page = Page::new(alloc, false);
+    if count > 0 {
+        page.push("  and ");
+        page.push_number(count);
+        page.push(" more\n");
+    }
+    page.finish()
+}
+
+/// Appends the line of the partial match with this rank, if there is one.
+///
+/// # Errors
+///
+/// Returns `AllocError` if memory runs out. Then nothing was appended.
+fn push_ranked(
+    alloc: Global,
+    page: &mut Page,
+    start: ReadStart<'_, '_>,
+    partials: &[PartialMatch],
+    rank: usize,
+) -> Result<(), AllocError>
+    ensures { OnOk result (AddsLine start.entry.leaves.now start.entry.input.now start.entry.from
+        page.old page.new) }
+{
+    let Some(partial) = ranked(partials, rank) else {
+        return Ok(());
+    };
+    push_checked(alloc, page, start, partial)
+}
+
+/// Returns the partial match with this rank, if there is one.
+fn ranked(partials: &[PartialMatch], rank: usize) -> Option<&PartialMatch> {
+    for partial in partials {
+        if rank_of(partials, partial) == rank {
+            return Some(partial);
+        }
+    }
+    None
+}
+
+/// Returns the number of partial matches that come before another one.
+fn rank_of(partials: &[PartialMatch], partial: &PartialMatch) -> usize {
+    let mut rank: usize = 0;
+    for other in partials {
+        rank = rank.saturating_add(is_before(other, partial) as usize);
+    }
+    rank
+}
+
+/// Returns whether a partial match is longer than another one, or as long and of an earlier leaf.
+fn is_before(one: &PartialMatch, other: &PartialMatch) -> bool {
+    (one.end > other.end) | ((one.end == other.end) & (one.leaf < other.leaf))
+}
+
+/// Appends the line of a partial match, if it has at least one byte of the input.
+///
+/// # Errors
+///
+/// Returns `AllocError` if memory runs out. Then nothing was appended.
+fn push_checked(
+    alloc: Global,
+    page: &mut Page,
+    start: ReadStart<'_, '_>,
+    partial: &PartialMatch,
+) -> Result<(), AllocError>
+    ensures { OnOk result (AddsLine start.entry.leaves.now start.entry.input.now start.entry.from
+        page.old page.new) }
+{
+    if partial.end <= start.from {
+        return Ok(());
+    }
+    if start.input.len() < partial.end {
+        return Ok(());
+    }
+    let needs = needs_of(alloc, partial)?;
+    push_line(page, start, partial, needs.as_str());
+    Ok(())
+}
+
+/// Appends the line of a partial match.
+fn push_line(page: &mut Page, start: ReadStart<'_, '_>, partial: &PartialMatch, needs: &str)
+    ensures { Gains (partial_line start.entry.leaves.now start.entry.input.now start.entry.from
+        partial.now.leaf partial.now.end needs.now) page.old page.new }
+{
+    push_reader(page, start, partial.leaf);
+    push_read(page, start, partial.end);
+    page.push("  then needs ");
+    page.push(needs);
+    page.push("\n");
+}
+
+/// Appends the leaf of a partial match.
+fn push_reader(page: &mut Page, start: ReadStart<'_, '_>, leaf: usize)
+    ensures { Gains (reader_text start.entry.leaves.now leaf) page.old page.new }
+{
+    page.push("  leaf ");
+    page.push_number(leaf);
+    page.push("  ");
+    page.push(name_at(start.leaves, leaf));
+}
+
+/// Appends the bytes that a leaf reads, and the location at which they end.
+fn push_read(page: &mut Page, start: ReadStart<'_, '_>, end: usize)
+    ensures { Gains (read_text start.entry.input.now start.entry.from end) page.old page.new }
+{
+    page.push("  reads ");
+    push_quoted(page, bytes_between(start.input, start.from, end));
+    page.push(" to ");
+    push_location(page, location_in(start.input, end));
+}
+
+/// Returns the text of the bytes that continue a partial match, and of those that complete it.
+fn needs_of(alloc: Global, partial: &PartialMatch) -> Result<String, AllocError> {
+    let mut page = Page::new(alloc, false);
+    push_next(&mut page, partial);
+    push_last(&mut page, partial);
+    page.finish()
+}
+
+/// Appends the bytes that continue a partial match, and whether the end of the input does.
+fn push_next(page: &mut Page, partial: &PartialMatch) {
+    if partial.next.ranges.is_empty() {
+        page.push("the end of the input");
+        return;
+    }
+    push_needed(page, &partial.next);
+    if partial.may_end {
+        page.push(" or the end of the input");
+    }
+}
+
+/// Appends the bytes that complete a partial match, if not all that continue it do.
+fn push_last(page: &mut Page, partial: &PartialMatch) {
+    if partial.last.ranges.is_empty() | (partial.last == partial.next) {
+        return;
+    }
+    page.push("; ");
+    push_needed(page, &partial.last);
+    page.push(" completes it");
+}

@@ -1,0 +1,318 @@
+//! Partial matches: how far each leaf reads an input from an offset, and the bytes that continue
+//! it. Used by `partial_lines`.
+
+use crate::classes::run_at;
+use logos_automaton::dfa::Dfa;
+use logos_automaton::dfa::parts::{end_at, leaves_at, row_at, state_count};
+use logos_graph::byte_class::ByteClass;
+use logos_graph::graph::Graph;
+use std::alloc::{AllocError, Global};
+use std::ops::RangeInclusive;
+
+/// The longest prefix of a match of a leaf that an input has at an offset, of at least one byte.
+#[derive(Debug, Drop)]
+pub struct PartialMatch {
+    /// The number of the leaf.
+    pub leaf: usize,
+    /// The offset of the input at which the prefix ends, in bytes.
+    pub end: usize,
+    /// The bytes that continue the prefix to one of a match, or complete a match before them.
+    pub next: ByteClass,
+    /// The bytes that complete a match at the end of an input.
+    pub last: ByteClass,
+    /// Whether the end of the input completes a match.
+    pub may_end: bool,
+}
+
+/// The states of an automaton that an input enters from an offset on.
+#[derive(Drop)]
+struct Walk {
+    /// For each state the end of the longest prefix of the input that leads to it, or 0.
+    ends: Vec<usize>,
+    /// The states that are entered, and all states after them.
+    reached: Vec<usize>,
+}
+
+/// Returns the partial matches of all leaves from an offset of an input, by the numbers of leaves.
+///
+/// # Errors
+///
+/// Returns `AllocError` if memory runs out.
+pub fn partial_matches(
+    alloc: Global,
+    graph: &Graph<'_>,
+    input: &[u8],
+    from: usize,
+) -> Result<Vec<PartialMatch>, AllocError> {
+    let dfa = graph.dfa();
+    let walk = walk_of(alloc, dfa, input, from)?;
+    let mut found = Vec::new(alloc);
+    for leaf in 0..graph.leaves().len() {
+        add_partial(alloc, &mut found, dfa, &walk, leaf)?;
+    }
+    Ok(found)
+}
+
+/// Returns the states that an input enters from an offset on, and those after them.
+fn walk_of(alloc: Global, dfa: &Dfa, input: &[u8], from: usize) -> Result<Walk, AllocError> {
+    let ends = ends_of(alloc, dfa, input, from)?;
+    let reached = reached_from(alloc, dfa, &ends)?;
+    Ok(Walk { ends, reached })
+}
+
+/// Returns for each state the end of the longest prefix of the input from an offset on that leads
+/// to it, or 0.
+fn ends_of(alloc: Global, dfa: &Dfa, input: &[u8], from: usize) -> Result<Vec<usize>, AllocError> {
+    let mut ends = vec![in alloc; 0; state_count(dfa)]?;
+    let mut state = dfa.start().index();
+    for at in from..input.len() {
+        state = next_by(dfa, state, input[at] as usize);
+        set_end(&mut ends, state, at.saturating_add(1));
+    }
+    Ok(ends)
+}
+
+/// Returns the state to which a byte leads.
+fn next_by(dfa: &Dfa, state: usize, byte: usize) -> usize {
+    if state >= state_count(dfa) {
+        return state;
+    }
+    row_at(dfa, state)[byte % 256] as usize
+}
+
+/// Returns whether a state lists a leaf.
+fn lists(dfa: &Dfa, state: usize, leaf: usize) -> bool {
+    if state >= state_count(dfa) {
+        return false;
+    }
+    leaves_at(dfa, state).contains(&leaf)
+}
+
+/// Returns whether the state that follows at the end of the input lists a leaf.
+fn lists_at_end(dfa: &Dfa, state: usize, leaf: usize) -> bool {
+    if state >= state_count(dfa) {
+        return false;
+    }
+    lists(dfa, end_at(dfa, state) as usize, leaf)
+}
+
+/// Sets the end of a state.
+fn set_end(ends: &mut Vec<usize>, state: usize, end: usize) {
+    if state < ends.len() {
+        ends[state] = end;
+    }
+}
+
+/// Returns the states that have an end, and all states after them.
+fn reached_from(alloc: Global, dfa: &Dfa, ends: &[usize]) -> Result<Vec<usize>, AllocError> {
+    let mut seen = vec![in alloc; false; ends.len()]?;
+    let mut reached = Vec::new(alloc);
+    add_entered(&mut seen, &mut reached, ends)?;
+    for number in 0..ends.len() {
+        add_next(dfa, &mut seen, &mut reached, number)?;
+    }
+    Ok(reached)
+}
+
+/// Adds the states that have an end.
+fn add_entered(
+    seen: &mut Vec<bool>,
+    reached: &mut Vec<usize>,
+    ends: &[usize],
+) -> Result<(), AllocError> {
+    for state in 0..ends.len() {
+        if ends[state] > 0 {
+            add_state(seen, reached, state)?;
+        }
+    }
+    Ok(())
+}
+
+/// Adds the states to which bytes lead from the state with this number among the reached ones, if
+/// there is one.
+fn add_next(
+    dfa: &Dfa,
+    seen: &mut Vec<bool>,
+    reached: &mut Vec<usize>,
+    number: usize,
+) -> Result<(), AllocError> {
+    if number >= reached.len() {
+        return Ok(());
+    }
+    let state = reached[number];
+    for byte in 0..256 {
+        add_state(seen, reached, next_by(dfa, state, byte))?;
+    }
+    Ok(())
+}
+
+/// Adds a state that was not seen before.
+fn add_state(
+    seen: &mut Vec<bool>,
+    reached: &mut Vec<usize>,
+    state: usize,
+) -> Result<(), AllocError> {
+    if state >= seen.len() {
+        return Ok(());
+    }
+    if seen[state] {
+        return Ok(());
+    }
+    reached.push(state)?;
+    seen[state] = true;
+    Ok(())
+}
+
+/// Adds the partial match of a leaf, if it reads a byte.
+fn add_partial(
+    alloc: Global,
+    found: &mut Vec<PartialMatch>,
+    dfa: &Dfa,
+    walk: &Walk,
+    leaf: usize,
+) -> Result<(), AllocError> {
+    let open = open_states(alloc, dfa, walk, leaf)?;
+    let Some(state) = furthest(walk, &open) else {
+        return Ok(());
+    };
+    let partial = PartialMatch {
+        leaf,
+        end: end_of(walk, state),
+        next: class_of(alloc, &next_table(dfa, state, leaf, &open))?,
+        last: class_of(alloc, &last_table(dfa, state, leaf))?,
+        may_end: lists_at_end(dfa, state, leaf),
+    };
+    Ok(found.push(partial)?)
+}
+
+/// Returns for each state whether a match of a leaf can end after it, among the reached states.
+fn open_states(
+    alloc: Global,
+    dfa: &Dfa,
+    walk: &Walk,
+    leaf: usize,
+) -> Result<Vec<bool>, AllocError> {
+    let mut open = vec![in alloc; false; walk.ends.len()]?;
+    for _ in 0..walk.reached.len() {
+        if !open_more(dfa, walk, leaf, &mut open) {
+            return Ok(open);
+        }
+    }
+    Ok(open)
+}
+
+/// Opens the reached states that lead to open ones, the last one first. Returns whether one was
+/// opened.
+fn open_more(dfa: &Dfa, walk: &Walk, leaf: usize, open: &mut Vec<bool>) -> bool {
+    let count = walk.reached.len();
+    let mut is_more = false;
+    for number in 0..count {
+        let state = walk.reached[count - 1 - number];
+        is_more |= open_state(dfa, leaf, open, state);
+    }
+    is_more
+}
+
+/// Opens a state that leads to an open one, or to one that lists the leaf. Returns whether it was
+/// opened.
+fn open_state(dfa: &Dfa, leaf: usize, open: &mut Vec<bool>, state: usize) -> bool {
+    if state >= open.len() {
+        return false;
+    }
+    if open[state] | !leads(dfa, leaf, open, state) {
+        return false;
+    }
+    open[state] = true;
+    true
+}
+
+/// Returns whether a state leads to an open one, or to one that lists the leaf.
+fn leads(dfa: &Dfa, leaf: usize, open: &[bool], state: usize) -> bool {
+    for byte in 0..256 {
+        if continues(dfa, leaf, open, next_by(dfa, state, byte)) {
+            return true;
+        }
+    }
+    lists_at_end(dfa, state, leaf)
+}
+
+/// Returns whether a state is open or lists the leaf.
+fn continues(dfa: &Dfa, leaf: usize, open: &[bool], state: usize) -> bool {
+    is_set(open, state) | lists(dfa, state, leaf)
+}
+
+/// Returns a flag, or `false` past the end.
+fn is_set(flags: &[bool], index: usize) -> bool {
+    match flags.get(index) {
+        Some(flag) => *flag,
+        None => false,
+    }
+}
+
+/// Returns the end of a state, or 0.
+fn end_of(walk: &Walk, state: usize) -> usize {
+    match walk.ends.get(state) {
+        Some(end) => *end,
+        None => 0,
+    }
+}
+
+/// Returns the open state with the last end, if one was entered.
+fn furthest(walk: &Walk, open: &[bool]) -> Option<usize> {
+    let mut best = None;
+    for state in 0..walk.ends.len() {
+        best = later(walk, open, best, state);
+    }
+    best
+}
+
+/// Returns a state that was entered and is open, if its end is later than that of the best one;
+/// otherwise the best one.
+fn later(walk: &Walk, open: &[bool], best: Option<usize>, state: usize) -> Option<usize> {
+    let least = match best {
+        Some(best) => end_of(walk, best),
+        None => 0,
+    };
+    if is_set(open, state) & (least < end_of(walk, state)) {
+        return Some(state);
+    }
+    best
+}
+
+/// Returns for each byte whether it continues a prefix, or completes a match before it.
+fn next_table(dfa: &Dfa, state: usize, leaf: usize, open: &[bool]) -> [bool; 256] {
+    let mut table = [false; 256];
+    for byte in 0..256 {
+        table[byte] = continues(dfa, leaf, open, next_by(dfa, state, byte));
+    }
+    table
+}
+
+/// Returns for each byte whether a match ends after it, if the input ends there.
+fn last_table(dfa: &Dfa, state: usize, leaf: usize) -> [bool; 256] {
+    let mut table = [false; 256];
+    for byte in 0..256 {
+        table[byte] = lists_at_end(dfa, next_by(dfa, state, byte), leaf);
+    }
+    table
+}
+
+/// Returns the set of the bytes whose flags are set.
+fn class_of(alloc: Global, table: &[bool; 256]) -> Result<ByteClass, AllocError> {
+    let mut ranges = Vec::new(alloc);
+    for byte in 0..256 {
+        add_run(&mut ranges, run_at(table, true, byte))?;
+    }
+    Ok(ByteClass { ranges })
+}
+
+/// Adds a range, if there is one.
+fn add_run(
+    ranges: &mut Vec<RangeInclusive<u8>>,
+    range: Option<RangeInclusive<u8>>,
+) -> Result<(), AllocError> {
+    match range {
+        Some(range) => Ok(ranges.push(range)?),
+        None => Ok(()),
+    }
+}

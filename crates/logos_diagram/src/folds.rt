@@ -1,0 +1,209 @@
+//! Edges on the bytes of a character outside ASCII, from state to state. Used by `edges`.
+
+use logos_graph::byte_class::ByteClass;
+use logos_graph::graph::{State, StateData};
+use std::ops::RangeInclusive;
+
+/// The bytes that can begin a character of two, three or four bytes.
+const FIRST: u8 = 0xC2;
+
+const THREE: u8 = 0xE0;
+
+const FOUR: u8 = 0xF0;
+
+const LAST: u8 = 0xF4;
+
+/// Returns whether an edge leads only over whole characters outside ASCII: each of its bytes begins
+/// one, and the states after it have no mark and lead on over the other bytes of the character.
+pub(crate) fn is_folded(states: &[&StateData], edge: &(ByteClass, State)) -> bool {
+    edge.0.ranges.iter().all(|range| folds_from(
+        states,
+        edge.1.index(),
+        *range.start(),
+        *range.end(),
+    ))
+}
+
+/// Returns whether each byte from one to another begins a character, of which the other bytes lead
+/// on from a state.
+fn folds_from(states: &[&StateData], state: usize, first: u8, last: u8) -> bool {
+    if (first < FIRST) | (LAST < last) {
+        return false;
+    }
+    for byte in first as usize..last as usize + 1 {
+        if !folds_at(states, state, byte as u8) {
+            return false;
+        }
+    }
+    true
+}
+
+/// Returns whether the other bytes of a character with this first byte lead on from a state.
+fn folds_at(states: &[&StateData], state: usize, first: u8) -> bool {
+    if first < THREE {
+        return continues(states, state, 0x80, 0xBF);
+    }
+    if first < FOUR {
+        return continues_twice(states, state, least_second(first), most_second(first));
+    }
+    continues_thrice(states, state, least_second(first), most_second(first))
+}
+
+/// Returns the least second byte of a character with this first byte.
+fn least_second(first: u8) -> u8 {
+    match first {
+        0xE0 => 0xA0,
+        0xF0 => 0x90,
+        _ => 0x80,
+    }
+}
+
+/// Returns the greatest second byte of a character with this first byte.
+fn most_second(first: u8) -> u8 {
+    match first {
+        0xED => 0x9F,
+        0xF4 => 0x8F,
+        _ => 0xBF,
+    }
+}
+
+/// Returns whether a state has no mark, and at least one edge, and all its edges are on bytes of a
+/// range.
+fn continues(states: &[&StateData], state: usize, least: u8, most: u8) -> bool {
+    match states.get(state) {
+        Some(data) => is_unmarked(data) & has_edges_within(data, least, most),
+        None => false,
+    }
+}
+
+/// Returns whether a state has no mark and no edge at the end of the input.
+fn is_unmarked(data: &StateData) -> bool {
+    data.state_type.accept.is_none() & data.state_type.early.is_none() & data.eoi.is_none()
+}
+
+/// Returns whether a state has at least one edge, and all its edges are on bytes of a range.
+fn has_edges_within(data: &StateData, least: u8, most: u8) -> bool {
+    !data.normal.is_empty()
+        & data
+            .normal
+            .iter()
+            .all(|edge| is_within(&edge.0, least, most))
+}
+
+/// Returns whether a set has only bytes of a range.
+fn is_within(class: &ByteClass, least: u8, most: u8) -> bool {
+    class
+        .ranges
+        .iter()
+        .all(|range| (least <= *range.start()) & (*range.end() <= most))
+}
+
+/// Returns whether two bytes lead on from a state, the first of them in a range.
+fn continues_twice(states: &[&StateData], state: usize, least: u8, most: u8) -> bool {
+    if !continues(states, state, least, most) {
+        return false;
+    }
+    let Some(data) = states.get(state) else {
+        return false;
+    };
+    data.normal
+        .iter()
+        .all(|edge| continues(states, edge.1.index(), 0x80, 0xBF))
+}
+
+/// Returns whether three bytes lead on from a state, the first of them in a range.
+fn continues_thrice(states: &[&StateData], state: usize, least: u8, most: u8) -> bool {
+    if !continues(states, state, least, most) {
+        return false;
+    }
+    let Some(data) = states.get(state) else {
+        return false;
+    };
+    data.normal
+        .iter()
+        .all(|edge| continues_twice(states, edge.1.index(), 0x80, 0xBF))
+}
+
+/// Adds the characters of an edge that folds to the counts of the states to which they lead.
+pub(crate) fn add_folded(
+    states: &[&StateData],
+    edge: &(ByteClass, State),
+    counts: &mut Vec<usize>,
+) {
+    for range in &edge.0.ranges {
+        add_range(states, edge.1.index(), range, counts);
+    }
+}
+
+/// Adds the characters whose first byte is in a range, and whose other bytes lead on from a state.
+fn add_range(
+    states: &[&StateData],
+    state: usize,
+    range: &RangeInclusive<u8>,
+    counts: &mut Vec<usize>,
+) {
+    for byte in *range.start() as usize..*range.end() as usize + 1 {
+        add_from(states, state, byte as u8, counts);
+    }
+}
+
+/// Adds the characters with this first byte, whose other bytes lead on from a state.
+fn add_from(states: &[&StateData], state: usize, first: u8, counts: &mut Vec<usize>) {
+    if first < THREE {
+        add_last(states, state, 1, counts);
+    } else if first < FOUR {
+        add_twice(states, state, 1, counts);
+    } else {
+        add_thrice(states, state, counts);
+    }
+}
+
+/// Returns the number of bytes of a set.
+pub(crate) fn size_of(class: &ByteClass) -> usize {
+    let mut size: usize = 0;
+    for range in &class.ranges {
+        size = size.saturating_add(
+            (*range.end() as usize + 1).saturating_sub(*range.start() as usize),
+        );
+    }
+    size
+}
+
+/// Adds the bytes of the edges of a state, `times` times, to the counts of their targets.
+fn add_last(states: &[&StateData], state: usize, times: usize, counts: &mut Vec<usize>) {
+    if let Some(data) = states.get(state) {
+        for edge in &data.normal {
+            add_count(
+                counts,
+                edge.1.index(),
+                size_of(&edge.0).saturating_mul(times),
+            );
+        }
+    }
+}
+
+/// Adds to the count of a state.
+fn add_count(counts: &mut Vec<usize>, state: usize, count: usize) {
+    if state < counts.len() {
+        counts[state] = counts[state].saturating_add(count);
+    }
+}
+
+/// Adds two bytes that lead on from a state, `times` times.
+fn add_twice(states: &[&StateData], state: usize, times: usize, counts: &mut Vec<usize>) {
+    if let Some(data) = states.get(state) {
+        for edge in &data.normal {
+            let more = size_of(&edge.0).saturating_mul(times);
+            add_last(states, edge.1.index(), more, counts);
+        }
+    }
+}
+
+/// Adds three bytes that lead on from a state.
+fn add_thrice(states: &[&StateData], state: usize, counts: &mut Vec<usize>) {
+    if let Some(data) = states.get(state) {
+        for edge in &data.normal {
+            add_twice(states, edge.1.index(), size_of(&edge.0), counts);
+        }
+    }
+}

@@ -1,0 +1,14 @@
+//! The state diagram of a lexer as Mermaid text, with short names of sets of bytes. The bytes of a
+//! character outside ASCII are one edge. Called by `logos_show` for `--mermaid`.
+
+#![tactic(auto)]
+
+mod diagram;
+mod edges;
+mod folds;
+mod label;
+pub mod laws;
+mod names;
+
+pub use diagram::{DiagramLexer, diagram_of};
+pub use label::Mermaid;

@@ -1,0 +1,45 @@
+//! An output that is a terminal only where colors are allowed. Used by `logos_cli`.
+
+use crate::screen::allows_colors;
+use std::env::Env;
+use std::io;
+use std::io::{IsTerminal, Write};
+
+/// An output that passes for a terminal if it is one, and the variable `NO_COLOR` allows colors.
+#[derive(Drop)]
+pub struct ColorOutput<W> {
+    writer: W,
+    is_allowed: bool,
+}
+
+impl<W> ColorOutput<W> {
+    /// Returns an output with the setting of the environment.
+    pub fn new<V: Env>(variables: &V, writer: W) -> ColorOutput<W> {
+        ColorOutput {
+            writer,
+            is_allowed: allows_colors(variables),
+        }
+    }
+}
+
+impl<W: Write> Write for ColorOutput<W> {
+    ghost contents = { λ output. W.contents output.writer };
+
+    fn write(&mut self, buf: &[u8]) -> io::Result<usize> {
+        self.writer.write(buf)
+    }
+
+    fn flush(&mut self) -> io::Result<()> {
+        self.writer.flush()
+    }
+
+    fn write_all(&mut self, buf: &[u8]) -> io::Result<()> {
+        self.writer.write_all(buf)
+    }
+}
+
+impl<W: IsTerminal> IsTerminal for ColorOutput<W> {
+    fn is_terminal(&self) -> bool {
+        self.is_allowed & self.writer.is_terminal()
+    }
+}

@@ -1,0 +1,105 @@
+//! Lines that are cut to the width of a screen. Called by `item_line` and `logos_show`.
+
+ghost use Rattle.std.specs.Prelude.{◌≡◌, ◌++◌, [], ◌∷◌, None, OnOk};
+ghost use Rattle.logos_screen.specs.Views.{IsCutFront, IsFront};
+
+use logos_page::columns_of;
+use std::alloc::AllocError;
+
+/// The mark at the end of a line that is cut. It takes one column.
+const CUT: &str = "…";
+
+/// The shown part of a line, and the mark after it, which is empty if that is the whole line.
+#[derive(Clone, Copy)]
+pub(crate) struct ShownLine<'l> {
+    pub(crate) text: &'l str,
+    pub(crate) mark: &'static str,
+}
+
+/// Appends a text with each of its lines cut to a width, if there is one.
+///
+/// # Errors
+///
+/// Returns `AllocError` if memory runs out. Then a part of the text may have been appended.
+pub fn push_fitted(block: &mut Vec<u8>, text: &str, width: Option<usize>) -> Result<(), AllocError>
+    ensures { width ≡ None → OnOk result (block.new.items ≡ block.old.items ++ text.now) }
+{
+    match width {
+        Some(_) => push_lines(block, text, width),
+        None => block.extend_from_slice(text.as_bytes()),
+    }
+}
+
+/// Appends the lines of a text, each cut to a width.
+fn push_lines(block: &mut Vec<u8>, text: &str, width: Option<usize>) -> Result<(), AllocError> {
+    for line in text.lines() {
+        push_front(block, front_of(line, width))?;
+    }
+    Ok(())
+}
+
+/// Appends the shown part of a line, its mark, and a line end.
+fn push_front(block: &mut Vec<u8>, front: ShownLine<'_>) -> Result<(), AllocError>
+    ensures { OnOk result (block.new.items ≡ block.old.items
+        ++ (front.entry.text.now ++ (front.entry.mark.now ++ 10 ∷ []))) }
+{
+    block.extend_from_slice(front.text.as_bytes())?;
+    push_end(block, front.mark)
+}
+
+/// Appends a mark and a line end.
+pub(crate) fn push_end(block: &mut Vec<u8>, mark: &str) -> Result<(), AllocError>
+    ensures { OnOk result (block.new.items ≡ block.old.items ++ (mark.now ++ 10 ∷ [])) }
+{
+    block.extend_from_slice(mark.as_bytes())?;
+    block.extend_from_slice(b"\n")
+}
+
+/// Returns the shown part of a line: the whole line if it fits the width or there is none.
+pub(crate) fn front_of<'l>(line: &'l str, width: Option<usize>) -> ShownLine<'l>
+    ensures { IsFront line.now width result.text.now result.mark.now }
+{
+    match width {
+        Some(width) if columns_in(line) > width => cut_front(line, end_of(line, width)),
+        _ => ShownLine {
+            text: line,
+            mark: "",
+        },
+    }
+}
+
+/// Returns the front of a line up to a byte, with the mark after it.
+fn cut_front<'l>(line: &'l str, end: usize) -> ShownLine<'l>
+    ensures { IsCutFront line.now result.text.now result.mark.now }
+{
+    match line.split_at_checked(end) {
+        Some((text, _)) => ShownLine { text, mark: CUT },
+        None => ShownLine {
+            text: "",
+            mark: CUT,
+        },
+    }
+}
+
+/// Returns the number of columns of a line.
+fn columns_in(line: &str) -> usize {
+    let mut columns: usize = 0;
+    for character in line.chars() {
+        columns = columns.saturating_add(columns_of(character));
+    }
+    columns
+}
+
+/// Returns the length in bytes of the longest front of a line that leaves one column of a width.
+fn end_of(line: &str, width: usize) -> usize {
+    let mut columns: usize = 1;
+    let mut end: usize = 0;
+    for character in line.chars() {
+        columns = columns.saturating_add(columns_of(character));
+        if columns > width {
+            return end;
+        }
+        end = end.saturating_add(character.len_utf8());
+    }
+    end
+}

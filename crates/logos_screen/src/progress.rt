@@ -1,0 +1,193 @@
+//! A line about the progress of long work, on standard error. Used by `logos_show`.
+//!
+//! The line has the number of bytes that were written. It is shown after a second, if standard
+//! error is a terminal and standard output is not, and is cleared before a message and at the end.
+
+use std::cell::Cell;
+use std::io;
+use std::io::{IsTerminal, Write};
+use std::time::{Clock, Duration};
+
+/// The milliseconds after which the line is shown first.
+const PATIENCE: u64 = 1000;
+
+/// The milliseconds after which the line is shown again.
+const PAUSE: u64 = 200;
+
+/// Clears the line, which is at most this long.
+const CLEAR: &[u8] = b"\r                                \r";
+
+/// Whether the line is shown. The outputs of a program share it.
+#[derive(Drop)]
+pub struct ProgressLine {
+    is_shown: Cell<bool>,
+}
+
+impl ProgressLine {
+    /// Returns a line that is not shown.
+    pub fn new() -> ProgressLine {
+        ProgressLine {
+            is_shown: Cell::new(false),
+        }
+    }
+
+    /// Clears the line on standard error, if it is shown.
+    pub fn clear<E: Write>(&self, err: &mut E) {
+        if self.is_shown.get() {
+            self.is_shown.set(false);
+            let _ = err.write_all(CLEAR);
+            let _ = err.flush();
+        }
+    }
+}
+
+/// Standard error, which clears the line before it is written.
+#[derive(Drop)]
+pub struct MessageOutput<'l, E> {
+    line: &'l ProgressLine,
+    writer: E,
+    /// Standard error again, for the line.
+    err: E,
+}
+
+impl<'l, E> MessageOutput<'l, E> {
+    /// Returns standard error, which is given twice.
+    pub fn new(line: &'l ProgressLine, writer: E, err: E) -> MessageOutput<'l, E> {
+        MessageOutput { line, writer, err }
+    }
+}
+
+impl<E: Write> Write for MessageOutput<'_, E> {
+    ghost contents = { λ output. E.contents output.writer };
+
+    fn write(&mut self, buf: &[u8]) -> io::Result<usize> {
+        self.line.clear(&mut self.err);
+        self.writer.write(buf)
+    }
+
+    fn flush(&mut self) -> io::Result<()> {
+        self.writer.flush()
+    }
+
+    fn write_all(&mut self, buf: &[u8]) -> io::Result<()> {
+        self.line.clear(&mut self.err);
+        self.writer.write_all(buf)
+    }
+}
+
+impl<E: IsTerminal> IsTerminal for MessageOutput<'_, E> {
+    fn is_terminal(&self) -> bool {
+        self.writer.is_terminal()
+    }
+}
+
+/// Standard output, which shows the number of its bytes on standard error.
+#[derive(Drop)]
+pub struct CountedOutput<'l, S, O, E> {
+    writer: O,
+    progress: Progress<'l, S, E>,
+}
+
+/// The number of bytes, and the times at which it is shown.
+#[derive(Drop)]
+struct Progress<'l, S, E> {
+    system: &'l S,
+    line: &'l ProgressLine,
+    err: E,
+    written: usize,
+    /// The time from which on the number is shown, unless it never is.
+    due: Option<Duration>,
+}
+
+impl<'l, S: Clock, O: IsTerminal, E: IsTerminal> CountedOutput<'l, S, O, E> {
+    /// Returns standard output with no bytes.
+    pub fn new(
+        system: &'l S,
+        line: &'l ProgressLine,
+        writer: O,
+        err: E,
+    ) -> CountedOutput<'l, S, O, E> {
+        let due = if err.is_terminal() & !writer.is_terminal() {
+            time_in(system, PATIENCE)
+        } else {
+            None
+        };
+        CountedOutput {
+            writer,
+            progress: Progress {
+                system,
+                line,
+                err,
+                written: 0,
+                due,
+            },
+        }
+    }
+}
+
+/// Returns the time in some milliseconds, if there is a clock.
+fn time_in<S: Clock>(system: &S, milliseconds: u64) -> Option<Duration> {
+    match system.monotonic() {
+        Ok(time) => time.checked_add(Duration::from_millis(milliseconds)),
+        Err(_) => None,
+    }
+}
+
+impl<S: Clock, E: Write> Progress<'_, S, E> {
+    /// Counts written bytes, and shows their number if that is due.
+    fn count(&mut self, length: usize) {
+        self.written = self.written.saturating_add(length);
+        if self.is_due() {
+            let kibibytes = self.written / 1024;
+            let _ = write!(self.err, "\r{kibibytes} KiB written");
+            let _ = self.err.flush();
+            self.line.is_shown.set(true);
+            self.due = time_in(self.system, PAUSE);
+        }
+    }
+
+    /// Returns whether the number is to be shown now.
+    fn is_due(&self) -> bool {
+        let Some(due) = self.due else {
+            return false;
+        };
+        match self.system.monotonic() {
+            Ok(time) => due <= time,
+            Err(_) => false,
+        }
+    }
+}
+
+impl<S: Clock, O: Write, E: Write> Write for CountedOutput<'_, S, O, E> {
+    ghost contents = { λ output. O.contents output.writer };
+
+    fn write(&mut self, buf: &[u8]) -> io::Result<usize> {
+        match self.writer.write(buf) {
+            Ok(length) => {
+                self.progress.count(length);
+                Ok(length)
+            }
+            Err(error) => Err(error),
+        }
+    }
+
+    fn flush(&mut self) -> io::Result<()> {
+        self.writer.flush()
+    }
+
+    fn write_all(&mut self, buf: &[u8]) -> io::Result<()> {
+        match self.writer.write_all(buf) {
+            Ok(()) => {
+                self.progress.count(buf.len());
+                Ok(())
+            }
+            Err(error) => Err(error),
+        }
+    }
+}
+
+impl<S, O: IsTerminal, E> IsTerminal for CountedOutput<'_, S, O, E> {
+    fn is_terminal(&self) -> bool {
+        self.writer.is_terminal()
+    }
+}

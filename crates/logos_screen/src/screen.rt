@@ -1,0 +1,93 @@
+//! Finds out in which form an output is shown. Called by `logos_cli` and `logos_show`.
+
+ghost use Rattle.std.specs.Prelude.{◌≡◌};
+ghost use Rattle.logos_screen.specs.Views.{IsScreenOf, is_plain};
+
+use logos_host::Color;
+use std::env::{Env, FillError};
+
+/// The form in which an output is shown.
+#[derive(Clone, Copy, Debug, PartialEq, Eq)]
+pub struct Screen {
+    pub is_colored: bool,
+    /// The width in columns to which lines are cut, if it is known.
+    pub width: Option<usize>,
+}
+
+/// The form of an output that is compared, or that only programs read.
+pub const PLAIN: Screen = Screen {
+    is_colored: false,
+    width: None,
+};
+
+impl Screen {
+    ghost use Rattle.std.specs.Prelude.{◌≡◌};
+    ghost use Rattle.logos_screen.specs.Screens.{is_plain};
+
+    /// Returns whether lines have no colors, and are never cut.
+    #[inline(always)]
+    pub fn is_plain(self) -> bool
+        ensures { result ≡ is_plain self }
+    {
+        match self.width {
+            Some(_) => false,
+            None => !self.is_colored,
+        }
+    }
+}
+
+/// Returns the form of an output that may be a terminal. `color` is the condition under which it
+/// has colors.
+pub fn screen_of<V: Env>(variables: &V, color: Color, is_terminal: bool) -> Screen
+    ensures { IsScreenOf color is_terminal result }
+{
+    let width = if is_terminal {
+        width_in(variables)
+    } else {
+        None
+    };
+    Screen {
+        is_colored: color.is_on(is_terminal & allows_colors(variables)),
+        width,
+    }
+}
+
+/// Returns whether the environment allows colors: whether the variable `NO_COLOR` is empty, or not
+/// set.
+pub fn allows_colors<V: Env>(variables: &V) -> bool {
+    let mut value = [0; 1];
+    match variables.var("NO_COLOR", &mut value) {
+        Ok(length) => length == 0,
+        Err(FillError::NotPresent) => true,
+        Err(FillError::TooLong) => false,
+    }
+}
+
+/// The length in bytes of the longest value of `COLUMNS` that is read.
+const DIGITS: usize = 20;
+
+/// Returns the number of columns in the variable `COLUMNS`, if that is a number above 0.
+fn width_in<V: Env>(variables: &V) -> Option<usize> {
+    let mut value = [0; DIGITS];
+    match variables.var("COLUMNS", &mut value) {
+        Ok(length) => number_of(value.get(..length)?),
+        Err(_) => None,
+    }
+}
+
+/// Returns the number above 0 with these digits, if there are no other bytes.
+fn number_of(digits: &[u8]) -> Option<usize> {
+    let mut number: usize = 0;
+    for digit in digits {
+        number = with_digit(number, *digit)?;
+    }
+    if number == 0 { None } else { Some(number) }
+}
+
+/// Returns a number with one more digit, if this is a digit.
+fn with_digit(number: usize, digit: u8) -> Option<usize> {
+    if !digit.is_ascii_digit() {
+        return None;
+    }
+    number.checked_mul(10)?.checked_add((digit - b'0') as usize)
+}

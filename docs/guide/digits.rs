@@ -1,0 +1,7 @@
+#[derive(logos::Logos)]
+enum Digits {
+    #[regex("[0-9]+")]
+    Number,
+    #[regex(r"[0-9]+\.[0-9]+")]
+    Float,
+}

@@ -1,0 +1,7 @@
+#[derive(Logos)]
+enum Text {
+    #[regex("\"x[a-zé]\"!")]
+    Short,
+    #[token("\"y")]
+    Other,
+}
