@@ -277,7 +277,7 @@ group() {
 made_from > "$room/made_from"
 for shape in tailcall state_machine tables; do
     group "$shape" 12 accept "$shape"
-    group "users_$shape" 210 use "$shape"
+    group "users_$shape" 211 use "$shape"
 done
 group refused 42 refuse
 group features 9 feature
