@@ -38,7 +38,7 @@ def erased_folders(target):
     for line in done.stdout.splitlines():
         message = json.loads(line)
         if message["reason"] == "build-script-executed":
-            name = re.search(r"([\w-]+)[#@][\d.]+$", message["package_id"])[1]
+            name = re.search(r"([\w-]+)[#@][\d.+]+$", message["package_id"])[1]
             folders[name] = message["out_dir"]
     return folders
 
