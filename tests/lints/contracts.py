@@ -8,7 +8,8 @@ or `Parser::parse_generic`, and after a colon clauses of the function before it.
 stand in the crates with which the item or the one around it begins, or anywhere where it names
 none, and have a clause that promises something; a clause has to be one of its own. A type or a
 module counts as found where it has such a function, and a trait's word where some `impl` of it has
-one. The last line is `contracts: N passed, M failed`."""
+one. The last line is `contracts: N passed, M failed`; the line before it counts the functions with
+a body, and those of them that have a clause of their own, so that pages can state both."""
 import pathlib
 import re
 
@@ -40,6 +41,8 @@ class Crate:
 
     def __init__(self, folder):
         self.clauses, self.holders = {}, set()
+        # How many functions have a body, and how many of these a clause.
+        self.bodies, self.stating = 0, 0
         for path in (folder / "src").rglob("*.rt"):
             self.read(path.read_text(encoding="utf-8"), path.stem)
 
@@ -48,7 +51,10 @@ class Crate:
         for holder, part in self.parts(text):
             members = re.findall(r"^    ghost (\w+) = ", part, re.M)
             for name, contract in functions(part):
-                found = {clause or "" for clause in CLAUSE.findall(contract)} | set(members if not contract.count("\n") else [])
+                stated = CLAUSE.findall(contract)
+                self.bodies += not contract.endswith(";")
+                self.stating += bool(stated) and not contract.endswith(";")
+                found = {clause or "" for clause in stated} | set(members if not contract.count("\n") else [])
                 self.clauses.setdefault(name, set()).update(found)
                 if found:
                     self.holders |= {module, *holder}
@@ -105,6 +111,8 @@ def main():
         for fault in [*(f"no crate {name}" for name in missing), *faults_of(cell, known)]:
             passed += fault is None
             faults += [f"docs/PROOFS.md:{number}: {fault}"] if fault else []
+    bodies, stating = (sum(getattr(crate, name) for crate in crates.values()) for name in ("bodies", "stating"))
+    print(f"contracts: {stating:,} of {bodies:,} functions have a clause of their own")
     finish("contracts", passed, faults, LEAST)
 
 

@@ -8,10 +8,12 @@ are left out. `LINES` and `WORDS` are the limits of single pages, and `ALL_WORDS
 pages together, except the page that is made and those of wrong bodies. A word is a run of
 characters without blanks that has a letter or a digit, also in blocks of code. Each path of a crate
 in backticks has to be there, each page and heading to which a link leads, and each function of the
-walk in `docs/MAP.md` in its file, once on that page. Each page counts as one, and so does each
-path, link and function. The last line is `pages: N passed, M failed`."""
+walk in `docs/MAP.md` in its file, once on that page. A commit that a page names has to be in the
+history, if the clone has all of it. Each page counts as one, and so does each path, link, commit
+and function. The last line is `pages: N passed, M failed`."""
 import os
 import re
+import subprocess
 
 from common import ROOT, finish, has_option, listed, read
 
@@ -84,6 +86,21 @@ def link_faults(path, text):
         yield None if is_there else f"{path}: nothing is at {name}{'#' if heading else ''}{heading}"
 
 
+def history():
+    """Returns the first eight digits of each commit, or None if the clone lacks some."""
+    git = {"cwd": ROOT, "capture_output": True, "text": True, "check": False}
+    shallow = subprocess.run(["git", "rev-parse", "--is-shallow-repository"], **git).stdout.strip()
+    listed = subprocess.run(["git", "rev-list", "--abbrev-commit", "--abbrev=8", "HEAD"], **git).stdout
+    return {name[:8] for name in listed.split()} if shallow == "false" else None
+
+
+def commit_faults(path, text, known):
+    """Yields, for each commit that a page names, the fault if it is not in the history, and else
+    None."""
+    for name in sorted(set(re.findall(r"(?<![\w.])(?=\d*[a-f])(?=[a-f]*\d)[0-9a-f]{8}(?!\w)", text))):
+        yield None if name in known else f"{path}: no commit {name} is in the history"
+
+
 def walk_faults(text):
     """Yields, for each function of the walk, the fault if it is not in its file, and else None."""
     walk = text.split("## From `main` to the first item")[1].split("\n## ")[0]
@@ -99,14 +116,15 @@ def walk_faults(text):
 
 def main():
     has_option()
-    passed, faults, words = 0, [], 0
+    passed, faults, words, known = 0, [], 0, history()
     for path in listed("*.md"):
         text = read(path)
         found = [*width_faults(path, text), *length_faults(path, text)]
         passed += not found
         faults += found
         words += 0 if path == MADE or "/must-fail/" in path else count_words(text)
-        for fault in [*path_faults(path, text), *link_faults(path, text)]:
+        commits = commit_faults(path, text, known) if known else []
+        for fault in [*path_faults(path, text), *link_faults(path, text), *commits]:
             passed += fault is None
             faults += [fault] if fault else []
         if path == "docs/MAP.md":
