@@ -5,6 +5,7 @@
 # compare the version.
 #
 #   bash tests/erased.sh              builds them
+#   bash tests/erased.sh build ..     runs `cargo build ..` in this way
 #   bash tests/erased.sh install ..   runs `cargo install ..` with what was built so
 set -euo pipefail
 cd "$(dirname "${BASH_SOURCE[0]}")/.."

@@ -26,6 +26,17 @@ packs() {
     bash "$1/tools/release.sh" --built "$built" "$1.out" > /dev/null
 }
 
+# The programs, the packages and the pages state one version of ours, and one of the crate.
+states_one_version() {
+    local version ported
+    version=$("$built/logos_cli" --version | awk 'NR == 1 { print $2 }')
+    ported=$(sed -n 's/^version = "\(.*\)+.*"$/\1/p' "$root/rust/logos/Cargo.toml")
+    [[ $("$built/logos_show" --version) = "logos_show $version (for logos ${ported%.*})"* ]] \
+        && grep -m 1 '^## ' "$root/CHANGELOG.md" | grep -qF "## $version, a port of $ported (" \
+        && tr '\n' ' ' < "$root/README.md" | grep -qF "version $version is a port of \`logos-codegen\` $ported" \
+        && ! grep -h '^version = ' "$root"/rust/*/Cargo.toml | grep -vxF -e "version = \"$version\"" -e "version = \"$ported+$version\""
+}
+
 packs_the_same() {
     make_clone "$room/one"
     make_clone "$room/another/clone"
@@ -100,6 +111,7 @@ refuses_changed_clone() {
     ! packs "$room/one" 2> /dev/null
 }
 
+expect 'programs, packages and pages state one version' states_one_version
 expect 'two clones of one commit pack the same bytes' packs_the_same
 expect 'what is packed is installed, and shows the items in README.md' shows_items
 expect 'what is installed names its commit' names_commit

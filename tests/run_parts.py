@@ -4,7 +4,9 @@
   run_parts.py gate [--anew]              all of them, with the proved programs and the erased ones
   run_parts.py quick [--rattle] [PART..]  those that are named, or all but those of the gate, with
                                           the erased programs; with --rattle also with those that
-                                          Rattle builds without proofs. `lints` names all lints
+                                          Rattle builds without proofs. `lints` names all lints.
+                                          If the named parts run only the three programs, Cargo
+                                          builds no others
 
 A part whose command names programs runs once with those of Rattle, under its name, and once with
 those of Cargo, as `NAME.erased`. Parts run side by side, as many as there are cores, except for the
@@ -231,6 +233,9 @@ def chosen(given):
     parts = [it for it in all_parts if wanted(it) and (is_gate or given.rattle or it.by != "rattle")]
     makers = {MAKERS[it.by] for it in parts if it.by in MAKERS}
     parts = [it for it in all_parts if it in parts or it.row in makers]
+    if given.parts and "erased" not in given.parts and all(it.programs <= set(TOOLS) for it in parts if it.by == "cargo"):
+        for part in parts:
+            part.command += " build --release -p logos-cli" * (part.row == "erased")
     lines = [f"left out: {it.name}, because {it.missing()} is missing" for it in parts if it.missing()]
     if not is_gate and not given.rattle:
         lines.append("left out: the programs that Rattle builds: bash tests/quick.sh --rattle runs them too")

@@ -18,8 +18,8 @@ PREFIX is ~/.local if it is not given. For programs without proofs:
 
     cargo install --path rust/logos-cli
 
-  --proved        prove every crate, which takes about an hour, and install
-                  the program that is built of them
+  --proved        prove every crate, which takes 75 minutes on two cores, and
+                  install the program that is built of them
   --built FOLDER  install the programs in FOLDER
   -h, --help      print this text
 END

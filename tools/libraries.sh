@@ -6,8 +6,9 @@
 #                                   named, and the crates themselves where they are libraries
 #
 # Each is proved, unless this clone has it, or another clone on this machine in which `rt` built it
-# of the same text. `rt check` does the same where they are missing, but first reads the sources of
-# all of them together, for minutes and without a word.
+# of the same text. A crate took four processor minutes in the mean of a run of the gate (f9034563).
+# `rt check` does the same where they are missing, but first reads the sources of all of them
+# together, for minutes and without a word.
 set -euo pipefail
 export PYTHONDONTWRITEBYTECODE=1
 
@@ -28,7 +29,10 @@ for crate in sys.argv[2:]:
 print(*(it for it in order if os.path.exists(f"{crates.ROOT}/crates/{it}/src/lib.rt")))
 END
 )
+count=$(wc -w <<< "$order")
+at=0
 for crate in $order; do
-    echo "$crate"
+    at=$((at + 1))
+    echo "$crate ($at of $count)"
     (cd "$root/crates/$crate" && rt lib) || { echo "libraries: $crate is not proved" >&2; exit 1; }
 done
