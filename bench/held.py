@@ -17,6 +17,10 @@ pieces that end with lines: single lines, and of at least 256 bytes, 1, 4 and 16
 a lexer of its own. Programs take turns in an order of chance, and the fastest run counts: of six,
 if no number is given.
 
+The variable LEXER names the program of bench/lexer, built by `bench/lexer.py`: then the library's
+own `Lexer` and its run by chunks are measured on whole texts of the new kinds, and which of them
+the programs choose is shown.
+
 The variable OTHER names the folder `src` of another version of rust/logos to measure beside this
 one, whose lexers are then `other`. KEEP names a folder in which programs are kept for the next
 time, CLI a `logos_cli`, SIZE the bytes of a text, and BEFORE words in front of each program that is
@@ -44,6 +48,8 @@ TABLES = {"lexer": (), "folded": ("--cfg", "folded"), "parser": ("--cfg", "parse
 OTHER = {"other": (), "other_parser": ("--cfg", "parser")}
 PIECES = {"1": "a line", "256": "256", "1024": "1,024", "4096": "4,096", "16384": "16,384"}
 IN_PIECES = ["lexer", "other", "parser", "other_parser"]
+# The library, with what its program is asked for.
+LIBRARY = {"own_lexer": "lexer_items", "own_chunks": "chunk_items"}
 # The examples, with the type of their tokens.
 EXAMPLES = {"access_log": "Part", "css": "Token", "json": "Token", "mustache": "Part<'static>",
             "pythonic": "Token", "rusty": "Token", "sql": "Token", "toml": "Token<'static>"}
@@ -58,6 +64,7 @@ RATIOS = {
     "parser by its parser": ("parser", ["other_parser"]),
 }
 BY_OTHER = list(RATIOS)[-2:]
+PEERS = [*SHAPES, *IN_C]
 SECONDS = int(os.environ.get("SECONDS", 60))
 
 
@@ -103,6 +110,46 @@ def compiled(room, kind, cli, library, other):
     return {way: path for way, path in found.items() if path}
 
 
+def write_enum(path, kind):
+    """Writes the enum of a new kind alone."""
+    lines = held_rules.source(kind, "rust").splitlines(keepends=True)
+    first = next(n for n, line in enumerate(lines) if line.startswith("#[derive("))
+    write(path, "".join(lines[first:lines.index("}\n", first) + 1]))
+
+
+def library_commands(room, kind, path):
+    """Returns the commands that measure the library on a text, and which of them it chooses."""
+    lexer = os.environ.get("LEXER")
+    if not lexer or kind not in held_rules.KINDS:
+        return {}, None
+    enum = f"{room.folder}/{kind}.enum.rs"
+    write_enum(enum, kind)
+    words = [os.path.realpath(lexer), enum, path]
+    choice = said_by([*words, "choice"]).strip()
+    return {way: [*words, request] for way, request in LIBRARY.items()}, f"own_{choice}"
+
+
+def measure_library(runs, name, commands):
+    """Runs the library once on a whole text."""
+    for way in random.sample(list(commands), len(commands)):
+        runs.measure((name, "0"), way, commands[way])
+
+
+def print_library(runs, choices):
+    """Prints the library's own loops on whole texts, and how fast the chosen one is."""
+    rows, kinds = [], {"own by the fastest other": {}, "own by the better of its loops": {}}
+    for name, choice in choices.items():
+        key, size = (name, "0"), runs.sizes[name]
+        ratios = runs.ratio(key, choice, PEERS), runs.ratio(key, choice, list(LIBRARY))
+        for kind, ratio in zip(kinds.values(), ratios):
+            kind[name] = ratio
+        speeds = [runs.speed(key, way, size) for way in LIBRARY]
+        rows.append([name, choice.removeprefix("own_"), *speeds, *map(shown, ratios)])
+    print("\nThe library, MB/s on whole texts")
+    print_table(["Text", "own", *LIBRARY, *kinds], rows)
+    print_means(kinds)
+
+
 def measure(runs, name, ways, path):
     """Runs the programs of a text once, one right after another, since a machine has slow
     times."""
@@ -133,18 +180,21 @@ def main(count=6, *kinds):
     room, runs, size = Room(), Runs(), int(os.environ.get("SIZE", 2 << 20))
     names = {kind: kind.replace("/", "_") for kind in kinds or KINDS}
     cli = logos_cli()
-    library = scanners.runtime(f"{room.folder}/liblogos.rlib")
+    runtime = scanners.runtime(f"{room.folder}/liblogos.rlib")
     source = os.environ.get("OTHER")
     other = source and scanners.runtime(f"{room.folder}/libother.rlib", source)
     with ThreadPoolExecutor(int(os.environ.get("JOBS", 2))) as pool:
-        jobs = [pool.submit(compiled, room, kind, cli, library, other) for kind in names]
+        jobs = [pool.submit(compiled, room, kind, cli, runtime, other) for kind in names]
         all_ways = {name: job.result() for name, job in zip(names.values(), jobs)}
     paths = {name: f"{room.folder}/{name}.text" for name in all_ways}
     for kind, name in names.items():
         write(paths[name], held.text(kind, size))
+    library = {name: library_commands(room, kind, paths[name]) for kind, name in names.items()}
+    runs.sizes = {name: os.path.getsize(path) for name, path in paths.items()}
     for _ in range(int(count)):
         for name, ways in all_ways.items():
             measure(runs, name, ways, paths[name])
+            measure_library(runs, name, library[name][0])
     if not runs.best:
         return
     shown_ways = [it for it in [*TABLES, *OTHER, *SHAPES, *IN_C] if any(it in ways for ways in all_ways.values())]
@@ -159,6 +209,9 @@ def main(count=6, *kinds):
     print_ratios(runs, paths, "0", RATIOS)
     if other:
         print_pieces(runs, paths)
+    choices = {name: choice for name, (_, choice) in library.items() if choice}
+    if choices:
+        print_library(runs, choices)
     runs.end()
 
 

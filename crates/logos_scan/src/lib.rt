@@ -8,4 +8,5 @@ pub mod choice;
 pub mod fold;
 pub mod items;
 pub mod run;
+pub mod trial;
 pub mod walk;

@@ -1,6 +1,6 @@
 //! Bit masks of the flags of entries. The scan of `logos_scan` computes them for each chunk.
 
-ghost use Rattle.std.specs.Prelude.{◌≡◌, ◌≤◌, ◌+◌, length};
+ghost use Rattle.std.specs.Prelude.{◌≡◌, ◌≤◌, ◌+◌, length, replicate};
 ghost use Rattle.logos_scan.specs.walk.Views.{HoldTops, MarksFrom, IsMarked, IsMarkedBeside};
 
 use crate::walk::{ENDED, TOKEN};
@@ -82,8 +82,12 @@ fn flags_of(trace: &[u32], at: usize) -> (u64, u64)
 }
 
 impl ChunkEntries {
-    /// Makes a chunk without flags.
-    pub fn new() -> ChunkEntries {
+    /// Makes a chunk whose entries are 0, without flags.
+    pub fn new() -> ChunkEntries
+        ensures entries { result.entries ≡ replicate 4608 0 }
+        ensures ends { result.ends ≡ replicate 72 0 }
+        ensures tokens { result.tokens ≡ replicate 72 0 }
+    {
         ChunkEntries {
             entries: [0; 4608],
             ends: [0; 72],

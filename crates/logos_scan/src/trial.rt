@@ -1,0 +1,200 @@
+//! Walks over samples of an input, which estimate whether a scan by chunks takes less time than a
+//! lexer. `choice` calls it once for each input that is long enough.
+
+ghost use Rattle.std.specs.Prelude.{◌≡◌, ◌<◌, ◌≤◌, ◌+◌, ◌*◌, length};
+ghost use Rattle.logos_scan.specs.Views.{IsReading};
+ghost use Rattle.logos_scan.specs.walk.Views.{IsClosed, IsRowStart};
+
+use crate::run::Reading;
+use crate::walk::blocks::{BLOCK, BLOCKS, CHUNK, walk_chunk};
+use crate::walk::guess::guess_row_starts;
+use crate::walk::{ENDED, OFFSET_MASK, TOKEN, entry_of};
+
+/// The number of bytes of the input for each chunk that is walked over.
+const SPREAD: usize = 64 * CHUNK;
+
+/// The greatest number of chunks that are walked over.
+const MOST: usize = 8;
+
+/// The costs of a scan: of each byte, of each byte before which a match ends, of each byte that is
+/// stepped over again, and of each attempt that is repeated. They are fitted on measured texts, in
+/// hundredths of a nanosecond, and only their ratios matter.
+const STEP: usize = 54;
+
+const END: usize = 83;
+
+const AGAIN: usize = 145;
+
+const REPEAT: usize = 4_400;
+
+/// The costs of a lexer: of each byte, of each match, and of each state that is entered.
+const BYTE: usize = 30;
+
+const MATCH: usize = 400;
+
+const ENTRY: usize = 100;
+
+/// If more than three of these many bytes end a match, a lexer is faster: processors foresee these
+/// matches then.
+const ALMOST_ALL: usize = 4;
+
+/// The counts of walks over chunks.
+#[derive(Clone, Copy, Drop)]
+pub struct TrialCounts {
+    /// The number of bytes.
+    pub bytes: usize,
+    /// The number of bytes before which a match ends.
+    pub ends: usize,
+    /// The number of bytes that lead to another row.
+    pub entered: usize,
+    /// The number of bytes that need a repeated attempt.
+    pub repeated: usize,
+    /// The number of bytes that are stepped over again, since the row of their block was guessed
+    /// wrong.
+    pub again: usize,
+}
+
+/// The counts of no walk.
+const NOTHING: TrialCounts = TrialCounts {
+    bytes: 0,
+    ends: 0,
+    entered: 0,
+    repeated: 0,
+    again: 0,
+};
+
+/// Returns the counts of walks over chunks from all over an input, each from the root on.
+pub fn trial_counts(reading: &Reading) -> TrialCounts
+    requires { IsReading reading.now }
+{
+    let len = reading.input.len();
+    let chunks = (1 + len / SPREAD).min(MOST);
+    let part = len / chunks;
+    let mut counts = NOTHING;
+    if part < 2 * CHUNK {
+        return counts;
+    }
+    let mut at = 0;
+    while len - at >= part {
+        counts = counts.and(chunk_counts(reading, at));
+        at += part;
+    }
+    counts
+}
+
+/// Returns the counts of a walk over the chunk of an input that begins after the first line end
+/// from `at` on, or at `at` if there is none.
+fn chunk_counts(reading: &Reading, at: usize) -> TrialCounts
+    requires reading { IsReading reading.now }
+    requires at { at + 2 * 4608 ≤ length reading.now.input.now }
+{
+    let from = at + line_start(&reading.input[at..at + CHUNK]);
+    let text = &reading.input[from..from + CHUNK];
+    let root = reading.code.root_row_start();
+    let mut trace = [0u32; 4608];
+    walk_chunk(reading.rows, text, root, root, &mut trace);
+    TrialCounts {
+        again: steps_again(reading.rows, text, root, &trace),
+        ..trace_counts(&trace)
+    }
+}
+
+/// Returns the start of the first line that begins in a part of an input, after the part's first
+/// byte, or 0 if there is none. Few tokens extend over a line end.
+pub(crate) fn line_start(part: &[u8]) -> usize
+    ensures { result ≤ length part.now }
+{
+    for at in 0..part.len() {
+        if part[at] == b'\n' {
+            return at + 1;
+        }
+    }
+    0
+}
+
+/// Returns the counts of the entries of a walk.
+fn trace_counts(trace: &[u32]) -> TrialCounts {
+    let mut counts = TrialCounts {
+        bytes: trace.len(),
+        ..NOTHING
+    };
+    let mut before = 0;
+    for at in 0..trace.len() {
+        let entry = trace[at];
+        let row_start = entry & OFFSET_MASK;
+        counts = counts.and(TrialCounts {
+            ends: (entry & ENDED != 0) as usize,
+            entered: (row_start != before) as usize,
+            repeated: (entry & (ENDED | TOKEN) == TOKEN) as usize,
+            ..NOTHING
+        });
+        before = row_start;
+    }
+    counts
+}
+
+/// Returns how many bytes of a chunk were stepped over again, given the entries of its walk.
+fn steps_again(rows: &[u32], text: &[u8], root: usize, trace: &[u32]) -> usize
+    requires closed { IsClosed rows.now }
+    requires root { IsRowStart rows.now root }
+    requires text { length text.now ≡ CHUNK }
+    requires trace { length trace.now ≡ CHUNK }
+{
+    let guesses = guess_row_starts(rows, text, root);
+    let mut again = 0usize;
+    for block in 1..BLOCKS {
+        again = again.wrapping_add(block_steps(rows, text, guesses[block], trace, BLOCK * block));
+    }
+    again
+}
+
+/// Returns how many bytes of the block that begins at `from` lead from a guessed row to others than
+/// those of the walk.
+fn block_steps(rows: &[u32], text: &[u8], guess: usize, trace: &[u32], from: usize) -> usize
+    requires closed { IsClosed rows.now }
+    requires guess { IsRowStart rows.now guess }
+    requires text { length text.now ≡ CHUNK }
+    requires trace { length trace.now ≡ CHUNK }
+    requires first { 0 < from }
+    requires last { from + BLOCK ≤ CHUNK }
+{
+    if guess == (trace[from - 1] & OFFSET_MASK) as usize {
+        return 0;
+    }
+    let mut now = guess;
+    for at in from..from + BLOCK {
+        now = (entry_of(rows, text[at], now) & OFFSET_MASK) as usize;
+        if now == (trace[at] & OFFSET_MASK) as usize {
+            return at + 1 - from;
+        }
+    }
+    BLOCK
+}
+
+impl TrialCounts {
+    /// Returns the sums of these counts and of `found`.
+    fn and(self, found: TrialCounts) -> TrialCounts {
+        TrialCounts {
+            bytes: self.bytes.wrapping_add(found.bytes),
+            ends: self.ends.wrapping_add(found.ends),
+            entered: self.entered.wrapping_add(found.entered),
+            repeated: self.repeated.wrapping_add(found.repeated),
+            again: self.again.wrapping_add(found.again),
+        }
+    }
+
+    /// Returns whether a scan likely takes less time than a lexer.
+    pub fn suit_scans(self) -> bool {
+        let lexer = BYTE
+            .wrapping_mul(self.bytes)
+            .wrapping_add(MATCH.wrapping_mul(self.ends))
+            .wrapping_add(ENTRY.wrapping_mul(self.entered));
+        let scan = STEP
+            .wrapping_mul(self.bytes)
+            .wrapping_add(END.wrapping_mul(self.ends))
+            .wrapping_add(AGAIN.wrapping_mul(self.again))
+            .wrapping_add(REPEAT.wrapping_mul(self.repeated));
+        let is_plain = ALMOST_ALL.wrapping_mul(self.ends) > self.bytes.wrapping_mul(3);
+        !is_plain & (scan < lexer)
+    }
+}
