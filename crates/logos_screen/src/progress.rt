@@ -46,12 +46,13 @@ impl ProgressLine {
 pub struct MessageOutput<'l, E> {
     line: &'l ProgressLine,
     writer: E,
-    /// Standard error again, for the line.
+    /// A second handle on standard error, by which the progress line is cleared, so that only
+    /// messages count as written to `writer`.
     err: E,
 }
 
 impl<'l, E> MessageOutput<'l, E> {
-    /// Returns standard error, which is given twice.
+    /// Returns standard error as an output for messages. Both handles are on standard error.
     pub fn new(line: &'l ProgressLine, writer: E, err: E) -> MessageOutput<'l, E> {
         MessageOutput { line, writer, err }
     }

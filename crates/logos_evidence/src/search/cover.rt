@@ -192,7 +192,8 @@ fn cover_end<M: Machine>(
     Ok(())
 }
 
-/// Covers all steps from the pending point with a number.
+/// Covers all steps from the pending point that has this number in `explored`: those by each byte,
+/// and the end of the input.
 ///
 /// # Errors
 ///
