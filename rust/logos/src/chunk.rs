@@ -12,6 +12,9 @@ pub(crate) const BLOCKS: usize = 6;
 /// The number of bytes of a block that are processed in one step.
 const STEPS: usize = 6;
 const _: () = assert!(BLOCK % STEPS == 0);
+/// The number of bytes of each block that are examined at once for others than ASCII.
+const SPAN: usize = 24;
+const _: () = assert!(BLOCK % SPAN == 0 && SPAN % STEPS == 0 && SPAN % 8 == 0);
 pub(crate) const CHUNK: usize = BLOCKS * BLOCK;
 /// The number of bytes of a word, which has a bit for each of them, and the number of words of a
 /// chunk.
@@ -112,7 +115,11 @@ impl Chunk {
     ) -> Walked {
         let mut guesses = guesser.guess::<T>(input);
         guesses.first[0] = row_start;
-        let row_starts = T::walk_blocks(input, &mut self.trace, guesses.first);
+        let row_starts = if T::HAS_INSIDES {
+            T::walk_characters(input, &mut self.trace, guesses.first)
+        } else {
+            T::walk_blocks(input, &mut self.trace, guesses.first)
+        };
         let walked = self.repair::<T>(input, guesses, row_starts, guesser);
         self.set_bits(0, CHUNK);
         walked
@@ -330,6 +337,47 @@ trait Blocks<'source>: Tables<'source> {
         row_starts.map(|row_start| row_start & OFFSET_MASK)
     }
 
+    /// Does what [`Blocks::walk_blocks`] does, if there are states without a row. Where all blocks
+    /// have only ASCII for some bytes, no step is in such a state, or the input is no text.
+    #[inline(never)]
+    fn walk_characters(
+        input: &[u8; CHUNK],
+        trace: &mut [u32; CHUNK],
+        row_starts: [u32; BLOCKS],
+    ) -> [u32; BLOCKS] {
+        let mut row_starts = row_starts;
+        let blocks: [&[u8; BLOCK]; BLOCKS] =
+            core::array::from_fn(|k| input[k * BLOCK..].first_chunk().expect("a block"));
+        for from in (0..BLOCK).step_by(SPAN) {
+            let others = blocks.iter().fold(0, |all, block| {
+                let eights = block[from..from + SPAN].chunks_exact(8);
+                eights.fold(all, |all, eight| all | high_bits(eight))
+            });
+            if others != 0 {
+                for at in from..from + SPAN {
+                    for k in 0..BLOCKS {
+                        let entry = step::<Self>(blocks[k][at], row_starts[k]);
+                        trace[k * BLOCK + at] = entry;
+                        row_starts[k] = entry;
+                    }
+                }
+                continue;
+            }
+            for at in (from..from + SPAN).step_by(STEPS) {
+                let part: Option<&mut [u32; CHUNK - BLOCK + STEPS]> = trace[at..].first_chunk_mut();
+                let part = core::hint::black_box(part.expect("a part"));
+                for n in 0..STEPS {
+                    for k in 0..BLOCKS {
+                        let entry = Self::entry_in_row(blocks[k][at + n], row_starts[k]);
+                        part[k * BLOCK + n] = entry;
+                        row_starts[k] = entry;
+                    }
+                }
+            }
+        }
+        row_starts.map(|row_start| row_start & OFFSET_MASK)
+    }
+
     /// Walks over parts of `size` bytes in parallel, each from its row, and returns the row offsets
     /// after them.
     #[inline(never)]
@@ -389,6 +437,13 @@ trait Blocks<'source>: Tables<'source> {
 }
 
 impl<'source, T: Tables<'source>> Blocks<'source> for T {}
+
+/// Returns bits of which one is set if one of eight bytes is not ASCII.
+#[inline(always)]
+fn high_bits(eight: &[u8]) -> u64 {
+    let eight = eight.try_into().map_or(0, u64::from_ne_bytes);
+    eight & 0x8080_8080_8080_8080
+}
 
 /// Gathers the flags of the entries of a word: the flags of every fourth entry of each half are in
 /// one number, four bits apart. The function is not inlined and writes to memory, so that the

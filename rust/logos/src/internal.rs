@@ -3,6 +3,7 @@
 pub use crate::data::Data;
 pub use crate::data::{Data as _Data, Unpacked as _Unpacked};
 pub use crate::loops::Ranges as _Ranges;
+use crate::layout::Made;
 use crate::loops::{Mask, Ranges};
 use crate::run::Run;
 use crate::source::Chunk;
@@ -56,7 +57,7 @@ impl<'source, Token: Logos<'source>> LexerInternal<'source> for Lexer<'source, T
 }
 
 /// The tables of a lexer in the form of generated code.
-pub trait Tables<'source>: Logos<'source> {
+pub trait Tables<'source>: Logos<'source> + Made<'source> {
     /// The tables.
     const DATA: Data;
 
