@@ -14,7 +14,7 @@ const STEPS: usize = 6;
 const _: () = assert!(BLOCK % STEPS == 0);
 /// The number of bytes of each block that are examined at once for others than ASCII.
 const SPAN: usize = 24;
-const _: () = assert!(BLOCK % SPAN == 0 && SPAN % STEPS == 0 && SPAN % 8 == 0);
+const _: () = assert!(BLOCK % SPAN == 0 && SPAN % STEPS == 0 && STEPS <= 8);
 pub(crate) const CHUNK: usize = BLOCKS * BLOCK;
 /// The number of bytes of a word, which has a bit for each of them, and the number of words of a
 /// chunk.
@@ -348,34 +348,49 @@ trait Blocks<'source>: Tables<'source> {
         let mut row_starts = row_starts;
         let blocks: [&[u8; BLOCK]; BLOCKS] =
             core::array::from_fn(|k| input[k * BLOCK..].first_chunk().expect("a block"));
-        for from in (0..BLOCK).step_by(SPAN) {
-            let others = blocks.iter().fold(0, |all, block| {
-                let eights = block[from..from + SPAN].chunks_exact(8);
-                eights.fold(all, |all, eight| all | high_bits(eight))
-            });
-            if others != 0 {
-                for at in from..from + SPAN {
-                    for k in 0..BLOCKS {
-                        let entry = step::<Self>(blocks[k][at], row_starts[k]);
-                        trace[k * BLOCK + at] = entry;
-                        row_starts[k] = entry;
-                    }
-                }
+        let mut others = 0;
+        for at in (0..BLOCK).step_by(STEPS) {
+            if at % SPAN == 0 {
+                others = high_bits(&blocks, at) | high_bits(&blocks, at + 8);
+                others |= high_bits(&blocks, at + 16);
+            }
+            let part: Option<&mut [u32; CHUNK - BLOCK + STEPS]> = trace[at..].first_chunk_mut();
+            let part = core::hint::black_box(part.expect("a part"));
+            if others != 0 && high_bits(&blocks, at.min(BLOCK - 8)) != 0 {
+                let bytes = blocks.map(|block| block[at..].first_chunk().expect("some bytes"));
+                // The call has a copy, so that the other steps keep the row offsets in registers.
+                let before = core::hint::black_box(row_starts);
+                let after = core::hint::black_box(Self::step_characters(bytes, part, before));
+                row_starts = core::array::from_fn(|k| after[k]);
                 continue;
             }
-            for at in (from..from + SPAN).step_by(STEPS) {
-                let part: Option<&mut [u32; CHUNK - BLOCK + STEPS]> = trace[at..].first_chunk_mut();
-                let part = core::hint::black_box(part.expect("a part"));
-                for n in 0..STEPS {
-                    for k in 0..BLOCKS {
-                        let entry = Self::entry_in_row(blocks[k][at + n], row_starts[k]);
-                        part[k * BLOCK + n] = entry;
-                        row_starts[k] = entry;
-                    }
+            for n in 0..STEPS {
+                for k in 0..BLOCKS {
+                    let entry = Self::entry_in_row(blocks[k][at + n], row_starts[k]);
+                    part[k * BLOCK + n] = entry;
+                    row_starts[k] = entry;
                 }
             }
         }
         row_starts.map(|row_start| row_start & OFFSET_MASK)
+    }
+
+    /// Walks over a few bytes of all blocks, some of which are not ASCII.
+    #[inline(never)]
+    fn step_characters(
+        bytes: [&[u8; STEPS]; BLOCKS],
+        part: &mut [u32; CHUNK - BLOCK + STEPS],
+        row_starts: [u32; BLOCKS],
+    ) -> [u32; BLOCKS] {
+        let mut row_starts = row_starts;
+        for n in 0..STEPS {
+            for k in 0..BLOCKS {
+                let entry = step::<Self>(bytes[k][n], row_starts[k]);
+                part[k * BLOCK + n] = entry;
+                row_starts[k] = entry;
+            }
+        }
+        row_starts
     }
 
     /// Walks over parts of `size` bytes in parallel, each from its row, and returns the row offsets
@@ -438,11 +453,12 @@ trait Blocks<'source>: Tables<'source> {
 
 impl<'source, T: Tables<'source>> Blocks<'source> for T {}
 
-/// Returns bits of which one is set if one of eight bytes is not ASCII.
+/// Returns bits of which one is set if one of eight bytes of a block is not ASCII.
 #[inline(always)]
-fn high_bits(eight: &[u8]) -> u64 {
-    let eight = eight.try_into().map_or(0, u64::from_ne_bytes);
-    eight & 0x8080_8080_8080_8080
+fn high_bits(blocks: &[&[u8; BLOCK]; BLOCKS], from: usize) -> u64 {
+    let eights = blocks.iter().map(|block| block[from..].first_chunk());
+    let all = eights.fold(0, |all, eight| all | eight.map_or(0, |it| u64::from_ne_bytes(*it)));
+    all & 0x8080_8080_8080_8080
 }
 
 /// Gathers the flags of the entries of a word: the flags of every fourth entry of each half are in

@@ -69,6 +69,8 @@ impl Inside {
 /// lexer has in generated code.
 pub trait Made<'source> {
     const LAYOUT: Layout;
+    /// Whether there are states without a row.
+    const HAS_INSIDES: bool;
     /// The rows of the loop over match attempts: see [`crate::rows`].
     const ENTRIES: &'static [u32];
     const INSIDES: &'static [Inside];
@@ -101,6 +103,7 @@ where
     T: Tables<'source, Unpacked = Unpacked<STATES, RUNS>>,
 {
     const LAYOUT: Layout = T::UNPACKED.layout;
+    const HAS_INSIDES: bool = T::UNPACKED.layout.insides > 0;
     const ENTRIES: &'static [u32] = if T::DATA.by_bytes() {
         printed_rows::<T>()
     } else {

@@ -71,17 +71,16 @@ pub(crate) trait Run<'source>: Loops<'source> {
         }
     }
 
-    /// Returns whether an entry, or the state to which it leads, is a state without a row. It is not
-    /// below [`Run::LEADS`].
+    /// Returns whether an entry leads to a state without a row.
     #[inline(always)]
     fn is_inside(entry: u32) -> bool {
-        Self::LAYOUT.insides > 0 && entry < Self::ENTERS
+        entry >= Self::LEADS && entry < Self::ENTERS
     }
 
     /// Returns the entry of a byte in any state.
     #[inline(always)]
     fn any_step(rows: &'static [u32], state: u32, byte: u8) -> u32 {
-        if state < Self::LEADS || !Self::is_inside(state) {
+        if !Self::HAS_INSIDES || !Self::is_inside(state) {
             return rows[state as usize + Self::column(byte)];
         }
         if !continues(byte) {
@@ -98,10 +97,10 @@ pub(crate) trait Run<'source>: Loops<'source> {
     /// Returns the number of a state.
     #[inline(always)]
     fn number(state: u32) -> usize {
-        if state < Self::LEADS || !Self::is_inside(state) {
-            return state as usize / Self::COLUMNS;
+        if Self::HAS_INSIDES && Self::is_inside(state) {
+            return Self::LAYOUT.rows + (state - Self::LEADS) as usize;
         }
-        Self::LAYOUT.rows + (state - Self::LEADS) as usize
+        state as usize / Self::COLUMNS
     }
 
     /// Continues an attempt in a state without a row, to the end of a character. Returns the first
@@ -118,7 +117,7 @@ pub(crate) trait Run<'source>: Loops<'source> {
         while let Some(byte) = bytes.get(at) {
             let next = Self::any_step(rows, state, *byte);
             at += 1;
-            if next < Self::LEADS || !Self::is_inside(next) {
+            if !Self::is_inside(next) {
                 return (next, at, state);
             }
             state = next;
@@ -164,7 +163,7 @@ pub(crate) trait Run<'source>: Loops<'source> {
                 at += 1;
                 continue;
             }
-            let mark = Self::DATA.mark(if Self::LAYOUT.insides > 0 {
+            let mark = Self::DATA.mark(if Self::HAS_INSIDES {
                 Self::NUMBERED[Self::number(state)] as usize
             } else {
                 Self::number(state)
@@ -216,7 +215,7 @@ pub(crate) trait Run<'source>: Loops<'source> {
     fn walk(bytes: &[u8], from: usize, first: u32) -> (u32, usize, u32) {
         let (mut state, mut at) = (first, from);
         'rows: loop {
-            if state >= Self::LEADS && Self::is_inside(state) {
+            if Self::HAS_INSIDES && Self::is_inside(state) {
                 let (next, to, last) = Self::walk_inside(Self::ENTRIES, bytes, at, state);
                 if next >= Self::LEADS {
                     return (next, to, last);
@@ -233,7 +232,7 @@ pub(crate) trait Run<'source>: Loops<'source> {
                     if next >= ENDS {
                         return (next, at, state);
                     }
-                    if Self::is_inside(next) {
+                    if Self::HAS_INSIDES && Self::is_inside(next) {
                         state = next;
                         continue 'rows;
                     }
@@ -249,7 +248,7 @@ pub(crate) trait Run<'source>: Loops<'source> {
                                 next = Self::step(state, *byte);
                                 at += n + 1;
                                 if next >= Self::LEADS {
-                                    if Self::is_inside(next) {
+                                    if Self::HAS_INSIDES && Self::is_inside(next) {
                                         state = next;
                                         continue 'rows;
                                     }
@@ -269,7 +268,7 @@ pub(crate) trait Run<'source>: Loops<'source> {
                     next = Self::step(state, *byte);
                     at += 1;
                     if next >= Self::LEADS {
-                        if Self::is_inside(next) {
+                        if Self::HAS_INSIDES && Self::is_inside(next) {
                             state = next;
                             continue 'rows;
                         }
