@@ -457,7 +457,9 @@ impl<'source, T: Tables<'source>> Blocks<'source> for T {}
 #[inline(always)]
 fn high_bits(blocks: &[&[u8; BLOCK]; BLOCKS], from: usize) -> u64 {
     let eights = blocks.iter().map(|block| block[from..].first_chunk());
-    let all = eights.fold(0, |all, eight| all | eight.map_or(0, |it| u64::from_ne_bytes(*it)));
+    let all = eights.fold(0, |all, eight| {
+        all | eight.map_or(0, |it| u64::from_ne_bytes(*it))
+    });
     all & 0x8080_8080_8080_8080
 }
 

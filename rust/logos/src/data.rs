@@ -106,12 +106,15 @@ impl<const STATES: usize, const RUNS: usize> Unpacked<STATES, RUNS> {
         T::DATA.unpacked()
     }
 
-    /// Returns the rows of a lexer: an entry for each state and each of its columns, and 256 more
-    /// entries.
+    /// Returns the rows of a lexer, if they have an entry for each byte: an entry for each state and
+    /// each of its columns, and 256 more entries. Others are those of [`crate::layout::Made`].
     pub const fn rows<'source, T, const N: usize>() -> [u32; N]
     where
         T: Tables<'source, Unpacked = Self>,
     {
+        if !T::DATA.by_bytes() {
+            return [0; N];
+        }
         T::UNPACKED.all_rows(&[])
     }
 
@@ -131,11 +134,14 @@ impl<const STATES: usize, const RUNS: usize> Unpacked<STATES, RUNS> {
         T::UNPACKED.all_masks()
     }
 
-    /// Returns the folded tables of a lexer.
+    /// Returns the folded tables of a lexer, if its rows have an entry for each byte.
     pub const fn folded<'source, T, const N: usize>() -> [u32; N]
     where
         T: Tables<'source, Unpacked = Self>,
     {
+        if !T::DATA.by_bytes() {
+            return [0; N];
+        }
         T::UNPACKED.all_folded(T::LASTS, &[])
     }
 }

@@ -150,7 +150,8 @@ where
     T: Tables<'s, Unpacked = Unpacked<STATES, RUNS>>,
 {
     const ROWS: &'static [u32] = &T::UNPACKED.all_rows::<N>(&Parts::<'_, T>::ROWS.insides);
-    const FOLDED: &'static [u32] = &T::UNPACKED.all_folded::<N>(T::LASTS, &Parts::<'_, T>::FOLDED.insides);
+    const FOLDED: &'static [u32] =
+        &T::UNPACKED.all_folded::<N>(T::LASTS, &Parts::<'_, T>::FOLDED.insides);
 
     const fn rows() -> &'static [u32] {
         Self::ROWS
@@ -183,9 +184,7 @@ where
         16777216 33554432 67108864 134217728 268435456 536870912)
 }
 
-const fn folded_of_size<'s, T, const STATES: usize, const RUNS: usize>(
-    len: usize,
-) -> &'static [u32]
+const fn folded_of_size<'s, T, const STATES: usize, const RUNS: usize>(len: usize) -> &'static [u32]
 where
     T: Tables<'s, Unpacked = Unpacked<STATES, RUNS>>,
 {
