@@ -337,8 +337,8 @@ trait Blocks<'source>: Tables<'source> {
         row_starts.map(|row_start| row_start & OFFSET_MASK)
     }
 
-    /// Does what [`Blocks::walk_blocks`] does, if there are states without a row. Where all blocks
-    /// have only ASCII for some bytes, no step is in such a state, or the input is no text.
+    /// Like [`Blocks::walk_blocks`], if there are states without a row. While all blocks have only
+    /// ASCII, no step is in such a state, unless the input is no text.
     #[inline(never)]
     fn walk_characters(
         input: &[u8; CHUNK],

@@ -106,8 +106,8 @@ impl<const STATES: usize, const RUNS: usize> Unpacked<STATES, RUNS> {
         T::DATA.unpacked()
     }
 
-    /// Returns the rows of a lexer, if they have an entry for each byte: an entry for each state and
-    /// each of its columns, and 256 more entries. Others are those of [`crate::layout::Made`].
+    /// Returns the rows of a lexer, if they have an entry for each byte: an entry for each state
+    /// and column, and 256 more entries. Other rows are those of [`crate::layout::Made`].
     pub const fn rows<'source, T, const N: usize>() -> [u32; N]
     where
         T: Tables<'source, Unpacked = Self>,
@@ -317,13 +317,15 @@ impl Data {
                 if is_inside {
                     is_inside = step == 0 || step != 1 && others[end] == others[class];
                     let bits = continuing[end] & !continuing[class];
-                    if bits == 0 || kinds == 3 || kinds > 0 && step == steps[0] {
-                    } else if kinds == 0 {
-                        (steps[0], kinds) = (step, 1);
-                    } else if kinds == 1 || step == steps[1] {
-                        (steps[1], kinds, set) = (step, 2, set | bits);
-                    } else {
-                        kinds = 3;
+                    let is_known = kinds > 0 && step == steps[0];
+                    if bits != 0 && kinds < 3 && !is_known {
+                        if kinds == 0 {
+                            (steps[0], kinds) = (step, 1);
+                        } else if kinds == 1 || step == steps[1] {
+                            (steps[1], kinds, set) = (step, 2, set | bits);
+                        } else {
+                            kinds = 3;
+                        }
                     }
                 }
                 if step == 1 {

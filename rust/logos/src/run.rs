@@ -54,8 +54,8 @@ pub(crate) trait Run<'source>: Loops<'source> {
         }
     }
 
-    /// Returns the entry of a byte in a state with a row. The column is added to the address of the table
-    /// first, because the state is known last, from the step before.
+    /// Returns the entry of a byte in a state with a row. The column is added to the address of the
+    /// table first, because the state is known last, from the step before.
     #[inline(always)]
     fn step(state: u32, byte: u8) -> u32 {
         Self::ENTRIES[Self::column(byte)..][state as usize]
