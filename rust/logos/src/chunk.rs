@@ -433,9 +433,14 @@ trait Blocks<'source>: Tables<'source> {
                 let part: Option<&mut [u32; CHUNK - BLOCK + STEPS]> =
                     others[at..].first_chunk_mut();
                 let part = core::hint::black_box(part.expect("a part"));
+                if Self::HAS_INSIDES && high_bits(&blocks, at.min(BLOCK - 8)) != 0 {
+                    let bytes = blocks.map(|block| block[at..].first_chunk().expect("some bytes"));
+                    row_starts = Self::step_characters(bytes, part, row_starts);
+                    continue;
+                }
                 for n in 0..STEPS {
                     for k in 1..BLOCKS {
-                        let entry = step::<Self>(blocks[k][at + n], row_starts[k]);
+                        let entry = Self::entry_in_row(blocks[k][at + n], row_starts[k]);
                         part[k * BLOCK + n] = entry;
                         row_starts[k] = entry;
                     }
