@@ -12,6 +12,9 @@ pub(crate) const BLOCKS: usize = 6;
 /// The number of bytes of a block that are processed in one step.
 const STEPS: usize = 6;
 const _: () = assert!(BLOCK % STEPS == 0);
+/// The number of bytes of each block that are examined at once for others than ASCII.
+const SPAN: usize = 24;
+const _: () = assert!(BLOCK % SPAN == 0 && SPAN % STEPS == 0 && STEPS <= 8);
 pub(crate) const CHUNK: usize = BLOCKS * BLOCK;
 /// The number of bytes of a word, which has a bit for each of them, and the number of words of a
 /// chunk.
@@ -112,7 +115,11 @@ impl Chunk {
     ) -> Walked {
         let mut guesses = guesser.guess::<T>(input);
         guesses.first[0] = row_start;
-        let row_starts = T::walk_blocks(input, &mut self.trace, guesses.first);
+        let row_starts = if T::HAS_INSIDES {
+            T::walk_characters(input, &mut self.trace, guesses.first)
+        } else {
+            T::walk_blocks(input, &mut self.trace, guesses.first)
+        };
         let walked = self.repair::<T>(input, guesses, row_starts, guesser);
         self.set_bits(0, CHUNK);
         walked
@@ -330,6 +337,62 @@ trait Blocks<'source>: Tables<'source> {
         row_starts.map(|row_start| row_start & OFFSET_MASK)
     }
 
+    /// Like [`Blocks::walk_blocks`], if there are states without a row. While all blocks have only
+    /// ASCII, no step is in such a state, unless the input is no text.
+    #[inline(never)]
+    fn walk_characters(
+        input: &[u8; CHUNK],
+        trace: &mut [u32; CHUNK],
+        row_starts: [u32; BLOCKS],
+    ) -> [u32; BLOCKS] {
+        let mut row_starts = row_starts;
+        let blocks: [&[u8; BLOCK]; BLOCKS] =
+            core::array::from_fn(|k| input[k * BLOCK..].first_chunk().expect("a block"));
+        let mut others = 0;
+        for at in (0..BLOCK).step_by(STEPS) {
+            if at % SPAN == 0 {
+                others = high_bits(&blocks, at) | high_bits(&blocks, at + 8);
+                others |= high_bits(&blocks, at + 16);
+            }
+            let part: Option<&mut [u32; CHUNK - BLOCK + STEPS]> = trace[at..].first_chunk_mut();
+            let part = core::hint::black_box(part.expect("a part"));
+            if others != 0 && high_bits(&blocks, at.min(BLOCK - 8)) != 0 {
+                let bytes = blocks.map(|block| block[at..].first_chunk().expect("some bytes"));
+                // The call has a copy, so that the other steps keep the row offsets in registers.
+                let before = core::hint::black_box(row_starts);
+                let after = core::hint::black_box(Self::step_characters(bytes, part, before));
+                row_starts = core::array::from_fn(|k| after[k]);
+                continue;
+            }
+            for n in 0..STEPS {
+                for k in 0..BLOCKS {
+                    let entry = Self::entry_in_row(blocks[k][at + n], row_starts[k]);
+                    part[k * BLOCK + n] = entry;
+                    row_starts[k] = entry;
+                }
+            }
+        }
+        row_starts.map(|row_start| row_start & OFFSET_MASK)
+    }
+
+    /// Walks over a few bytes of all blocks, some of which are not ASCII.
+    #[inline(never)]
+    fn step_characters(
+        bytes: [&[u8; STEPS]; BLOCKS],
+        part: &mut [u32; CHUNK - BLOCK + STEPS],
+        row_starts: [u32; BLOCKS],
+    ) -> [u32; BLOCKS] {
+        let mut row_starts = row_starts;
+        for n in 0..STEPS {
+            for k in 0..BLOCKS {
+                let entry = step::<Self>(bytes[k][n], row_starts[k]);
+                part[k * BLOCK + n] = entry;
+                row_starts[k] = entry;
+            }
+        }
+        row_starts
+    }
+
     /// Walks over parts of `size` bytes in parallel, each from its row, and returns the row offsets
     /// after them.
     #[inline(never)]
@@ -370,9 +433,14 @@ trait Blocks<'source>: Tables<'source> {
                 let part: Option<&mut [u32; CHUNK - BLOCK + STEPS]> =
                     others[at..].first_chunk_mut();
                 let part = core::hint::black_box(part.expect("a part"));
+                if Self::HAS_INSIDES && high_bits(&blocks, at.min(BLOCK - 8)) != 0 {
+                    let bytes = blocks.map(|block| block[at..].first_chunk().expect("some bytes"));
+                    row_starts = Self::step_characters(bytes, part, row_starts);
+                    continue;
+                }
                 for n in 0..STEPS {
                     for k in 1..BLOCKS {
-                        let entry = step::<Self>(blocks[k][at + n], row_starts[k]);
+                        let entry = Self::entry_in_row(blocks[k][at + n], row_starts[k]);
                         part[k * BLOCK + n] = entry;
                         row_starts[k] = entry;
                     }
@@ -389,6 +457,16 @@ trait Blocks<'source>: Tables<'source> {
 }
 
 impl<'source, T: Tables<'source>> Blocks<'source> for T {}
+
+/// Returns bits of which one is set if one of eight bytes of a block is not ASCII.
+#[inline(always)]
+fn high_bits(blocks: &[&[u8; BLOCK]; BLOCKS], from: usize) -> u64 {
+    let eights = blocks.iter().map(|block| block[from..].first_chunk());
+    let all = eights.fold(0, |all, eight| {
+        all | eight.map_or(0, |it| u64::from_ne_bytes(*it))
+    });
+    all & 0x8080_8080_8080_8080
+}
 
 /// Gathers the flags of the entries of a word: the flags of every fourth entry of each half are in
 /// one number, four bits apart. The function is not inlined and writes to memory, so that the

@@ -1,6 +1,7 @@
 //! The tables of a lexer in the form of generated code, and their unpacked form.
 
 use crate::internal::Tables;
+use crate::layout::{continuing, others_before, Layout};
 use crate::loops::Mask;
 
 /// The symbols: each byte, and the end of the input.
@@ -11,7 +12,7 @@ pub(crate) const END: usize = 256;
 const FEW: usize = 300;
 /// The number of columns of such a row. At a distance of a power of two, the entries of a byte in
 /// all rows would share a few cache lines.
-const BYTES: usize = 272;
+pub(crate) const BYTES: usize = 272;
 
 /// Numbers: the size of each in bytes, and all of them one after another, with the lowest byte
 /// first.
@@ -61,6 +62,13 @@ pub(crate) struct Row {
     pub(crate) passed: usize,
     /// Whether a step leads to a state.
     pub(crate) leads: bool,
+    /// Whether only bytes that continue a character lead to a state, and to another one.
+    pub(crate) is_inside: bool,
+    /// The first two distinct steps of bytes that continue a character, their number, or 3 if there
+    /// are more, and the bits of the bytes with the second one.
+    pub(crate) steps: [usize; 2],
+    pub(crate) kinds: u8,
+    pub(crate) bits: u64,
     /// The number of bytes that stay.
     pub(crate) staying: u16,
     /// The number of earlier rows in which a byte stays.
@@ -79,6 +87,10 @@ pub struct Unpacked<const STATES: usize, const RUNS: usize> {
     pub(crate) marks: [u32; STATES],
     /// The number of distinct rows in which a byte stays.
     pub(crate) loops: usize,
+    /// The numbers of the states, the layout of their rows, and the column of each class.
+    pub(crate) number: [u32; STATES],
+    pub(crate) layout: Layout,
+    pub(crate) of_classes: [u16; SYMBOLS + 1],
 }
 
 /// The values of the constants of a lexer. Each is made from the enum, and not from another
@@ -94,13 +106,16 @@ impl<const STATES: usize, const RUNS: usize> Unpacked<STATES, RUNS> {
         T::DATA.unpacked()
     }
 
-    /// Returns the rows of a lexer: an entry for each state and each of its columns, and 256 more
-    /// entries.
+    /// Returns the rows of a lexer, if they have an entry for each byte: an entry for each state
+    /// and column, and 256 more entries. Other rows are those of [`crate::layout::Made`].
     pub const fn rows<'source, T, const N: usize>() -> [u32; N]
     where
         T: Tables<'source, Unpacked = Self>,
     {
-        T::UNPACKED.all_rows()
+        if !T::DATA.by_bytes() {
+            return [0; N];
+        }
+        T::UNPACKED.all_rows(&[])
     }
 
     /// Returns the last match in each state of a lexer.
@@ -119,12 +134,15 @@ impl<const STATES: usize, const RUNS: usize> Unpacked<STATES, RUNS> {
         T::UNPACKED.all_masks()
     }
 
-    /// Returns the folded tables of a lexer.
+    /// Returns the folded tables of a lexer, if its rows have an entry for each byte.
     pub const fn folded<'source, T, const N: usize>() -> [u32; N]
     where
         T: Tables<'source, Unpacked = Self>,
     {
-        T::UNPACKED.all_folded(T::LASTS)
+        if !T::DATA.by_bytes() {
+            return [0; N];
+        }
+        T::UNPACKED.all_folded(T::LASTS, &[])
     }
 }
 
@@ -173,16 +191,6 @@ impl Data {
         self.states() <= FEW
     }
 
-    /// Returns the number of columns of a row: one for each byte, or one for each class and `more`
-    /// others.
-    pub(crate) const fn columns(&self, more: usize) -> usize {
-        if self.by_bytes() {
-            BYTES
-        } else {
-            self.width + more
-        }
-    }
-
     /// Returns the mark of a state.
     pub(crate) const fn mark(&self, state: usize) -> usize {
         number(&self.marks, state)
@@ -220,7 +228,8 @@ impl Data {
     const fn unpacked<const STATES: usize, const RUNS: usize>(&self) -> Unpacked<STATES, RUNS> {
         assert!(STATES == self.states() && STATES == count(&self.marks));
         let (classes, runs) = (self.classes(), self.runs());
-        let (distinct, height, loops) = self.distinct(&runs, &bytes_before(&classes));
+        let before = [bytes_before(&classes), others_before(&classes)];
+        let (distinct, height, loops) = self.distinct(&runs, &before, &continuing(&classes));
         let (mut rows, mut marks, mut state) = (distinct, [0; STATES], 0);
         while state < STATES {
             let (row, mark) = (number(&self.rows, state), self.mark(state));
@@ -231,14 +240,19 @@ impl Data {
             state += 1;
         }
         assert!(self.root < STATES, "the first state is there");
-        Unpacked {
+        let mut unpacked = Unpacked {
             data: *self,
             classes,
             runs,
             rows,
             marks,
             loops,
-        }
+            number: [0; STATES],
+            layout: Layout::NONE,
+            of_classes: [0; SYMBOLS + 1],
+        };
+        (unpacked.number, unpacked.layout, unpacked.of_classes) = unpacked.laid_out();
+        unpacked
     }
 
     const fn runs<const RUNS: usize>(&self) -> [Run; RUNS] {
@@ -271,19 +285,25 @@ impl Data {
     const fn distinct<const STATES: usize>(
         &self,
         runs: &[Run],
-        before: &[u16; SYMBOLS + 1],
+        before: &[[u16; SYMBOLS + 1]; 2],
+        continuing: &[u64; SYMBOLS + 1],
     ) -> ([Row; STATES], usize, usize) {
         let (mut run, mut passed, mut height, mut number) = (0, 0, 0, 0);
-        let width = self.width;
+        let (width, [bytes, others]) = (self.width, before);
         let mut rows = [Row {
             run,
             passed,
             leads: false,
+            is_inside: false,
+            steps: [0; 2],
+            kinds: 0,
+            bits: 0,
             staying: 0,
             number,
         }; STATES];
         while run < runs.len() {
-            let (mut leads, mut staying, mut class) = (false, 0, 0);
+            let (mut leads, mut staying, mut class, mut is_inside) = (false, 0, 0, true);
+            let (mut steps, mut kinds, mut set) = ([0; 2], 0, 0);
             let first = (run, passed);
             while class < width {
                 let Run { length, step } = runs[run];
@@ -294,8 +314,22 @@ impl Data {
                     (run, passed) = (next, 0);
                 }
                 leads |= step != 0;
+                if is_inside {
+                    is_inside = step == 0 || step != 1 && others[end] == others[class];
+                    let bits = continuing[end] & !continuing[class];
+                    let is_known = kinds > 0 && step == steps[0];
+                    if bits != 0 && kinds < 3 && !is_known {
+                        if kinds == 0 {
+                            (steps[0], kinds) = (step, 1);
+                        } else if kinds == 1 || step == steps[1] {
+                            (steps[1], kinds, set) = (step, 2, set | bits);
+                        } else {
+                            kinds = 3;
+                        }
+                    }
+                }
                 if step == 1 {
-                    staying += before[end] - before[class];
+                    staying += bytes[end] - bytes[class];
                 }
                 class = end;
             }
@@ -303,6 +337,10 @@ impl Data {
                 run: first.0,
                 passed: first.1,
                 leads,
+                is_inside: is_inside & leads,
+                steps,
+                kinds,
+                bits: set,
                 staying,
                 number,
             };

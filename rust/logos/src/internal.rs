@@ -2,6 +2,7 @@
 
 pub use crate::data::Data;
 pub use crate::data::{Data as _Data, Unpacked as _Unpacked};
+use crate::layout::Made;
 pub use crate::loops::Ranges as _Ranges;
 use crate::loops::{Mask, Ranges};
 use crate::run::Run;
@@ -56,7 +57,7 @@ impl<'source, Token: Logos<'source>> LexerInternal<'source> for Lexer<'source, T
 }
 
 /// The tables of a lexer in the form of generated code.
-pub trait Tables<'source>: Logos<'source> {
+pub trait Tables<'source>: Logos<'source> + Made<'source> {
     /// The tables.
     const DATA: Data;
 
@@ -64,7 +65,7 @@ pub trait Tables<'source>: Logos<'source> {
     type Unpacked: 'static;
     const UNPACKED: &'static Self::Unpacked;
 
-    /// The rows that `lex` reads: see [`_Unpacked::rows`].
+    /// The rows that `lex` reads, if they have an entry for each byte: see [`_Unpacked::rows`].
     const ROWS: &'static [u32];
 
     /// The last match in each state: see [`_Unpacked::lasts`].
@@ -74,7 +75,8 @@ pub trait Tables<'source>: Logos<'source> {
     const MASKS: &'static [Mask];
     const RANGES: &'static [Ranges];
 
-    /// The tables that `scan` reads: see [`_Unpacked::folded`].
+    /// The tables that walks read, if their rows have an entry for each byte: see
+    /// [`_Unpacked::folded`].
     const FOLDED: &'static [u32];
 
     /// Returns the bytes of an input.

@@ -37,6 +37,7 @@ mod folded;
 mod guess;
 #[allow(missing_docs)]
 pub mod internal;
+mod layout;
 mod lexer;
 mod loops;
 mod rows;

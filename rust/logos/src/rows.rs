@@ -5,6 +5,7 @@
 //! kind, and its lower bits are the number of a leaf or of a loop.
 
 use crate::data::{Unpacked, SYMBOLS};
+use crate::layout::{Inside, Sets, CONTINUATIONS, FIRST_CONTINUATION, NO_INSIDE};
 
 const KIND_BIT: u32 = 29;
 const ONE_KIND: u32 = 1 << KIND_BIT;
@@ -33,48 +34,98 @@ pub(crate) const FORTH: u32 = 128;
 const FARTHEST: u32 = 30;
 
 impl<const STATES: usize, const RUNS: usize> Unpacked<STATES, RUNS> {
-    /// Returns the rows of all states. There are `N` entries, so that the offset of each row plus a
-    /// byte or a class is the index of an entry.
+    /// Returns the number of the entries, where the entries of `many` states without a row are
+    /// among the rows.
+    pub(crate) const fn rows_len(&self, many: usize) -> usize {
+        self.many_start() + many * CONTINUATIONS
+    }
+
+    /// Returns the index of the first entry of a state without a row.
+    const fn many_start(&self) -> usize {
+        self.first_inside() + self.layout.insides + 256
+    }
+
+    /// Returns the offset of the first state without a row.
+    const fn first_inside(&self) -> usize {
+        self.layout.rows * self.layout.columns
+    }
+
+    /// Returns the rows of all states, given the sets of those without a row. There are at least as
+    /// many entries that the offset of each row plus a byte or a class is the index of an entry.
     ///
     /// # Panics
     ///
-    /// Panics if this is not the number of the entries.
-    pub(crate) const fn all_rows<const N: usize>(&self) -> [u32; N] {
-        let columns = self.data.columns(0);
-        assert!(N == STATES * columns + 256, "the number of the entries");
-        assert!(STATES * columns < STAYS as usize, "too many entries");
+    /// Panics if there are more entries than `N`.
+    pub(crate) const fn all_rows<const N: usize>(&self, insides: &[Inside]) -> [u32; N] {
+        assert!(N >= self.many_start(), "the number of the entries");
+        assert!(self.many_start() < STAYS as usize, "too many entries");
         assert!(self.data.leaves() <= NUMBERS as usize, "too many leaves");
         let (mut rows, mut state) = ([NOWHERE; N], 0);
         let (by_bytes, width, runs) = (self.data.by_bytes(), self.data.width, &self.runs);
+        let (columns, mut entries) = (&self.of_classes, [NOWHERE; SYMBOLS]);
         while state < STATES {
-            let (row, at, mut class) = (&self.rows[state], state * columns, 0);
-            let (mut run, mut past, mut by_classes) = (row.run, 0, [NOWHERE; SYMBOLS]);
+            let (row, at) = (&self.rows[state], self.offset(state, 0) as usize);
+            let is_inside = self.is_inside(state);
+            let set = if is_inside {
+                &insides[self.number[state] as usize - self.layout.rows]
+            } else {
+                &NO_INSIDE
+            };
+            if is_inside && set.is_set() {
+                state += 1;
+                continue;
+            }
+            let (mut run, mut past, mut class) = (row.run, 0, 0);
             while class < width {
                 past += runs[run].length;
                 let entry = self.entry(state, runs[run].step);
                 let end = past - row.passed;
                 let to = if end > width { width } else { end };
-                if entry == NOWHERE {
-                    class = to;
-                }
-                while class < to {
-                    if by_bytes {
-                        by_classes[class] = entry;
-                    } else {
-                        rows[at + class] = entry;
+                if by_bytes | is_inside {
+                    while class < to {
+                        entries[class] = entry;
+                        class += 1;
                     }
-                    class += 1;
+                } else if entry != NOWHERE {
+                    let mut column = columns[class] as usize;
+                    while column <= columns[to - 1] as usize {
+                        rows[at + column] = entry;
+                        column += 1;
+                    }
                 }
-                run += 1;
+                (class, run) = (to, run + 1);
             }
             let mut symbol = 0;
             while by_bytes && symbol < SYMBOLS {
-                rows[at + symbol] = by_classes[self.classes[symbol] as usize];
+                rows[at + symbol] = entries[self.classes[symbol] as usize];
+                symbol += 1;
+            }
+            while is_inside && symbol < CONTINUATIONS {
+                let class = self.classes[FIRST_CONTINUATION + symbol] as usize;
+                rows[set.index(symbol)] = entries[class];
                 symbol += 1;
             }
             state += 1;
         }
         rows
+    }
+
+    /// Returns the sets of the states without a row.
+    pub(crate) const fn row_sets(&self) -> Sets<STATES> {
+        let (mut sets, mut state, rows) = (Sets::NONE, 0, self.layout.rows);
+        while self.layout.insides > 0 && state < STATES {
+            let (row, number) = (&self.rows[state], self.number[state] as usize);
+            if number >= rows && row.kinds == 3 {
+                sets.insides[number - rows] = Inside::at(self.rows_len(sets.many));
+                sets.many += 1;
+            } else if number >= rows {
+                let one = self.entry(state, row.steps[0]);
+                let other = self.entry(state, row.steps[1]);
+                sets.insides[number - rows] = Inside::of([one, other], row.bits);
+            }
+            state += 1;
+        }
+        sets
     }
 
     /// Returns the entry of a step in a state.
@@ -92,7 +143,7 @@ impl<const STATES: usize, const RUNS: usize> Unpacked<STATES, RUNS> {
             _ => {
                 let (next, mark) = (step - 2, self.marks[step - 2]);
                 if mark == 0 || self.rows[next].leads {
-                    return (next * self.data.columns(0)) as u32;
+                    return self.offset(next, self.first_inside());
                 }
                 self.ended(mark, if mark % 2 == 0 { CLOSES } else { ENDS })
             }

@@ -7,6 +7,7 @@ use crate::data::END;
 #[cfg(feature = "std")]
 use crate::folded::ERROR;
 use crate::internal::{CallbackResult, Tables};
+use crate::layout::continues;
 use crate::loops::Loops;
 use crate::rows::{AGAIN, CLOSES, ENDS, FORTH, NEVER, NOWHERE, NUMBERS, SINGLY, STAYS, VARIES};
 #[cfg(not(feature = "std"))]
@@ -29,37 +30,35 @@ pub(crate) trait Run<'source>: Loops<'source> {
     /// Whether a row has an entry for each byte instead of for each class.
     const BY_BYTES: bool = Self::DATA.by_bytes();
     /// The columns of a row, and the column of the end of the input.
-    const COLUMNS: usize = Self::DATA.columns(0);
-    const END_COLUMN: usize = if Self::BY_BYTES {
-        END
-    } else {
-        Self::DATA.classes()[END] as usize
-    };
-    /// The bound below which entries lead to a state, and the entry that leads to the first state.
-    const LEADS: u32 = (Self::DATA.states() * Self::COLUMNS) as u32;
-    const START: u32 = (Self::DATA.root * Self::COLUMNS) as u32;
+    const COLUMNS: usize = Self::LAYOUT.columns;
+    const END_COLUMN: usize = Self::LAYOUT.column[END] as usize;
+    /// The bounds below which entries lead to a state with a row, and to a state, and the entry
+    /// that leads to the first state.
+    const LEADS: u32 = (Self::LAYOUT.rows * Self::COLUMNS) as u32;
+    const ENTERS: u32 = Self::LEADS + Self::LAYOUT.insides as u32;
+    const START: u32 = (Self::LAYOUT.root * Self::COLUMNS) as u32;
     /// The number of leaves.
     const LEAVES: usize = Self::DATA.leaves();
-    /// The class of each byte, and the entries of the first state, by bytes.
-    const CLASSES: &'static [u8; 256] = &classes(&Self::DATA.classes());
+    /// The column of each byte, and the entries of the first state, by bytes.
+    const BYTE_COLUMNS: &'static [u8; 256] = &columns(&Self::LAYOUT.column);
     const FIRST: &'static [u32; 256] =
-        &first(Self::ROWS, Self::START as usize, &Self::DATA.classes());
+        &first(Self::ENTRIES, Self::START as usize, &Self::LAYOUT.column);
 
     /// Returns the entry of the first byte of an attempt.
     #[inline(always)]
     fn first_step(byte: u8) -> u32 {
         if Self::BY_BYTES {
-            Self::ROWS[Self::START as usize + byte as usize]
+            Self::ENTRIES[Self::START as usize + byte as usize]
         } else {
             Self::FIRST[byte as usize]
         }
     }
 
-    /// Returns the entry of a byte in a state. The column is added to the address of the table
-    /// first, because the state is known last, from the step before.
+    /// Returns the entry of a byte in a state with a row. The column is added to the address of the
+    /// table first, because the state is known last, from the step before.
     #[inline(always)]
     fn step(state: u32, byte: u8) -> u32 {
-        Self::ROWS[Self::column(byte)..][state as usize]
+        Self::ENTRIES[Self::column(byte)..][state as usize]
     }
 
     /// Returns the column of a byte.
@@ -68,8 +67,62 @@ pub(crate) trait Run<'source>: Loops<'source> {
         if Self::BY_BYTES {
             byte as usize
         } else {
-            Self::CLASSES[byte as usize] as usize
+            Self::BYTE_COLUMNS[byte as usize] as usize
         }
+    }
+
+    /// Returns whether an entry leads to a state without a row.
+    #[inline(always)]
+    fn is_inside(entry: u32) -> bool {
+        entry >= Self::LEADS && entry < Self::ENTERS
+    }
+
+    /// Returns the entry of a byte in any state.
+    #[inline(always)]
+    fn any_step(rows: &'static [u32], state: u32, byte: u8) -> u32 {
+        if !Self::HAS_INSIDES || !Self::is_inside(state) {
+            return rows[state as usize + Self::column(byte)];
+        }
+        if !continues(byte) {
+            return NOWHERE;
+        }
+        let inside = &Self::INSIDES[(state - Self::LEADS) as usize];
+        if inside.is_set() {
+            inside.entry(byte)
+        } else {
+            rows[inside.index(byte as usize)]
+        }
+    }
+
+    /// Returns the number of a state.
+    #[inline(always)]
+    fn number(state: u32) -> usize {
+        if Self::HAS_INSIDES && Self::is_inside(state) {
+            return Self::LAYOUT.rows + (state - Self::LEADS) as usize;
+        }
+        state as usize / Self::COLUMNS
+    }
+
+    /// Continues an attempt in a state without a row, to the end of a character. Returns the first
+    /// entry that does not lead to such a state, the position after its byte, and the state before
+    /// it.
+    #[inline(never)]
+    fn walk_inside(
+        rows: &'static [u32],
+        bytes: &[u8],
+        from: usize,
+        first: u32,
+    ) -> (u32, usize, u32) {
+        let (mut state, mut at) = (first, from);
+        while let Some(byte) = bytes.get(at) {
+            let next = Self::any_step(rows, state, *byte);
+            at += 1;
+            if !Self::is_inside(next) {
+                return (next, at, state);
+            }
+            state = next;
+        }
+        (NOWHERE, at + 1, state)
     }
 
     /// Returns whether the entry is of this kind, which has a leaf. The leaf is not extracted here,
@@ -103,14 +156,18 @@ pub(crate) trait Run<'source>: Loops<'source> {
         let (mut leaf, mut end) = (Self::LEAVES, start);
         loop {
             let next = match bytes.get(at) {
-                Some(byte) => rows[state as usize + Self::column(*byte)],
+                Some(byte) => Self::any_step(rows, state, *byte),
                 None => rows[state as usize + Self::END_COLUMN],
             };
             if (STAYS..ENDS).contains(&next) {
                 at += 1;
                 continue;
             }
-            let mark = Self::DATA.mark(state as usize / Self::COLUMNS);
+            let mark = Self::DATA.mark(if Self::HAS_INSIDES {
+                Self::NUMBERED[Self::number(state)] as usize
+            } else {
+                Self::number(state)
+            });
             if mark != 0 {
                 (leaf, end) = (mark / 2 - 1, at - mark % 2);
             }
@@ -136,9 +193,9 @@ pub(crate) trait Run<'source>: Loops<'source> {
         entry: u32,
         at: usize,
     ) -> (usize, usize) {
-        let last = Self::LASTS[state as usize / Self::COLUMNS];
+        let last = Self::LAST_MATCHES[Self::number(state)];
         if entry != NOWHERE || last == VARIES {
-            return Self::try_again(Self::ROWS, bytes, start);
+            return Self::try_again(Self::ENTRIES, bytes, start);
         }
         if last == NEVER {
             return (Self::LEAVES, at);
@@ -157,48 +214,69 @@ pub(crate) trait Run<'source>: Loops<'source> {
     #[inline(always)]
     fn walk(bytes: &[u8], from: usize, first: u32) -> (u32, usize, u32) {
         let (mut state, mut at) = (first, from);
-        'walk: loop {
-            let Some(byte) = bytes.get(at) else {
-                return (Self::end_entry(Self::ROWS, state), at + 1, state);
-            };
-            let mut next = Self::step(state, *byte);
-            at += 1;
-            if next >= Self::LEADS {
-                if next >= ENDS {
-                    return (next, at, state);
+        'rows: loop {
+            if Self::HAS_INSIDES && Self::is_inside(state) {
+                let (next, to, last) = Self::walk_inside(Self::ENTRIES, bytes, at, state);
+                if next >= Self::LEADS {
+                    return (next, to, last);
                 }
-                let number = next as usize & Self::LOOP;
-                let block = bytes.get(at..).and_then(|rest| rest.first_chunk::<14>());
-                if next & SINGLY == 0 {
-                    at = Self::stop(number, bytes, at);
-                } else if let Some(block) = block {
-                    // The code that follows does not wait for the number of these that stay. Which
-                    // number is the fastest depends on the text.
-                    for (n, byte) in block.iter().enumerate() {
-                        if !Self::stays(number, *byte) {
-                            next = Self::step(state, *byte);
-                            at += n + 1;
-                            if next >= Self::LEADS {
-                                return (next, at, state);
-                            }
-                            state = next;
-                            continue 'walk;
-                        }
-                    }
-                    at = Self::stop_far(Self::MASKS, number, bytes, at + 14);
-                } else {
-                    at = Self::stop_late(Self::MASKS, number, bytes, at);
-                }
+                (state, at) = (next, to);
+            }
+            'walk: loop {
                 let Some(byte) = bytes.get(at) else {
-                    return (Self::end_entry(Self::ROWS, state), at + 1, state);
+                    return (Self::end_entry(Self::ENTRIES, state), at + 1, state);
                 };
-                next = Self::step(state, *byte);
+                let mut next = Self::step(state, *byte);
                 at += 1;
                 if next >= Self::LEADS {
-                    return (next, at, state);
+                    if next >= ENDS {
+                        return (next, at, state);
+                    }
+                    if Self::HAS_INSIDES && Self::is_inside(next) {
+                        state = next;
+                        continue 'rows;
+                    }
+                    let number = next as usize & Self::LOOP;
+                    let block = bytes.get(at..).and_then(|rest| rest.first_chunk::<14>());
+                    if next & SINGLY == 0 {
+                        at = Self::stop(number, bytes, at);
+                    } else if let Some(block) = block {
+                        // The code that follows does not wait for the number of these that stay.
+                        // Which number is the fastest depends on the text.
+                        for (n, byte) in block.iter().enumerate() {
+                            if !Self::stays(number, *byte) {
+                                next = Self::step(state, *byte);
+                                at += n + 1;
+                                if next >= Self::LEADS {
+                                    if Self::HAS_INSIDES && Self::is_inside(next) {
+                                        state = next;
+                                        continue 'rows;
+                                    }
+                                    return (next, at, state);
+                                }
+                                state = next;
+                                continue 'walk;
+                            }
+                        }
+                        at = Self::stop_far(Self::MASKS, number, bytes, at + 14);
+                    } else {
+                        at = Self::stop_late(Self::MASKS, number, bytes, at);
+                    }
+                    let Some(byte) = bytes.get(at) else {
+                        return (Self::end_entry(Self::ENTRIES, state), at + 1, state);
+                    };
+                    next = Self::step(state, *byte);
+                    at += 1;
+                    if next >= Self::LEADS {
+                        if Self::HAS_INSIDES && Self::is_inside(next) {
+                            state = next;
+                            continue 'rows;
+                        }
+                        return (next, at, state);
+                    }
                 }
+                state = next;
             }
-            state = next;
         }
     }
 
@@ -285,7 +363,7 @@ pub(crate) trait Run<'source>: Loops<'source> {
                 Self::found(lex, leaf)
             }
             Next::Repeat(start) => {
-                let (leaf, end) = Self::try_again(Self::ROWS, bytes, start);
+                let (leaf, end) = Self::try_again(Self::ENTRIES, bytes, start);
                 lex.set_span(start..end);
                 Self::found(lex, leaf)
             }
@@ -345,7 +423,7 @@ pub(crate) trait Run<'source>: Loops<'source> {
     fn is_sure(bytes: &[u8], start: usize) -> bool {
         let (mut state, mut at) = (Self::START, start);
         while let Some(byte) = bytes.get(at) {
-            let next = Self::step(state, *byte);
+            let next = Self::any_step(Self::ENTRIES, state, *byte);
             at += 1;
             if (CLOSES..NOWHERE).contains(&next) {
                 return at < bytes.len();
@@ -380,7 +458,7 @@ pub(crate) trait Run<'source>: Loops<'source> {
                 if Self::has_leaf(entry, CLOSES) {
                     break 'found ((entry & NUMBERS) as usize, at);
                 }
-                if entry < Self::LEADS {
+                if entry < Self::ENTERS {
                     (entry, at, state) = Self::walk(bytes, at, entry);
                     if Self::has_leaf(entry, ENDS) {
                         break 'found ((entry & NUMBERS) as usize, at - 1);
@@ -418,23 +496,23 @@ pub(crate) trait Run<'source>: Loops<'source> {
 
 impl<'source, T: Tables<'source>> Run<'source> for T {}
 
-const fn classes(classes: &[u16; 257]) -> [u8; 256] {
+const fn columns(columns: &[u16; 257]) -> [u8; 256] {
     let (mut all, mut byte) = ([0; 256], 0);
     while byte < 256 {
         assert!(
-            classes[byte] < 256,
-            "the class of a byte is one of the first"
+            columns[byte] < 256,
+            "the column of a byte is one of the first"
         );
-        all[byte] = classes[byte] as u8;
+        all[byte] = columns[byte] as u8;
         byte += 1;
     }
     all
 }
 
-const fn first(rows: &[u32], start: usize, classes: &[u16; 257]) -> [u32; 256] {
+const fn first(rows: &[u32], start: usize, columns: &[u16; 257]) -> [u32; 256] {
     let (mut first, mut byte) = ([0; 256], 0);
     while byte < 256 {
-        first[byte] = rows[start + classes[byte] as usize];
+        first[byte] = rows[start + columns[byte] as usize];
         byte += 1;
     }
     first

@@ -4,7 +4,7 @@ use logos::internal::{_Data, _Ranges, _Tables, _Unpacked, CallbackResult, LexerI
 use logos::{Lexer, Logos, Span};
 use std::sync::OnceLock;
 
-/// The classes: no other, letters, `(`, blanks, digits, `.`, `<`.
+/// The classes: no other, letters, `(`, blanks, digits, `.`, `<`, and four bytes of characters.
 const CLASSES: [u8; 257] = {
     let mut classes = [0; 257];
     let mut byte = b'a' as usize;
@@ -21,24 +21,31 @@ const CLASSES: [u8; 257] = {
     classes[b' ' as usize] = 3;
     classes[b'.' as usize] = 5;
     classes[b'<' as usize] = 6;
+    classes[0xE6] = 7;
+    classes[0xBC] = 8;
+    classes[0xA2] = 9;
+    classes[0xA3] = 10;
     classes
 };
-const WIDTH: usize = 7;
-/// Each row of a state: the root, a word, `(`, blanks, a number, a number and `.`, a fraction, `<`.
+const WIDTH: usize = 11;
+/// Each row of a state: the root, a word, `(`, blanks, a number, a number and `.`, a fraction, `<`,
+/// and the first one and two bytes of `漢`, which belongs to words, and of `漣`, which is like `<`.
 #[rustfmt::skip]
-const STEPS: [u8; 56] = [
-    0, 3, 4, 5, 6, 0, 9,
-    0, 1, 0, 0, 0, 0, 0,
-    0, 0, 0, 0, 0, 0, 0,
-    0, 0, 0, 1, 0, 0, 0,
-    0, 0, 0, 0, 1, 7, 0,
-    0, 0, 0, 0, 8, 0, 0,
-    0, 0, 0, 0, 1, 0, 0,
-    0, 0, 0, 0, 0, 0, 0,
+const STEPS: [u8; 110] = [
+    0, 3, 4, 5, 6, 0, 9, 10, 0, 0, 0,
+    0, 1, 0, 0, 0, 0, 0, 10, 0, 0, 0,
+    0, 0, 0, 0, 0, 0, 0, 0, 0, 0, 0,
+    0, 0, 0, 1, 0, 0, 0, 0, 0, 0, 0,
+    0, 0, 0, 0, 1, 7, 0, 0, 0, 0, 0,
+    0, 0, 0, 0, 8, 0, 0, 0, 0, 0, 0,
+    0, 0, 0, 0, 1, 0, 0, 0, 0, 0, 0,
+    0, 0, 0, 0, 0, 0, 0, 0, 0, 0, 0,
+    0, 0, 0, 0, 0, 0, 0, 0, 11, 0, 0,
+    0, 0, 0, 0, 0, 0, 0, 0, 0, 3, 9,
 ];
-const ROWS: [u8; 8] = [0, 1, 2, 3, 4, 5, 6, 7];
+const ROWS: [u8; 10] = [0, 1, 2, 3, 4, 5, 6, 7, 8, 9];
 /// The leaves: 0 for blanks, 1 for words, 2 for `(`, 3 for numbers, 4 for `<`.
-const MARKS: [u8; 8] = [0, 4, 6, 2, 8, 0, 8, 10];
+const MARKS: [u8; 10] = [0, 4, 6, 2, 8, 0, 8, 10, 0, 0];
 const SKIPS: [u8; 5] = [1, 0, 0, 0, 0];
 const LEAVES: usize = SKIPS.len();
 
@@ -65,7 +72,7 @@ fn attempt(bytes: &[u8], start: usize) -> (usize, usize) {
 }
 
 /// Returns a table followed by zeros: the states to which they belong are not reached.
-const fn padded<const N: usize>(table: &[u8; 8]) -> [u8; N] {
+const fn padded<const N: usize>(table: &[u8; 10]) -> [u8; N] {
     let (mut padded, mut at) = ([0; N], 0);
     while at < table.len() {
         padded[at] = table[at];
@@ -74,7 +81,7 @@ const fn padded<const N: usize>(table: &[u8; 8]) -> [u8; N] {
     padded
 }
 
-/// The tokens of the lexers. The number identifies a lexer: with 8 or 301 it is the number of
+/// The tokens of the lexers. The number identifies a lexer: with 10 or 301 it is the number of
 /// states of its tables, which determines whether a row has an entry for each byte or for each
 /// class. A lexer with 0 has no tables.
 #[derive(Clone, Debug, PartialEq)]
@@ -85,7 +92,7 @@ pub enum Token<'s, const STATES: usize> {
     Angle,
 }
 
-pub type ByBytes<'s> = Token<'s, 8>;
+pub type ByBytes<'s> = Token<'s, 10>;
 pub type ByClasses<'s> = Token<'s, 301>;
 pub type ByHand<'s> = Token<'s, 0>;
 
@@ -187,13 +194,13 @@ macro_rules! lexer {
                 width: WIDTH,
                 class_lengths: (1, &[1; 257]),
                 classes: (1, &CLASSES),
-                lengths: (1, &[1; 56]),
+                lengths: (1, &[1; 110]),
                 steps: (1, &STEPS),
                 rows: (1, &padded::<$states>(&ROWS)),
                 marks: (1, &padded::<$states>(&MARKS)),
                 skips: (1, &SKIPS),
             };
-            type Unpacked = _Unpacked<$states, 56>;
+            type Unpacked = _Unpacked<$states, 110>;
             const UNPACKED: &'static Self::Unpacked = &<Self::Unpacked>::new::<Self>();
             const ROWS: &'static [u32] = &<Self::Unpacked>::rows::<Self, $entries>();
             const LASTS: &'static [u32] = &<Self::Unpacked>::lasts::<Self>();
@@ -212,7 +219,7 @@ macro_rules! lexer {
     };
 }
 
-lexer!(8, { 8 * 272 + 256 }, { 4096 + 1024 });
+lexer!(10, { 10 * 272 + 256 }, { 4096 + 1024 });
 lexer!(301, { 301 * WIDTH + 256 }, { 4096 + 1024 });
 
 /// Returns the text in which a callback continues.
@@ -223,7 +230,7 @@ pub fn other() -> &'static str {
 
 /// Returns a text of as many pieces, the same one for a seed each time.
 pub fn text(pieces: usize, seed: u64) -> String {
-    const PIECES: [&str; 14] = [
+    const PIECES: [&str; 20] = [
         "a",
         "word ",
         " ",
@@ -238,6 +245,12 @@ pub fn text(pieces: usize, seed: u64) -> String {
         "\n",
         "x y z ",
         "..",
+        "漢",
+        "a漢b漢漢",
+        "漣",
+        "word漣",
+        "漀",
+        "a怀",
     ];
     let mut seed = seed;
     let mut next = || {

@@ -1,0 +1,364 @@
+//! Which states have a row, and the columns of rows.
+//!
+//! If a lexer has many states, most of them are between the bytes of a character: only bytes from
+//! 0x80 to 0xBF lead on from there, and mostly to one or two states. Such a state has no row, but a
+//! set of these bytes: see [`Inside`]. The columns of rows are then the classes of the symbols in
+//! the states that have rows. Otherwise each state has a row, with an entry for each byte.
+
+use crate::data::{Unpacked, BYTES, END, SYMBOLS};
+use crate::internal::Tables;
+use core::marker::PhantomData;
+
+/// The layout of the rows of a lexer.
+#[derive(Clone, Copy)]
+pub struct Layout {
+    /// The number of states that have a row, and of the others.
+    pub(crate) rows: usize,
+    pub(crate) insides: usize,
+    /// The number of the state in which each match attempt begins.
+    pub(crate) root: usize,
+    /// The number of columns of a row, and the column of each symbol.
+    pub(crate) columns: usize,
+    pub(crate) column: [u16; SYMBOLS],
+}
+
+/// The steps of a state that has no row: two entries, and for each byte from 0x80 to 0xBF a bit
+/// that chooses between them. If there are more, both are the index of the entry of byte 0x80 among
+/// the rows.
+#[derive(Clone, Copy)]
+pub struct Inside {
+    pub(crate) bits: u64,
+    pub(crate) entries: [u32; 2],
+}
+
+/// The number of bytes from 0x80 to 0xBF.
+pub(crate) const CONTINUATIONS: usize = 64;
+pub(crate) const FIRST_CONTINUATION: usize = 0x80;
+pub(crate) const NO_INSIDE: Inside = Inside {
+    bits: 0,
+    entries: [0, 0],
+};
+
+/// Returns whether a byte can continue a character.
+#[inline(always)]
+pub(crate) const fn continues(byte: u8) -> bool {
+    byte & 0xC0 == FIRST_CONTINUATION as u8
+}
+
+impl Inside {
+    /// Returns whether there are two entries.
+    #[inline(always)]
+    pub(crate) const fn is_set(&self) -> bool {
+        self.entries[0] != self.entries[1]
+    }
+
+    /// Returns the entry of a byte from 0x80 to 0xBF, of two.
+    #[inline(always)]
+    pub(crate) const fn entry(&self, byte: u8) -> u32 {
+        self.entries[(self.bits >> (byte % CONTINUATIONS as u8) & 1) as usize]
+    }
+
+    /// Returns the index of the entry of a byte from 0x80 to 0xBF, of more than two.
+    #[inline(always)]
+    pub(crate) const fn index(&self, byte: usize) -> usize {
+        self.entries[0] as usize + byte % CONTINUATIONS
+    }
+}
+
+/// The tables of a lexer, in the layout that the loops read. They are made from those that the
+/// lexer has in generated code.
+pub trait Made<'source> {
+    const LAYOUT: Layout;
+    /// Whether there are states without a row.
+    const HAS_INSIDES: bool;
+    /// The rows of the loop over match attempts: see [`crate::rows`].
+    const ENTRIES: &'static [u32];
+    const INSIDES: &'static [Inside];
+    /// The last match in each state, and the state, by their numbers.
+    const LAST_MATCHES: &'static [u32];
+    const NUMBERED: &'static [u32];
+    /// The rows of walks: see [`crate::folded`].
+    const WALKED: &'static [u32];
+    const WALKED_INSIDES: &'static [Inside];
+}
+
+/// The sets of the states without a row, and the number of those with entries among the rows.
+pub(crate) struct Sets<const STATES: usize> {
+    pub(crate) insides: [Inside; STATES],
+    pub(crate) many: usize,
+}
+
+impl Layout {
+    pub(crate) const NONE: Layout = Layout {
+        rows: 0,
+        insides: 0,
+        root: 0,
+        columns: 0,
+        column: [0; SYMBOLS],
+    };
+}
+
+impl<'source, T, const STATES: usize, const RUNS: usize> Made<'source> for T
+where
+    T: Tables<'source, Unpacked = Unpacked<STATES, RUNS>>,
+{
+    const LAYOUT: Layout = T::UNPACKED.layout;
+    const HAS_INSIDES: bool = T::UNPACKED.layout.insides > 0;
+    const ENTRIES: &'static [u32] = if T::DATA.by_bytes() {
+        printed_rows::<T>()
+    } else {
+        rows_of_size::<T, STATES, RUNS>(T::UNPACKED.rows_len(Parts::<'_, T>::ROWS.many))
+    };
+    const INSIDES: &'static [Inside] = &Parts::<'_, T>::ROWS.insides;
+    const LAST_MATCHES: &'static [u32] = &T::UNPACKED.by_numbers(T::LASTS);
+    const NUMBERED: &'static [u32] = &T::UNPACKED.numbered();
+    const WALKED: &'static [u32] = if T::DATA.by_bytes() {
+        printed_folded::<T>()
+    } else {
+        folded_of_size::<T, STATES, RUNS>(T::UNPACKED.folded_len(Parts::<'_, T>::FOLDED.many))
+    };
+    const WALKED_INSIDES: &'static [Inside] = &Parts::<'_, T>::FOLDED.insides;
+}
+
+// A constant that a function names is evaluated when the function is called. So each of the
+// following functions is called only for the table that a lexer has.
+
+const fn printed_rows<'s, T: Tables<'s>>() -> &'static [u32] {
+    T::ROWS
+}
+
+const fn printed_folded<'s, T: Tables<'s>>() -> &'static [u32] {
+    T::FOLDED
+}
+
+/// The sets of a lexer.
+struct Parts<'s, T>(PhantomData<(&'s (), T)>);
+
+impl<'s, T, const STATES: usize, const RUNS: usize> Parts<'s, T>
+where
+    T: Tables<'s, Unpacked = Unpacked<STATES, RUNS>>,
+{
+    const ROWS: Sets<STATES> = T::UNPACKED.row_sets();
+    const FOLDED: Sets<STATES> = T::UNPACKED.folded_sets(T::LASTS);
+}
+
+/// Tables of one length.
+struct Sized<'s, T, const N: usize>(PhantomData<(&'s (), T)>);
+
+impl<'s, T, const STATES: usize, const RUNS: usize, const N: usize> Sized<'s, T, N>
+where
+    T: Tables<'s, Unpacked = Unpacked<STATES, RUNS>>,
+{
+    const ROWS: &'static [u32] = &T::UNPACKED.all_rows::<N>(&Parts::<'_, T>::ROWS.insides);
+    const FOLDED: &'static [u32] =
+        &T::UNPACKED.all_folded::<N>(T::LASTS, &Parts::<'_, T>::FOLDED.insides);
+
+    const fn rows() -> &'static [u32] {
+        Self::ROWS
+    }
+
+    const fn folded() -> &'static [u32] {
+        Self::FOLDED
+    }
+}
+
+/// Calls a function with the least of some lengths that is enough.
+macro_rules! of_size {
+    ($len:expr, $made:ident, $T:ident: $($n:literal)*) => {
+        match $len {
+            $(0..=$n => Sized::<'_, $T, $n>::$made(),)*
+            _ => panic!("the tables have too many entries"),
+        }
+    };
+}
+
+const fn rows_of_size<'s, T, const STATES: usize, const RUNS: usize>(len: usize) -> &'static [u32]
+where
+    T: Tables<'s, Unpacked = Unpacked<STATES, RUNS>>,
+{
+    of_size!(len, rows, T:
+        1024 1280 1536 1792 2048 2560 3072 3584 4096 5120 6144 7168 8192 10240 12288 14336 16384
+        20480 24576 28672 32768 40960 49152 57344 65536 81920 98304 114688 131072 163840 196608
+        229376 262144 327680 393216 458752 524288 655360 786432 917504 1048576 1310720 1572864
+        1835008 2097152 2621440 3145728 3670016 4194304 5242880 6291456 7340032 8388608 12582912
+        16777216 33554432 67108864 134217728 268435456 536870912)
+}
+
+const fn folded_of_size<'s, T, const STATES: usize, const RUNS: usize>(len: usize) -> &'static [u32]
+where
+    T: Tables<'s, Unpacked = Unpacked<STATES, RUNS>>,
+{
+    of_size!(len, folded, T:
+        1025 1536 2048 3072 5120 9216 17408 33792 66560 132096 263168 525312 1049600)
+}
+
+impl<const STATES: usize, const RUNS: usize> Unpacked<STATES, RUNS> {
+    /// Returns the numbers of the states: those that have a row come first. Returns also the
+    /// layout, and the column of each class.
+    pub(crate) const fn laid_out(&self) -> ([u32; STATES], Layout, [u16; SYMBOLS + 1]) {
+        let (mut column, mut symbol) = ([0; SYMBOLS], 0);
+        let (mut number, mut state, mut rows) = ([u32::MAX; STATES], 0, 0);
+        while state < STATES {
+            if !self.has_no_row(state) {
+                number[state] = rows as u32;
+                rows += 1;
+            }
+            state += 1;
+        }
+        let (mut inside, mut state) = (rows, 0);
+        while rows < STATES && state < STATES {
+            if number[state] == u32::MAX {
+                number[state] = inside as u32;
+                inside += 1;
+            }
+            state += 1;
+        }
+        let of_classes = self.columns_of_classes(&number, rows as u32);
+        let by_bytes = self.data.by_bytes();
+        while symbol < SYMBOLS {
+            column[symbol] = if by_bytes {
+                symbol as u16
+            } else {
+                of_classes[self.classes[symbol] as usize]
+            };
+            symbol += 1;
+        }
+        let layout = Layout {
+            rows,
+            insides: STATES - rows,
+            columns: if by_bytes {
+                BYTES
+            } else {
+                of_classes[self.data.width] as usize
+            },
+            root: number[self.data.root] as usize,
+            column,
+        };
+        (number, layout, of_classes)
+    }
+
+    /// Returns whether a state has no row.
+    pub(crate) const fn is_inside(&self, state: usize) -> bool {
+        self.number[state] as usize >= self.layout.rows
+    }
+
+    /// Returns whether a state needs no row.
+    const fn has_no_row(&self, state: usize) -> bool {
+        let mark = self.marks[state];
+        let is_inside = self.rows[state].is_inside & (mark == 0 || mark % 2 == 1);
+        is_inside && state != self.data.root && !self.data.by_bytes()
+    }
+
+    /// Returns for each class the number of its column, and then the number of columns.
+    const fn columns_of_classes(&self, number: &[u32; STATES], rows: u32) -> [u16; SYMBOLS + 1] {
+        let (mut columns, mut is_first, mut state) = ([0; SYMBOLS + 1], [false; SYMBOLS + 1], 0);
+        let (width, runs) = (self.data.width, &self.runs);
+        while state < STATES {
+            let row = &self.rows[state];
+            let (mut run, mut class) = (row.run, 0);
+            let mut past = 0;
+            while number[state] < rows && class < width {
+                is_first[class] = true;
+                past += runs[run].length;
+                (class, run) = (past - row.passed, run + 1);
+            }
+            state += 1;
+        }
+        let (mut class, mut column) = (0, 0);
+        while class < width {
+            column += (class > 0 && is_first[class]) as u16;
+            columns[class] = column;
+            class += 1;
+        }
+        columns[width] = column + 1;
+        columns
+    }
+
+    /// Returns the state of each number.
+    const fn numbered(&self) -> [u32; STATES] {
+        let (mut states, mut state) = ([0; STATES], 0);
+        while state < STATES {
+            states[self.number[state] as usize] = state as u32;
+            state += 1;
+        }
+        states
+    }
+
+    /// Returns values of states by the numbers of these.
+    const fn by_numbers(&self, values: &[u32]) -> [u32; STATES] {
+        let (mut by_numbers, mut state) = ([0; STATES], 0);
+        while state < STATES {
+            by_numbers[self.number[state] as usize] = values[state];
+            state += 1;
+        }
+        by_numbers
+    }
+
+    /// Returns the offset of a state, where the states without a row begin at `first`.
+    pub(crate) const fn offset(&self, state: usize, first: usize) -> u32 {
+        let (number, Layout { rows, columns, .. }) = (self.number[state] as usize, &self.layout);
+        if number < *rows {
+            return (number * *columns) as u32;
+        }
+        (first + number - *rows) as u32
+    }
+}
+
+impl<const STATES: usize> Sets<STATES> {
+    /// There are no sets yet.
+    pub(crate) const NONE: Sets<STATES> = Sets {
+        insides: [NO_INSIDE; STATES],
+        many: 0,
+    };
+}
+
+impl Inside {
+    /// Returns the set of a row whose entries are at an index.
+    pub(crate) const fn at(index: usize) -> Inside {
+        Inside {
+            bits: 0,
+            entries: [index as u32; 2],
+        }
+    }
+
+    /// Returns the set of a row with one or two entries, for the bits of the second one.
+    pub(crate) const fn of(entries: [u32; 2], bits: u64) -> Inside {
+        let [one, other] = entries;
+        if bits == 0 || one == other {
+            return Inside {
+                bits: 0,
+                entries: [one, !one],
+            };
+        }
+        Inside { bits, entries }
+    }
+}
+
+/// Returns the number of symbols before each class that cannot continue a character.
+pub(crate) const fn others_before(classes: &[u16; SYMBOLS]) -> [u16; SYMBOLS + 1] {
+    let (mut before, mut symbol, mut class) = ([0; SYMBOLS + 1], 0, 0);
+    while symbol < SYMBOLS {
+        let is_other = symbol == END || !continues(symbol as u8);
+        before[classes[symbol] as usize + 1] += is_other as u16;
+        symbol += 1;
+    }
+    while class < SYMBOLS {
+        before[class + 1] += before[class];
+        class += 1;
+    }
+    before
+}
+
+/// Returns for each class the bits of the bytes from 0x80 to 0xBF in classes before it.
+pub(crate) const fn continuing(classes: &[u16; SYMBOLS]) -> [u64; SYMBOLS + 1] {
+    let (mut bits, mut byte, mut class) = ([0; SYMBOLS + 1], FIRST_CONTINUATION, 0);
+    while byte < FIRST_CONTINUATION + CONTINUATIONS {
+        bits[classes[byte] as usize + 1] |= 1 << (byte - FIRST_CONTINUATION);
+        byte += 1;
+    }
+    while class < SYMBOLS {
+        bits[class + 1] |= bits[class];
+        class += 1;
+    }
+    bits
+}
