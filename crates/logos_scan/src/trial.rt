@@ -86,7 +86,7 @@ pub fn trial_counts(reading: &Reading) -> TrialCounts
 /// from `at` on, or at `at` if there is none.
 fn chunk_counts(reading: &Reading, at: usize) -> TrialCounts
     requires reading { IsReading reading.now }
-    requires at { at + 2 * 4608 ≤ length reading.now.input.now }
+    requires at { at + 2 * CHUNK ≤ length reading.now.input.now }
 {
     let from = at + line_start(&reading.input[at..at + CHUNK]);
     let text = &reading.input[from..from + CHUNK];

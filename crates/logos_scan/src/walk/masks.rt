@@ -3,8 +3,12 @@
 ghost use Rattle.std.specs.Prelude.{◌≡◌, ◌≤◌, ◌+◌, length, replicate};
 ghost use Rattle.logos_scan.specs.walk.Views.{HoldTops, MarksFrom, IsMarked, IsMarkedBeside};
 
+use crate::walk::blocks::CHUNK;
 use crate::walk::{ENDED, TOKEN};
 use std::simd::prelude::*;
+
+/// The number of words of flags of a chunk.
+const WORDS: usize = CHUNK / 64;
 
 /// The entries of a chunk, and their flags, 64 in a word.
 #[derive(Drop)]
@@ -84,9 +88,9 @@ fn flags_of(trace: &[u32], at: usize) -> (u64, u64)
 impl ChunkEntries {
     /// Makes a chunk whose entries are 0, without flags.
     pub fn new() -> ChunkEntries
-        ensures entries { result.entries ≡ replicate 4608 0 }
-        ensures ends { result.ends ≡ replicate 72 0 }
-        ensures tokens { result.tokens ≡ replicate 72 0 }
+        ensures entries { result.entries ≡ replicate CHUNK 0 }
+        ensures ends { result.ends ≡ replicate WORDS 0 }
+        ensures tokens { result.tokens ≡ replicate WORDS 0 }
     {
         ChunkEntries {
             entries: [0; 4608],
