@@ -13,7 +13,7 @@ use std::alloc::{AllocError, Global};
 const SHORTEST: usize = 16_384;
 
 /// The number of bytes of input that justify the folded row of one state.
-const WORTH: usize = 8_192;
+const WORTH: usize = 4_096;
 
 /// Returns the folded rows of a code if a scan by chunks likely takes less time on the input than a
 /// lexer, and the code does not have too many states for them. Any result is correct, since both

@@ -19,20 +19,20 @@ const MOST: usize = 8;
 /// The costs of a scan: of each byte, of each byte before which a match ends, of each byte that is
 /// stepped over again, and of each attempt that is repeated. They are fitted on measured texts, in
 /// hundredths of a nanosecond, and only their ratios matter.
-const STEP: usize = 54;
+const STEP: usize = 90;
 
-const END: usize = 83;
+const END: usize = 193;
 
-const AGAIN: usize = 145;
+const AGAIN: usize = 204;
 
-const REPEAT: usize = 4_400;
+const REPEAT: usize = 5_180;
 
 /// The costs of a lexer: of each byte, of each match, and of each state that is entered.
-const BYTE: usize = 30;
+const BYTE: usize = 20;
 
 const MATCH: usize = 400;
 
-const ENTRY: usize = 100;
+const ENTRY: usize = 325;
 
 /// If more than three of these many bytes end a match, a lexer is faster: processors foresee these
 /// matches then.

@@ -39,8 +39,8 @@ impl<'s, logos_parameters> logos_path::Logos<'s> for logos_name<logos_arguments>
 impl<'s, logos_parameters> logos_path::internal::Tables<'s> for logos_name<logos_arguments>
 logos_where {
     const DATA: logos_path::internal::_Data = logos_path::internal::_Data::NOTHING;
-    type Unpacked = ();
-    const UNPACKED: &'static () = &();
+    type Unpacked = logos_path::internal::_Unpacked<0, 0>;
+    const UNPACKED: &'static Self::Unpacked = &logos_path::internal::_Unpacked::NOTHING;
     const ROWS: &'static [::core::primitive::u32] = &[];
     const LASTS: &'static [::core::primitive::u32] = &[];
     const MASKS: &'static [[[::core::primitive::u8; 8]; 256]] = &[];

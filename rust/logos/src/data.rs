@@ -93,6 +93,21 @@ pub struct Unpacked<const STATES: usize, const RUNS: usize> {
     pub(crate) of_classes: [u16; SYMBOLS + 1],
 }
 
+impl Unpacked<0, 0> {
+    /// The tables of a refused enum.
+    pub const NOTHING: Self = Unpacked {
+        data: Data::NOTHING,
+        classes: [0; SYMBOLS],
+        runs: [],
+        rows: [],
+        marks: [],
+        loops: 0,
+        number: [],
+        layout: Layout::NONE,
+        of_classes: [0; SYMBOLS + 1],
+    };
+}
+
 /// The values of the constants of a lexer. Each is made from the enum, and not from another
 /// constant: when rustc checks a package it evaluates the constants that a constant names, but it
 /// evaluates these only in builds.
