@@ -63,6 +63,27 @@ impl Html {
         }
     }
 
+    /// Appends lines of text. They have no markup, also in the value of an attribute, and end as they
+    /// do.
+    pub fn push_lines(&mut self, text: &str)
+        ensures { Gains (escaped_lines text.now) self.old self.new }
+    {
+        for character in text.chars() {
+            self.push_line_char(character);
+        }
+    }
+
+    /// Appends a character of lines: LF as it is, and any other one as text.
+    fn push_line_char(&mut self, character: char)
+        ensures { Gains (escaped_line_char character) self.old self.new }
+    {
+        if character == '\n' {
+            self.page.push("\n");
+        } else {
+            self.push_char(character);
+        }
+    }
+
     /// Appends the line end after a character, if the character is LF. In preformatted text it ends
     /// a line of the page.
     pub fn push_line_end(&mut self, character: char)

@@ -66,6 +66,9 @@ pre .k:hover, pre .e:hover { outline: 2px solid var(--faint); }
   white-space: pre-wrap; text-decoration: none; z-index: 2;
 }
 [aria-label]:is(.k, .e):focus::after { z-index: 1; }
+[aria-description]:is(.k, .e):is(:hover, :focus)::after {
+  content: attr(aria-label) \"\\A\" attr(aria-description);
+}
 svg { display: block; }
 svg .l { fill: none; stroke: var(--faint); }
 svg .end { stroke-dasharray: 5 4; }
