@@ -125,8 +125,11 @@ fn steps_of(subject: Subject<'_, '_>, item: Item<'_>, end: usize, lines: usize) 
         Item::Token { .. } => read,
         Item::Error { .. } => {
             let leaves = subject.graph.leaves().len();
-            let walked = state_count(subject.graph.dfa()).saturating_mul(leaves.saturating_add(BYTE));
-            read.saturating_add(walked).saturating_add(lines.saturating_sub(1).saturating_mul(end))
+            let walked = state_count(subject.graph.dfa()).saturating_mul(leaves.saturating_add(
+                BYTE,
+            ));
+            read.saturating_add(walked)
+                .saturating_add(lines.saturating_sub(1).saturating_mul(end))
         }
     }
 }

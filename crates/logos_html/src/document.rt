@@ -247,12 +247,7 @@ fn before_continuation(bytes: &[u8], at: usize) -> usize {
 }
 
 /// Appends the beginning of the section of an input.
-fn push_input_head(
-    html: &mut Html,
-    input: PageInput<'_>,
-    end: usize,
-    described: Option<usize>,
-) {
+fn push_input_head(html: &mut Html, input: PageInput<'_>, end: usize, described: Option<usize>) {
     html.push_markup(
         "<section id=\"text\" aria-labelledby=\"text-title\">
 <h2 id=\"text-title\">Text</h2>
@@ -289,8 +284,10 @@ fn push_cut(html: &mut Html, length: usize, end: usize) {
 /// Appends which items have no description, if some have none.
 fn push_undescribed(html: &mut Html, described: Option<usize>) {
     if let Some(end) = described {
-        html.push_markup("<p class=\"cut\">Other matches, and how far leaves read, are shown for items
-before byte ");
+        html.push_markup(
+            "<p class=\"cut\">Other matches, and how far leaves read, are shown for items
+before byte ",
+        );
         html.push_number(end);
         html.push_markup(".</p>\n");
     }

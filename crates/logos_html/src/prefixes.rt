@@ -36,5 +36,7 @@ fn is_dead(dfa: &Dfa, state: StateId) -> bool {
     let number = state.index();
     leaves_at(dfa, number).is_empty()
         & (end_at(dfa, number) as usize == number)
-        & row_at(dfa, number).iter().all(|next| *next as usize == number)
+        & row_at(dfa, number)
+            .iter()
+            .all(|next| *next as usize == number)
 }

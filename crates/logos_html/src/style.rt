@@ -5,7 +5,7 @@
 /// the bottom while the item has the focus or the pointer.
 pub(crate) const STYLE: &str = "\
 :root {
-  color-scheme: light dark;
+  color-scheme: light dark; scroll-padding-bottom: 14rem;
   --back: #fff; --ink: #1b1b1f; --faint: #55555e; --line: #c8c8d0; --link: #0b57a4;
   --bad: #ffd6d6; --bad-ink: #a00010; --bar: #1b1b1f; --bar-ink: #fff;
   --c0: #d8e9ff; --c1: #d9f2d9; --c2: #fdeec2; --c3: #eadcfb;
