@@ -1,9 +1,10 @@
 //! The descriptions of items: the lines that `--at` prints about their starts. Used by `document`.
 
-ghost use Rattle.std.specs.Prelude.{◌≡◌};
+ghost use Rattle.std.specs.Prelude.{◌≡◌, ◌+◌, ◌≤◌, IfOk, drop, length, map, string_bytes};
+ghost use Rattle.logos_html.specs.Views.{AllStart, AreDescribed, IsBytes, IsDescribed, IsDescription, IsEnough, IsGraphOf, described_of, item_of, items_of, rules_of, start_of};
 
 use crate::finds::span_of;
-use crate::prefixes::prefix_end;
+use crate::prefixes::enough_bytes;
 use logos_answers::push_matches;
 use logos_attempts::push_partials;
 use logos_automaton::dfa::parts::state_count;
@@ -65,7 +66,11 @@ pub(crate) fn describe<'i>(
     subject: Subject<'_, '_>,
     budget: &mut Budget,
     items: &[Item<'i>],
-) -> Result<Vec<Described<'i>>, AllocError> {
+) -> Result<Vec<Described<'i>>, AllocError>
+    ensures items { IfOk result (λ described. items_of described.items ≡ map item_of items.now) }
+    ensures described { IfOk result (λ described. AreDescribed subject.entry.code.now
+        subject.entry.graph.now subject.entry.bytes.now (map described_of described.items)) }
+{
     let mut described = Vec::new(alloc);
     for item in items {
         let description = description_of(alloc, subject, budget, *item)?;
@@ -77,59 +82,93 @@ pub(crate) fn describe<'i>(
     Ok(described)
 }
 
-/// Returns the description of an item, or no text if the budget is too small.
+/// Returns the description of an item, or no text if it adds nothing to the label of the item, or
+/// if the budget is too small.
 fn description_of(
     alloc: Global,
     subject: Subject<'_, '_>,
     budget: &mut Budget,
     item: Item<'_>,
-) -> Result<String, AllocError> {
+) -> Result<String, AllocError>
+    ensures { IfOk result (λ text. IsGraphOf subject.entry.graph.now.leaves
+        subject.entry.graph.now.utf8 subject.entry.graph.now →
+        AllStart (rules_of subject.entry.graph.now.leaves) → IsBytes subject.entry.bytes.now →
+        IsDescribed subject.entry.graph.now.leaves subject.entry.code.now subject.entry.bytes.now
+        (record { item = item_of item.entry; description = string_bytes text })) }
+{
     let from = span_of(item).from;
+    if subject.bytes.len() < from {
+        return Ok(String::new(alloc));
+    }
     let most = LONGEST.min(budget.left / BYTE);
-    let Some(end) = prefix_end(subject.graph.dfa(), subject.bytes, from, most) else {
+    let Some(count) = enough_bytes(subject.graph.dfa(), &subject.bytes[from..], most) else {
         close(budget, from);
         return Ok(String::new(alloc));
     };
-    let text = answer_of(alloc, subject, from, end)?;
-    let lines = line_count(text.as_str());
-    spend(budget, steps_of(subject, item, end, lines));
-    if lines <= usual_lines(item) {
+    let text = answer_of(alloc, subject, from, count)?;
+    if is_usual(subject, budget, item, count, text.as_str()) {
         return Ok(String::new(alloc));
     }
-    spend(budget, text.len().saturating_mul(BYTE));
     Ok(text)
 }
 
 /// Returns the lines that `--at` prints about an offset of an input: the matches from there, and
-/// how far leaves read if none matches. They depend on the input up to `end` alone.
+/// how far leaves read if none matches. They depend on this number of bytes after the offset.
+///
+/// # Errors
+///
+/// Returns `AllocError` if memory runs out.
 fn answer_of(
     alloc: Global,
     subject: Subject<'_, '_>,
     from: usize,
-    end: usize,
-) -> Result<String, AllocError> {
-    let prefix = &subject.bytes[..end];
+    count: usize,
+) -> Result<String, AllocError>
+    requires { from + count ≤ length subject.entry.bytes.now }
+    ensures { IfOk result (λ text. IsGraphOf subject.entry.graph.now.leaves
+        subject.entry.graph.now.utf8 subject.entry.graph.now →
+        AllStart (rules_of subject.entry.graph.now.leaves) → IsBytes subject.entry.bytes.now →
+        IsEnough subject.entry.graph.now.automaton (drop from subject.entry.bytes.now) count →
+        IsDescription subject.entry.graph.now.leaves subject.entry.code.now
+        subject.entry.bytes.now from (string_bytes text)) }
+{
+    let prefix = &subject.bytes[..from + count];
     let mut page = Page::new(alloc, false);
     push_matches(alloc, &mut page, subject.graph, prefix, from)?;
     push_partials(alloc, &mut page, subject.graph, subject.code, prefix, from)?;
     page.finish()
 }
 
-/// Returns the number of steps to an answer of some lines, without those to write it. At an error
-/// the states are walked for each leaf, and the location in a line is counted from the beginning of
-/// the input.
-fn steps_of(subject: Subject<'_, '_>, item: Item<'_>, end: usize, lines: usize) -> usize {
-    let span = span_of(item);
-    let read = end.saturating_sub(span.from).saturating_mul(BYTE);
+/// Returns whether the lines about an item add nothing to its label: one for its match, if it is
+/// one, and one for the verdict. The steps to them are spent.
+fn is_usual(
+    subject: Subject<'_, '_>,
+    budget: &mut Budget,
+    item: Item<'_>,
+    count: usize,
+    text: &str,
+) -> bool {
+    let lines = line_count(text);
+    spend(budget, count.saturating_mul(BYTE));
+    spend(budget, steps_at(subject, item, lines));
+    if lines <= usual_lines(item) {
+        return true;
+    }
+    spend(budget, text.len().saturating_mul(BYTE));
+    false
+}
+
+/// Returns the number of steps at an error: its states are walked for each leaf, and the location
+/// in each line is counted from the beginning of the input.
+fn steps_at(subject: Subject<'_, '_>, item: Item<'_>, lines: usize) -> usize {
     match item {
-        Item::Token { .. } => read,
-        Item::Error { .. } => {
+        Item::Token { .. } => 0,
+        Item::Error { span, .. } => {
             let leaves = subject.graph.leaves().len();
             let walked = state_count(subject.graph.dfa()).saturating_mul(leaves.saturating_add(
                 BYTE,
             ));
-            read.saturating_add(walked)
-                .saturating_add(lines.saturating_sub(1).saturating_mul(end))
+            walked.saturating_add(lines.saturating_sub(1).saturating_mul(span.to))
         }
     }
 }

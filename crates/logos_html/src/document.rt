@@ -1,7 +1,7 @@
 //! The page as a whole: its head, its sections and its end. Called by `logos_show`.
 
-ghost use Rattle.std.specs.Prelude.{◌≡◌, ◌++◌, IfErr, IfOk, IfSome, string_bytes};
-ghost use Rattle.logos_html.specs.Views.{HasMarked, IsMarked, IsNoMisuse};
+ghost use Rattle.std.specs.Prelude.{◌≡◌, ◌++◌, IfErr, IfOk, IfSome, map, string_bytes};
+ghost use Rattle.logos_html.specs.Views.{AreDescribed, Begins, HasMarked, IsMarked, IsNoMisuse, described_of, emits, items_of, shown};
 
 use crate::descriptions::{Described, Subject, describe, new_budget};
 use crate::drawing::push_drawing;
@@ -58,7 +58,7 @@ pub fn page_of(
 ) -> Result<String, Failure<'static>>
     ensures failed { IfErr result IsNoMisuse }
     ensures marked { IfOk result (λ text. IfSome input.entry (λ input.
-        HasMarked page.entry.code.now page.entry.graph.now.leaves input.bytes.now
+        HasMarked page.entry.code.now page.entry.graph.now input.bytes.now
         (string_bytes text))) }
 {
     match input {
@@ -74,8 +74,8 @@ fn page_with(
     input: PageInput<'_>,
 ) -> Result<String, Failure<'static>>
     ensures failed { IfErr result IsNoMisuse }
-    ensures marked { IfOk result (λ text. HasMarked page.entry.code.now
-        page.entry.graph.now.leaves input.entry.bytes.now (string_bytes text)) }
+    ensures marked { IfOk result (λ text. HasMarked page.entry.code.now page.entry.graph.now
+        input.entry.bytes.now (string_bytes text)) }
 {
     let items = first_items(alloc, page.code, input.bytes, SHOWN)?;
     let mut budget = new_budget();
@@ -136,10 +136,13 @@ fn marked_of(
     page: LexerPage<'_, '_>,
     input: PageInput<'_>,
     items: &[Described<'_>],
-) -> Result<String, Failure<'static>>
-    ensures failed { IfErr result IsNoMisuse }
-    ensures marked { IfOk result (λ text. IsMarked page.entry.code.now
-        page.entry.graph.now.leaves input.entry.bytes.now (string_bytes text)) }
+) -> Result<String, AllocError>
+    requires first { Begins page.entry.code.now emits input.entry.bytes.now 0 shown
+        (items_of items.now) }
+    requires described { AreDescribed page.entry.code.now page.entry.graph.now
+        input.entry.bytes.now (map described_of items.now) }
+    ensures { IfOk result (λ text. IsMarked page.entry.code.now page.entry.graph.now
+        input.entry.bytes.now (string_bytes text)) }
 {
     let shown = ShownInput {
         leaves: page.graph.leaves(),
@@ -148,7 +151,7 @@ fn marked_of(
     };
     let mut html = Html::new(alloc);
     push_items(&mut html, shown, items);
-    Ok(html.finish()?)
+    html.finish()
 }
 
 /// Returns the page after the marked text of the input, if one is given, or from its states on.

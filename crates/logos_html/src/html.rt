@@ -2,7 +2,7 @@
 //! `push_char`. All other modules write with it.
 
 ghost use Rattle.std.specs.Prelude.{◌≡◌, ◌↔◌, [], true, false, IfOk, IsOk, IsTrue, decimal, string_bytes};
-ghost use Rattle.logos_html.specs.Views.{Gains, escaped_char, escaped_text, line_end};
+ghost use Rattle.logos_html.specs.Views.{Gains, escaped_char, escaped_line_char, escaped_lines, escaped_text, line_end};
 
 use logos_page::Page;
 use std::alloc::{AllocError, Global};

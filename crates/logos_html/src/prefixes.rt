@@ -1,42 +1,57 @@
-//! The prefix of an input on which the matches from an offset depend. Used by `descriptions`.
+//! The bytes after an offset on which the matches from there depend. Used by `descriptions`.
 
-ghost use Rattle.std.specs.Prelude.{◌≡◌};
+ghost use Rattle.std.specs.Prelude.{◌≡◌, ◌<◌, ℕ, IfSome, IsTrue, Some, length};
+ghost use Rattle.logos_html.specs.Imports.{IsDead, IsEnough, dfa_next, dfa_of};
 
-use logos_automaton::dfa::parts::{end_at, leaves_at, row_at};
+use logos_automaton::dfa::parts::{end_at, leaves_at};
 use logos_automaton::dfa::{Dfa, StateId};
 
-/// Returns the end of the shortest prefix of an input after which no match from an offset can end,
-/// or of the whole input. Returns `None` if it has more than `most` bytes after the offset.
-pub(crate) fn prefix_end(dfa: &Dfa, input: &[u8], from: usize, most: usize) -> Option<usize> {
+/// Returns the number of the first bytes of the rest of an input after which no match from its
+/// beginning can end, or of all if there are none. Returns `None` if there are more than `most`.
+pub(crate) fn enough_bytes(dfa: &Dfa, rest: &[u8], most: usize) -> Option<usize>
+    ensures { IfSome result (IsEnough (dfa_of dfa.now) rest.now) }
+{
     let dead = dfa.next_eoi_state(dfa.next_eoi_state(dfa.start()));
-    if (input.len() < from) | !is_dead(dfa, dead) {
+    if !is_dead(dfa, dead) {
         return None;
     }
     let mut state = dfa.start();
-    let end = input.len().min(from.saturating_add(most));
-    for at in from..end {
-        if state == dead {
-            return Some(at);
+    for count in 0..rest.len().min(most) {
+        if state.index() == dead.index() {
+            return Some(count);
         }
-        state = dfa.next_state(state, input[at]);
+        state = dfa.next_state(state, rest[count]);
     }
-    whole_end(input, end)
-}
-
-/// Returns the end of an input, if an offset is that.
-fn whole_end(input: &[u8], end: usize) -> Option<usize> {
-    if end < input.len() {
+    if most < rest.len() {
         return None;
     }
-    Some(input.len())
+    Some(rest.len())
 }
 
 /// Returns whether a state lists no leaf and leads only to itself.
-fn is_dead(dfa: &Dfa, state: StateId) -> bool {
-    let number = state.index();
-    leaves_at(dfa, number).is_empty()
-        & (end_at(dfa, number) as usize == number)
-        & row_at(dfa, number)
-            .iter()
-            .all(|next| *next as usize == number)
+fn is_dead(dfa: &Dfa, state: StateId) -> bool
+    requires { state.0 < length (dfa_of dfa.now).matches }
+    ensures { IsTrue result → IsDead (dfa_of dfa.now) state.0 }
+{
+    if !leaves_at(dfa, state.index()).is_empty() {
+        return false;
+    }
+    if end_at(dfa, state.index()) as usize != state.index() {
+        return false;
+    }
+    stays(dfa, state)
+}
+
+/// Returns whether each byte leads from a state to itself.
+fn stays(dfa: &Dfa, state: StateId) -> bool
+    requires { state.0 < length (dfa_of dfa.now).matches }
+    ensures { IsTrue result → (b : ℕ) → b < 256 →
+        dfa_next (dfa_of dfa.now) (Some state.0) b ≡ Some state.0 }
+{
+    for byte in 0..256 {
+        if dfa.next_state(state, byte as u8).index() != state.index() {
+            return false;
+        }
+    }
+    true
 }
