@@ -1,3 +1,5 @@
+pub mod DescriptionLemmas
+pub mod EnoughLemmas
 pub mod EscapeLemmas
 pub mod FlowLemmas
 pub mod FindLemmas

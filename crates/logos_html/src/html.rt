@@ -63,8 +63,8 @@ impl Html {
         }
     }
 
-    /// Appends lines of text. They have no markup, also in the value of an attribute, and end as they
-    /// do.
+    /// Appends lines of text, each with its line end. They have no markup, also in the value of an
+    /// attribute.
     pub fn push_lines(&mut self, text: &str)
         ensures { Gains (escaped_lines text.now) self.old self.new }
     {
