@@ -124,7 +124,7 @@ fn answer_of(
     from: usize,
     count: usize,
 ) -> Result<String, AllocError>
-    requires { from + count ≤ length subject.entry.bytes.now }
+    requires { from + count ≤ length subject.bytes.now }
     ensures { IfOk result (λ text. IsGraphOf subject.entry.graph.now.leaves
         subject.entry.graph.now.utf8 subject.entry.graph.now →
         AllStart (rules_of subject.entry.graph.now.leaves) → IsBytes subject.entry.bytes.now →
@@ -136,7 +136,8 @@ fn answer_of(
     let mut page = Page::new(alloc, false);
     push_matches(alloc, &mut page, subject.graph, prefix, from)?;
     push_partials(alloc, &mut page, subject.graph, subject.code, prefix, from)?;
-    page.finish()
+    let text = page.finish()?;
+    Ok(text)
 }
 
 /// Returns whether the lines about an item add nothing to its label: one for its match, if it is

@@ -137,10 +137,9 @@ fn marked_of(
     input: PageInput<'_>,
     items: &[Described<'_>],
 ) -> Result<String, AllocError>
-    requires first { Begins page.entry.code.now emits input.entry.bytes.now 0 shown
-        (items_of items.now) }
-    requires described { AreDescribed page.entry.code.now page.entry.graph.now
-        input.entry.bytes.now (map described_of items.now) }
+    requires first { Begins page.code.now emits input.bytes.now 0 shown (items_of items.now) }
+    requires described { AreDescribed page.code.now page.graph.now input.bytes.now
+        (map described_of items.now) }
     ensures { IfOk result (λ text. IsMarked page.entry.code.now page.entry.graph.now
         input.entry.bytes.now (string_bytes text)) }
 {

@@ -6,6 +6,9 @@ ghost use Rattle.logos_html.specs.Imports.{IsDead, IsEnough, dfa_next, dfa_of};
 use logos_automaton::dfa::parts::{end_at, leaves_at};
 use logos_automaton::dfa::{Dfa, StateId};
 
+/// The number of bytes that there are.
+const BYTES: usize = 256;
+
 /// Returns the number of the first bytes of the rest of an input after which no match from its
 /// beginning can end, or of all if there are none. Returns `None` if there are more than `most`.
 pub(crate) fn enough_bytes(dfa: &Dfa, rest: &[u8], most: usize) -> Option<usize>
@@ -48,7 +51,7 @@ fn stays(dfa: &Dfa, state: StateId) -> bool
     ensures { IsTrue result → (b : ℕ) → b < 256 →
         dfa_next (dfa_of dfa.now) (Some state.0) b ≡ Some state.0 }
 {
-    for byte in 0..256 {
+    for byte in 0..BYTES {
         if dfa.next_state(state, byte as u8).index() != state.index() {
             return false;
         }
