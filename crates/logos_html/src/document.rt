@@ -79,20 +79,16 @@ fn page_with(
 {
     let items = first_items(alloc, page.code, input.bytes, SHOWN)?;
     let mut budget = new_budget();
-    let described = describe(alloc, subject_of(page, input), &mut budget, &items)?;
+    let subject = Subject {
+        graph: page.graph,
+        code: page.code,
+        bytes: input.bytes,
+    };
+    let described = describe(alloc, subject, &mut budget, &items)?;
     let front = front_of(alloc, page, Some(input), budget.end)?;
     let marked = marked_of(alloc, page, input, &described)?;
     let rest = rest_of(alloc, page, Some(input))?;
     Ok(joined(front, marked.as_str(), rest.as_str())?)
-}
-
-/// Returns the lexer of a page, and an input, whose items are described.
-fn subject_of<'a, 's>(page: LexerPage<'a, 's>, input: PageInput<'a>) -> Subject<'a, 's> {
-    Subject {
-        graph: page.graph,
-        code: page.code,
-        bytes: input.bytes,
-    }
 }
 
 /// Returns the page of a lexer alone.
