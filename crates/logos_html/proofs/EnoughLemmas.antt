@@ -1,5 +1,5 @@
 -- The state of an automaton after one more byte.
-use Rattle.std.proofs.Common.{◌≡◌, ◌<◌, ◌+◌, ℕ, List, [], ◌∷◌, Option, Some, length, get_or, take, ap, ◌∙◌, arith}
+use Rattle.std.proofs.Common.{◌≡◌, ◌<◌, ◌+◌, ℕ, List, [], ◌∷◌, Option, Some, length, get_or, take, ap, ◌∙◌}
 use Rattle.std.proofs.lemmas.List.{take_more}
 use Rattle.logos_automaton.proofs.runs.DfaLemmas.{after_more}
 use Rattle.logos_automaton.specs.Automaton.{Automaton, dfa_after, dfa_next}

@@ -1,5 +1,5 @@
 -- The first items of a run.
-use Rattle.std.proofs.Common.{◌≡◌, ℕ, List, [], ◌∷◌, ◌++◌, Result, Ok, Err, IfOk, inl, inr, ◌⊎◌, ◌≤◌}
+use Rattle.std.proofs.Common.{◌≡◌, ℕ, List, [], inl, inr, ◌⊎◌, ◌≤◌}
 use Rattle.logos_automaton.specs.Munch.{Use}
 use Rattle.logos_code.specs.Code.{CodeValue}
 use Rattle.logos_code.specs.Items.{Callback, Item, NextItem, Search, error, fails, passes, token, yields}

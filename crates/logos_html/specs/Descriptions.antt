@@ -1,5 +1,5 @@
 -- The descriptions of items: the lines that `--at` prints about their starts.
-use Rattle.std.specs.Prelude.{◌≡◌, ◌≤◌, ◌⊎◌, ℕ, List, [], ◌++◌, Contains, string_bytes, take}
+use Rattle.std.specs.Prelude.{◌≡◌, ◌≤◌, ◌⊎◌, ℕ, List, [], ◌++◌, Contains, take}
 use Rattle.logos_answers.specs.Matches.{AreLines}
 use Rattle.logos_attempts.specs.Partials.{IsPartialText}
 use Rattle.logos_code.specs.Code.{CodeValue}

@@ -1,5 +1,5 @@
 -- The text of an input in a page, with a marked span for each of its items.
-use Rattle.std.specs.Prelude.{ℕ, ◌%◌, ◌==◌, List, [], ◌∷◌, ◌++◌, Option, codes, decimal, if◌then◌else◌, length, max, min, slice_get}
+use Rattle.std.specs.Prelude.{ℕ, ◌%◌, ◌==◌, List, [], ◌∷◌, ◌++◌, codes, decimal, if◌then◌else◌, length, max, min, slice_get}
 use Rattle.std.specs.Option.{option_map_or}
 use Rattle.logos_answers.specs.Matches.{bytes_between}
 use Rattle.logos_answers.specs.Names.{name_at}

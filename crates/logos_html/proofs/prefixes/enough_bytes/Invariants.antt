@@ -1,4 +1,4 @@
-use Rattle.std.proofs.Common.{◌≡◌, ◌<◌, ℕ, Some, length, take}
+use Rattle.std.proofs.Common.{◌≡◌, ◌<◌, Some, length, take}
 use Rattle.logos_automaton.specs.Automaton.{dfa_after}
 use Rattle.logos_automaton.specs.DfaView.{dfa_of}
 use Rattle.logos_html.proofs.prefixes.enough_bytes.Given as goal
