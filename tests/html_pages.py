@@ -7,7 +7,8 @@ stands in them with what the other answers about the same lexer and input say.
 The lexers are those of examples/lexers and four others, which have patterns, callbacks and names
 of files with markup, quotes and invisible characters. In each page are looked up its elements and
 their nesting, headings, names of parts, identifiers and links; each item of the input with its
-span, its leaf and its shown text; each leaf, and each state with its edges. Texts with markup must
+span, its leaf and its shown text; the first descriptions of items; each leaf, and each state with
+its edges. Texts with markup must
 have the elements of harmless texts. Where `chromium` is found, the pages of all lexers with all
 texts, or the first bytes of the texts of others, are opened there: their elements must have the
 items of `logos lex`. The pages of the pictures in docs/handbook/see.md must have the texts that the
@@ -36,14 +37,18 @@ LARGEST = 150_000
 # The elements and the attributes of a page. Nothing else may occur.
 ELEMENTS = {"html", "head", "meta", "title", "style", "body", "header", "h1", "h2", "p", "nav", "ul", "li", "a", "main", "section", "div", "table",
             "thead", "tbody", "tr", "th", "td", "code", "pre", "span", "i", "strong", "footer", "svg", "defs", "marker", "path", "circle", "text"}
-ATTRIBUTES = {"lang", "charset", "name", "content", "id", "class", "href", "role", "tabindex", "scope", "aria-label", "aria-labelledby", "data-leaf",
-              "data-span", "width", "height", "viewbox", "refx", "refy", "markerwidth", "markerheight", "orient", "d", "marker-end", "x", "y", "cx",
+ATTRIBUTES = {"lang", "charset", "name", "content", "id", "class", "href", "role", "tabindex", "scope", "aria-label", "aria-labelledby",
+              "aria-description", "data-leaf", "data-span", "width", "height", "viewbox", "refx", "refy", "markerwidth", "markerheight", "orient", "d", "marker-end", "x", "y", "cx",
               "cy", "r"}
 ALONE = {"meta"}
 SHOWN = 65536
 # The length of the texts with which a browser opens the pages of other lexers.
 SHORT = 600
 DRAWN = 60
+# The number of items of a page whose descriptions are compared with other answers.
+ASKED = 8
+# The bytes of the descriptions of a page, nearly.
+DESCRIBED = 4_194_304
 LISTED = 1000
 # The characters that may not stand in a page, as in tests/terminal.py: controls, formats and
 # separators of lines, but for those that are seen, and LF, which ends lines of the page.
@@ -91,6 +96,46 @@ enum Bytes {
     Blank,
 }
 """
+# Leaves that read the same texts, and texts that none of them matches.
+RIVALS = """#[derive(Logos)]
+#[logos(skip " ")]
+enum Rivals {
+    #[token("if")]
+    If,
+    #[regex("[a-z]+")]
+    Word,
+    #[token("<")]
+    Less,
+    #[token("<=")]
+    AtMost,
+    #[token("%s")]
+    Markup,
+    #[regex("[<>/=&'()0-9A-Za-z]+", priority = 1)]
+    Any,
+    #[token("+while")]
+    While,
+    #[regex("\\\\+w[0-9]")]
+    Numbered,
+}
+"""
+# For each text, the leaves whose longest matches the description of its first item has, with their
+# priorities, lengths and texts, and the leaf that wins, with the reason.
+LONGER, HIGHER = "its match is the longest", "it has the highest priority of the longest matches"
+CANDIDATES = {
+    "if": ([("If", 4, 2, "if"), ("Word", 2, 2, "if"), ("Any", 1, 2, "if")], "If", HIGHER),
+    "iffy x": ([("If", 4, 2, "if"), ("Word", 2, 4, "iffy"), ("Any", 1, 4, "iffy")], "Word", HIGHER),
+    "if1": ([("If", 4, 2, "if"), ("Word", 2, 2, "if"), ("Any", 1, 3, "if1")], "Any", LONGER),
+    "<= 1": ([("Less", 2, 1, "<"), ("AtMost", 4, 2, "<="), ("Any", 1, 2, "<=")], "AtMost", HIGHER),
+    "7": None,
+}
+# For each text, the leaves that read its first item, an error: the read text, its end, and the
+# bytes that continue it.
+READERS = {
+    "+whip": [("While", "+whi", "1:5", "[l]"), ("Numbered", "+w", "1:3", "[0-9]")],
+    "+w": [("While", "+w", "1:3", "[h]"), ("Numbered", "+w", "1:3", "[0-9]")],
+    "+": [("While", "+", "1:2", "[w]"), ("Numbered", "+", "1:2", "[w]")],
+    "#": None,
+}
 LINES = """#[derive(Logos)]
 enum Lines {
     #[regex("[^\\n]+", allow_greedy = true)]
@@ -239,7 +284,7 @@ def look_at_form(page, raw, name):
     check(all(it.attributes.get("aria-label") for it in nodes if it.attributes.get("role") in ("region", "group")), f"{name}: a part without a label")
     for table in page.every("table"):
         check(all(it.attributes.get("scope") in ("col", "row") for it in table.every("th")), f"{name}: headings of a table")
-    values = [value or "" for it in nodes for value in it.attributes.values()] + [it.text() for it in page.every("style")]
+    values = [value or "" for it in nodes for key, value in it.attributes.items() if key != "aria-description"] + [it.text() for it in page.every("style")]
     check(not any(re.search(r"//|url\((?!#head\))|@import|javascript:", it) for it in values), f"{name}: something from elsewhere")
     hidden = {c for c in raw if unicodedata.category(c) in ("Cc", "Cf", "Zl", "Zp") and ord(c) not in SEEN}
     check(not hidden, f"{name}: characters {sorted(hidden)} stand in the page")
@@ -289,6 +334,71 @@ def look_at_items(page, data, source, text, name):
     cut = [it.text() for it in page.every("p") if it.attributes.get("class") == "cut" and "bytes" in it.text()]
     said = [f"The first {len(front)} of {len(data)} bytes are shown."] if len(front) < len(data) else []
     check(cut == said, f"{name}: it says {cut}")
+
+
+def answer_at(source, text, place):
+    """Returns what `--at` says about the start of an item, without the lines about the place."""
+    lines = run(SHOW, source, text, "--at", place).decode().splitlines(keepends=True)
+    return "".join(it for it in lines if not it.startswith(("inside ", "from ")))
+
+
+def described_to(page):
+    """Returns the offset that the page names, from which on items have no description."""
+    for it in page.every("p"):
+        if found := re.fullmatch(r"Other matches, and how far leaves read, are shown for items\s+before byte (\d+)\.", it.text()):
+            return int(found[1])
+    return SHOWN
+
+
+def look_at_descriptions(page, data, source, text, name):
+    """Compares the descriptions of errors, and of the first items, with what `--at` says. Two lines
+    about a token, and one about an error, say no more than the label. An item that begins in a
+    character has no place of its own."""
+    starts = lambda it: int(it.attributes["data-span"].split("..")[0])
+    spans = [it for it in page.every("span") if "data-span" in it.attributes and data[starts(it)] & 0xC0 != 0x80 and starts(it) < described_to(page)]
+    for it in spans[:ASKED] + [it for it in spans[ASKED:] if it.attributes["class"] == "e"][:ASKED]:
+        place = "{}:{}".format(*re.search(r", line (\d+), column (\d+), bytes ", it.attributes["aria-label"]).groups())
+        answer = answer_at(source, text, place)
+        usual = 1 if it.attributes["class"] == "e" else 2
+        wanted = None if answer.count("\n") <= usual else "".join(c if c == "\n" else shown_char(c) for c in answer)
+        check(it.attributes.get("aria-description") == wanted, f"{name}: the description at {place} is {it.attributes.get('aria-description')!r}")
+
+
+def look_at_candidates(room):
+    """Looks at the descriptions of items that the definitions decide."""
+    source = write(f"{room}/rivals.rs", RIVALS % HARMLESS)
+    numbers = {it["variant"]: it["leaf"] for it in records(SHOW, source) if "variant" in it}
+    for text, wanted in CANDIDATES.items():
+        if wanted:
+            found, winner, reason = wanted
+            lines = [f'  leaf {numbers[leaf]}  {leaf}  priority {priority}  {size} byte{"s" * (size > 1)}  "{read}"\n' for leaf, priority, size, read in found]
+            wanted = "".join([*lines, f"`{winner}` (leaf {numbers[winner]}) wins: {reason}\n"])
+        look_at_first(room, source, text, wanted)
+    for text, wanted in READERS.items():
+        if wanted:
+            lines = [f'  leaf {numbers[leaf]}  {leaf}  reads "{read}" to {end}  then needs {needs}\n' for leaf, read, end, needs in wanted]
+            wanted = "".join(["no leaf matches\n", *lines])
+        look_at_first(room, source, text, wanted)
+
+
+def look_at_first(room, source, text, wanted):
+    """Compares the description of the first item of a text."""
+    page, _ = page_of(source, write(f"{room}/i", text), f"{room}/page.html")
+    first = next(it for it in page.every("span") if "data-span" in it.attributes)
+    check(first.attributes.get("aria-description") == wanted, f"the description of {text} is {first.attributes.get('aria-description')!r}")
+
+
+def look_at_limits(room):
+    """Looks at a page whose descriptions would be very long: 200 leaves match each of its items."""
+    leaves = [f'    #[regex("[a-z{chr(65 + number % 26) * (1 + number // 26)}]+", priority = {number + 1})]\n    A{number},\n' for number in range(200)]
+    source = write(f"{room}/many.rs", "#[derive(Logos)]\nenum Many {\n" + "".join(leaves) + "}\n")
+    page, raw = page_of(source, write(f"{room}/i", b"aa " * 20000), f"{room}/page.html")
+    spans = [it for it in page.every("span") if "data-span" in it.attributes]
+    described = [int(it.attributes["data-span"].split("..")[0]) < described_to(page) for it in spans if it.attributes["class"] != "e"]
+    check(0 < described_to(page) < SHOWN, "the descriptions have no end")
+    check(described == ["aria-description" in it.attributes for it in spans if it.attributes["class"] != "e"] and any(described), "other items are described")
+    size = sum(len(it.attributes.get("aria-description", "").encode()) for it in spans)
+    check(size < 2 * DESCRIBED and len(raw) < 400 * len(spans) + 6 * size + 1_000_000, f"descriptions of {size} bytes in a page of {len(raw)}")
 
 
 def parts_shown(front, items):
@@ -344,7 +454,7 @@ def look_at_diagram(states, source, name):
 
 def skeleton(page):
     """Returns the elements of a page, in their order, with their attributes but labels."""
-    return [(it.tag, {key: value for key, value in it.attributes.items() if key not in ("aria-label", "data-span")}) for it in page.every()]
+    return [(it.tag, {key: value for key, value in it.attributes.items() if key not in ("aria-label", "aria-description", "data-span")}, "aria-description" in it.attributes) for it in page.every()]
 
 
 def page_of(source, text, to):
@@ -370,6 +480,7 @@ def look_at(source, text, data, room, is_first):
     look_at_form(page, raw, name)
     if text:
         look_at_items(page, data, source, text, name)
+        look_at_descriptions(page, data, source, text, name)
     if not is_first:
         return
     states = look_at_tables(page, source, name)
@@ -393,6 +504,11 @@ def look_at_markup(room):
     other, _ = page_of(write(f"{room}/t.rs", simple % HARMLESS), None, f"{room}/page.html")
     tags = lambda page: [it[0] for it in skeleton(page)]
     check(tags(one) == tags(other), "markup in a pattern changes the elements")
+    one, _ = page_of(write(f"{room}/t.rs", RIVALS % MARKUP), write(f"{room}/i", MARKUP + " +" + MARKUP), f"{room}/page.html")
+    other, _ = page_of(write(f"{room}/t.rs", RIVALS % HARMLESS), write(f"{room}/i", HARMLESS + " +" + HARMLESS), f"{room}/page.html")
+    texts = [it.attributes.get("aria-description", "") for it in one.every("span")]
+    check(skeleton(one)[-1] == skeleton(other)[-1] and any(f'"{MARKUP}"' in it for it in texts), "a description has other text")
+    check([it for it in skeleton(one) if it[0] in ("span", "pre")] == [it for it in skeleton(other) if it[0] in ("span", "pre")], "markup in a description changes the elements")
     strange = f"{room}/<b>&\"' \u202e.rs"
     _, raw = page_of(write(strange, simple % "a"), None, f"{room}/page.html")
     check("<b>" not in raw and "&lt;b&gt;&amp;&quot;&#39; \ufffd.rs" in raw, "the path of a file")
@@ -534,6 +650,8 @@ def main():
                 given.append((write(f"{room}/{name}.{number}", data), data))
                 look_at(sources[-1], *given[-1], room, False)
         look_at_markup(room)
+        look_at_candidates(room)
+        look_at_limits(room)
         look_at_files(room)
         look_at_entries(room)
         look_at_pictures(room)

@@ -31,6 +31,15 @@ struct Walk {
     ends: Vec<usize>,
     /// The states that are entered, and all states after them.
     reached: Vec<usize>,
+    /// The edges between them. Of equal edges for consecutive bytes only the first is here.
+    edges: Vec<Edge>,
+}
+
+/// An edge of an automaton.
+#[derive(Clone, Copy)]
+struct Edge {
+    state: usize,
+    target: usize,
 }
 
 /// Returns the partial matches of all leaves from an offset of an input, by the numbers of leaves.
@@ -56,8 +65,13 @@ pub fn partial_matches(
 /// Returns the states that an input enters from an offset on, and those after them.
 fn walk_of(alloc: Global, dfa: &Dfa, input: &[u8], from: usize) -> Result<Walk, AllocError> {
     let ends = ends_of(alloc, dfa, input, from)?;
-    let reached = reached_from(alloc, dfa, &ends)?;
-    Ok(Walk { ends, reached })
+    let mut walk = Walk {
+        ends,
+        reached: Vec::new(alloc),
+        edges: Vec::new(alloc),
+    };
+    add_reached(alloc, dfa, &mut walk)?;
+    Ok(walk)
 }
 
 /// Returns for each state the end of the longest prefix of the input from an offset on that leads
@@ -103,15 +117,15 @@ fn set_end(ends: &mut Vec<usize>, state: usize, end: usize) {
     }
 }
 
-/// Returns the states that have an end, and all states after them.
-fn reached_from(alloc: Global, dfa: &Dfa, ends: &[usize]) -> Result<Vec<usize>, AllocError> {
-    let mut seen = vec![in alloc; false; ends.len()]?;
-    let mut reached = Vec::new(alloc);
-    add_entered(&mut seen, &mut reached, ends)?;
-    for number in 0..ends.len() {
-        add_next(dfa, &mut seen, &mut reached, number)?;
+/// Adds the states that have an end, all states after them, and the edges between them.
+fn add_reached(alloc: Global, dfa: &Dfa, walk: &mut Walk) -> Result<(), AllocError> {
+    let count = walk.ends.len();
+    let mut seen = vec![in alloc; false; count]?;
+    add_entered(&mut seen, &mut walk.reached, &walk.ends)?;
+    for number in 0..count {
+        add_next(dfa, &mut seen, walk, number)?;
     }
-    Ok(reached)
+    Ok(())
 }
 
 /// Adds the states that have an end.
@@ -129,21 +143,37 @@ fn add_entered(
 }
 
 /// Adds the states to which bytes lead from the state with this number among the reached ones, if
-/// there is one.
+/// there is one, and the edges to them.
 fn add_next(
     dfa: &Dfa,
     seen: &mut Vec<bool>,
-    reached: &mut Vec<usize>,
+    walk: &mut Walk,
     number: usize,
 ) -> Result<(), AllocError> {
-    if number >= reached.len() {
+    if number >= walk.reached.len() {
         return Ok(());
     }
-    let state = reached[number];
+    let state = walk.reached[number];
     for byte in 0..256 {
-        add_state(seen, reached, next_by(dfa, state, byte))?;
+        add_edge(dfa, seen, walk, state, byte)?;
     }
     Ok(())
+}
+
+/// Adds the edge of a state for a byte, and its target, unless the byte before leads there too.
+fn add_edge(
+    dfa: &Dfa,
+    seen: &mut Vec<bool>,
+    walk: &mut Walk,
+    state: usize,
+    byte: usize,
+) -> Result<(), AllocError> {
+    let target = next_by(dfa, state, byte);
+    if (byte > 0) & (target == next_by(dfa, state, byte.saturating_sub(1))) {
+        return Ok(());
+    }
+    walk.edges.push(Edge { state, target })?;
+    add_state(seen, &mut walk.reached, target)
 }
 
 /// Adds a state that was not seen before.
@@ -193,47 +223,42 @@ fn open_states(
     leaf: usize,
 ) -> Result<Vec<bool>, AllocError> {
     let mut open = vec![in alloc; false; walk.ends.len()]?;
-    for _ in 0..walk.reached.len() {
-        if !open_more(dfa, walk, leaf, &mut open) {
-            return Ok(open);
-        }
+    for state in &walk.reached {
+        open_if(&mut open, *state, lists_at_end(dfa, *state, leaf));
     }
+    open_before(dfa, walk, leaf, &mut open);
     Ok(open)
 }
 
-/// Opens the reached states that lead to open ones, the last one first. Returns whether one was
-/// opened.
+/// Opens the reached states before open ones, and before those that list the leaf.
+fn open_before(dfa: &Dfa, walk: &Walk, leaf: usize, open: &mut Vec<bool>) {
+    for _ in 0..walk.reached.len() {
+        if !open_more(dfa, walk, leaf, open) {
+            return;
+        }
+    }
+}
+
+/// Opens the states whose edges lead to open ones, or to one that lists the leaf, the last edge
+/// first. Returns whether one was opened.
 fn open_more(dfa: &Dfa, walk: &Walk, leaf: usize, open: &mut Vec<bool>) -> bool {
-    let count = walk.reached.len();
+    let count = walk.edges.len();
     let mut is_more = false;
     for number in 0..count {
-        let state = walk.reached[count - 1 - number];
-        is_more |= open_state(dfa, leaf, open, state);
+        let edge = walk.edges[count - 1 - number];
+        let leads = !is_set(open, edge.state) & continues(dfa, leaf, open, edge.target);
+        is_more |= open_if(open, edge.state, leads);
     }
     is_more
 }
 
-/// Opens a state that leads to an open one, or to one that lists the leaf. Returns whether it was
-/// opened.
-fn open_state(dfa: &Dfa, leaf: usize, open: &mut Vec<bool>, state: usize) -> bool {
-    if state >= open.len() {
-        return false;
-    }
-    if open[state] | !leads(dfa, leaf, open, state) {
+/// Opens a state if a condition holds. Returns whether it was opened.
+fn open_if(open: &mut Vec<bool>, state: usize, is_open: bool) -> bool {
+    if (state >= open.len()) | !is_open {
         return false;
     }
     open[state] = true;
     true
-}
-
-/// Returns whether a state leads to an open one, or to one that lists the leaf.
-fn leads(dfa: &Dfa, leaf: usize, open: &[bool], state: usize) -> bool {
-    for byte in 0..256 {
-        if continues(dfa, leaf, open, next_by(dfa, state, byte)) {
-            return true;
-        }
-    }
-    lists_at_end(dfa, state, leaf)
 }
 
 /// Returns whether a state is open or lists the leaf.

@@ -1,11 +1,11 @@
 -- A browser reads an escaped text as the shown one.
-use Rattle.std.proofs.Common.{◌≡◌, ◌≤◌, ◌<◌, ◌+◌, ◌==◌, ◌⊎◌, inl, inr, ℕ, Bool, true, false, cond, List, [], ◌∷◌, ◌++◌, length, get_or, chars, encode_utf8, flat_map, codes, refl, sym, subst, arith, append_assoc, append-nil}
-use Rattle.std.proofs.lemmas.Bool.{cases_eq, cases_lt, ne_eqb, ltb-true, ltb-false}
+use Rattle.std.proofs.Common.{◌≡◌, ◌≤◌, ◌<◌, ◌+◌, ◌==◌, ◌⊎◌, inl, inr, ℕ, Bool, true, false, cond, List, [], ◌∷◌, ◌++◌, length, get_or, encode_utf8, flat_map, codes, refl, sym, subst, arith, append_assoc, append-nil}
+use Rattle.std.proofs.lemmas.Bool.{cases_eq, cases_lt, ne_eqb}
 use Rattle.std.proofs.lemmas.Grind.{common_steps}
 use Rattle.std.proofs.lemmas.Str.{encode_ascii, inside_one}
 use Rattle.std.specs.Prelude.{nat_lt}
 use Rattle.logos_page.specs.Shown.{is_unsafe, occur_in, shown_char}
-use Rattle.logos_html.specs.Escapes.{IsReference, ReadsAs, ampersand, apostrophe, ends, escaped_char, greater, is_plain, itself, less, quote, reference}
+use Rattle.logos_html.specs.Escapes.{IsReference, ReadsAs, ampersand, apostrophe, ends, escaped_char, escaped_line_char, greater, is_plain, itself, less, quote, reference, shown_line_char}
 
 -- one text after another
 pub reads_both : {one text other more : List ℕ} → ReadsAs one text → ReadsAs other more → ReadsAs (one ++ other) (text ++ more)
@@ -96,3 +96,16 @@ char_reads c = amp (cases_eq c 38)
 pub text_reads : (cs : List ℕ) → ReadsAs (flat_map escaped_char cs) (flat_map shown_char cs)
 text_reads [] = ends
 text_reads (c ∷ cs) = reads_both (char_reads c) (text_reads cs)
+
+-- a character of lines
+line_char_reads : (c : ℕ) → ReadsAs (escaped_line_char c) (shown_line_char c)
+line_char_reads c = go (c == 10)
+  where
+    go : (x : Bool) → ReadsAs (cond x (codes "\n") (escaped_char c)) (cond x (codes "\n") (shown_char c))
+    go true = itself 10 [] [] refl ends
+    go false = char_reads c
+
+-- lines, character by character
+pub lines_read : (cs : List ℕ) → ReadsAs (flat_map escaped_line_char cs) (flat_map shown_line_char cs)
+lines_read [] = ends
+lines_read (c ∷ cs) = reads_both (line_char_reads c) (lines_read cs)

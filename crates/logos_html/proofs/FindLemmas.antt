@@ -1,5 +1,5 @@
 -- The first items of a run.
-use Rattle.std.proofs.Common.{◌≡◌, ℕ, List, [], ◌∷◌, ◌++◌, Result, Ok, Err, IfOk, inl, inr, ◌⊎◌, ◌≤◌}
+use Rattle.std.proofs.Common.{◌≡◌, ℕ, List, [], inl, inr, ◌⊎◌, ◌≤◌}
 use Rattle.logos_automaton.specs.Munch.{Use}
 use Rattle.logos_code.specs.Code.{CodeValue}
 use Rattle.logos_code.specs.Items.{Callback, Item, NextItem, Search, error, fails, passes, token, yields}
@@ -7,8 +7,8 @@ use Rattle.logos_code.specs.Runs.{CodeFinds, Runs}
 use Rattle.logos_code.specs.declared.action.Action.{Action}
 use Rattle.logos_machine.proofs.ItemsLemmas.{lexes_by, may_by}
 use Rattle.logos_machine.specs.LexerValue.{HasSpan, LexerValue, Yields}
+use Rattle.logos_html.specs.Descriptions.{end_of}
 use Rattle.logos_html.specs.Finds.{Begins, RunsTo, adds, begins}
-use Rattle.logos_html.specs.Spans.{end_of}
 
 -- a lexer is at the end of its last item
 at_end : {C : Type 0} (lexer : LexerValue C) (item : Item) → HasSpan lexer item → lexer.to ≡ end_of item

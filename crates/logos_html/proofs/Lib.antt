@@ -1,3 +1,6 @@
+pub mod DescriptionLemmas
+pub mod EnoughLemmas
+pub mod ItemLemmas
 pub mod EscapeLemmas
 pub mod FlowLemmas
 pub mod FindLemmas

@@ -18,6 +18,22 @@ escaped_char c =
 abbrev pub escaped_text : List ℕ → List ℕ
 escaped_text text = flat_map escaped_char (chars text)
 
+-- A character of lines in a page: LF ends a line, and any other one is text.
+abbrev pub escaped_line_char : ℕ → List ℕ
+escaped_line_char c = if c == 10 then codes "\n" else escaped_char c
+
+-- Lines as text of a page.
+abbrev pub escaped_lines : List ℕ → List ℕ
+escaped_lines text = flat_map escaped_line_char (chars text)
+
+-- The shown form of a character of lines.
+abbrev pub shown_line_char : ℕ → List ℕ
+shown_line_char c = if c == 10 then codes "\n" else shown_char c
+
+-- The shown form of lines.
+abbrev pub shown_lines : List ℕ → List ℕ
+shown_lines text = flat_map shown_line_char (chars text)
+
 -- The line end after a character, if it is LF.
 abbrev pub line_end : ℕ → List ℕ
 line_end c = if c == 10 then codes "\n" else []

@@ -1,7 +1,10 @@
 pub mod Escapes
 pub mod Flows
 pub mod Finds
+pub mod Descriptions
 pub mod Spans
 pub mod Marked
+pub mod DescribedView
+pub mod inside
 pub mod Imports
 pub mod Views

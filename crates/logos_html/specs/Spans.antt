@@ -1,5 +1,5 @@
 -- The text of an input in a page, with a marked span for each of its items.
-use Rattle.std.specs.Prelude.{ℕ, ◌%◌, List, [], ◌∷◌, ◌++◌, Option, codes, decimal, length, max, min, slice_get}
+use Rattle.std.specs.Prelude.{ℕ, ◌%◌, ◌==◌, List, [], ◌∷◌, ◌++◌, codes, decimal, if◌then◌else◌, length, max, min, slice_get}
 use Rattle.std.specs.Option.{option_map_or}
 use Rattle.logos_answers.specs.Matches.{bytes_between}
 use Rattle.logos_answers.specs.Names.{name_at}
@@ -7,7 +7,8 @@ use Rattle.logos_code.specs.Items.{Item, token, error}
 use Rattle.logos_lines.specs.Locations.{location_at}
 use Rattle.logos_lines.specs.declared.location.Location.{Location}
 use Rattle.logos_pattern.specs.declared.leaf.Leaf.{Leaf}
-use Rattle.logos_html.specs.Escapes.{escaped_text}
+use Rattle.logos_html.specs.Descriptions.{DescribedItem, end_of, start_of}
+use Rattle.logos_html.specs.Escapes.{escaped_lines, escaped_text}
 use Rattle.logos_html.specs.Flows.{flowing_bytes}
 
 -- The offsets of a span.
@@ -23,10 +24,16 @@ extent_label from to = codes ", bytes " ++ range_text from to
 
 -- The end of a label, and the span for programs.
 abbrev pub span_data : ℕ → ℕ → List ℕ
-span_data from to = codes "\" data-span=\"" ++ (range_text from to ++ codes "\">")
+span_data from to = codes "\" data-span=\"" ++ (range_text from to ++ codes "\"")
 
 abbrev pub label_end : ℕ → ℕ → Location → List ℕ
 label_end from to location = location_label location ++ (extent_label from to ++ span_data from to)
+
+-- The description of an item, if it has one, at the end of the beginning of its span.
+abbrev pub description_text : List ℕ → List ℕ
+description_text description =
+    if length description == 0 then codes ">"
+    else (codes " aria-description=\"" ++ (escaped_lines description ++ codes "\">"))
 
 -- The beginning of the span of a token, with the number of one of eight colors.
 abbrev pub class_text : ℕ → List ℕ
@@ -49,14 +56,9 @@ token_head leaves leaf = class_text leaf ++ (name_label leaves leaf ++ priority_
 abbrev pub error_head : List ℕ
 error_head = codes "<span tabindex=\"0\" role=\"group\" class=\"e\" aria-label=\"error"
 
--- The offsets at which an item begins and ends.
-abbrev pub start_of : Item → ℕ
-start_of (token leaf from to slice) = from
-start_of (error leaf from to slice) = from
-
-abbrev pub end_of : Item → ℕ
-end_of (token leaf from to slice) = to
-end_of (error leaf from to slice) = to
+abbrev pub item_head : List Leaf → Item → List ℕ
+item_head leaves (token leaf from to slice) = token_head leaves leaf
+item_head leaves (error leaf from to slice) = error_head
 
 -- The shown bytes of an input between two offsets. Its front up to `end` is shown.
 abbrev pub part_of : List ℕ → ℕ → ℕ → ℕ → List ℕ
@@ -72,16 +74,16 @@ moved bytes at offset = max at (min offset (length bytes))
 
 -- An input, with the leaves of its lexer, whose front up to `end` is shown.
 module _ (leaves : List Leaf) (bytes : List ℕ) (end : ℕ) where
-  -- The span of an item at a location.
-  abbrev pub item_markup : Location → Item → List ℕ
-  item_markup location (token leaf from to slice) = token_head leaves leaf ++ (label_end from to location ++ slice_text bytes end from to)
-  item_markup location (error leaf from to slice) = error_head ++ (label_end from to location ++ slice_text bytes end from to)
+  -- The span of an item at a location, with its description.
+  abbrev pub item_markup : Location → DescribedItem → List ℕ
+  item_markup location it =
+      item_head leaves it.item ++ (label_end (start_of it.item) (end_of it.item) location ++ (description_text it.description ++ slice_text bytes end (start_of it.item) (end_of it.item)))
 
   -- An item, with the bytes before it from an offset on.
-  abbrev pub next_text : ℕ → ℕ → Item → List ℕ
-  next_text at cursor item = flowing_bytes (part_of bytes end at (start_of item)) ++ item_markup (location_at bytes (moved bytes cursor (start_of item))) item
+  abbrev pub next_text : ℕ → ℕ → DescribedItem → List ℕ
+  next_text at cursor it = flowing_bytes (part_of bytes end at (start_of it.item)) ++ item_markup (location_at bytes (moved bytes cursor (start_of it.item))) it
 
   -- The shown text from an offset on, with these items.
-  abbrev pub items_text : ℕ → ℕ → List Item → List ℕ
+  abbrev pub items_text : ℕ → ℕ → List DescribedItem → List ℕ
   items_text at cursor [] = flowing_bytes (part_of bytes end at end)
-  items_text at cursor (item ∷ rest) = next_text at cursor item ++ items_text (end_of item) (moved bytes cursor (start_of item)) rest
+  items_text at cursor (it ∷ rest) = next_text at cursor it ++ items_text (end_of it.item) (moved bytes cursor (start_of it.item)) rest

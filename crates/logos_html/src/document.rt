@@ -1,8 +1,9 @@
 //! The page as a whole: its head, its sections and its end. Called by `logos_show`.
 
-ghost use Rattle.std.specs.Prelude.{◌≡◌, ◌++◌, IfErr, IfOk, IfSome, string_bytes};
-ghost use Rattle.logos_html.specs.Views.{HasMarked, IsMarked, IsNoMisuse};
+ghost use Rattle.std.specs.Prelude.{◌≡◌, ◌++◌, IfErr, IfOk, IfSome, map, string_bytes};
+ghost use Rattle.logos_html.specs.Views.{AreDescribed, Begins, HasMarked, IsMarked, IsNoMisuse, described_of, emits, items_of, shown};
 
+use crate::descriptions::{Described, Subject, describe, new_budget};
 use crate::drawing::push_drawing;
 use crate::finds::first_items;
 use crate::html::Html;
@@ -57,7 +58,7 @@ pub fn page_of(
 ) -> Result<String, Failure<'static>>
     ensures failed { IfErr result IsNoMisuse }
     ensures marked { IfOk result (λ text. IfSome input.entry (λ input.
-        HasMarked page.entry.code.now page.entry.graph.now.leaves input.bytes.now
+        HasMarked page.entry.code.now page.entry.graph.now input.bytes.now
         (string_bytes text))) }
 {
     match input {
@@ -73,18 +74,26 @@ fn page_with(
     input: PageInput<'_>,
 ) -> Result<String, Failure<'static>>
     ensures failed { IfErr result IsNoMisuse }
-    ensures marked { IfOk result (λ text. HasMarked page.entry.code.now
-        page.entry.graph.now.leaves input.entry.bytes.now (string_bytes text)) }
+    ensures marked { IfOk result (λ text. HasMarked page.entry.code.now page.entry.graph.now
+        input.entry.bytes.now (string_bytes text)) }
 {
-    let front = front_of(alloc, page, Some(input))?;
-    let marked = marked_of(alloc, page, input)?;
+    let items = first_items(alloc, page.code, input.bytes, SHOWN)?;
+    let mut budget = new_budget();
+    let subject = Subject {
+        graph: page.graph,
+        code: page.code,
+        bytes: input.bytes,
+    };
+    let described = describe(alloc, subject, &mut budget, &items)?;
+    let front = front_of(alloc, page, Some(input), budget.end)?;
+    let marked = marked_of(alloc, page, input, &described)?;
     let rest = rest_of(alloc, page, Some(input))?;
     Ok(joined(front, marked.as_str(), rest.as_str())?)
 }
 
 /// Returns the page of a lexer alone.
 fn page_without(alloc: Global, page: LexerPage<'_, '_>) -> Result<String, AllocError> {
-    let front = front_of(alloc, page, None)?;
+    let front = front_of(alloc, page, None, None)?;
     let rest = rest_of(alloc, page, None)?;
     joined(front, "", rest.as_str())
 }
@@ -100,40 +109,44 @@ fn joined(front: String, middle: &str, rest: &str) -> Result<String, AllocError>
     Ok(whole)
 }
 
-/// Returns the page up to the marked text of the input, if one is given, or up to its states.
+/// Returns the page up to the marked text of the input, if one is given, or up to its states. Items
+/// from `described` on have no description.
 fn front_of(
     alloc: Global,
     page: LexerPage<'_, '_>,
     input: Option<PageInput<'_>>,
+    described: Option<usize>,
 ) -> Result<String, AllocError> {
     let mut html = Html::new(alloc);
     push_head(&mut html, page, input.is_some());
     push_leaves(alloc, &mut html, page.graph, page.rows)?;
     if let Some(input) = input {
-        push_input_head(&mut html, input, end_of(input.bytes));
+        push_input_head(&mut html, input, end_of(input.bytes), described);
     }
     html.finish()
 }
 
-/// Returns the front of an input, with its items marked.
+/// Returns the front of an input, with these items marked.
 fn marked_of(
     alloc: Global,
     page: LexerPage<'_, '_>,
     input: PageInput<'_>,
-) -> Result<String, Failure<'static>>
-    ensures failed { IfErr result IsNoMisuse }
-    ensures marked { IfOk result (λ text. IsMarked page.entry.code.now
-        page.entry.graph.now.leaves input.entry.bytes.now (string_bytes text)) }
+    items: &[Described<'_>],
+) -> Result<String, AllocError>
+    requires first { Begins page.code.now emits input.bytes.now 0 shown (items_of items.now) }
+    requires described { AreDescribed page.code.now page.graph.now input.bytes.now
+        (map described_of items.now) }
+    ensures { IfOk result (λ text. IsMarked page.entry.code.now page.entry.graph.now
+        input.entry.bytes.now (string_bytes text)) }
 {
-    let items = first_items(alloc, page.code, input.bytes, SHOWN)?;
     let shown = ShownInput {
         leaves: page.graph.leaves(),
         bytes: input.bytes,
         end: end_of(input.bytes),
     };
     let mut html = Html::new(alloc);
-    push_items(&mut html, shown, &items);
-    Ok(html.finish()?)
+    push_items(&mut html, shown, items);
+    html.finish()
 }
 
 /// Returns the page after the marked text of the input, if one is given, or from its states on.
@@ -232,7 +245,7 @@ fn before_continuation(bytes: &[u8], at: usize) -> usize {
 }
 
 /// Appends the beginning of the section of an input.
-fn push_input_head(html: &mut Html, input: PageInput<'_>, end: usize) {
+fn push_input_head(html: &mut Html, input: PageInput<'_>, end: usize, described: Option<usize>) {
     html.push_markup(
         "<section id=\"text\" aria-labelledby=\"text-title\">
 <h2 id=\"text-title\">Text</h2>
@@ -242,10 +255,13 @@ fn push_input_head(html: &mut Html, input: PageInput<'_>, end: usize) {
     html.push_markup(
         "</code> in the colors of the leaves. Bytes that no leaf matches are red, underlined and
 marked by a sign. An item shows its leaf, its priority and its span while it has the focus or the
-pointer. Skipped bytes have no color. <a class=\"skip\" href=\"#states\">Skip the text</a></p>
+pointer. If other leaves match from its start, it shows their longest matches, and why one of all
+wins. An error shows how far leaves read, and the bytes that they need next. Skipped bytes have no
+color. <a class=\"skip\" href=\"#states\">Skip the text</a></p>
 ",
     );
     push_cut(html, input.bytes.len(), end);
+    push_undescribed(html, described);
     html.push_markup(
         "<div class=\"box\" role=\"region\" aria-label=\"Text with its items\">
 <pre>",
@@ -260,6 +276,18 @@ fn push_cut(html: &mut Html, length: usize, end: usize) {
         html.push_markup(" of ");
         html.push_number(length);
         html.push_markup(" bytes are shown.</p>\n");
+    }
+}
+
+/// Appends which items have no description, if some have none.
+fn push_undescribed(html: &mut Html, described: Option<usize>) {
+    if let Some(end) = described {
+        html.push_markup(
+            "<p class=\"cut\">Other matches, and how far leaves read, are shown for items
+before byte ",
+        );
+        html.push_number(end);
+        html.push_markup(".</p>\n");
     }
 }
 

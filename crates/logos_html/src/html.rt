@@ -2,7 +2,7 @@
 //! `push_char`. All other modules write with it.
 
 ghost use Rattle.std.specs.Prelude.{◌≡◌, ◌↔◌, [], true, false, IfOk, IsOk, IsTrue, decimal, string_bytes};
-ghost use Rattle.logos_html.specs.Views.{Gains, escaped_char, escaped_text, line_end};
+ghost use Rattle.logos_html.specs.Views.{Gains, escaped_char, escaped_line_char, escaped_lines, escaped_text, line_end};
 
 use logos_page::Page;
 use std::alloc::{AllocError, Global};
@@ -59,6 +59,27 @@ impl Html {
         ensures { Gains (escaped_text text.now) self.old self.new }
     {
         for character in text.chars() {
+            self.push_char(character);
+        }
+    }
+
+    /// Appends lines of text, each with its line end. They have no markup, also in the value of an
+    /// attribute.
+    pub fn push_lines(&mut self, text: &str)
+        ensures { Gains (escaped_lines text.now) self.old self.new }
+    {
+        for character in text.chars() {
+            self.push_line_char(character);
+        }
+    }
+
+    /// Appends a character of lines: LF as it is, and any other one as text.
+    fn push_line_char(&mut self, character: char)
+        ensures { Gains (escaped_line_char character) self.old self.new }
+    {
+        if character == '\n' {
+            self.page.push("\n");
+        } else {
             self.push_char(character);
         }
     }

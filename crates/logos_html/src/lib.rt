@@ -6,6 +6,7 @@
 
 mod bytes;
 mod classes;
+mod descriptions;
 mod document;
 mod drawing;
 mod finds;
@@ -13,6 +14,7 @@ mod html;
 pub mod laws;
 mod layers;
 mod leaves;
+mod prefixes;
 mod spans;
 mod states;
 mod style;

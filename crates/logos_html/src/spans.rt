@@ -1,9 +1,10 @@
 //! The text of an input, with a marked span for each of its items. Used by `document`.
 
-ghost use Rattle.std.specs.Prelude.{◌≡◌, decimal, length, map};
-ghost use Rattle.logos_html.specs.Views.{Gains, class_text, end_of, extent_label, item_markup, item_of, items_text, location_label, moved, name_label, next_text, part_of, label_end, priority_at, priority_label, range_text, slice_text, span_data, start_of, token_head};
+ghost use Rattle.std.specs.Prelude.{◌≡◌, decimal, map};
+ghost use Rattle.logos_html.specs.Views.{Gains, class_text, described_of, description_text, end_of, extent_label, item_head, item_markup, item_of, items_text, location_label, moved, name_label, next_text, part_of, label_end, priority_at, priority_label, range_text, slice_text, span_data, start_of, token_head};
 
 use crate::bytes::push_bytes;
+use crate::descriptions::Described;
 use crate::finds::span_of;
 use crate::html::Html;
 use logos_answers::{bytes_between, name_at};
@@ -25,15 +26,15 @@ pub(crate) struct ShownInput<'a, 's> {
 }
 
 /// Appends the front of an input, with a span for each of these items.
-pub(crate) fn push_items(html: &mut Html, shown: ShownInput<'_, '_>, items: &[Item<'_>])
+pub(crate) fn push_items(html: &mut Html, shown: ShownInput<'_, '_>, items: &[Described<'_>])
     ensures { Gains (items_text shown.entry.leaves.now shown.entry.bytes.now shown.entry.end 0 0
-        (map item_of items.now)) html.old html.new }
+        (map described_of items.now)) html.old html.new }
 {
     let mut at = 0;
     let mut cursor = Cursor::new(shown.bytes);
     for item in items {
-        push_next(html, shown, &mut cursor, at, *item);
-        at = span_of(*item).to;
+        push_next(html, shown, &mut cursor, at, item);
+        at = span_of(item.item).to;
     }
     push_bytes(html, part_of(shown, at, shown.end));
 }
@@ -45,17 +46,17 @@ fn push_next(
     shown: ShownInput<'_, '_>,
     cursor: &mut Cursor<'_>,
     at: usize,
-    item: Item<'_>,
+    item: &Described<'_>,
 )
     requires { cursor.old.text ≡ shown.bytes.now }
     ensures gains { Gains (next_text shown.entry.leaves.now shown.entry.bytes.now shown.entry.end at
-        cursor.old.at (item_of item.entry)) html.old html.new }
+        cursor.old.at (described_of item.now)) html.old html.new }
     ensures moves { cursor.new ≡ record {
       text = cursor.old.text;
-      at = moved shown.entry.bytes.now cursor.old.at (start_of (item_of item.entry));
+      at = moved shown.entry.bytes.now cursor.old.at (start_of (described_of item.now).item);
     } }
 {
-    let span = span_of(item);
+    let span = span_of(item.item);
     push_bytes(html, part_of(shown, at, span.from));
     cursor.go_to(span.from);
     push_item(html, shown, item, cursor.location());
@@ -69,22 +70,39 @@ fn part_of<'a>(shown: ShownInput<'a, '_>, from: usize, to: usize) -> &'a [u8]
 }
 
 /// Appends the span of an item.
-fn push_item(html: &mut Html, shown: ShownInput<'_, '_>, item: Item<'_>, location: Location)
+fn push_item(html: &mut Html, shown: ShownInput<'_, '_>, item: &Described<'_>, location: Location)
     ensures { Gains (item_markup shown.entry.leaves.now shown.entry.bytes.now shown.entry.end
-        location (item_of item.entry)) html.old html.new }
+        location (described_of item.now)) html.old html.new }
+{
+    let span = span_of(item.item);
+    push_head(html, shown.leaves, item.item);
+    push_label_end(html, span, location);
+    push_description(html, item.description.as_str());
+    push_slice(html, shown, span);
+}
+
+/// Appends the beginning of the span of an item.
+fn push_head(html: &mut Html, leaves: &[Leaf<'_>], item: Item<'_>)
+    ensures { Gains (item_head leaves.now (item_of item.entry)) html.old html.new }
 {
     match item {
-        Item::Token { leaf, span, .. } => {
-            push_token_head(html, shown.leaves, leaf.0);
-            push_label_end(html, span, location);
-            push_slice(html, shown, span);
-        }
-        Item::Error { span, .. } => {
+        Item::Token { leaf, .. } => push_token_head(html, leaves, leaf.0),
+        Item::Error { .. } => {
             html.push_markup("<span tabindex=\"0\" role=\"group\" class=\"e\" aria-label=\"error");
-            push_label_end(html, span, location);
-            push_slice(html, shown, span);
         }
     }
+}
+
+/// Appends the description of an item, if there is one, and ends the beginning of its span.
+fn push_description(html: &mut Html, description: &str)
+    ensures { Gains (description_text description.now) html.old html.new }
+{
+    if description.is_empty() {
+        return html.push_markup(">");
+    }
+    html.push_markup(" aria-description=\"");
+    html.push_lines(description);
+    html.push_markup("\">");
 }
 
 /// Appends the beginning of the span of a token, with the facts about its leaf.
@@ -167,7 +185,7 @@ fn push_data(html: &mut Html, span: Span)
 {
     html.push_markup("\" data-span=\"");
     push_range(html, span);
-    html.push_markup("\">");
+    html.push_markup("\"");
 }
 
 /// Appends the offsets of a span.

@@ -5,7 +5,7 @@
 /// the bottom while the item has the focus or the pointer.
 pub(crate) const STYLE: &str = "\
 :root {
-  color-scheme: light dark;
+  color-scheme: light dark; scroll-padding-bottom: 14rem;
   --back: #fff; --ink: #1b1b1f; --faint: #55555e; --line: #c8c8d0; --link: #0b57a4;
   --bad: #ffd6d6; --bad-ink: #a00010; --bar: #1b1b1f; --bar-ink: #fff;
   --c0: #d8e9ff; --c1: #d9f2d9; --c2: #fdeec2; --c3: #eadcfb;
@@ -66,6 +66,9 @@ pre .k:hover, pre .e:hover { outline: 2px solid var(--faint); }
   white-space: pre-wrap; text-decoration: none; z-index: 2;
 }
 [aria-label]:is(.k, .e):focus::after { z-index: 1; }
+[aria-description]:is(.k, .e):is(:hover, :focus)::after {
+  content: attr(aria-label) \"\\A\" attr(aria-description);
+}
 svg { display: block; }
 svg .l { fill: none; stroke: var(--faint); }
 svg .end { stroke-dasharray: 5 4; }

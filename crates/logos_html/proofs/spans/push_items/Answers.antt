@@ -8,7 +8,7 @@ loop-item-preserved c =
     let moves = c.push_next.ensures.moves in
     record {
       same_text = ap (λ cursor. cursor.text) moves ∙ i.same_text;
-      gains = λ new rest. i.gains new (next_item c.args.shown.leaves.now c.args.shown.bytes.now c.args.shown.end _ _ c.args.items.now c.loop-item.item-index _ c.loop-item-test.true c.push_next.ensures.gains (rw (c.span_of-at.ensures.to, moves) at rest));
+      gains = λ new rest. i.gains new (next_item c.args.shown.leaves.now c.args.shown.bytes.now c.args.shown.end _ _ c.args.items.now c.loop-item.item-index c.item-item.result c.loop-item-test.true c.item-item.is c.push_next.ensures.gains (rw (c.span_of-at.ensures.to, moves) at rest));
     }
 
 pub returns : goal.returns

@@ -1,6 +1,6 @@
 use Rattle.std.proofs.Common.{◌≡◌, drop, map}
-use Rattle.logos_machine.specs.LexerValue.{item_of}
 use Rattle.logos_page.specs.Pages.{PageValue, Gains}
+use Rattle.logos_html.specs.DescribedView.{described_of}
 use Rattle.logos_html.specs.Spans.{items_text}
 use Rattle.logos_html.proofs.spans.push_items.Given as goal
 
@@ -8,6 +8,6 @@ use Rattle.logos_html.proofs.spans.push_items.Given as goal
 abbrev pub invariant-loop-item : goal.invariant-loop-item
 invariant-loop-item l = record {
   same_text : l.cursor.text ≡ l.shown.bytes.now;
-  gains : (new : PageValue) → Gains (items_text l.shown.leaves.now l.shown.bytes.now l.shown.end l.at l.cursor.at (map item_of (drop l.item-index l.items))) l.html new →
-      Gains (items_text l.shown.leaves.now l.shown.bytes.now l.shown.end 0 0 (map item_of l.items)) l.initial.html new;
+  gains : (new : PageValue) → Gains (items_text l.shown.leaves.now l.shown.bytes.now l.shown.end l.at l.cursor.at (map described_of (drop l.item-index l.items))) l.html new →
+      Gains (items_text l.shown.leaves.now l.shown.bytes.now l.shown.end 0 0 (map described_of l.items)) l.initial.html new;
 }

@@ -1,0 +1,206 @@
+//! The descriptions of items: the lines that `--at` prints about their starts. Used by `document`.
+
+ghost use Rattle.std.specs.Prelude.{◌≡◌, ◌+◌, ◌≤◌, IfOk, drop, length, map, string_bytes};
+ghost use Rattle.logos_html.specs.Views.{AllStart, AreDescribed, IsBytes, IsDescribed, IsDescription, IsEnough, IsGraphOf, described_of, item_of, items_of, rules_of, start_of};
+
+use crate::finds::span_of;
+use crate::prefixes::enough_bytes;
+use logos_answers::push_matches;
+use logos_attempts::push_partials;
+use logos_automaton::dfa::parts::state_count;
+use logos_code::code::Code;
+use logos_graph::graph::Graph;
+use logos_machine::machine::Item;
+use logos_page::Page;
+use std::alloc::{AllocError, Global};
+
+/// The maximum number of steps for the descriptions of a page.
+const MOST: usize = 268_435_456;
+
+/// The number of steps for a byte that is read or written.
+const BYTE: usize = 64;
+
+/// The maximum number of bytes that are read for one description.
+const LONGEST: usize = 65_536;
+
+/// An item of an input with its description.
+#[derive(Drop)]
+pub(crate) struct Described<'i> {
+    pub(crate) item: Item<'i>,
+    /// The lines about the start of the item, or no text if they add nothing to its label.
+    pub(crate) description: String,
+}
+
+/// A lexer, and an input whose items are described.
+#[derive(Clone, Copy)]
+pub(crate) struct Subject<'a, 's> {
+    pub(crate) graph: &'a Graph<'s>,
+    pub(crate) code: &'a Code<'s>,
+    pub(crate) bytes: &'a [u8],
+}
+
+/// The number of steps that are left for descriptions. It bounds their time and their size.
+#[derive(Clone, Copy)]
+pub(crate) struct Budget {
+    left: usize,
+    /// The start of the first item for which it was too small, if there is one. That item and those
+    /// after it have no description.
+    pub(crate) end: Option<usize>,
+}
+
+/// Returns a budget of which nothing is spent.
+pub(crate) fn new_budget() -> Budget {
+    Budget {
+        left: MOST,
+        end: None,
+    }
+}
+
+/// Returns these items with their descriptions.
+///
+/// # Errors
+///
+/// Returns `AllocError` if memory runs out.
+pub(crate) fn describe<'i>(
+    alloc: Global,
+    subject: Subject<'_, '_>,
+    budget: &mut Budget,
+    items: &[Item<'i>],
+) -> Result<Vec<Described<'i>>, AllocError>
+    ensures items { IfOk result (λ described. items_of described.items ≡ map item_of items.now) }
+    ensures described { IfOk result (λ described. AreDescribed subject.entry.code.now
+        subject.entry.graph.now subject.entry.bytes.now (map described_of described.items)) }
+{
+    let mut described = Vec::new(alloc);
+    for item in items {
+        let description = description_of(alloc, subject, budget, *item)?;
+        described.push(Described {
+            item: *item,
+            description,
+        })?;
+    }
+    Ok(described)
+}
+
+/// Returns the description of an item, or no text if it adds nothing to the label of the item, or
+/// if the budget is too small.
+fn description_of(
+    alloc: Global,
+    subject: Subject<'_, '_>,
+    budget: &mut Budget,
+    item: Item<'_>,
+) -> Result<String, AllocError>
+    ensures { IfOk result (λ text. IsGraphOf subject.entry.graph.now.leaves
+        subject.entry.graph.now.utf8 subject.entry.graph.now →
+        AllStart (rules_of subject.entry.graph.now.leaves) → IsBytes subject.entry.bytes.now →
+        IsDescribed subject.entry.graph.now.leaves subject.entry.code.now subject.entry.bytes.now
+        (record { item = item_of item.entry; description = string_bytes text })) }
+{
+    let from = span_of(item).from;
+    if subject.bytes.len() < from {
+        return Ok(String::new(alloc));
+    }
+    let most = LONGEST.min(budget.left / BYTE);
+    let Some(count) = enough_bytes(subject.graph.dfa(), &subject.bytes[from..], most) else {
+        close(budget, from);
+        return Ok(String::new(alloc));
+    };
+    let text = answer_of(alloc, subject, from, count)?;
+    if is_usual(subject, budget, item, count, text.as_str()) {
+        return Ok(String::new(alloc));
+    }
+    Ok(text)
+}
+
+/// Returns the lines that `--at` prints about an offset of an input: the matches from there, and
+/// how far leaves read if none matches. They depend on this number of bytes after the offset.
+///
+/// # Errors
+///
+/// Returns `AllocError` if memory runs out.
+fn answer_of(
+    alloc: Global,
+    subject: Subject<'_, '_>,
+    from: usize,
+    count: usize,
+) -> Result<String, AllocError>
+    requires { from + count ≤ length subject.bytes.now }
+    ensures { IfOk result (λ text. IsGraphOf subject.entry.graph.now.leaves
+        subject.entry.graph.now.utf8 subject.entry.graph.now →
+        AllStart (rules_of subject.entry.graph.now.leaves) → IsBytes subject.entry.bytes.now →
+        IsEnough subject.entry.graph.now.automaton (drop from subject.entry.bytes.now) count →
+        IsDescription subject.entry.graph.now.leaves subject.entry.code.now
+        subject.entry.bytes.now from (string_bytes text)) }
+{
+    let prefix = &subject.bytes[..from + count];
+    let mut page = Page::new(alloc, false);
+    push_matches(alloc, &mut page, subject.graph, prefix, from)?;
+    push_partials(alloc, &mut page, subject.graph, subject.code, prefix, from)?;
+    let text = page.finish()?;
+    Ok(text)
+}
+
+/// Returns whether the lines about an item add nothing to its label: one for its match, if it is
+/// one, and one for the verdict. The steps to them are spent.
+fn is_usual(
+    subject: Subject<'_, '_>,
+    budget: &mut Budget,
+    item: Item<'_>,
+    count: usize,
+    text: &str,
+) -> bool {
+    let lines = line_count(text);
+    spend(budget, count.saturating_mul(BYTE));
+    spend(budget, steps_at(subject, item, lines));
+    if lines <= usual_lines(item) {
+        return true;
+    }
+    spend(budget, text.len().saturating_mul(BYTE));
+    false
+}
+
+/// Returns the number of steps at an error: its states are walked for each leaf, and the location
+/// in each line is counted from the beginning of the input.
+fn steps_at(subject: Subject<'_, '_>, item: Item<'_>, lines: usize) -> usize {
+    match item {
+        Item::Token { .. } => 0,
+        Item::Error { span, .. } => {
+            let leaves = subject.graph.leaves().len();
+            let walked = state_count(subject.graph.dfa()).saturating_mul(leaves.saturating_add(
+                BYTE,
+            ));
+            walked.saturating_add(lines.saturating_sub(1).saturating_mul(span.to))
+        }
+    }
+}
+
+/// Subtracts a number of steps from a budget.
+fn spend(budget: &mut Budget, count: usize) {
+    budget.left = budget.left.saturating_sub(count);
+}
+
+/// Ends a budget at an item.
+fn close(budget: &mut Budget, from: usize) {
+    budget.left = 0;
+    if budget.end.is_none() {
+        budget.end = Some(from);
+    }
+}
+
+/// Returns the number of the lines about an item that add nothing to its label: one for its match,
+/// and one for the verdict.
+fn usual_lines(item: Item<'_>) -> usize {
+    match item {
+        Item::Token { .. } => 2,
+        Item::Error { .. } => 1,
+    }
+}
+
+/// Returns the number of line ends of a text.
+fn line_count(text: &str) -> usize {
+    let mut count: usize = 0;
+    for byte in text.as_bytes() {
+        count = count.saturating_add((*byte == b'\n') as usize);
+    }
+    count
+}
