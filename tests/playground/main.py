@@ -42,8 +42,8 @@ HOSTILE_TEXT = "<script>document.title='bad'</script>\u202e&quot;\0<b>"
 # Two leaves whose message contains markup: 40 bytes, so the priority of each is 80.
 MARKUP = "<img src=x onerror=document.title='bad'>"
 ALIKE = f"#[derive(Logos)]\nenum M {{\n    #[token(\"{MARKUP}\")]\n    One,\n    #[token(\"{MARKUP}\")]\n    Two,\n}}\n"
-# Its graph has a state for each set of the last 24 letters, so memory or the time runs out.
-SLOW = "#[derive(Logos)]\nenum S {\n    #[regex(\"(a|b)*a(a|b){24}\")]\n    A,\n}\n"
+# Its positions are so many that the time runs out, on fast machines too.
+SLOW = "#[derive(Logos)]\nenum S {\n    #[regex(r\"(?:\\w?){300}!\")]\n    A,\n}\n"
 # 70 words of one letter, so the graph has the root and a state for each: more than are drawn.
 MANY = "#[derive(Logos)]\nenum W {\n" + "".join(f"    #[token(\"{chr(0x4e00 + it)}\")]\n    W{it},\n" for it in range(70)) + "}\n"
 TWO = "#[derive(Logos)]\nenum A {\n    #[token(\"x\")]\n    X,\n}\nmod m {\n    #[derive(Logos)]\n    enum B {\n        #[regex(\"[x-z]+\")]\n        Y,\n    }\n}\n"
