@@ -14,10 +14,11 @@ use Rattle.logos_rust_file.specs.Files.{AreEnumsOf}
 use Rattle.logos_host.specs.declared.failure.Failure.{Failure}
 use Rattle.logos_host.specs.declared.failure.Failure.TheVariants as failures
 use Rattle.logos_host.specs.Failures.{status_of}
-use Rattle.logos_page.specs.Pages.{OccurInOrder}
 use Rattle.logos_report.specs.Parts.{refused_texts}
 use Rattle.logos_report.specs.Locations.{SourceValue}
 use Rattle.logos_report.specs.Faults.{summary_line}
+use Rattle.logos_report.specs.Reports.{InReport}
+use Rattle.logos_report.specs.Warnings.{warnings_texts}
 use Rattle.logos_report.specs.Sets.{errors_after, first_faults, sizes_of}
 use Rattle.logos_report.specs.declared.warnings.Warning.{Warning}
 use Rattle.logos_file_warnings.specs.Warned.{ShowsDenial}
@@ -57,19 +58,20 @@ abbrev pub errors_in : List Refused → ℕ
 errors_in [] = 0
 errors_in (part ∷ parts) = errors_of part + errors_in parts
 
--- The texts of the faults of these parts of a file, and the line with the number of errors, which
--- is at most the greatest one.
-abbrev pub report_texts : Bool → SourceValue → List Refused → List (List ℕ)
-report_texts is_colored source refused = refused_texts is_colored source refused ++ summary_line is_colored (min (errors_in refused) (2 ^ 64 - 1)) ∷ []
+-- The texts of some warnings of a file, those of the faults of these parts of it, and the line with
+-- the number of errors, which is at most the greatest one.
+abbrev pub report_texts : Bool → SourceValue → List Warning → List Refused → List (List ℕ)
+report_texts is_colored source warnings refused = warnings_texts is_colored source 0 warnings ++ (refused_texts is_colored source refused ++ summary_line is_colored (min (errors_in refused) (2 ^ 64 - 1)) ∷ [])
 
 -- The lines of JSON of some warnings, and after them those of all faults.
 abbrev pub AreReportLines : SourceValue → List Refused → List ℕ → Type 0
 AreReportLines source refused text =
     (warnings : List Warning) × (front lines : List ℕ) × (text ≡ front ++ lines) × AreWarnings source 0 warnings front × AreRefusedMessages source refused lines
 
--- The text about faults, in order: a report, with or without colors, or lines of JSON.
+-- The text about faults, in order, after some warnings: a report, with or without colors, or lines
+-- of JSON. A report has no further lines of faults, warnings or locations.
 abbrev pub ShowsRefused : MessageFormat → SourceValue → List Refused → List ℕ → Type 0
-ShowsRefused Human source refused shown = (is_colored : Bool) × OccurInOrder (report_texts is_colored source refused) shown
+ShowsRefused Human source refused shown = (is_colored : Bool) × (warnings : List Warning) × InReport is_colored (report_texts is_colored source warnings refused) shown
 ShowsRefused Json source refused shown = AreReportLines source refused shown
 
 -- This text shows all faults of a file, in order.

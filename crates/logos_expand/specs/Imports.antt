@@ -6,7 +6,7 @@ pub use Rattle.logos_codegen.specs.Source.{IsRefused}
 pub use Rattle.logos_host.specs.Paths.{file_name}
 pub use Rattle.logos_layout.specs.Inner.{IsPlainly, IsWithoutInner}
 pub use Rattle.logos_layout.specs.Layout.{IsLaidOut}
-pub use Rattle.logos_page.specs.Pages.{OccurInOrder}
+pub use Rattle.logos_report.specs.Reports.{InReport}
 pub use Rattle.logos_report.specs.Sets.{sizes_of}
 pub use Rattle.logos_rust_file.specs.Files.{AreEnumsOf}
 pub use Rattle.logos_rust_file.specs.Handed.{Refuses}

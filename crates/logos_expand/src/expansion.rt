@@ -1,7 +1,7 @@
 //! Expands the derive of the lexers in a file. Called by `logos_cli`.
 
 ghost use Rattle.std.specs.Prelude.{◌≡◌, ◌<◌, ◌≤◌, ◌++◌, ◌^◌, ◌-◌, All, IfErr, IfOk, IfSome, IsTrue, OnOk, length, map, min, string_bytes};
-ghost use Rattle.logos_expand.specs.Views.{IsRefused, AreInOrder, IsFoundCut, found_span, part_span, AreEnumsOf, OccurInOrder, Refuses, IsExpanded, IsExpansion, IsUnreadable, AreRefused, AreReportLines, FailsFor, GathersAll, ShowsRefused, errors_in, report_texts, AddsRefusal, GathersOne, HasSets, IsExpansionBy, around_made, sizes_of, Spells, SpellsEnum, tokens_of};
+ghost use Rattle.logos_expand.specs.Views.{IsRefused, AreInOrder, IsFoundCut, found_span, part_span, AreEnumsOf, InReport, Refuses, IsExpanded, IsExpansion, IsUnreadable, AreRefused, AreReportLines, FailsFor, GathersAll, ShowsRefused, errors_in, report_texts, AddsRefusal, GathersOne, HasSets, IsExpansionBy, around_made, sizes_of, Spells, SpellsEnum, tokens_of};
 ghost use Rattle.logos_expand.specs.Views.{IsFileOf, IsPlainly, IsWithoutInner};
 
 use crate::head::with_head;
@@ -412,8 +412,8 @@ fn refusal_text(
     refused: &[Refused],
     warned: &[Warning],
 ) -> Result<String, AllocError>
-    ensures { IfOk result (λ text. OccurInOrder
-        (report_texts showing.is_colored source.now refused.now) (string_bytes text)) }
+    ensures { IfOk result (λ text. InReport showing.is_colored
+        (report_texts showing.is_colored source.now warned.now refused.now) (string_bytes text)) }
 {
     let mut page = Page::new(showing.alloc, showing.is_colored);
     push_warned(&mut page, source, warned);

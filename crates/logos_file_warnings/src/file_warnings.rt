@@ -1,8 +1,8 @@
 //! Collects and formats the warnings of a file. Called by `logos_cli`, `logos_expand` and
 //! `logos_show`.
 
-ghost use Rattle.std.specs.Prelude.{◌≡◌, ◌++◌, IfOk, [], codes, string_bytes};
-ghost use Rattle.logos_file_warnings.specs.Imports.{AreWarnings, OccurInOrder, Shows, ShowsWarnings, shown_of, warnings_texts};
+ghost use Rattle.std.specs.Prelude.{◌≡◌, ◌++◌, ◌∷◌, IfOk, [], string_bytes};
+ghost use Rattle.logos_file_warnings.specs.Imports.{AreWarnings, Gains, InReport, Shows, ShowsWarnings, denied_line, missing_line, missing_texts, shown_of, warnings_texts};
 
 use logos_causes::{Lexer, accepted_warnings};
 use logos_host::MessageFormat;
@@ -151,7 +151,8 @@ pub fn warning_text(
     warned: &[Warning],
     is_missing: bool,
 ) -> Result<Vec<u8>, Memory>
-    ensures { IfOk result (λ text. ShowsWarnings showing.format source.now warned.now text.items) }
+    ensures { IfOk result (λ text. ShowsWarnings showing.format source.now warned.now
+        (missing_texts source.now is_missing) text.items) }
 {
     match showing.format {
         MessageFormat::Human => match warning_report(source, showing, warned, is_missing) {
@@ -170,8 +171,9 @@ fn warning_report(
     warned: &[Warning],
     is_missing: bool,
 ) -> Result<String, AllocError>
-    ensures { IfOk result (λ report. OccurInOrder
-        (warnings_texts showing.is_colored source.now 0 warned.now) (string_bytes report)) }
+    ensures { IfOk result (λ report. InReport showing.is_colored
+        (warnings_texts showing.is_colored source.now 0 warned.now
+        ++ missing_texts source.now is_missing) (string_bytes report)) }
 {
     let mut page = Page::new(showing.alloc, showing.is_colored);
     push_warned(&mut page, source, warned);
@@ -181,7 +183,7 @@ fn warning_report(
 
 /// Appends that no enum of a file derives `Logos`, if `is_missing` is set.
 fn push_missing(page: &mut Page, source: &Source<'_>, is_missing: bool)
-    ensures { Shows [] page.old page.new }
+    ensures { Shows (missing_texts source.now is_missing) page.old page.new }
 {
     if is_missing {
         push_missing_line(page, source);
@@ -190,7 +192,7 @@ fn push_missing(page: &mut Page, source: &Source<'_>, is_missing: bool)
 
 /// Appends that no enum of a file derives `Logos`.
 fn push_missing_line(page: &mut Page, source: &Source<'_>)
-    ensures { Shows [] page.old page.new }
+    ensures { Gains (missing_line source.now) page.old page.new }
 {
     page.push("warning: no enum in ");
     page.push_shown(source.path());
@@ -217,7 +219,7 @@ pub fn denial_text(
     warned: &[Warning],
 ) -> Result<String, Memory>
     ensures { IfOk result (λ text. ShowsWarnings showing.format source.now warned.now
-        (string_bytes text)) }
+        (denied_line ∷ []) (string_bytes text)) }
 {
     let text = text_of(warning_text(source, showing, warned, false)?)?;
     match showing.format {
@@ -228,8 +230,7 @@ pub fn denial_text(
 
 /// Returns a report of warnings with the line that they are denied.
 fn denied(report: String) -> Result<String, Memory>
-    ensures { IfOk result (λ text. string_bytes text ≡ string_bytes report
-        ++ codes "error: warnings are denied by `--deny-warnings`\n") }
+    ensures { IfOk result (λ text. string_bytes text ≡ string_bytes report ++ denied_line) }
 {
     let mut text = report;
     text.push_str("error: warnings are denied by `--deny-warnings`\n")?;

@@ -6,7 +6,7 @@ mod StripItems
 mod StripVariants
 mod StripSound
 mod StripEnums
-mod OccurAlike
+mod ReportLines
 mod BuilderLaws
 mod BranchLaws
 mod ShortReports

@@ -5,7 +5,7 @@
 //! No code calls these functions: the contract of each is a proved law.
 
 ghost use Rattle.std.specs.Prelude.{◌≡◌, ◌<◌, ◌≤◌, ◌↔◌, ℕ, suc, ◌+◌, ◌-◌, ◌^◌, ◌++◌, min, Bool, List, Ok, Option, IfSome};
-ghost use Rattle.logos_laws.specs.readings.Imports.{EnumValue, Piece, Reads, TokenList, pieces, stripped, in_file, moved, OccurInReport, OccurInText, ArePieces, EnumStays, IsBytes, Matches, MatchesInOrder, SomeMatches, Tree, repetition, trees, alternation_of, concat_of, repetition_of};
+ghost use Rattle.logos_laws.specs.readings.Imports.{EnumValue, Piece, Reads, TokenList, pieces, stripped, in_file, moved, InReport, OccurInOrder, ArePieces, EnumStays, IsBytes, Matches, MatchesInOrder, SomeMatches, Tree, repetition, trees, alternation_of, concat_of, repetition_of};
 ghost use Rattle.logos_laws.specs.readings.Imports.{AreFew, AreOfVariant, CodeLeaf, HaveNoSets, Refused, SourceValue, all_faults, all_lines, code_variant, lines_from, refused_texts, variant_line};
 
 /// The pieces of an argument are its first piece, and then the pieces of the tokens after that
@@ -35,10 +35,11 @@ pub fn offsets_are_sums()
         moved begin offset ≡ begin + offset }
 {}
 
-/// Texts occur in a report exactly if they occur in the generated code of a lexer.
-pub fn texts_occur_alike()
-    ensures { (texts : List (List ℕ)) (whole : List ℕ) →
-        OccurInReport texts whole ↔ OccurInText texts whole }
+/// The lines of a report occur in it, in order, by the definition that is used for the generated
+/// code of a lexer.
+pub fn report_lines_occur()
+    ensures { (is_colored : Bool) (lines : List (List ℕ)) (whole : List ℕ) →
+        InReport is_colored lines whole → OccurInOrder lines whole }
 {}
 
 /// A tree that is built from parts, from branches or from a repetition, in its simplest form, has

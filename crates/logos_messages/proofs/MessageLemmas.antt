@@ -11,7 +11,7 @@ use Rattle.logos_report.proofs.FaultLemmas.{next_front}
 use Rattle.logos_report.proofs.PartLemmas.{front_more}
 use Rattle.logos_report.specs.declared.file_report.Refused.{Refused}
 use Rattle.logos_report.specs.Faults.{left_out, seen_of}
-use Rattle.logos_page.specs.Pages.{OccurInOrder}
+use Rattle.logos_report.specs.Reports.{InReport}
 use Rattle.logos_report.specs.Parts.{all_faults}
 use Rattle.logos_report.specs.Locations.{SourceValue}
 use Rattle.logos_token.specs.declared.error.SpannedError.{SpannedError}
@@ -75,10 +75,10 @@ nothing_mapped bytes (Some text) e = absurd (cc)
 
 -- the text that was pushed with this report, and then ended, is a line
 pub message_put : {S : Type 0} (bytes : S → List ℕ) (source : SourceValue) (begin : ℕ) (head : List Token) (span : Span) (also : Option Span) (texts : List (List ℕ)) {old middle new : LinesValue} (rendered : Option S)
-    (text : Option (List ℕ)) → text ≡ option_map bytes rendered → IfSome rendered (λ t. OccurInOrder texts (bytes t)) → (rendered ≡ None → HasLongLine source begin span) → YieldsMessage source begin head span also text old middle → Ends middle new →
+    (text : Option (List ℕ)) → text ≡ option_map bytes rendered → IfSome rendered (λ t. InReport false texts (bytes t)) → (rendered ≡ None → HasLongLine source begin span) → YieldsMessage source begin head span also text old middle → Ends middle new →
     (shown : Shown) × IsShown source begin span also texts shown × Puts (diagnostic_tokens source begin head span also shown ∷ []) old new
 message_put bytes source begin head span also texts rendered text e h left g ends =
-    let P : List ℕ → Type 0 = λ t. OccurInOrder texts t in (
+    let P : List ℕ → Type 0 = λ t. InReport false texts t in (
       g.shown,
       record { lines = g.lines; other_lines = g.other_lines; rendered = subst (λ o. IfSome o P) (sym (g.is ∙ e)) (of_bytes bytes P rendered h); left_out = λ none. left (nothing_mapped bytes rendered (sym (g.is ∙ e) ∙ none)) },
       one_put g.gained ends,

@@ -4,7 +4,7 @@ pub use Rattle.json.specs.Token.{begin_array, begin_object, boolean, end_array, 
 pub use Rattle.logos_json.specs.Lines.{Gains}
 pub use Rattle.logos_json.specs.Members.{list_member}
 pub use Rattle.logos_report.specs.Faults.{fault_texts, left_out, rest_line}
-pub use Rattle.logos_page.specs.Pages.{OccurInOrder}
+pub use Rattle.logos_report.specs.Reports.{InReport}
 pub use Rattle.logos_report.specs.Parts.{all_faults, listed_faults}
 pub use Rattle.logos_report.specs.Warnings.{shown_of, warning_texts}
 pub use Rattle.logos_token.specs.FaultNames.{name_of}

@@ -4,16 +4,16 @@ use Rattle.json.specs.Token.{Token}
 use Rattle.logos_json.specs.Lines.{AreLines, LinesValue, Puts}
 use Rattle.logos_report.specs.declared.file_report.Refused.{Refused}
 use Rattle.logos_report.specs.Faults.{fault_texts, left_out, rest_line, seen_of}
-use Rattle.logos_page.specs.Pages.{OccurInOrder}
 use Rattle.logos_report.specs.Parts.{all_faults}
 use Rattle.logos_report.specs.Locations.{SourceValue}
+use Rattle.logos_report.specs.Reports.{InReport}
 use Rattle.logos_token.specs.Faults.{Fault}
 use Rattle.logos_token.specs.declared.error.fault_code.FaultCode.{FaultCode}
 use Rattle.logos_messages.specs.Shown.{IsShown, Shown}
 use Rattle.logos_messages.specs.Tokens.{fault_tokens, rest_tokens}
 
 -- These tokens are the line of a fault of the part of a file that begins at an offset: the report
--- has the line of the fault and the one that names its position.
+-- has the line of the fault, the one that names its position, and otherwise only asides.
 pub record IsFaultLine (source : SourceValue) (begin : ℕ) (fault : Fault) (tokens : List Token) : Type 0 where
   pub shown : Shown
   pub may : IsShown source begin fault.span fault.also (fault_texts false source begin fault) shown
@@ -23,7 +23,7 @@ pub record IsFaultLine (source : SourceValue) (begin : ℕ) (fault : Fault) (tok
 -- the number too.
 pub record IsRestLine (code : FaultCode) (count : ℕ) (tokens : List Token) : Type 0 where
   pub rendered : List ℕ
-  pub occurs : OccurInOrder (rest_line false code count ∷ []) rendered
+  pub occurs : InReport false (rest_line false code count ∷ []) rendered
   pub is : tokens ≡ rest_tokens code count rendered
 
 -- The lines for a fault: its own if it is shown; otherwise the number of those that are left out,

@@ -1,12 +1,12 @@
 -- The details that are shown with a fault or a warning.
-use Rattle.std.specs.Prelude.{◌≡◌, ◌≤◌, ◌⊎◌, ◌==◌, ◌+◌, ◌-◌, ◌^◌, min, ℕ, List, [], ◌∷◌, Option, None, IfSome, if◌then◌else◌, length}
+use Rattle.std.specs.Prelude.{◌≡◌, ◌≤◌, ◌⊎◌, ◌==◌, ◌+◌, ◌-◌, ◌^◌, false, min, ℕ, List, [], ◌∷◌, Option, None, IfSome, if◌then◌else◌, length}
 use Rattle.std.specs.Str.{chars}
 use Rattle.logos_lexeme.specs.declared.lexeme.Span.{Span}
 use Rattle.logos_lines.specs.Locations.{location_at}
 use Rattle.logos_lines.specs.Starts.{IsLineOf, IsLongLine, IsNoLine}
 use Rattle.logos_lines.specs.declared.location.Location.{Location}
 use Rattle.logos_report.specs.Locations.{SourceValue, in_file}
-use Rattle.logos_page.specs.Pages.{OccurInOrder}
+use Rattle.logos_report.specs.Reports.{InReport}
 
 -- A line of a file, and the columns of a span in it, with an exclusive end.
 pub record Marked : Type 0 where
@@ -64,10 +64,10 @@ IsLongAt source begin offset =
 abbrev pub HasLongLine : SourceValue → ℕ → Span → Type 0
 HasLongLine source begin span = IsLongAt source begin span.from ⊎ IsLongAt source begin span.to
 
--- These details of spans are valid: the lines are lines of the spans, these texts occur in the
--- report, in order, and without a report the first span begins or ends in a long line.
+-- These details of spans are valid: the lines are lines of the spans, the report has exactly these
+-- lines and asides, and without a report the first span begins or ends in a long line.
 pub record IsShown (source : SourceValue) (begin : ℕ) (span : Span) (also : Option Span) (texts : List (List ℕ)) (shown : Shown) : Type 0 where
   pub lines : AreLinesAt source begin span shown.lines
   pub other_lines : IfSome also (λ other. AreLinesAt source begin other shown.other_lines)
-  pub rendered : IfSome shown.rendered (λ text. OccurInOrder texts text)
+  pub rendered : IfSome shown.rendered (InReport false texts)
   pub left_out : shown.rendered ≡ None → HasLongLine source begin span

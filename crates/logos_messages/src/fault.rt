@@ -1,7 +1,7 @@
 //! The line of a fault. Used by `messages` and `notes`.
 
 ghost use Rattle.std.specs.Prelude.{◌≡◌, None, false, IfOk, IfSome, OnOk, option_map, string_bytes};
-ghost use Rattle.logos_messages.specs.Imports.{HasLongLine, YieldsMessage, PutsFault, OccurInOrder, fault_head, fault_of, fault_texts};
+ghost use Rattle.logos_messages.specs.Imports.{HasLongLine, YieldsMessage, PutsFault, InReport, fault_head, fault_of, fault_texts};
 
 use crate::head::push_head;
 use crate::notes::{push_notes, text_of};
@@ -72,7 +72,7 @@ fn rendered(
     alloc: Global,
     message: FaultMessage<'_, '_, '_, '_>,
 ) -> Result<Option<String>, AllocError>
-    ensures occur { IfOk result (λ text. IfSome text (λ text. OccurInOrder (fault_texts false
+    ensures occur { IfOk result (λ text. IfSome text (λ text. InReport false (fault_texts false
         message.entry.part.source.now message.entry.part.offset
         (fault_of message.entry.known.fault.now)) (string_bytes text))) }
     ensures left_out { IfOk result (λ text. text ≡ None → HasLongLine message.entry.part.source.now

@@ -1,7 +1,7 @@
 //! The line with the number of faults of a code that are left out. Used by `messages`.
 
 ghost use Rattle.std.specs.Prelude.{◌≡◌, ◌++◌, ◌∷◌, [], false, IfOk, OnOk, codes, decimal, string_bytes};
-ghost use Rattle.logos_messages.specs.Imports.{Gains, PutsRest, OccurInOrder, left_out_tokens, rest_line};
+ghost use Rattle.logos_messages.specs.Imports.{Gains, PutsRest, InReport, left_out_tokens, rest_line};
 
 use crate::head::{push_code, push_message};
 use crate::notes::push_empty_list;
@@ -45,7 +45,7 @@ fn rest_message(alloc: Global, count: usize) -> Result<String, AllocError>
 /// Returns the report with the number of faults that are left out.
 fn rest_report(alloc: Global, code: FaultCode, count: usize) -> Result<String, AllocError>
     ensures { IfOk result (λ text.
-        OccurInOrder (rest_line false code count ∷ []) (string_bytes text)) }
+        InReport false (rest_line false code count ∷ []) (string_bytes text)) }
 {
     let mut page = Page::new(alloc, false);
     push_rest(&mut page, code, count);

@@ -1,7 +1,7 @@
 //! The warnings of a part of a file, one line for each. Used by `logos_file_warnings`.
 
 ghost use Rattle.std.specs.Prelude.{◌≡◌, ◌++◌, ℕ, List, None, false, IfOk, IfSome, OnErr, OnOk, option_map, string_bytes};
-ghost use Rattle.logos_messages.specs.Imports.{AreWarnings, Gains, HasLongLine, YieldsMessage, YieldsNoteList, YieldsNotes, PutsWarning, PutsWarnings, OccurInOrder, shown_of, warning_head, warning_texts};
+ghost use Rattle.logos_messages.specs.Imports.{AreWarnings, Gains, HasLongLine, YieldsMessage, YieldsNoteList, YieldsNotes, PutsWarning, PutsWarnings, InReport, shown_of, warning_head, warning_texts};
 
 use crate::head::push_message;
 use crate::notes::{push_one, text_of};
@@ -129,7 +129,7 @@ fn rendered(
     part: Part<'_, '_>,
     warning: &Warning,
 ) -> Result<Option<String>, AllocError>
-    ensures occur { IfOk result (λ text. IfSome text (λ text. OccurInOrder (warning_texts false
+    ensures occur { IfOk result (λ text. IfSome text (λ text. InReport false (warning_texts false
         part.entry.source.now part.entry.offset warning.now) (string_bytes text))) }
     ensures left_out { IfOk result (λ text. text ≡ None →
         HasLongLine part.entry.source.now part.entry.offset warning.now.span) }

@@ -1,3 +1,4 @@
+pub mod ReportLemmas
 pub mod FaultLemmas
 pub mod PartLemmas
 pub mod CountLemmas

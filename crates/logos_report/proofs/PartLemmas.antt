@@ -8,10 +8,11 @@ use Rattle.std.specs.List.{count_by}
 use Rattle.std.specs.Prelude.{cond}
 use Rattle.logos_token.specs.Faults.{Fault}
 use Rattle.logos_report.specs.declared.file_report.Refused.{Refused}
-use Rattle.logos_page.specs.Pages.{PageValue, Shows}
+use Rattle.logos_page.specs.Pages.{PageValue}
+use Rattle.logos_report.specs.Reports.{Shows}
 use Rattle.logos_report.specs.Parts.{all_faults, part_texts, parts_texts, texts_from}
 use Rattle.logos_report.specs.Locations.{SourceValue}
-use Rattle.logos_page.proofs.PageLemmas.{shows_nothing, shows_then}
+use Rattle.logos_report.proofs.ReportLemmas.{shows_nothing, shows_then}
 
 next_left : (parts : List Refused) (i : ℕ) (d : Refused) → i < length parts → drop i parts ≡ get_or parts i d ∷ drop (i + 1) parts
 next_left parts i d l =

@@ -1,7 +1,7 @@
 -- Which codes are errors.
 use Rattle.std.specs.Prelude.{Bool, true, false}
 use Rattle.logos_token.specs.declared.error.fault_code.FaultCode.{FaultCode}
-use Rattle.logos_token.specs.declared.error.fault_code.FaultCode.TheVariants.{Disambiguation, Previous}
+use Rattle.logos_token.specs.declared.error.fault_code.FaultCode.TheVariants.{Disambiguation, NoUniversalStart, Previous}
 
 -- Whether a fault is an error: `Previous` is an earlier definition, to which an error refers.
 abbrev pub is_error : FaultCode → Bool
@@ -12,3 +12,8 @@ is_error code = true
 abbrev pub is_ambiguity : FaultCode → Bool
 is_ambiguity Disambiguation = true
 is_ambiguity code = false
+
+-- Whether patterns explain a fault: those that can examine the bytes before their start.
+abbrev pub is_explained : FaultCode → Bool
+is_explained NoUniversalStart = true
+is_explained code = false

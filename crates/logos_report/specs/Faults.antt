@@ -1,10 +1,10 @@
 -- The text of faults in a report.
-use Rattle.std.specs.Prelude.{ℕ, ◌-◌, ◌^◌, min, ◌==◌, nat_lt, Bool, List, [], ◌∷◌, ◌++◌, if◌then◌else◌, codes, decimal}
+use Rattle.std.specs.Prelude.{ℕ, ◌-◌, ◌^◌, min, ◌==◌, nat_lt, Bool, List, [], ◌∷◌, ◌++◌, if◌then◌else◌, codes, decimal, map}
 use Rattle.std.specs.List.{before_first, count_by}
 use Rattle.std.specs.Str.{bytes_eq}
 use Rattle.logos_token.specs.Faults.{Fault}
 use Rattle.logos_token.specs.FaultNames.{name_of}
-use Rattle.logos_report.specs.Codes.{is_error}
+use Rattle.logos_report.specs.Codes.{is_error, is_explained}
 use Rattle.logos_report.specs.Sets.{NextValue, first_faults, follows, next_after}
 use Rattle.logos_token.specs.declared.error.fault_code.FaultCode.{FaultCode}
 use Rattle.logos_page.specs.declared.page.Style.TheVariants.{Error, Frame, Strong}
@@ -32,6 +32,12 @@ head_line is_colored fault =
 abbrev pub fault_texts : Bool → SourceValue → ℕ → Fault → List (List ℕ)
 fault_texts is_colored source begin fault = head_line is_colored fault ∷ location_line is_colored source begin fault.span.from ∷ []
 
+-- The same lines, and for a fault that patterns explain those that name the positions of these
+-- patterns.
+abbrev pub explained_texts : Bool → SourceValue → ℕ → List ℕ → Fault → List (List ℕ)
+explained_texts is_colored source begin starts fault =
+    fault_texts is_colored source begin fault ++ (if is_explained fault.code then map (location_line is_colored source begin) starts else [])
+
 -- Whether a fault has the code of this name.
 abbrev pub has_name : List ℕ → Fault → Bool
 has_name name fault = bytes_eq (name_of fault.code) name
@@ -50,9 +56,9 @@ rest_line is_colored code count = code_text is_colored code ++ (painted is_color
 
 -- The lines of the next fault of a list. One that belongs to an earlier report is only a position
 -- of it.
-abbrev pub listed_texts : Bool → SourceValue → ℕ → NextValue → Fault → List (List ℕ)
-listed_texts is_colored source begin next fault =
-    if follows next fault then location_line is_colored source begin fault.span.from ∷ [] else fault_texts is_colored source begin fault
+abbrev pub listed_texts : Bool → SourceValue → ℕ → List ℕ → NextValue → Fault → List (List ℕ)
+listed_texts is_colored source begin starts next fault =
+    if follows next fault then location_line is_colored source begin fault.span.from ∷ [] else explained_texts is_colored source begin starts fault
 
 -- How many of all faults are left out: their number, saturating at the greatest one, less those
 -- that are shown.
@@ -61,22 +67,22 @@ left_out code all = min (count_by (has_name (name_of code)) all) (2 ^ 64 - 1) - 
 
 -- The text of a fault of a list, after those before it: its lines, if fewer than 50 earlier ones
 -- have its code; instead of the next one, how many of all are left out.
-abbrev pub counted_texts : Bool → SourceValue → ℕ → List Fault → List Fault → NextValue → Fault → List (List ℕ)
-counted_texts is_colored source begin all front next fault =
-    if nat_lt (seen_of fault.code front) 50 then listed_texts is_colored source begin next fault
+abbrev pub counted_texts : Bool → SourceValue → ℕ → List ℕ → List Fault → List Fault → NextValue → Fault → List (List ℕ)
+counted_texts is_colored source begin starts all front next fault =
+    if nat_lt (seen_of fault.code front) 50 then listed_texts is_colored source begin starts next fault
     else if seen_of fault.code front == 50 then rest_line is_colored fault.code (left_out fault.code all) ∷ []
     else []
 
 -- The texts of the faults after some earlier ones, in order.
-abbrev pub texts_after : Bool → SourceValue → ℕ → List Fault → List Fault → NextValue → List Fault → List (List ℕ)
-texts_after is_colored source begin all front next [] = []
-texts_after is_colored source begin all front next (fault ∷ faults) =
-    counted_texts is_colored source begin all front next fault ++ texts_after is_colored source begin all (front ++ fault ∷ []) (next_after next fault) faults
+abbrev pub texts_after : Bool → SourceValue → ℕ → List ℕ → List Fault → List Fault → NextValue → List Fault → List (List ℕ)
+texts_after is_colored source begin starts all front next [] = []
+texts_after is_colored source begin starts all front next (fault ∷ faults) =
+    counted_texts is_colored source begin starts all front next fault ++ texts_after is_colored source begin starts all (front ++ fault ∷ []) (next_after next fault) faults
 
--- The texts of all faults of a part of a file. The sets of ambiguous leaves have these sizes, in
--- order, and each set has one report.
-abbrev pub faults_texts : Bool → SourceValue → ℕ → List ℕ → List Fault → List (List ℕ)
-faults_texts is_colored source begin sizes faults = texts_after is_colored source begin faults [] (first_faults sizes) faults
+-- The texts of all faults of a part of a file. Patterns at these offsets explain faults. The sets
+-- of ambiguous leaves have these sizes, in order, and each set has one report.
+abbrev pub faults_texts : Bool → SourceValue → ℕ → List ℕ → List ℕ → List Fault → List (List ℕ)
+faults_texts is_colored source begin starts sizes faults = texts_after is_colored source begin starts faults [] (first_faults sizes) faults
 
 -- The number of errors, in the words of the report.
 abbrev pub count_text : ℕ → List ℕ

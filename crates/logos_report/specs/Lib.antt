@@ -1,4 +1,5 @@
 pub mod Codes
+pub mod Reports
 pub mod Sets
 pub mod Locations
 pub mod Faults

@@ -7,7 +7,7 @@ use Rattle.logos_report.specs.declared.file_report.FaultListing.{FaultListing}
 use Rattle.logos_report.specs.declared.file_report.Refused.{Refused}
 use Rattle.logos_report.specs.Faults.{texts_after}
 use Rattle.logos_report.specs.Locations.{SourceValue}
-use Rattle.logos_report.specs.Sets.{first_faults, sizes_of}
+use Rattle.logos_report.specs.Sets.{first_faults, sizes_of, starts_of}
 
 -- All faults of these parts of a file, in order.
 abbrev pub all_faults : List Refused → List Fault
@@ -20,7 +20,7 @@ listed_faults listing = all_faults listing.earlier.now ++ (faults_of listing.fau
 -- The texts of the faults of a part. The first list has the faults of all parts, and the second one
 -- those of the parts before it.
 abbrev pub part_texts : Bool → SourceValue → List Fault → List Fault → Refused → List (List ℕ)
-part_texts is_colored source all front part = texts_after is_colored source part.offset all front (first_faults (sizes_of part.clues)) part.errors
+part_texts is_colored source all front part = texts_after is_colored source part.offset (starts_of part.clues) all front (first_faults (sizes_of part.clues)) part.errors
 
 -- The texts of the faults of several parts, one after another.
 abbrev pub parts_texts : Bool → SourceValue → List Fault → List Fault → List Refused → List (List ℕ)

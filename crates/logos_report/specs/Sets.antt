@@ -1,10 +1,11 @@
 -- Sets of ambiguous leaves, each with one report for all its faults.
-use Rattle.std.specs.Prelude.{ℕ, ◌+◌, ◌-◌, List, [], ◌∷◌, Bool, false, ◌&&◌, nat_lt, cond, if◌then◌else◌, length, map, not}
+use Rattle.std.specs.Prelude.{ℕ, ◌+◌, ◌-◌, List, [], ◌∷◌, Bool, false, ◌&&◌, nat_lt, cond, if◌then◌else◌, length, map, min, not, take}
 use Rattle.logos_token.specs.Faults.{Fault}
 use Rattle.logos_report.specs.Codes.{is_ambiguity, is_error}
 use Rattle.logos_report.specs.declared.clues.Clues.{Clues}
 use Rattle.logos_report.specs.declared.clues.Meeting.{Meeting}
 use Rattle.logos_report.specs.declared.clues.NextFaults.{NextFaults}
+use Rattle.logos_report.specs.declared.clues.Start.{Start}
 
 -- The next faults of a list: the numbers of leaves of the sets that have faults left, and how many
 -- faults of the first set were passed.
@@ -19,6 +20,22 @@ size_of meeting = length meeting.names.items
 -- The number of leaves of each set with a clue.
 abbrev pub sizes_of : Clues → List ℕ
 sizes_of clues = map size_of clues.meetings.items
+
+-- The offset of a pattern that explains a fault.
+abbrev pub from_of : Start → ℕ
+from_of start = start.span.from
+
+-- The offsets of these patterns, of which the first 50 are shown.
+abbrev pub offsets_of : List Start → List ℕ
+offsets_of starts = map from_of (take (min (length starts) 50) starts)
+
+-- The offsets of the patterns of these clues.
+abbrev pub starts_of : Clues → List ℕ
+starts_of clues = offsets_of clues.starts.items
+
+-- The offsets of the patterns that explain the next faults.
+abbrev pub starts_in : NextFaults → List ℕ
+starts_in next = offsets_of next.starts.now
 
 -- The view of the next faults.
 abbrev pub next_value : NextFaults → NextValue

@@ -1,5 +1,5 @@
 -- The text of warnings in a report.
-use Rattle.std.specs.Prelude.{ℕ, Bool, List, [], ◌∷◌, ◌++◌, codes, if◌then◌else◌, length, nat_lt, string_bytes, take}
+use Rattle.std.specs.Prelude.{ℕ, Bool, List, [], ◌∷◌, ◌++◌, ◌-◌, ◌==◌, codes, decimal, if◌then◌else◌, length, nat_lt, string_bytes, take}
 use Rattle.std.specs.List.{flat_map}
 use Rattle.logos_page.specs.declared.page.Style.TheVariants.{Strong, Warning}
 use Rattle.logos_report.specs.declared.warnings.Warning.{Warning as Shown}
@@ -24,6 +24,15 @@ all_texts is_colored source begin warnings = flat_map (warning_texts is_colored 
 abbrev pub shown_of : List Shown → List Shown
 shown_of warnings = if nat_lt 50 (length warnings) then take 50 warnings else warnings
 
+-- The line with the number of warnings that are left out.
+abbrev pub left_out_line : Bool → ℕ → List ℕ
+left_out_line is_colored count = painted is_colored Warning (codes "warning") ++ (codes ": " ++ (decimal count ++ codes " more warnings are not shown\n"))
+
+-- The same line, if there are any.
+abbrev pub left_out_texts : Bool → ℕ → List (List ℕ)
+left_out_texts is_colored count = if count == 0 then [] else left_out_line is_colored count ∷ []
+
 -- The texts of warnings in a report.
 abbrev pub warnings_texts : Bool → SourceValue → ℕ → List Shown → List (List ℕ)
-warnings_texts is_colored source begin warnings = all_texts is_colored source begin (shown_of warnings)
+warnings_texts is_colored source begin warnings =
+    all_texts is_colored source begin (shown_of warnings) ++ left_out_texts is_colored (length warnings - 50)

@@ -1,8 +1,8 @@
 //! Clues about faults beyond their messages. `logos_causes` finds those for the faults of a graph,
 //! and `logos_help` adds the help for each.
 
-ghost use Rattle.std.specs.Prelude.{◌≡◌, [], MatchOption, false, nat_lt};
-ghost use Rattle.logos_report.specs.Views.{fault_of, is_ambiguity, follows, sizes_of, stepped, next_after, next_value};
+ghost use Rattle.std.specs.Prelude.{◌≡◌, [], if◌then◌else◌, MatchOption, false, nat_lt, true};
+ghost use Rattle.logos_report.specs.Views.{fault_of, is_ambiguity, is_explained, follows, sizes_of, starts_in, starts_of, stepped, next_after, next_value};
 
 use logos_token::error::{FaultCode, SpannedError};
 use logos_token::token::Span;
@@ -74,7 +74,8 @@ pub struct Member<'c> {
 
 /// Returns the state before the first fault.
 pub fn first_faults(clues: &Clues) -> NextFaults<'_>
-    ensures { next_value result ≡ record { sizes = sizes_of clues.now; passed = 0 } }
+    ensures faults { next_value result ≡ record { sizes = sizes_of clues.now; passed = 0 } }
+    ensures starts { starts_in result ≡ starts_of clues.now }
 {
     NextFaults {
         meetings: &clues.meetings,
@@ -93,7 +94,9 @@ fn is_ambiguity(code: FaultCode) -> bool
 
 /// Returns the state after a fault of a set of ambiguous leaves.
 fn stepped(next: NextFaults<'_>) -> NextFaults<'_>
-    ensures { next_value result ≡ stepped (next_value next.entry) (next_value next.entry).sizes }
+    ensures faults { next_value result
+        ≡ stepped (next_value next.entry) (next_value next.entry).sizes }
+    ensures starts { starts_in result ≡ starts_in next.entry }
 {
     let [meeting, rest @ ..] = next.meetings else {
         return next;
@@ -114,7 +117,9 @@ fn stepped(next: NextFaults<'_>) -> NextFaults<'_>
 impl<'c> NextFaults<'c> {
     /// Returns the state after `fault`.
     pub fn after(self, fault: &SpannedError) -> NextFaults<'c>
-        ensures { next_value result ≡ next_after (next_value self.entry) (fault_of fault.now) }
+        ensures faults { next_value result
+            ≡ next_after (next_value self.entry) (fault_of fault.now) }
+        ensures starts { starts_in result ≡ starts_in self.entry }
     {
         let next = NextFaults {
             helps: self.helps.get(1..).unwrap_or(&[]),
@@ -136,8 +141,8 @@ impl<'c> NextFaults<'c> {
     /// the set.
     pub fn member(self, fault: &SpannedError) -> Option<Member<'c>>
         ensures { MatchOption result (follows (next_value self.entry) (fault_of fault.now) ≡ false)
-            (λ member. follows (next_value self.entry) (fault_of fault.now)
-            ≡ nat_lt 0 member.number) }
+            (λ member. (follows (next_value self.entry) (fault_of fault.now)
+            ≡ nat_lt 0 member.number) × (is_ambiguity fault.now.code ≡ true)) }
     {
         match self.meetings {
             [meeting, ..] if is_ambiguity(fault.code) => Some(Member {
@@ -160,7 +165,9 @@ impl<'c> NextFaults<'c> {
 
     /// Returns the patterns that explain a fault with this code: those that can examine the bytes
     /// before their start.
-    pub fn starts(self, code: FaultCode) -> &'c [Start] {
+    pub fn starts(self, code: FaultCode) -> &'c [Start]
+        ensures { result.now ≡ (if is_explained code then self.entry.starts.now else []) }
+    {
         match code {
             FaultCode::NoUniversalStart => self.starts,
             _ => &[],

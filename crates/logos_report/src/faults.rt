@@ -1,7 +1,7 @@
 //! The faults of a file.
 
 ghost use Rattle.std.specs.Prelude.{◌≡◌, ◌≤◌, ◌++◌, ◌==◌, ◌∷◌, [], codes, if◌then◌else◌, length, take};
-ghost use Rattle.logos_report.specs.Views.{count_by, name_of, fault_of, faults_of, is_error, shown_text, code_text, count_text, counted_texts, fault_texts, faults_texts, texts_after, first_line, has_name, head_line, rest_line, rest_text, seen_of, summary_line, all_faults, listed_faults, begins_error, errors_after, first_faults, sizes_of, next_value, Gains, Shows, painted, location_line};
+ghost use Rattle.logos_report.specs.Views.{count_by, name_of, fault_of, faults_of, is_error, shown_text, code_text, count_text, counted_texts, fault_texts, faults_texts, texts_after, first_line, has_name, head_line, rest_line, rest_text, seen_of, summary_line, all_faults, listed_faults, begins_error, errors_after, first_faults, sizes_of, next_value, Gains, Shows, painted, location_line, starts_in, starts_of};
 
 use crate::clues::{Clues, NextFaults, first_faults};
 use crate::fault_set::{FaultSet, set_at};
@@ -33,7 +33,7 @@ pub struct KnownFault<'f> {
 /// positions under it.
 pub fn push_faults(page: &mut Page, part: Part<'_, '_>, errors: &Errors, clues: &Clues)
     ensures { Shows (faults_texts page.old.is_colored part.entry.source.now part.entry.offset
-        (sizes_of clues.now) errors.now) page.old page.new }
+        (starts_of clues.now) (sizes_of clues.now) errors.now) page.old page.new }
 {
     let listing = FaultListing {
         earlier: &[],
@@ -51,7 +51,7 @@ pub(crate) fn push_all(
     first: NextFaults<'_>,
 )
     ensures { Shows (texts_after page.old.is_colored part.entry.source.now part.entry.offset
-        (listed_faults listing.entry) (all_faults listing.entry.earlier.now)
+        (starts_in first.entry) (listed_faults listing.entry) (all_faults listing.entry.earlier.now)
         (next_value first.entry) (faults_of listing.entry.faults.now)) page.old page.new }
 {
     let mut number = 0;
@@ -75,7 +75,7 @@ fn push_counted(
 )
     requires { number ≤ length listing.faults.now }
     ensures { Shows (counted_texts page.old.is_colored part.entry.source.now part.entry.offset
-        (listed_faults listing.entry)
+        (starts_in next.entry) (listed_faults listing.entry)
         (all_faults listing.entry.earlier.now ++ faults_of (take number listing.entry.faults.now))
         (next_value next.entry) (fault_of fault.now)) page.old page.new }
 {

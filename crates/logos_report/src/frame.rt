@@ -1,7 +1,7 @@
 //! A span of a file: its lines, and carets under it.
 
 ghost use Rattle.std.specs.Prelude.{◌∷◌, []};
-ghost use Rattle.logos_report.specs.Views.{shown_text, Gains, Shows, arrow_line, location_line, shown_location, shown_line_column};
+ghost use Rattle.logos_report.specs.Views.{Begins, Continues, shown_text, Gains, Shows, arrow_line, location_line, shown_location, shown_line_column};
 
 use crate::source::{Part, Source};
 use crate::window::{FileSpot, LineWindow, window_at};
@@ -202,7 +202,7 @@ fn push_last_line(page: &mut Page, frame: Frame<'_, '_>)
 
 /// Appends the margin of a line without a number.
 fn push_margin(page: &mut Page, width: usize)
-    ensures { Shows [] page.old page.new }
+    ensures { Begins page.old page.new }
 {
     page.push_times(" ", width.saturating_add(1));
     page.paint(Style::Frame, "|");
@@ -213,16 +213,23 @@ fn push_line(page: &mut Page, frame: Frame<'_, '_>, line: usize, window: LineWin
     ensures { Shows [] page.old page.new }
 {
     push_line_number(page, line, frame.width);
+    push_window(page, window);
+    page.push("\n");
+}
+
+/// Appends the shown part of a line after its margin, unless it is empty.
+fn push_window(page: &mut Page, window: LineWindow<'_>)
+    ensures { Continues page.old page.new }
+{
     if !window.is_empty() {
         page.push(" ");
         window.push(page);
     }
-    page.push("\n");
 }
 
 /// Appends the number of a line, and the margin after it.
 fn push_line_number(page: &mut Page, line: usize, width: usize)
-    ensures { Shows [] page.old page.new }
+    ensures { Begins page.old page.new }
 {
     page.begin(Style::Frame);
     page.push_number(line);
@@ -255,7 +262,7 @@ fn push_carets(
 
 /// Appends the text after carets.
 fn push_label(page: &mut Page, label: &str)
-    ensures { Shows [] page.old page.new }
+    ensures { Continues page.old page.new }
 {
     if !label.is_empty() {
         page.push(" ");

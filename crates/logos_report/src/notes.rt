@@ -2,7 +2,7 @@
 //! `logos_messages`.
 
 ghost use Rattle.std.specs.Prelude.{[]};
-ghost use Rattle.logos_page.specs.Pages.{Shows};
+ghost use Rattle.logos_report.specs.Imports.{Begins, Continues, Ends, IsInLine, Shows};
 
 use crate::faults::KnownFault;
 use crate::frame::push_location;
@@ -46,7 +46,7 @@ fn push_put_in_note(page: &mut Page, shown: ShownFault<'_, '_, '_>)
 /// Appends the name of the subpattern that was substituted before the faulty byte, and the position
 /// of its definition.
 pub fn push_put_in(page: &mut Page, part: Part<'_, '_>, put: PutIn<'_>)
-    ensures { Shows [] page.old page.new }
+    ensures { Continues page.old page.new }
 {
     page.push("the byte counts with `(?&");
     page.push_shown(put.name);
@@ -56,7 +56,8 @@ pub fn push_put_in(page: &mut Page, part: Part<'_, '_>, put: PutIn<'_>)
 
 /// Appends the beginning of a line under a fault.
 pub(crate) fn push_note(page: &mut Page, width: usize, kind: &str, text: &str)
-    ensures { Shows [] page.old page.new }
+    requires { IsInLine kind.now }
+    ensures { Begins page.old page.new }
 {
     push_note_mark(page, width);
     page.paint(Style::Strong, kind);
@@ -66,7 +67,7 @@ pub(crate) fn push_note(page: &mut Page, width: usize, kind: &str, text: &str)
 
 /// Appends the `=` of a line under a fault.
 fn push_note_mark(page: &mut Page, width: usize)
-    ensures { Shows [] page.old page.new }
+    ensures { Begins page.old page.new }
 {
     page.push_times(" ", width.saturating_add(1));
     page.paint(Style::Frame, "=");
@@ -120,11 +121,18 @@ fn push_other_line(page: &mut Page, shown: ShownFault<'_, '_, '_>, line: &str, n
 
 /// Appends the position of the fault of another leaf, if there is one, and ends the line.
 fn push_leaf_location(page: &mut Page, part: Part<'_, '_>, other: Option<&SpannedError>)
-    ensures { Shows [] page.old page.new }
+    ensures { Ends page.old page.new }
+{
+    push_leaf_at(page, part, other);
+    page.push("\n");
+}
+
+/// Appends the position of the fault of another leaf, if there is one.
+fn push_leaf_at(page: &mut Page, part: Part<'_, '_>, other: Option<&SpannedError>)
+    ensures { Continues page.old page.new }
 {
     if let Some(other) = other {
         page.push(" at ");
         push_location(page, part, other.span.from);
     }
-    page.push("\n");
 }

@@ -1,8 +1,8 @@
 //! Faults of a graph: one report for each set of ambiguous leaves, and the patterns that can
 //! examine the bytes before their start. Used by `faults`.
 
-ghost use Rattle.std.specs.Prelude.{◌∷◌, [], nat_lt, if◌then◌else◌};
-ghost use Rattle.logos_report.specs.Views.{fault_of, fault_texts, listed_texts, Shows, location_line, next_value};
+ghost use Rattle.std.specs.Prelude.{◌∷◌, ◌++◌, [], map, nat_lt, if◌then◌else◌};
+ghost use Rattle.logos_report.specs.Views.{fault_of, from_of, fault_texts, listed_texts, Shows, location_line, next_value, offsets_of, starts_in};
 
 use crate::clues::{Meeting, Member, NextFaults, Start};
 use crate::faults::{KnownFault, push_fault, push_head, push_marked};
@@ -23,7 +23,8 @@ pub(crate) fn push_listed(
     next: NextFaults<'_>,
 )
     ensures { Shows (listed_texts page.old.is_colored part.entry.source.now part.entry.offset
-        (next_value next.entry) (fault_of known.entry.fault.now)) page.old page.new }
+        (starts_in next.entry) (next_value next.entry) (fault_of known.entry.fault.now))
+        page.old page.new }
 {
     match next.member(known.fault) {
         Some(member) => push_member(page, part, known, member),
@@ -96,7 +97,9 @@ fn push_meeting(page: &mut Page, shown: ShownFault<'_, '_, '_>, meeting: &Meetin
 /// Appends a fault that is not of a set with a clue, with the patterns that explain it.
 fn push_single(page: &mut Page, part: Part<'_, '_>, known: KnownFault<'_>, starts: &[Start])
     ensures { Shows (fault_texts page.old.is_colored part.entry.source.now part.entry.offset
-        (fault_of known.entry.fault.now)) page.old page.new }
+        (fault_of known.entry.fault.now)
+        ++ map (location_line page.old.is_colored part.entry.source.now part.entry.offset)
+        (offsets_of starts.now)) page.old page.new }
 {
     if starts.is_empty() {
         push_fault(page, part, known);
@@ -109,7 +112,9 @@ fn push_single(page: &mut Page, part: Part<'_, '_>, known: KnownFault<'_>, start
 /// enum.
 fn push_explained(page: &mut Page, part: Part<'_, '_>, known: KnownFault<'_>, starts: &[Start])
     ensures { Shows (fault_texts page.old.is_colored part.entry.source.now part.entry.offset
-        (fault_of known.entry.fault.now)) page.old page.new }
+        (fault_of known.entry.fault.now)
+        ++ map (location_line page.old.is_colored part.entry.source.now part.entry.offset)
+        (offsets_of starts.now)) page.old page.new }
 {
     push_head(page, known.fault);
     push_offset(page, part, known.fault.span.from, 1);
@@ -120,7 +125,8 @@ fn push_explained(page: &mut Page, part: Part<'_, '_>, known: KnownFault<'_>, st
 
 /// Appends these patterns.
 fn push_starts(page: &mut Page, part: Part<'_, '_>, starts: &[Start])
-    ensures { Shows [] page.old page.new }
+    ensures { Shows (map (location_line page.old.is_colored part.entry.source.now part.entry.offset)
+        (map from_of starts.now)) page.old page.new }
 {
     for start in starts {
         push_start(page, part, start);
@@ -129,7 +135,8 @@ fn push_starts(page: &mut Page, part: Part<'_, '_>, starts: &[Start])
 
 /// Appends a pattern that can examine the bytes before its start.
 fn push_start(page: &mut Page, part: Part<'_, '_>, start: &Start)
-    ensures { Shows [] page.old page.new }
+    ensures { Shows (location_line page.old.is_colored part.entry.source.now part.entry.offset
+        (from_of start.now) ∷ []) page.old page.new }
 {
     let marks = Marks {
         span: start.span,

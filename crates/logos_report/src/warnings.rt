@@ -1,7 +1,7 @@
 //! Warnings: probable mistakes that are not faults.
 
 ghost use Rattle.std.specs.Prelude.{◌≡◌, ◌++◌, ◌∷◌, [], codes, string_bytes};
-ghost use Rattle.logos_report.specs.Views.{shown_text, Gains, Shows, painted, location_line, all_texts, shown_of, warning_head, warning_texts, warnings_texts};
+ghost use Rattle.logos_report.specs.Views.{IsInLine, shown_text, Gains, Shows, painted, location_line, all_texts, left_out_line, left_out_texts, shown_of, warning_head, warning_texts, warnings_texts};
 
 use crate::frame::{push_frame, push_location};
 use crate::notes::push_note;
@@ -34,7 +34,7 @@ pub fn push_warnings(page: &mut Page, part: Part<'_, '_>, warnings: &[Warning])
         warnings.now) page.old page.new }
 {
     push_all(page, part, first_of(warnings));
-    push_more(page, warnings.len().saturating_sub(MOST));
+    push_left_out(page, warnings.len().saturating_sub(MOST));
 }
 
 /// Returns the warnings that are shown.
@@ -58,17 +58,24 @@ fn push_all(page: &mut Page, part: Part<'_, '_>, warnings: &[Warning])
     }
 }
 
-/// Appends the number of warnings that are left out, if there are any.
-fn push_more(page: &mut Page, count: usize)
-    ensures { Shows [] page.old page.new }
+/// Appends the number of warnings that are left out, and an empty line, if there are any.
+fn push_left_out(page: &mut Page, count: usize)
+    ensures { Shows (left_out_texts page.old.is_colored count) page.old page.new }
 {
-    if count == 0 {
-        return;
+    if count > 0 {
+        push_left_out_line(page, count);
+        page.push("\n");
     }
+}
+
+/// Appends the line with the number of warnings that are left out.
+fn push_left_out_line(page: &mut Page, count: usize)
+    ensures { Gains (left_out_line page.old.is_colored count) page.old page.new }
+{
     page.paint(Style::Warning, "warning");
     page.push(": ");
     page.push_number(count);
-    page.push(" more warnings are not shown\n\n");
+    page.push(" more warnings are not shown\n");
 }
 
 /// Appends a warning.
@@ -105,18 +112,33 @@ fn push_message(page: &mut Page, message: &str)
 fn push_notes(page: &mut Page, part: Part<'_, '_>, width: usize, warning: &Warning)
     ensures { Shows [] page.old page.new }
 {
-    if let Some(note) = &warning.note {
+    push_further(page, width, &warning.note);
+    push_other(page, part, width, warning.also);
+    push_help(page, width, warning.help);
+    page.push("\n");
+}
+
+/// Appends a further explanation, if there is one.
+fn push_further(page: &mut Page, width: usize, note: &Option<String>)
+    ensures { Shows [] page.old page.new }
+{
+    if let Some(note) = note {
         push_line(page, width, "note", note.as_str());
     }
-    push_other(page, part, width, warning.also);
-    if let Some(help) = warning.help {
+}
+
+/// Appends a help, if there is one.
+fn push_help(page: &mut Page, width: usize, help: Option<&str>)
+    ensures { Shows [] page.old page.new }
+{
+    if let Some(help) = help {
         push_line(page, width, "help", help);
     }
-    page.push("\n");
 }
 
 /// Appends a note or a help.
 fn push_line(page: &mut Page, width: usize, kind: &str, text: &str)
+    requires { IsInLine kind.now }
     ensures { Shows [] page.old page.new }
 {
     push_note(page, width, kind, text);

@@ -1,8 +1,8 @@
 //! The shown part of a line: all of it, or about 140 columns around a location in it. Only bytes
 //! near the location are examined, however long the line is. Used by `frame`.
 
-ghost use Rattle.std.specs.Prelude.{◌≡◌, []};
-ghost use Rattle.logos_page.specs.Pages.{Shows};
+ghost use Rattle.std.specs.Prelude.{◌≡◌};
+ghost use Rattle.logos_report.specs.Imports.{Continues};
 
 use crate::source::Source;
 use logos_lines::Location;
@@ -147,6 +147,15 @@ fn characters_in(text: &str, columns: usize) -> usize {
     count
 }
 
+/// Appends dots if a line is cut here.
+fn push_cut(page: &mut Page, is_cut: bool)
+    ensures { Continues page.old page.new }
+{
+    if is_cut {
+        page.push("...");
+    }
+}
+
 impl LineWindow<'_> {
     /// Returns whether nothing is shown.
     pub(crate) fn is_empty(self) -> bool {
@@ -160,19 +169,16 @@ impl LineWindow<'_> {
 
     /// Appends the shown part of the line, with dots where it is cut.
     pub(crate) fn push(self, page: &mut Page)
-        ensures { Shows [] page.old page.new }
+        ensures { Continues page.old page.new }
     {
-        if self.is_cut() {
-            page.push("...");
-        }
-        if self.push_characters(page) {
-            page.push("...");
-        }
+        push_cut(page, self.is_cut());
+        let continues = self.push_characters(page);
+        push_cut(page, continues);
     }
 
     /// Appends the shown part of the line. Returns whether it is cut at its end.
     fn push_characters(self, page: &mut Page) -> bool
-        ensures { Shows [] page.old page.new }
+        ensures { Continues page.old page.new }
     {
         let mut total: usize = 0;
         for character in self.text.chars().skip(self.skipped) {

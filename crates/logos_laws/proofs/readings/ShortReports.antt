@@ -6,10 +6,10 @@ use Rattle.std.proofs.lemmas.Slice.Eq.{bytes_eq-Decides}
 use Rattle.std.specs.List.{count_by, flat_map}
 use Rattle.std.specs.Prelude.{cond}
 use Rattle.logos_report.specs.Codes.{is_ambiguity}
-use Rattle.logos_report.specs.Faults.{counted_texts, fault_texts, has_name, left_out, listed_texts, rest_line, seen_of, texts_after}
+use Rattle.logos_report.specs.Faults.{counted_texts, explained_texts, has_name, left_out, listed_texts, rest_line, seen_of, texts_after}
 use Rattle.logos_report.specs.Locations.{SourceValue, location_line}
 use Rattle.logos_report.specs.Parts.{all_faults, parts_texts, refused_texts}
-use Rattle.logos_report.specs.Sets.{NextValue, first_faults, next_after}
+use Rattle.logos_report.specs.Sets.{NextValue, first_faults, next_after, starts_of}
 use Rattle.logos_report.specs.declared.file_report.Refused.{Refused}
 use Rattle.logos_token.specs.FaultNames.{name_of}
 use Rattle.logos_token.specs.Faults.{Fault}
@@ -31,18 +31,18 @@ few_before all front later fault e few =
     omega (arith, own, whole, one, most)
 
 -- so it is shown
-shown : (is_colored : Bool) (source : SourceValue) (begin : ℕ) (all front later : List Fault) (next : NextValue) (fault : Fault) → all ≡ front ++ fault ∷ later → AreFew all →
-    counted_texts is_colored source begin all front next fault ≡ listed_texts is_colored source begin next fault
-shown is_colored source begin all front later next fault e few =
+shown : (is_colored : Bool) (source : SourceValue) (begin : ℕ) (starts : List ℕ) (all front later : List Fault) (next : NextValue) (fault : Fault) → all ≡ front ++ fault ∷ later → AreFew all →
+    counted_texts is_colored source begin starts all front next fault ≡ listed_texts is_colored source begin starts next fault
+shown is_colored source begin starts all front later next fault e few =
     let few_seen = few_before all front later fault e few in
     let seen : nat_lt (seen_of fault.code front) 50 ≡ true = lt-ltb (seen_of fault.code front) 50 (omega (arith, few_seen)) in
-    ap (λ (b : Bool). if b then listed_texts is_colored source begin next fault else if seen_of fault.code front == 50 then rest_line is_colored fault.code (left_out fault.code all) ∷ [] else []) seen
+    ap (λ (b : Bool). if b then listed_texts is_colored source begin starts next fault else if seen_of fault.code front == 50 then rest_line is_colored fault.code (left_out fault.code all) ∷ [] else []) seen
 
 -- without sets each fault has lines of its own
-alone : (is_colored : Bool) (source : SourceValue) (begin : ℕ) (fault : Fault) → listed_texts is_colored source begin (first_faults []) fault ≡ fault_texts is_colored source begin fault
-alone is_colored source begin fault = go (is_ambiguity fault.code)
+alone : (is_colored : Bool) (source : SourceValue) (begin : ℕ) (starts : List ℕ) (fault : Fault) → listed_texts is_colored source begin starts (first_faults []) fault ≡ explained_texts is_colored source begin starts fault
+alone is_colored source begin starts fault = go (is_ambiguity fault.code)
   where
-    go : (b : Bool) → (if b && false then location_line is_colored source begin fault.span.from ∷ [] else fault_texts is_colored source begin fault) ≡ fault_texts is_colored source begin fault
+    go : (b : Bool) → (if b && false then location_line is_colored source begin fault.span.from ∷ [] else explained_texts is_colored source begin starts fault) ≡ explained_texts is_colored source begin starts fault
     go true = refl
     go false = refl
 
@@ -54,22 +54,22 @@ still fault = go (is_ambiguity fault.code)
     go false = refl
 
 -- the faults of a part, after those in front
-part_shown : (is_colored : Bool) (source : SourceValue) (begin : ℕ) (all front faults later : List Fault) → all ≡ front ++ (faults ++ later) → AreFew all →
-    texts_after is_colored source begin all front (first_faults []) faults ≡ flat_map (fault_texts is_colored source begin) faults
-part_shown is_colored source begin all front [] later e few = refl
-part_shown is_colored source begin all front (fault ∷ faults) later e few =
-    let first = shown is_colored source begin all front (faults ++ later) (first_faults []) fault e few ∙ alone is_colored source begin fault in
-    let rest = part_shown is_colored source begin all (front ++ fault ∷ []) faults later (e ∙ sym (append_assoc front (fault ∷ []) (faults ++ later))) few in
-    ap (λ (x : List (List ℕ)). x ++ texts_after is_colored source begin all (front ++ fault ∷ []) (next_after (first_faults []) fault) faults) first
-    ∙ ap (λ (next : NextValue). fault_texts is_colored source begin fault ++ texts_after is_colored source begin all (front ++ fault ∷ []) next faults) (still fault)
-    ∙ ap (λ (x : List (List ℕ)). fault_texts is_colored source begin fault ++ x) rest
+part_shown : (is_colored : Bool) (source : SourceValue) (begin : ℕ) (starts : List ℕ) (all front faults later : List Fault) → all ≡ front ++ (faults ++ later) → AreFew all →
+    texts_after is_colored source begin starts all front (first_faults []) faults ≡ flat_map (explained_texts is_colored source begin starts) faults
+part_shown is_colored source begin starts all front [] later e few = refl
+part_shown is_colored source begin starts all front (fault ∷ faults) later e few =
+    let first = shown is_colored source begin starts all front (faults ++ later) (first_faults []) fault e few ∙ alone is_colored source begin starts fault in
+    let rest = part_shown is_colored source begin starts all (front ++ fault ∷ []) faults later (e ∙ sym (append_assoc front (fault ∷ []) (faults ++ later))) few in
+    ap (λ (x : List (List ℕ)). x ++ texts_after is_colored source begin starts all (front ++ fault ∷ []) (next_after (first_faults []) fault) faults) first
+    ∙ ap (λ (next : NextValue). explained_texts is_colored source begin starts fault ++ texts_after is_colored source begin starts all (front ++ fault ∷ []) next faults) (still fault)
+    ∙ ap (λ (x : List (List ℕ)). explained_texts is_colored source begin starts fault ++ x) rest
 
 -- the parts after those in front
 parts_shown : (is_colored : Bool) (source : SourceValue) (all front : List Fault) (parts : List Refused) → all ≡ front ++ all_faults parts → AreFew all → HaveNoSets parts →
     parts_texts is_colored source all front parts ≡ all_lines is_colored source parts
 parts_shown is_colored source all front [] e few none = refl
 parts_shown is_colored source all front (part ∷ parts) e few none =
-    let first = ap (λ (sizes : List ℕ). texts_after is_colored source part.offset all front (first_faults sizes) part.errors) none.0 ∙ part_shown is_colored source part.offset all front part.errors (all_faults parts) e few in
+    let first = ap (λ (sizes : List ℕ). texts_after is_colored source part.offset (starts_of part.clues) all front (first_faults sizes) part.errors) none.0 ∙ part_shown is_colored source part.offset (starts_of part.clues) all front part.errors (all_faults parts) e few in
     let rest = parts_shown is_colored source all (front ++ part.errors) parts (e ∙ sym (append_assoc front part.errors (all_faults parts))) few none.1 in
     ap (λ (x : List (List ℕ)). x ++ parts_texts is_colored source all (front ++ part.errors) parts) first ∙ ap (λ (x : List (List ℕ)). lines_of is_colored source part ++ x) rest
 

@@ -9,12 +9,12 @@ pub use Rattle.logos_hir.specs.Matches.{Matches, MatchesInOrder, SomeMatches}
 pub use Rattle.logos_hir.specs.Text.{IsBytes}
 pub use Rattle.logos_hir.specs.Tree.{Tree, repetition, trees}
 pub use Rattle.logos_inspect.specs.Leaves.{moved}
-pub use Rattle.logos_page.specs.Pages.{OccurInOrder as OccurInReport}
 pub use Rattle.logos_report.specs.Locations.{SourceValue, in_file}
 pub use Rattle.logos_report.specs.Parts.{all_faults, refused_texts}
+pub use Rattle.logos_report.specs.Reports.{InReport}
 pub use Rattle.logos_report.specs.declared.file_report.Refused.{Refused}
 pub use Rattle.logos_strip.specs.Stripping.{stripped}
-pub use Rattle.logos_text.specs.Occurrence.{OccurInOrder as OccurInText}
+pub use Rattle.logos_text.specs.Occurrence.{OccurInOrder}
 pub use Rattle.logos_token.specs.Tokens.{TokenList}
 pub use Rattle.logos_laws.specs.readings.PiecesInTurn.{ArePieces}
 pub use Rattle.logos_laws.specs.readings.StrippedParts.{EnumStays}

@@ -12,5 +12,5 @@ loop-number-preserved c =
     let i = c.loop-number.number in
     let next = next_value c.loop-number.next in
     let one = subst (λ (x : SpannedError). map summary_of c.add_fault.new.errors.items ≡ map summary_of c.loop-number.errors.items ++ errors_at (faults_of (take i faults)) next (fault_of x)) c.index-faults-number.is c.in_ok-add_fault.ensures in
-    let left = c.after-next.ensures ∙ ap (λ (x : SpannedError). next_after next (fault_of x)) c.index-faults-number.is in
+    let left = c.after-next.ensures.faults ∙ ap (λ (x : SpannedError). next_after next (fault_of x)) c.index-faults-number.is in
     next_summaries faults i c.index-faults-number.result next _ _ _ _ c.loop-number-test.true one left c.loop-number.invariant

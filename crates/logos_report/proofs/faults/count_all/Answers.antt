@@ -13,7 +13,7 @@ loop-fault-preserved c =
     let then_left = next_errors c.args.faults.now i c.fault-item.result next c.loop-fault-test.true ∙
     ap (λ x. cond (begins_error next (fault_of x)) 1 0 + errors_after (next_after next (fault_of x)) rest) (sym c.fault-item.is) in
     let one = c.from-count.ensures ∙ bit_is c.begins_error.result ∙ ap (λ (b : Bool). cond {A = ℕ} b 1 0) c.begins_error.ensures in
-    let left = ap (λ (t : NextValue). errors_after t rest) c.after-next.ensures in
+    let left = ap (λ (t : NextValue). errors_after t rest) c.after-next.ensures.faults in
     let least = one_at_most (begins_error next (fault_of c.fault-item.result)) in
     record {
       counted = omega (arith, c.loop-fault.invariant.counted, then_left, one, left);

@@ -1,5 +1,6 @@
 use Rattle.std.proofs.Common.{◌≡◌}
-use Rattle.logos_page.specs.Pages.{PageValue, Shows}
+use Rattle.logos_page.specs.Pages.{PageValue}
+use Rattle.logos_report.specs.Reports.{Shows}
 use Rattle.logos_report.specs.Parts.{refused_texts, texts_from}
 use Rattle.logos_report.proofs.file_report.push_refused.Given as goal
 

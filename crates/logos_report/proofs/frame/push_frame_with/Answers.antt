@@ -1,4 +1,4 @@
-use Rattle.logos_page.proofs.PageLemmas.{shows_then}
+use Rattle.logos_report.proofs.ReportLemmas.{shows_then}
 use Rattle.logos_report.proofs.frame.push_frame_with.Goals as goal
 
 pub returns : goal.returns

@@ -1,6 +1,6 @@
 use Rattle.std.proofs.Common.{◌∷◌, []}
 use Rattle.logos_report.specs.Locations.{location_line}
-use Rattle.logos_page.proofs.PageLemmas.{shown, shows_as, shows_then}
+use Rattle.logos_report.proofs.ReportLemmas.{shown, shows_as, shows_then}
 use Rattle.logos_report.proofs.sets.push_begin.Goals as goal
 
 pub returns : goal.returns

@@ -1,7 +1,7 @@
 use Rattle.std.proofs.Common.{◌∙◌, subst}
-use Rattle.logos_page.specs.Pages.{Shows}
+use Rattle.logos_report.specs.Reports.{Shows}
 use Rattle.logos_report.specs.Warnings.{warning_texts}
-use Rattle.logos_page.proofs.PageLemmas.{shows_as}
+use Rattle.logos_report.proofs.ReportLemmas.{shows_as}
 use Rattle.logos_report.proofs.WarningLemmas.{next_warned, none_warned}
 use Rattle.logos_report.proofs.warnings.push_all.Goals as goal
 

@@ -1,5 +1,6 @@
 use Rattle.std.proofs.Common.{◌≡◌, drop}
-use Rattle.logos_page.specs.Pages.{PageValue, Shows}
+use Rattle.logos_page.specs.Pages.{PageValue}
+use Rattle.logos_report.specs.Reports.{Shows}
 use Rattle.logos_report.specs.Warnings.{all_texts}
 use Rattle.logos_report.proofs.warnings.push_all.Given as goal
 

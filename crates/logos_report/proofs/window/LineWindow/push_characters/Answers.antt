@@ -1,5 +1,8 @@
-use Rattle.logos_page.proofs.PageLemmas.{grown, shows_then}
+use Rattle.logos_report.proofs.ReportLemmas.{continued, continues_nothing, continues_then, line_shown_char}
 use Rattle.logos_report.proofs.window.LineWindow.push_characters.Goals as goal
 
+pub loop-character-init : goal.loop-character-init
+loop-character-init c = continues_nothing _
+
 pub loop-character-preserved : goal.loop-character-preserved
-loop-character-preserved c = shows_then c.loop-character.invariant (grown c.push_shown_char.ensures)
+loop-character-preserved c = continues_then c.loop-character.invariant (continued (line_shown_char _) c.push_shown_char.ensures)

@@ -1,0 +1,8 @@
+use Rattle.logos_report.proofs.ReportLemmas.{begins_then, line_shown_aside, shows_nothing}
+use Rattle.logos_report.proofs.notes.push_put_in_note.Goals as goal
+
+pub returns-in-Some : goal.returns-in-Some
+returns-in-Some c = line_shown_aside (begins_then c.push_note.ensures c.push_put_in.ensures) c.push.ensures
+
+pub returns-in_default : goal.returns-in_default
+returns-in_default c = shows_nothing _
