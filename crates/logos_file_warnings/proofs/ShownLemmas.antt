@@ -1,5 +1,6 @@
--- The finished text of a page.
-use Rattle.std.proofs.Common.{◌≡◌, ◌↔◌, ℕ, Bool, List, [], ◌∷◌, ◌++◌, Result, Ok, Err, IfOk, IsOk, IsTrue, append-nil, refl, sym, ap, ◌∙◌, subst}
+-- The finished text of a page, and the warning about a file without a lexer.
+use Rattle.std.proofs.Common.{◌≡◌, ◌↔◌, ◌&&◌, not, ℕ, Bool, true, false, List, [], ◌∷◌, ◌++◌, Result, Ok, Err, IfOk, IsOk, IsTrue, append-nil, refl, sym, ap, ◌∙◌, subst}
+use Rattle.logos_file_warnings.specs.Added.{AreMissing, IsMissing}
 use Rattle.logos_file_warnings.specs.Warned.{ShowsWarnings, denied_line}
 use Rattle.logos_host.specs.declared.message_format.MessageFormat.{MessageFormat}
 use Rattle.logos_host.specs.declared.message_format.MessageFormat.TheVariants.{Human, Json}
@@ -39,3 +40,9 @@ human_before f (Err error) format source warnings front e s h = tt
 pub json_alike : (format : MessageFormat) (source : SourceValue) (warnings : List Warning) (one other : List (List ℕ)) (text : List ℕ) → format ≡ Json → ShowsWarnings format source warnings one text → ShowsWarnings format source warnings other text
 json_alike Human source warnings one other text e s = absurd cc
 json_alike Json source warnings one other text e s = s
+
+-- the warning is requested, and no enum derives `Logos`
+pub missing_added : (is_requested has : Bool) (warning : Warning) → is_requested ≡ true → has ≡ false → IsMissing warning → AreMissing (is_requested && not has) (warning ∷ [])
+missing_added true false warning r h m = (warning, m, refl)
+missing_added true true warning r h m = absurd cc
+missing_added false has warning r h m = absurd cc
