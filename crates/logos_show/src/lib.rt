@@ -2,6 +2,7 @@
 
 #![tactic(auto)]
 
+mod candidates;
 mod choice;
 mod comparison;
 mod diagrams;
