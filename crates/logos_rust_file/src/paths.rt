@@ -1,6 +1,6 @@
 //! The paths of enums in a file. `logos_show` requests them for an enum that is given by its name.
 
-ghost use Rattle.std.specs.Prelude.{IfOk, IsTrue, string_bytes};
+ghost use Rattle.std.specs.Prelude.{◌↔◌, IfOk, IsTrue, string_bytes};
 ghost use Rattle.logos_rust_file.specs.Views.{EndsWithPath, IsNameAt, IsPathOf};
 
 use crate::finder::FoundEnum;
@@ -60,17 +60,10 @@ fn name_in(text: &str, found: FoundEnum) -> &str
 
 /// Returns whether a path ends with `::` and a shorter one.
 pub fn ends_with_path(path: &str, end: &str) -> bool
-    ensures { IsTrue result → EndsWithPath path.now end.now }
+    ensures { IsTrue result ↔ EndsWithPath path.now end.now }
 {
-    let from = path.len().saturating_sub(end.len());
-    let Some((front, back)) = path.split_at_checked(from) else {
-        return false;
-    };
-    if back != end {
-        return false;
-    }
-    match front.split_at_checked(front.len().saturating_sub(2)) {
-        Some((_, mark)) => mark == "::",
+    match path.as_bytes().strip_suffix(end.as_bytes()) {
+        Some(front) => front.ends_with(b"::"),
         None => false,
     }
 }

@@ -1,8 +1,15 @@
-use Rattle.std.proofs.Common.{codes, sym, ◌∙◌}
-use Rattle.logos_rust_file.proofs.PathLemmas.{ends_with, equal, not_other}
+use Rattle.std.proofs.Common.{Some, None}
+use Rattle.std.proofs.lemmas.Bool.Decides.{Decides-eqb}
+use Rattle.std.proofs.lemmas.Slice.Eq.{strip_suffix_is}
+use Rattle.logos_rust_file.proofs.PathLemmas.{ends_here, no_end}
 use Rattle.logos_rust_file.proofs.paths.ends_with_path.Goals as goal
 
-pub returns-in-Some-split_at_checked : goal.returns-in-Some-split_at_checked
-returns-in-Some-split_at_checked c = λ t.
-    ends_with c.args.path.now c.args.end.now c.in-Some.front.now c.in-Some.back.now c.in-Some-split_at_checked.mark.now _ _ c.in-Some.ensures.front c.in-Some.ensures.back
-    (not_other c.ne.result c.in-Some.back.now c.args.end.now c.ne.ensures c.if-ne.false) c.in-Some-split_at_checked.ensures.back (equal c.in-Some-split_at_checked.mark.now (codes "::") (sym c.eq.ensures ∙ t))
+pub returns-in-Some : goal.returns-in-Some
+returns-in-Some c =
+    let cases = rw (c.as_bytes.ensures.value, c.as_bytes-2.ensures.value) at c.in-Some.ensures.cases in
+    ends_here c.args.path.now c.args.end.now c.in-Some.front.now c.ends_with.result (strip_suffix_is Decides-eqb c.args.path.now c.args.end.now (Some c.in-Some.front) cases) c.ends_with.ensures.value
+
+pub returns-in-None : goal.returns-in-None
+returns-in-None c =
+    let cases = rw (c.as_bytes.ensures.value, c.as_bytes-2.ensures.value) at c.in-None.ensures.cases in
+    no_end c.args.path.now c.args.end.now (strip_suffix_is Decides-eqb c.args.path.now c.args.end.now None cases)
