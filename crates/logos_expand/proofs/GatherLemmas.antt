@@ -67,7 +67,7 @@ ended shape text found gathered s =
     (subst (λ rs. Gathers shape text found (gathered.parts.items ++ []) rs) (append-nil gathered.refused.items) (s.completes [] [] g_ended))
 
 -- the same by the number of the next enum
-next_left : (found : List FoundEnum) (i : ℕ) (d : FoundEnum) → i < length found → drop i found ≡ get_or found i d ∷ drop (i + 1) found
+pub next_left : (found : List FoundEnum) (i : ℕ) (d : FoundEnum) → i < length found → drop i found ≡ get_or found i d ∷ drop (i + 1) found
 next_left found i d l =
     let k : suc i ≡ i + 1 = omega arith in
     drop-cons found i d l ∙ ap (λ n. get_or found i d ∷ drop n found) k
@@ -108,7 +108,7 @@ yields_one shape text one part old new source k e s x p r = record {
 }
 
 -- a refusal has faults of which this holds
-faults_hold : (Hold : List Fault → Type 0) (refusal : Refusal) (faults : List Fault) → Refuses Hold refusal → AreFaultsOf refusal faults → Hold faults
+pub faults_hold : (Hold : List Fault → Type 0) (refusal : Refusal) (faults : List Fault) → Refuses Hold refusal → AreFaultsOf refusal faults → Hold faults
 faults_hold Hold (refusals.Errors errors) faults h a = subst Hold (sym a) h
 faults_hold Hold refusals.Memory faults h a = absurd a
 

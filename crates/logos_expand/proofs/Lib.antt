@@ -1,1 +1,2 @@
+pub mod FileWarningLemmas
 pub mod GatherLemmas

@@ -20,6 +20,7 @@ use Rattle.logos_report.specs.Locations.{SourceValue}
 use Rattle.logos_report.specs.Faults.{summary_line}
 use Rattle.logos_report.specs.Sets.{errors_after, first_faults, sizes_of}
 use Rattle.logos_report.specs.declared.warnings.Warning.{Warning}
+use Rattle.logos_expand.specs.FileWarnings.{AreFileWarnings}
 use Rattle.logos_file_warnings.specs.Warned.{ShowsDenial}
 use Rattle.logos_messages.specs.Messages.{AreRefusedMessages}
 use Rattle.logos_messages.specs.Warnings.{AreWarnings}
@@ -87,9 +88,10 @@ abbrev pub IsRefusedFor : (List ℕ → Type 0) → Failure → Type 0
 IsRefusedFor Shown (failures.Refused text) = Shown (string_bytes text)
 IsRefusedFor Shown failure = ⊥
 
--- A file is refused for its faults, or for its warnings, which are denied; the text shows them.
+-- A file is refused for its faults, or for its warnings, which are denied and of which there is at
+-- least one; the text shows them.
 abbrev pub IsCause : MessageFormat → Bool → Shape → SourceValue → List ℕ → Type 0
-IsCause format denies shape source shown = ShowsFaults format shape source shown ⊎ (IsTrue denies × ShowsDenial format source shown)
+IsCause format denies shape source shown = ShowsFaults format shape source shown ⊎ (IsTrue denies × ShowsDenial (AreFileWarnings shape true source.text) format source shown)
 
 -- A file is refused for its faults or its denied warnings, or memory ran out.
 abbrev pub FailsFor : MessageFormat → Bool → Shape → SourceValue → Failure → Type 0

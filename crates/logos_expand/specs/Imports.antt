@@ -4,6 +4,7 @@ pub use Rattle.logos_causes.specs.Sets.{HasSets}
 pub use Rattle.logos_codegen.specs.Fronts.{around_made}
 pub use Rattle.logos_codegen.specs.Source.{IsRefused}
 pub use Rattle.logos_host.specs.Paths.{file_name}
+pub use Rattle.logos_file_warnings.specs.Added.{AddsMoved, reports_missing}
 pub use Rattle.logos_layout.specs.Inner.{IsPlainly, IsWithoutInner}
 pub use Rattle.logos_layout.specs.Layout.{IsLaidOut}
 pub use Rattle.logos_page.specs.Pages.{OccurInOrder}

@@ -2,7 +2,7 @@
 
 ghost use Rattle.std.specs.Prelude.{◌≡◌, ◌<◌, ◌≤◌, ◌++◌, ◌^◌, ◌-◌, All, IfErr, IfOk, IfSome, IsTrue, OnOk, length, map, min, string_bytes};
 ghost use Rattle.logos_expand.specs.Views.{IsRefused, AreInOrder, IsFoundCut, found_span, part_span, AreEnumsOf, OccurInOrder, Refuses, IsExpanded, IsExpansion, IsUnreadable, AreRefused, AreReportLines, FailsFor, GathersAll, ShowsRefused, errors_in, report_texts, AddsRefusal, GathersOne, HasSets, IsExpansionBy, around_made, sizes_of, Spells, SpellsEnum, tokens_of};
-ghost use Rattle.logos_expand.specs.Views.{IsFileOf, IsPlainly, IsWithoutInner};
+ghost use Rattle.logos_expand.specs.Views.{IsFileOf, IsPlainly, IsWithoutInner, AddsMoved, AddsOfEnums, AddsSome, AreFileWarnings, AreOfAccepted, AreOfGraph, WarnsOne, reports_missing};
 
 use crate::head::with_head;
 use crate::printer::{Site, printed_with};
@@ -124,7 +124,9 @@ fn accepted_file<'w>(
     parts: &[Replacement],
     warned: &[Warning],
 ) -> Result<Expansion, Failure<'w>>
-    requires { AreInOrder 0 (map part_span parts.now) (length source.now.text) }
+    requires order { AreInOrder 0 (map part_span parts.now) (length source.now.text) }
+    requires warns { AreFileWarnings shape (reports_missing showing.denies showing.format)
+        source.now.text warned.now }
     ensures done { IfOk result (λ made.
         IsFileOf shape source.now.path source.now.text parts.now made.bytes.items) }
     ensures denied { IfErr result (FailsFor showing.format showing.denies shape source.now) }
@@ -142,7 +144,9 @@ fn accepted_file<'w>(
 fn denied_file<'w>(source: &Source<'_>, showing: Showing, warned: &[Warning]) -> Failure<'w>
     requires denies { IsTrue showing.denies }
     requires some { 0 < length warned.now }
-    ensures { (shape : Shape) → FailsFor showing.format showing.denies shape source.now result }
+    ensures { (shape : Shape) → AreFileWarnings shape
+        (reports_missing showing.denies showing.format) source.now.text warned.now →
+        FailsFor showing.format showing.denies shape source.now result }
 {
     match denial_text(source, showing, warned) {
         Ok(text) => Failure::Refused(text),
@@ -212,6 +216,8 @@ fn gather(
     ensures gathers { IfOk result (GathersAll site.entry.shape text.now found.now) }
     ensures order { IfOk result (λ gathered.
         AreInOrder 0 (map part_span gathered.parts.items) (length text.now)) }
+    ensures warns { IfOk result (λ gathered. AddsOfEnums site.entry.shape text.now found.now
+        gathered.refused.items warned.old.items warned.new.items) }
 {
     let alloc = *warned.allocator();
     let mut gathered = Gathered {
@@ -234,12 +240,16 @@ fn gather_enum(
 ) -> Result<(), Memory>
     requires order { one.span.from ≤ one.span.to }
     requires cut { IsFoundCut text.now one }
-    ensures { OnOk result (GathersOne site.entry.shape text.now one gathered.old gathered.new) }
+    ensures gathers { OnOk result
+        (GathersOne site.entry.shape text.now one gathered.old gathered.new) }
+    ensures warns { OnOk result (WarnsOne site.entry.shape text.now one gathered.old gathered.new
+        warned.old.items warned.new.items) }
 {
     let span = one.span;
     let source = &text[span.from..span.to];
     if !one.derives {
-        return add_text(source, span.from, false, warned);
+        add_text(source, span.from, false, warned)?;
+        return Ok(());
     }
     let site = Site {
         offset: span.from,
@@ -257,7 +267,8 @@ fn gather_enum(
                 source: site.file,
                 offset: span.from,
             };
-            push_refusal(&mut gathered.refused, part, refusal, clues)
+            push_refusal(&mut gathered.refused, part, refusal, clues)?;
+            Ok(())
         }
     }
 }
@@ -265,7 +276,8 @@ fn gather_enum(
 /// Returns the clues about a refused enum, and adds all its warnings. Its text begins at an offset
 /// of the file.
 fn clues_of(text: &str, offset: usize, warned: &mut Vec<Warning>) -> Result<Clues, Memory>
-    ensures { IfOk result (λ clues. HasSets text.now (sizes_of clues)) }
+    ensures sets { IfOk result (λ clues. HasSets text.now (sizes_of clues)) }
+    ensures warns { IfOk result (λ clues. AddsSome warned.old.items warned.new.items) }
 {
     let Explained { clues, warnings } = explain_enum(*warned.allocator(), text, Origin::File)?;
     add_warnings(offset, warnings, warned)?;
@@ -302,6 +314,9 @@ fn expanded(source: &str, site: Site<'_, '_>, warned: &mut Vec<Warning>) -> Resu
     ensures done { IfOk result
         (λ text. IsExpansion site.entry.shape source.now (string_bytes text)) }
     ensures refused { IfErr result (Refuses (IsRefused source.now)) }
+    ensures warns { IfOk result (λ text. AddsMoved site.entry.offset
+        (AreOfAccepted site.entry.shape source.now) warned.old.items warned.new.items) }
+    ensures silent { IfErr result (Refuses (λ faults. warned.new.items ≡ warned.old.items)) }
 {
     match generate(*warned.allocator(), source, config_of(site.shape)) {
         Ok(made) => match expansion_by(source, site, &made, warned) {
@@ -321,8 +336,10 @@ fn expansion_by(
     warned: &mut Vec<Warning>,
 ) -> Result<String, Memory>
     requires { SpellsEnum source.now }
-    ensures { IfOk result (λ text.
+    ensures done { IfOk result (λ text.
         IsExpansionBy site.entry.shape (around_made made.now) made.now.code source.now (string_bytes text)) }
+    ensures warns { IfOk result (λ text. AddsMoved site.entry.offset
+        (AreOfGraph source.now made.now.graph) warned.old.items warned.new.items) }
 {
     match tokenize(*warned.allocator(), source) {
         Ok(stream) => expansion_with(source, stream.run(), site, made, warned),
@@ -341,8 +358,10 @@ fn expansion_with(
 ) -> Result<String, Memory>
     requires known { SpellsEnum source.now }
     requires spelled { Spells source.now (tokens_of tokens) }
-    ensures { IfOk result (λ text.
+    ensures done { IfOk result (λ text.
         IsExpansionBy site.entry.shape (around_made made.now) made.now.code source.now (string_bytes text)) }
+    ensures warns { IfOk result (λ text. AddsMoved site.entry.offset
+        (AreOfGraph source.now made.now.graph) warned.old.items warned.new.items) }
 {
     let alloc = *warned.allocator();
     let lexer = Lexer {

@@ -1,5 +1,6 @@
--- The finished text of a page.
-use Rattle.std.proofs.Common.{◌≡◌, ◌↔◌, ℕ, Bool, List, [], ◌∷◌, ◌++◌, Result, Ok, Err, IfOk, IsOk, IsTrue, append_assoc, refl, sym, ap, ◌∙◌, subst}
+-- The finished text of a page, and the warning about a file without a lexer.
+use Rattle.std.proofs.Common.{◌≡◌, ◌↔◌, ◌&&◌, not, ℕ, Bool, true, false, List, [], ◌∷◌, ◌++◌, Result, Ok, Err, IfOk, IsOk, IsTrue, append_assoc, refl, sym, ap, ◌∙◌, subst}
+use Rattle.logos_file_warnings.specs.Added.{AreMissing, IsMissing}
 use Rattle.logos_file_warnings.specs.Warned.{ShowsWarnings}
 use Rattle.logos_host.specs.declared.message_format.MessageFormat.{MessageFormat}
 use Rattle.logos_host.specs.declared.message_format.MessageFormat.TheVariants.{Human, Json}
@@ -33,3 +34,9 @@ pub human_before : {A E : Type 0} (f : A → List ℕ) (result : Result A E) (fo
 human_before f (Ok text) Human source warnings front back e s h = (s.0, subst (OccurInOrder (warnings_texts s.0 source 0 warnings)) (sym h) (occur_before (warnings_texts s.0 source 0 warnings) front back s.1))
 human_before f (Ok text) Json source warnings front back e s h = absurd cc
 human_before f (Err error) format source warnings front back e s h = tt
+
+-- the warning is requested, and no enum derives `Logos`
+pub missing_added : (is_requested has : Bool) (warning : Warning) → is_requested ≡ true → has ≡ false → IsMissing warning → AreMissing (is_requested && not has) (warning ∷ [])
+missing_added true false warning r h m = (warning, m, refl)
+missing_added true true warning r h m = absurd cc
+missing_added false has warning r h m = absurd cc

@@ -1,2 +1,3 @@
+pub mod Added
 pub mod Warned
 pub mod Imports

@@ -14,6 +14,7 @@ abbrev pub ShowsWarnings : MessageFormat → SourceValue → List Warning → Li
 ShowsWarnings Human source warnings shown = (is_colored : Bool) × OccurInOrder (warnings_texts is_colored source 0 warnings) shown
 ShowsWarnings Json source warnings shown = AreWarnings source 0 (shown_of warnings) shown
 
--- The text of a refusal for warnings: it shows at least one.
-abbrev pub ShowsDenial : MessageFormat → SourceValue → List ℕ → Type 0
-ShowsDenial format source shown = (warnings : List Warning) × (0 < length warnings) × ShowsWarnings format source warnings shown
+-- The text of a refusal for warnings of which this holds: there is at least one, and the text shows
+-- them.
+abbrev pub ShowsDenial : (List Warning → Type 0) → MessageFormat → SourceValue → List ℕ → Type 0
+ShowsDenial Are format source shown = (warnings : List Warning) × Are warnings × (0 < length warnings) × ShowsWarnings format source warnings shown

@@ -1,8 +1,8 @@
 //! Collects and formats the warnings of a file. Called by `logos_cli`, `logos_expand` and
 //! `logos_show`.
 
-ghost use Rattle.std.specs.Prelude.{◌≡◌, ◌++◌, IfOk, [], codes, string_bytes};
-ghost use Rattle.logos_file_warnings.specs.Imports.{AreWarnings, OccurInOrder, Shows, ShowsWarnings, shown_of, warnings_texts};
+ghost use Rattle.std.specs.Prelude.{◌≡◌, ◌++◌, All, IfOk, OnOk, [], codes, map, string_bytes};
+ghost use Rattle.logos_file_warnings.specs.Imports.{AddsMissing, AddsMoved, AreOfLexer, AreOfText, AreWarnings, IsPassedOver, OccurInOrder, Shows, ShowsWarnings, has_lexer, moved, moved_span, reports_missing, shown_of, tokens_of, warnings_texts};
 
 use logos_causes::{Lexer, accepted_warnings};
 use logos_host::MessageFormat;
@@ -33,7 +33,10 @@ pub fn add_warnings(
     offset: usize,
     warnings: Vec<Warning>,
     warned: &mut Vec<Warning>,
-) -> Result<(), Memory> {
+) -> Result<(), Memory>
+    ensures { OnOk result (warned.new.items
+        ≡ warned.old.items ++ map (moved offset) warnings.items) }
+{
     for warning in warnings {
         warned.push(moved(warning, offset))?;
     }
@@ -41,7 +44,9 @@ pub fn add_warnings(
 }
 
 /// Returns a warning with its spans moved by an offset.
-fn moved(warning: Warning, offset: usize) -> Warning {
+fn moved(warning: Warning, offset: usize) -> Warning
+    ensures { result ≡ moved offset warning }
+{
     let mut moved = warning;
     moved.span = moved_span(moved.span, offset);
     moved.also = match moved.also {
@@ -52,7 +57,9 @@ fn moved(warning: Warning, offset: usize) -> Warning {
 }
 
 /// Returns a span relative to an offset as a span of the file.
-fn moved_span(span: Span, offset: usize) -> Span {
+fn moved_span(span: Span, offset: usize) -> Span
+    ensures { result ≡ moved_span offset span }
+{
     Span {
         from: span.from.saturating_add(offset),
         to: span.to.saturating_add(offset),
@@ -66,9 +73,13 @@ pub fn add_text(
     offset: usize,
     derives: bool,
     warned: &mut Vec<Warning>,
-) -> Result<(), Memory> {
+) -> Result<(), Memory>
+    ensures { OnOk result (AddsMoved offset (AreOfText text.now derives Origin.File)
+        warned.old.items warned.new.items) }
+{
     let warnings = enum_warnings(*warned.allocator(), text, derives, Origin::File)?;
-    add_warnings(offset, warnings, warned)
+    add_warnings(offset, warnings, warned)?;
+    Ok(())
 }
 
 /// Adds the warnings of an enum without faults that derives `Logos`, and of its lexer. The enum has
@@ -78,9 +89,14 @@ pub fn add_accepted(
     offset: usize,
     lexer: Lexer<'_, '_>,
     warned: &mut Vec<Warning>,
-) -> Result<(), Memory> {
+) -> Result<(), Memory>
+    ensures { OnOk result (AddsMoved offset
+        (AreOfLexer (tokens_of tokens.entry) lexer.entry.graph.now Origin.File)
+        warned.old.items warned.new.items) }
+{
     let warnings = accepted_warnings(*warned.allocator(), tokens, lexer, Origin::File)?;
-    add_warnings(offset, warnings, warned)
+    add_warnings(offset, warnings, warned)?;
+    Ok(())
 }
 
 /// Adds the warnings of entries of `derive` that are passed over in a file with these tokens and
@@ -89,11 +105,14 @@ pub fn add_passed(
     tokens: Tokens<'_, '_>,
     found: &[FoundEnum],
     warned: &mut Vec<Warning>,
-) -> Result<(), Memory> {
+) -> Result<(), Memory>
+    ensures { OnOk result (AddsMoved 0 (All IsPassedOver) warned.old.items warned.new.items) }
+{
     let alloc = *warned.allocator();
     let spans = spans_of(alloc, found)?;
     let warnings = passed_over(alloc, tokens, &spans)?;
-    add_warnings(0, warnings, warned)
+    add_warnings(0, warnings, warned)?;
+    Ok(())
 }
 
 const MISSING: &str = "no enum in this file derives `Logos`";
@@ -104,19 +123,32 @@ pub fn add_missing(
     showing: Showing,
     found: &[FoundEnum],
     warned: &mut Vec<Warning>,
-) -> Result<(), Memory> {
-    let is_requested = showing.denies | matches!(showing.format, MessageFormat::Json);
-    if !is_requested || has_lexer(found) {
+) -> Result<(), Memory>
+    ensures { OnOk result (AddsMissing (reports_missing showing.denies showing.format) found.now
+        warned.old.items warned.new.items) }
+{
+    if !reports_missing(showing) || has_lexer(found) {
         return Ok(());
     }
-    let mut warnings = Vec::new(showing.alloc);
     let start = Span { from: 0, to: 0 };
-    warnings.push(fixed_warning(showing.alloc, MISSING, start, None)?)?;
-    add_warnings(0, warnings, warned)
+    warned.push(fixed_warning(showing.alloc, MISSING, start, None)?)?;
+    Ok(())
+}
+
+/// Returns whether there is a warning about a file without an enum that derives `Logos`.
+fn reports_missing(showing: Showing) -> bool
+    ensures { result ≡ reports_missing showing.denies showing.format }
+{
+    match showing.format {
+        MessageFormat::Human => showing.denies,
+        MessageFormat::Json => true,
+    }
 }
 
 /// Returns whether one of these enums derives `Logos`.
-pub fn has_lexer(found: &[FoundEnum]) -> bool {
+pub fn has_lexer(found: &[FoundEnum]) -> bool
+    ensures { result ≡ has_lexer found.now }
+{
     for one in found {
         if one.derives {
             return true;

@@ -5,10 +5,12 @@ use Rattle.logos_tables.specs.declared.shape.Shape.{Shape}
 use Rattle.logos_expand.specs.declared.expansion.Gathered.{Gathered}
 use Rattle.logos_report.specs.declared.clues.Clues.{Clues}
 use Rattle.logos_report.specs.declared.file_report.Refused.{Refused}
+use Rattle.logos_report.specs.declared.warnings.Warning.{Warning}
 use Rattle.logos_report.specs.Sets.{sizes_of}
 use Rattle.logos_expand.specs.Expanding.{IsGuarded, under}
 use Rattle.logos_tables.specs.Shapes.{IsShown}
 use Rattle.logos_text.specs.Fronts.{AroundValue}
+use Rattle.logos_expand.specs.FileWarnings.{AreOfEnums}
 use Rattle.logos_expand.specs.Gathering.{Gathers}
 use Rattle.logos_layout.specs.Layout.{IsLaidOut}
 use Rattle.logos_rust_file.specs.declared.finder.FoundEnum.{FoundEnum}
@@ -26,6 +28,18 @@ pub record GathersOne (shape : Shape) (text : List ℕ) (one : FoundEnum) (old n
   pub parts_are : new.parts.items ≡ old.parts.items ++ parts
   pub refused_are : new.refused.items ≡ old.refused.items ++ refused
   pub completes : (rest : List FoundEnum) (more : List Replacement) (worse : List Refused) → Gathers shape text rest more worse → Gathers shape text (one ∷ rest) (parts ++ more) (refused ++ worse)
+
+-- Some warnings were added.
+abbrev pub AddsSome : List Warning → List Warning → Type 0
+AddsSome old new = (own : List Warning) × (new ≡ old ++ own)
+
+-- One more enum was gathered: its warnings were appended.
+pub record WarnsOne (shape : Shape) (text : List ℕ) (one : FoundEnum) (old new : Gathered) (warned after : List Warning) : Type 0 where
+  pub refused : List Refused
+  pub own : List Warning
+  pub refused_are : new.refused.items ≡ old.refused.items ++ refused
+  pub is : after ≡ warned ++ own
+  pub completes : (rest : List FoundEnum) (worse : List Refused) (more : List Warning) → AreOfEnums shape text rest worse more → AreOfEnums shape text (one ∷ rest) (refused ++ worse) (own ++ more)
 
 -- These are the faults of a refusal, unless memory ran out.
 abbrev pub AreFaultsOf : Refusal → List Fault → Type 0
