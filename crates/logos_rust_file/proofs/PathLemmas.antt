@@ -1,5 +1,5 @@
 -- The ends of paths.
-use Rattle.std.proofs.Common.{◌≡◌, ◌≢◌, ◌-◌, ◌++◌, ◌↔◌, Bool, true, false, IsTrue, List, ap, append_assoc, codes, length, sym, take, ℕ, ◌∙◌}
+use Rattle.std.proofs.Common.{◌≡◌, ◌≢◌, ◌-◌, ◌++◌, ◌↔◌, Bool, false, IsTrue, List, ap, append_assoc, codes, length, sym, take, ℕ, ◌∙◌}
 use Rattle.std.proofs.lemmas.Bool.Decides.{Decides-eqb}
 use Rattle.std.proofs.lemmas.List.{append_cancel_right}
 use Rattle.std.proofs.lemmas.Slice.Eq.{ends_is}

@@ -1,4 +1,4 @@
-use Rattle.std.proofs.Common.{◌∙◌, append_assoc, append-nil, sym}
+use Rattle.std.proofs.Common.{◌∙◌, append-nil, sym}
 use Rattle.std.proofs.lemmas.List.{nil_from_length}
 use Rattle.logos_file_warnings.proofs.file_warnings.add_warnings.Goals as goal
 
