@@ -1,2 +1,3 @@
+pub mod CandidateLemmas
 pub mod ChoiceLemmas
 pub mod RunLemmas

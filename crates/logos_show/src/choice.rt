@@ -1,34 +1,32 @@
 //! Selects the enum of a file by its name.
 
-ghost use Rattle.std.specs.Prelude.{◌≡◌, IfErr, IfOk, IfSome, option_map};
-ghost use Rattle.logos_show.specs.Views.{IsLexerOf, IsNextChoice, IsNoMisuse, IsTaken, chosen_first, first_near, name_requested, taken};
+ghost use Rattle.std.specs.Prelude.{◌≡◌, ◌↔◌, ℕ, List, IfErr, IfOk, IfSome, IsTrue, None, Some, option_map, string_bytes};
+ghost use Rattle.logos_show.specs.Views.{Fault, Gains, HasName, IsCause, IsChosen, IsChosenIn, IsLexerOf, IsNextChoice, IsNoMisuse, IsPathOf, IsSeveralText, IsUnreadable, Refuses, RefusesBy, chosen_first, first_deriving, help_text, name_requested, name_text, no_lexer_text, other_text, several_text};
 
+use crate::candidates::{is_named, named_enum};
 use crate::program::Task;
 use crate::refusals::{refused, write_note};
+use logos_codegen::Refusal;
 use logos_codegen::error::Memory;
+use logos_file_warnings::Showing;
 use logos_host::Failure;
 use logos_options::OptionName;
 use logos_page::Page;
-use logos_replies::refusal_of;
 use logos_report::{Part, Source};
 use logos_rust_file::{FoundEnum, enums_in, path_of};
-use std::alloc::Global;
+use std::alloc::{AllocError, Global};
 use std::io::Write;
 
-/// The candidates among the enums of a file for a name.
+/// Two enums of a file that derive `Logos`.
 #[derive(Clone, Copy)]
-struct Choice<'n> {
-    /// The name, if one is given.
-    name: Option<&'n str>,
-    /// The first one whose path is the name.
-    exact: Option<FoundEnum>,
-    /// The first one whose path ends with the name, or the first one if no name is given.
+struct Choice {
+    /// The first one.
     first: Option<FoundEnum>,
     /// The first one after it with another path.
     second: Option<FoundEnum>,
 }
 
-/// The enum that a name selects.
+/// The enum that is selected, by a name if one is given.
 #[derive(Clone, Copy)]
 pub(crate) enum Chosen {
     Nothing,
@@ -48,6 +46,8 @@ pub(crate) fn lexer_in<'w, E: Write>(
     ensures failed { IfErr result IsNoMisuse }
     ensures chosen { IfOk result (IsLexerOf source.now.text
         (name_requested task.entry.order.settings)) }
+    ensures refused { IfErr result (RefusesBy (IsCause source.now
+        (name_requested task.entry.order.settings))) }
 {
     match found_in(alloc, task, source)? {
         Chosen::One(one) => Ok(one),
@@ -68,11 +68,15 @@ fn one_of<'w, E: Write>(
     err: &mut E,
 ) -> Result<FoundEnum, Failure<'w>>
     ensures failed { IfErr result IsNoMisuse }
-    ensures first { IfOk result (λ one. one ≡ enums.0) }
+    ensures first { IfOk result (λ one. (one ≡ enums.0)
+        × (name_requested task.entry.order.settings ≡ None)) }
+    ensures refused { IfErr result (RefusesBy (λ shown. (name : List ℕ)
+        × (name_requested task.entry.order.settings ≡ Some name)
+        × IsSeveralText source.now name enums.0 enums.1 shown)) }
 {
     let alloc = task.showing.alloc;
-    if task.order.settings.value(OptionName::Enum).is_some() {
-        return Err(several(alloc, task, source, enums));
+    if let Some(name) = task.order.settings.value(OptionName::Enum) {
+        return Err(several(alloc, source, name, enums));
     }
     let note = first_text(alloc, source, enums)?;
     write_note(err, note.as_bytes());
@@ -105,15 +109,14 @@ pub(crate) fn found_in<'w>(
     source: &Source<'_>,
 ) -> Result<Chosen, Failure<'w>>
     ensures failed { IfErr result IsNoMisuse }
-    ensures chosen { IfOk result (λ chosen. IfSome (chosen_first chosen)
-        (IsLexerOf source.now.text (name_requested task.entry.order.settings))) }
+    ensures chosen { IfOk result (IsChosenIn source.now.text
+        (name_requested task.entry.order.settings)) }
+    ensures refused { IfErr result (RefusesBy (IsCause source.now
+        (name_requested task.entry.order.settings))) }
 {
     let found = match enums_in(alloc, source.text()) {
         Ok(found) => found,
-        Err(refusal) => {
-            let whole = Part { source, offset: 0 };
-            return Err(refused(alloc, whole, task.showing, refusal));
-        }
+        Err(refusal) => return Err(unread(alloc, task.showing, source, refusal)),
     };
     match enum_meant(
         alloc,
@@ -130,9 +133,41 @@ pub(crate) fn found_in<'w>(
     }
 }
 
+/// Returns the refusal of a file that cannot be read into tokens.
+fn unread(
+    alloc: Global,
+    showing: Showing,
+    source: &Source<'_>,
+    refusal: Refusal,
+) -> Failure<'static>
+    requires { Refuses (IsUnreadable source.now.text) refusal }
+    ensures failed { IsNoMisuse result }
+    ensures refused { RefusesBy (λ shown. (faults : List Fault)
+        × IsUnreadable source.now.text faults) result }
+{
+    let Refusal::Errors(errors) = refusal else {
+        return Failure::Memory;
+    };
+    let whole = Part { source, offset: 0 };
+    refused(alloc, whole, showing, Refusal::Errors(errors))
+}
+
 /// Returns the refusal of a file without the requested lexer.
 fn no_lexer(alloc: Global, file: &str, name: Option<&str>) -> Failure<'static>
-    ensures { IsNoMisuse result }
+    ensures failed { IsNoMisuse result }
+    ensures refused { RefusesBy (λ shown.
+        shown ≡ no_lexer_text file.now (option_map (λ name. name.now) name.entry)) result }
+{
+    match no_lexer_text(alloc, file, name) {
+        Ok(text) => Failure::Refused(text),
+        Err(AllocError) => Failure::Memory,
+    }
+}
+
+/// Returns the message about a file without the requested lexer.
+fn no_lexer_text(alloc: Global, file: &str, name: Option<&str>) -> Result<String, AllocError>
+    ensures { IfOk result (λ text. string_bytes text
+        ≡ no_lexer_text file.now (option_map (λ name. name.now) name.entry)) }
 {
     let mut page = Page::new(alloc, false);
     page.push("error: no enum ");
@@ -140,47 +175,78 @@ fn no_lexer(alloc: Global, file: &str, name: Option<&str>) -> Failure<'static>
     page.push("in ");
     page.push_shown(file);
     page.push(" derives `Logos`\n");
-    refusal_of(page.finish())
+    page.finish()
 }
 
 /// Returns the refusal of a name that two enums in different modules have.
 fn several(
     alloc: Global,
-    task: Task<'_>,
     source: &Source<'_>,
+    name: &str,
     enums: (FoundEnum, FoundEnum),
 ) -> Failure<'static>
-    ensures { IsNoMisuse result }
+    ensures failed { IsNoMisuse result }
+    ensures refused { RefusesBy (IsSeveralText source.now name.now enums.0 enums.1) result }
 {
-    refusal_of(several_text(alloc, task, source, enums))
+    match several_text(alloc, source, name, enums) {
+        Ok(text) => Failure::Refused(text),
+        Err(Memory) => Failure::Memory,
+    }
 }
 
 /// Returns the message about a name that two enums have.
 fn several_text(
     alloc: Global,
-    task: Task<'_>,
     source: &Source<'_>,
+    name: &str,
     enums: (FoundEnum, FoundEnum),
-) -> Result<String, Memory> {
+) -> Result<String, Memory>
+    ensures { IfOk result (λ text.
+        IsSeveralText source.now name.now enums.0 enums.1 (string_bytes text)) }
+{
     let one = path_of(alloc, source.text(), enums.0)?;
     let other = path_of(alloc, source.text(), enums.1)?;
     let mut page = Page::new(alloc, false);
-    page.push("error: several enums ");
-    push_name(&mut page, task.order.settings.value(OptionName::Enum));
-    page.push("in ");
-    page.push_shown(source.path());
-    page.push(" derive `Logos`: ");
+    push_several(&mut page, source.path(), name);
     push_name(&mut page, Some(one.as_str()));
-    page.push("and `");
-    page.push_shown(other.as_str());
-    page.push("`\nhelp: give the path of one, as in `--enum ");
-    page.push_shown(one.as_str());
-    page.push("`\n");
+    push_other(&mut page, other.as_str());
+    push_help(&mut page, one.as_str());
     Ok(page.finish()?)
 }
 
+/// Appends that several enums of a file have a name.
+fn push_several(page: &mut Page, file: &str, name: &str)
+    ensures { Gains (several_text file.now name.now) page.old page.new }
+{
+    page.push("error: several enums ");
+    push_name(page, Some(name));
+    page.push("in ");
+    page.push_shown(file);
+    page.push(" derive `Logos`: ");
+}
+
+/// Appends the path of another enum.
+fn push_other(page: &mut Page, path: &str)
+    ensures { Gains (other_text path.now) page.old page.new }
+{
+    page.push("and `");
+    page.push_shown(path);
+    page.push("`\n");
+}
+
+/// Appends the help for a name that several enums have.
+fn push_help(page: &mut Page, path: &str)
+    ensures { Gains (help_text path.now) page.old page.new }
+{
+    page.push("help: give the path of one, as in `--enum ");
+    page.push_shown(path);
+    page.push("`\n");
+}
+
 /// Appends the name of an enum, if one is given.
-fn push_name(page: &mut Page, name: Option<&str>) {
+fn push_name(page: &mut Page, name: Option<&str>)
+    ensures { Gains (name_text (option_map (λ name. name.now) name.entry)) page.old page.new }
+{
     if let Some(name) = name {
         page.push("`");
         page.push_shown(name);
@@ -196,12 +262,20 @@ fn enum_meant(
     found: &[FoundEnum],
     name: Option<&str>,
 ) -> Result<Chosen, Memory>
-    ensures { IfOk result (λ chosen. IfSome (chosen_first chosen)
-        (IsTaken found.now (option_map (λ name. name.now) name.entry))) }
+    ensures { IfOk result (IsChosen source.now.text found.now
+        (option_map (λ name. name.now) name.entry)) }
+{
+    match name {
+        Some(name) => named_enum(alloc, source.text(), found, name),
+        None => first_enum(alloc, source, found),
+    }
+}
+
+/// Returns the first enum that derives `Logos`.
+fn first_enum(alloc: Global, source: &Source<'_>, found: &[FoundEnum]) -> Result<Chosen, Memory>
+    ensures { IfOk result (λ chosen. chosen_first chosen ≡ first_deriving found.now) }
 {
     let mut choice = Choice {
-        name,
-        exact: None,
         first: None,
         second: None,
     };
@@ -211,58 +285,29 @@ fn enum_meant(
     Ok(chosen_of(choice))
 }
 
-/// Returns the selected enum, if there is no other candidate.
-fn chosen_of(choice: Choice<'_>) -> Chosen
-    ensures { chosen_first result ≡ taken choice.entry.exact choice.entry.first }
+/// Returns the selected enum, with another one if there is one.
+fn chosen_of(choice: Choice) -> Chosen
+    ensures { chosen_first result ≡ choice.first }
 {
-    match (choice.exact, choice.first, choice.second) {
-        (Some(one), _, _) | (None, Some(one), None) => Chosen::One(one),
-        (None, Some(one), Some(other)) => Chosen::Several(one, other),
-        (None, None, _) => Chosen::Nothing,
+    match (choice.first, choice.second) {
+        (Some(one), None) => Chosen::One(one),
+        (Some(one), Some(other)) => Chosen::Several(one, other),
+        (None, _) => Chosen::Nothing,
     }
 }
 
 /// Returns a choice with one more enum.
-fn choice_with<'n>(
+fn choice_with(
     alloc: Global,
-    choice: Choice<'n>,
+    choice: Choice,
     source: &Source<'_>,
     one: FoundEnum,
-) -> Result<Choice<'n>, Memory>
-    ensures { IfOk result (IsNextChoice choice.entry one) }
+) -> Result<Choice, Memory>
+    ensures { IfOk result (IsNextChoice choice one) }
 {
     if !one.derives {
         return Ok(choice);
     }
-    if choice.exact.is_some() {
-        return Ok(choice);
-    }
-    let Some(name) = choice.name else {
-        return near_choice(alloc, choice, source, one);
-    };
-    let path = path_of(alloc, source.text(), one)?;
-    if path.as_str() == name {
-        return Ok(Choice {
-            exact: Some(one),
-            ..choice
-        });
-    }
-    if !ends_with_name(path.as_str(), name) {
-        return Ok(choice);
-    }
-    near_choice(alloc, choice, source, one)
-}
-
-/// Returns a choice with one more enum whose path ends with the name, or without a name.
-fn near_choice<'n>(
-    alloc: Global,
-    choice: Choice<'n>,
-    source: &Source<'_>,
-    one: FoundEnum,
-) -> Result<Choice<'n>, Memory>
-    ensures { IfOk result (λ next. (next.name ≡ choice.entry.name)
-        × (next.exact ≡ choice.entry.exact) × (next.first ≡ first_near choice.entry.first one)) }
-{
     let Some(first) = choice.first else {
         return Ok(Choice {
             first: Some(one),
@@ -289,20 +334,16 @@ pub(crate) fn has_name(
     source: &Source<'_>,
     found: FoundEnum,
     name: Option<&str>,
-) -> Result<bool, Memory> {
+) -> Result<bool, Memory>
+    ensures { IfOk result (λ has. IfSome (option_map (λ name. name.now) name.entry)
+        (λ name. (path : List ℕ) × IsPathOf source.now.text found path
+        × (IsTrue has ↔ HasName name path))) }
+{
     match name {
         Some(name) => {
             let path = path_of(alloc, source.text(), found)?;
-            Ok((path.as_str() == name) | ends_with_name(path.as_str(), name))
+            Ok(is_named(path.as_str(), name))
         }
         None => Ok(true),
-    }
-}
-
-/// Returns whether a path ends with `::` and a name.
-fn ends_with_name(path: &str, name: &str) -> bool {
-    match path.strip_suffix(name) {
-        Some(front) => front.ends_with("::"),
-        None => false,
     }
 }

@@ -1,7 +1,7 @@
 //! The texts of enums, and the refusals of files.
 
 ghost use Rattle.std.specs.Prelude.{IfErr};
-ghost use Rattle.logos_show.specs.Imports.{IsNoMisuse, IsPartAt};
+ghost use Rattle.logos_show.specs.Views.{IsNoMisuse, IsPartAt, IsRefusal};
 
 use logos_causes::{Explained, explain};
 use logos_codegen::Refusal;
@@ -14,7 +14,6 @@ use logos_help::add_helps;
 use logos_host::{Failure, MessageFormat};
 use logos_messages::push_messages;
 use logos_page::Page;
-use logos_replies::refusal_of;
 use logos_report::{Part, Source, count_errors, push_faults, push_summary};
 use logos_rust_file::{FoundEnum, enums_in};
 use std::alloc::Global;
@@ -45,7 +44,8 @@ pub(crate) fn refused(
     showing: Showing,
     refusal: Refusal,
 ) -> Failure<'static>
-    ensures { IsNoMisuse result }
+    ensures failed { IsNoMisuse result }
+    ensures refused { IsRefusal result }
 {
     match known_of(alloc, part) {
         Ok(known) => refused_with(part, showing, refusal, known),
@@ -72,12 +72,16 @@ pub(crate) fn refused_with(
     refusal: Refusal,
     known: Explained,
 ) -> Failure<'static>
-    ensures { IsNoMisuse result }
+    ensures failed { IsNoMisuse result }
+    ensures refused { IsRefusal result }
 {
     let Refusal::Errors(errors) = refusal else {
         return Failure::Memory;
     };
-    refusal_of(refusal_text(part, showing, &errors, known))
+    match refusal_text(part, showing, &errors, known) {
+        Ok(text) => Failure::Refused(text),
+        Err(Memory) => Failure::Memory,
+    }
 }
 
 /// Writes a note to standard error. If that fails, the note is lost.
