@@ -127,3 +127,40 @@ module _ {F : Type 0} (same : F → List ℕ → List ℕ → Bool → Type 0) w
   IsApart requests_version files = Unit {0}
   IsApart (requests_expansion order) files = IfSome order.output (λ path. same files order.input path false)
   IsApart (requests_each orders) files = All (λ order. IsNoInput orders files (output_of order)) orders × (has_twins (map output_of orders) ≡ false)
+
+-- The files are as they were, or as `R` states.
+abbrev pub Perhaps : {F : Type 0} → (F → F → Type 0) → F → F → Type 0
+Perhaps R files after = (after ≡ files) ⊎ R files after
+
+-- `reads` holds of files before and after a read or a comparison; `writes` of files, a path, and
+-- the files after a write there. Each holds whether the operation succeeds or fails.
+module _ {F : Type 0} (reads : F → F → Type 0) (writes : F → List ℕ → F → Type 0) where
+  -- The file for a result was written, or this failed.
+  abbrev pub IsWrite : Option (List ℕ) → F → F → Type 0
+  IsWrite output files after = (path : List ℕ) × (output ≡ Some path) × writes files path after
+
+  -- The file for a result was perhaps compared, and then perhaps written.
+  abbrev pub MayWrite : Option (List ℕ) → F → F → Type 0
+  MayWrite output files after = (compared : F) × Perhaps reads files compared × Perhaps (IsWrite output) compared after
+
+  -- For an order a file was read, and then perhaps the file for the result was compared and
+  -- written.
+  abbrev pub IsTouched : OrderValue → F → F → Type 0
+  IsTouched order files after = (read : F) × reads files read × MayWrite order.output read after
+
+  -- Several orders touched files, one after another.
+  abbrev pub AreTouched : List OrderValue → F → F → Type 0
+  AreTouched [] files after = after ≡ files
+  AreTouched (order ∷ rest) files after = (between : F) × IsTouched order files between × AreTouched rest between after
+
+  -- The operations on files that a request has.
+  abbrev pub Touches : Requested → F → F → Type 0
+  Touches requests_help files after = after ≡ files
+  Touches requests_version files after = after ≡ files
+  Touches (requests_expansion order) files after = IsTouched order files after
+  Touches (requests_each orders) files after = AreTouched orders files after
+
+  -- No file was touched; or no file for a result is an input, and only files for results were
+  -- written, each at most once, whatever the exit status.
+  abbrev pub IsHarmless : (F → List ℕ → List ℕ → Bool → Type 0) → Requested → F → F → Type 0
+  IsHarmless same request files after = (after ≡ files) ⊎ (IsApart same request files × Touches request files after)

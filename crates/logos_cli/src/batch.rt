@@ -1,7 +1,7 @@
 //! Expands several files into a folder. Called by `program`.
 
 ghost use Rattle.std.specs.Prelude.{◌≡◌, ◌≢◌, ◌⊎◌, ◌≤◌, ◌++◌, ◌∷◌, [], ℕ, All, Contains, IfOk, IsTrue, List, MatchOption, OnOk, drop, false, map, true};
-ghost use Rattle.logos_cli.specs.Views.{Appends, AreCarriedOut, AreDenied, IsApart, IsOwnOutput, Keeps, OrderValue, requests_each, batch_value, batch_file_order, has_twins, is_among, order_into, order_value, orders_into, orders_of, output_text, texts_of};
+ghost use Rattle.logos_cli.specs.Views.{Appends, AreCarriedOut, AreDenied, AreTouched, IsApart, IsOwnOutput, Keeps, OrderValue, requests_each, batch_value, batch_file_order, has_twins, is_among, order_into, order_value, orders_into, orders_of, output_text, texts_of};
 ghost use Rattle.logos_cli.specs.declared.batch.BatchFile.{BatchFile as BatchFileValue};
 
 use crate::options::{Batch, ExpandOrder};
@@ -38,6 +38,9 @@ pub(crate) fn run_batch<F: ComparableFiles, O: Write, E: Write + IsTerminal>(
         IsApart F.same_finds (requests_each (batch_value batch.entry)) files.old }
     ensures untouched { result.status ≡ 2 →
         (files.new ≡ files.old) × Keeps (O.contents out.old) (O.contents out.new) }
+    ensures touched { (files.new ≡ files.old)
+        ⊎ (IsApart F.same_finds (requests_each (batch_value batch.entry)) files.old
+        × AreTouched F.read_ends F.write_ends (batch_value batch.entry) files.old files.new) }
     ensures done { result.status ≡ 0 → AreCarriedOut F.read_yields F.write_makes F.compare_finds
         (batch_value batch.entry) files.old files.new (O.contents out.old) (O.contents out.new) }
     ensures denied { result.status ≡ 1 → (shown : List ℕ) × AreDenied F.read_yields F.write_makes
@@ -190,6 +193,8 @@ fn run_each<F: ComparableFiles, O: Write, E: Write + IsTerminal>(
         × (IsTrue result.is_written → (front : List ℕ)
         × Appends (E.contents err.old) (E.contents err.new) (front ++ shown)) }
     ensures silent { result.status ≡ 1 → Keeps (O.contents out.old) (O.contents out.new) }
+    ensures touched { AreTouched F.read_ends F.write_ends
+        (orders_of (order_value order.entry) batch_files.now) files.old files.new }
     ensures known { (result.status ≤ 3) × (result.status ≢ 2) }
 {
     let mut ending = Ending {

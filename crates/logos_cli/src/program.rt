@@ -1,7 +1,7 @@
 //! The program, from its arguments to an exit status. `run_logos_cli` and build scripts call it.
 
-ghost use Rattle.std.specs.Prelude.{◌≡◌, ◌≢◌, ◌≤◌, ◌++◌, ◌⊎◌, None, MatchOption, false, true, IfErr, IfOk, IfSome, OnOk, ℕ, List, IsTrue, map, string_bytes};
-ghost use Rattle.logos_cli.specs.Views.{Appends, Keeps, status_of, message_of, Reads, requested, order_value, request_value, IsCarriedOut, IsDelivered, IsDenied, IsDeniedOrder, IsDone, IsApart, IsOwnOutput, IsSettled, IsExpanded, FailsBy, IsRefusedFor, IsOther};
+ghost use Rattle.std.specs.Prelude.{◌≡◌, ◌≢◌, ◌≤◌, ◌++◌, ◌⊎◌, None, Some, MatchOption, false, true, IfErr, IfOk, IfSome, OnOk, ℕ, List, IsTrue, map, string_bytes};
+ghost use Rattle.logos_cli.specs.Views.{Appends, Keeps, status_of, message_of, Reads, requested, order_value, request_value, IsCarriedOut, IsDelivered, IsDenied, IsDeniedOrder, IsDone, IsApart, IsHarmless, IsOwnOutput, IsSettled, IsTouched, MayWrite, IsExpanded, FailsBy, IsRefusedFor, IsOther};
 
 use crate::batch::run_batch;
 use crate::difference::{StaleFile, difference};
@@ -70,6 +70,8 @@ pub(crate) fn run_with<F: ComparableFiles, O: Write, E: Write + IsTerminal>(
         (λ order. IsApart F.same_finds order files.old)) }
     ensures untouched { result ≡ 2 →
         (files.new ≡ files.old) × Keeps (O.contents out.old) (O.contents out.new) }
+    ensures touched { IfOk arguments.entry (λ passed. IfSome (requested (map string_bytes passed.items))
+        (λ order. IsHarmless F.read_ends F.write_ends F.same_finds order files.old files.new)) }
     ensures done { IfOk arguments.entry (λ passed. result ≡ 0 →
         IfSome (requested (map string_bytes passed.items))
         (λ order. IsDone F.read_yields F.write_makes F.compare_finds order files.old files.new
@@ -106,6 +108,9 @@ pub(crate) fn run<F: ComparableFiles, O: Write, E: Write + IsTerminal>(
     // No file was read or written, and nothing was printed.
     ensures untouched { result.status ≡ 2 →
         (files.new ≡ files.old) × Keeps (O.contents out.old) (O.contents out.new) }
+    // Only files for results were written, and none of them is an input, whatever the status.
+    ensures touched { IfSome (requested (map string_bytes arguments.now))
+        (λ order. IsHarmless F.read_ends F.write_ends F.same_finds order files.old files.new) }
     // The request is fulfilled, and the result was written entirely.
     ensures done { result.status ≡ 0 → IfSome (requested (map string_bytes arguments.now))
         (λ order. IsDone F.read_yields F.write_makes F.compare_finds order files.old files.new
@@ -169,6 +174,9 @@ fn run_order<F: ComparableFiles, O: Write, E: Write + IsTerminal>(
         (λ path. F.same_finds files.old (order_value order.entry).input path false) }
     ensures untouched { result.status ≡ 2 →
         (files.new ≡ files.old) × Keeps (O.contents out.old) (O.contents out.new) }
+    ensures touched { (files.new ≡ files.old) ⊎ (IfSome (order_value order.entry).output
+        (λ path. F.same_finds files.old (order_value order.entry).input path false)
+        × IsTouched F.read_ends F.write_ends (order_value order.entry) files.old files.new) }
     ensures done { result.status ≡ 0 → IsCarriedOut F.read_yields F.write_makes F.compare_finds
         (order_value order.entry) files.old files.new (O.contents out.old) (O.contents out.new) }
     ensures denied { result.status ≡ 1 → (shown : List ℕ) × IsDeniedOrder F.read_yields F.write_makes
@@ -201,6 +209,7 @@ pub(crate) fn carry_out<F: ComparableFiles, O: Write, E: Write + IsTerminal>(
     ensures silent { result.status ≡ 1 → Keeps (O.contents out.old) (O.contents out.new) }
     ensures messages { IsTrue result.is_written → (text : List ℕ)
         × Appends (E.contents err.old) (E.contents err.new) text }
+    ensures touched { IsTouched F.read_ends F.write_ends (order_value order.entry) files.old files.new }
     ensures known { (result.status ≤ 3) × (result.status ≢ 2) }
 {
     let is_colored = order.color.is_on(err.is_terminal());
@@ -237,6 +246,7 @@ fn expansion_of<'w, F: ComparableFiles>(
         made.bytes.items)) }
     ensures denied { IfErr result (FailsBy (IsRefusedFor (IsDeniedOrder F.read_yields F.write_makes
         F.compare_finds (order_value order.entry) files.old files.new))) }
+    ensures ends { F.read_ends files.old files.new }
 {
     let text = match read_text(order.input, files) {
         Ok(text) => text,
@@ -274,6 +284,7 @@ fn deliver_and_end<F: ComparableFiles, O: Write, E: Write>(
     ensures silent { result.status ≡ 1 → Keeps (O.contents out.old) (O.contents out.new) }
     ensures messages { IsTrue result.is_written → (text : List ℕ)
         × Appends (E.contents err.old) (E.contents err.new) text }
+    ensures touched { MayWrite F.read_ends F.write_ends (order_value order.entry).output files.old files.new }
     ensures known { (result.status ≤ 3) × (result.status ≢ 2) }
 {
     let is_warned = warn(&expansion.warnings, err);
@@ -326,6 +337,7 @@ fn deliver<'w, F: ComparableFiles, O: Write>(
         (λ path. IsOther F.compare_finds path bytes.now files.old files.new)))) }
     ensures silent { IfErr result (λ failure. status_of failure ≡ 1 →
         Keeps (O.contents out.old) (O.contents out.new)) }
+    ensures touched { MayWrite F.read_ends F.write_ends (order_value order.entry).output files.old files.new }
 {
     match order.output {
         None => print_bytes(bytes, out),
@@ -346,6 +358,7 @@ fn settle<'w, F: ComparableFiles>(
     ensures denied { IfErr result (FailsBy (IsRefusedFor (λ shown.
         IsTrue (order_value order.entry).is_check
         × IsOther F.compare_finds path.now bytes.now files.old files.new))) }
+    ensures touched { MayWrite F.read_ends F.write_ends (Some path.now) files.old files.new }
 {
     let occurrence = match files.compare(path, bytes) {
         Ok(occurrence) => occurrence,

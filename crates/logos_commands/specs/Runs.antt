@@ -178,3 +178,29 @@ module _ {F : Type 0} (yields : F → List ℕ → List ℕ → F → Type 0) wh
   IsDenied (requests_diagram file) files after failure = ReadsSource file files after (λ source. RefusesLexer source Diagram failure)
   IsDenied (requests_export file) files after failure = ReadsSource file files after (λ source. RefusesLexer source Export failure)
   IsDenied (requests_strip file) files after failure = ReadsSource file files after (λ source. RefusesStripping source failure)
+
+-- ---- Operations on files: `reads` holds of files before and after a read; `writes` of files, a
+-- path, and the files after a write there. Each holds whether the operation succeeds or fails
+
+-- The file of an effect was written, or this failed.
+abbrev pub WritesFor : {F : Type 0} → (F → List ℕ → F → Type 0) → Effect → F → F → Type 0
+WritesFor writes (prints text) files after = after ≡ files
+WritesFor writes (makes_file path text) files after = writes files path after
+
+-- One or two files were read, and none was written.
+abbrev pub IsLookedAt : {F : Type 0} → (F → F → Type 0) → F → F → Type 0
+IsLookedAt {F} reads files after = (read : F) × reads files read × ((after ≡ read) ⊎ reads read after)
+
+module _ {F : Type 0} (yields : F → List ℕ → List ℕ → F → Type 0) (reads : F → F → Type 0) (writes : F → List ℕ → F → Type 0) where
+  -- A file was read, and then only the file was written that its source determines, if any.
+  abbrev pub IsTouched : List ℕ → F → F → (List ℕ → Effect → Type 0) → Type 0
+  IsTouched file files after Yields =
+      (read : F) × reads files read × ((after ≡ read) ⊎ ((source path text : List ℕ) × yields files file source read × Yields source (makes_file path text) × writes read path after))
+
+  -- The operations on files that a request has, whatever the exit status.
+  abbrev pub Touches : Requested → F → F → Type 0
+  Touches (requests_text file shape) files after = IsTouched file files after (IsPartOf (Text shape))
+  Touches (requests_items file input shape) files after = IsLookedAt reads files after
+  Touches (requests_diagram file) files after = IsTouched file files after (IsPartOf Diagram)
+  Touches (requests_export file) files after = IsTouched file files after (IsPartOf Export)
+  Touches (requests_strip file) files after = IsTouched file files after IsLeft

@@ -3,5 +3,5 @@ pub use Rattle.logos_commands.specs.Imports.{Action, Appends, AppendsFront, Fail
 pub use Rattle.logos_commands.specs.Diagrams.{destination, export_destination, extension, file_at, file_in, refusal_by}
 pub use Rattle.logos_commands.specs.Commands.{requested, command_requested}
 pub use Rattle.logos_commands.specs.Refusals.{IsRefusalOf, IsUnexportedBy, export_line, fault_head, fault_line, fault_lines, line_character, on_one_line}
-pub use Rattle.logos_commands.specs.Runs.{Carries, HasEffect, IsDenied, IsDone, IsLeft, IsPart, IsPartOf, IsTornBy, PrintsItems, PrintsItemsOf, ReadsSource, RefusesExport, RefusesInput, RefusesItems, RefusesLexer, RefusesStripping, prints, shape_of}
+pub use Rattle.logos_commands.specs.Runs.{Carries, HasEffect, IsDenied, IsDone, IsLeft, IsPart, IsLookedAt, IsPartOf, IsTornBy, IsTouched, PrintsItems, PrintsItemsOf, ReadsSource, RefusesExport, RefusesInput, RefusesItems, RefusesLexer, RefusesStripping, Touches, WritesFor, prints, shape_of}
 pub use Rattle.logos_commands.specs.inside.Destinations.{EndsWithLine, FailsAt, effect_of}

@@ -2,7 +2,7 @@
 //! Used by `command` and `program`.
 
 ghost use Rattle.std.specs.Prelude.{◌≡◌, ◌++◌, ◌+◌, ◌<◌, ◌≤◌, ℕ, List, [], IfErr, OnOk, IsTrue, IsUtf8, vec_len, vec_capacity};
-ghost use Rattle.logos_commands.specs.Views.{Appends, Keeps, TakesMatches, Action as Answer, answers_of, item_of, WritesLines, emits, line_of, AppendsFront, status_of, IsNoMisuse, IsOutputFailure, IsTornBy, PrintsItems, PrintsItemsOf, RefusesInput, RefusesItems};
+ghost use Rattle.logos_commands.specs.Views.{Appends, Keeps, TakesMatches, Action as Answer, answers_of, item_of, WritesLines, emits, line_of, AppendsFront, status_of, IsNoMisuse, IsOutputFailure, IsLookedAt, IsTornBy, PrintsItems, PrintsItemsOf, RefusesInput, RefusesItems};
 
 use crate::lines::{LONGEST, write_line};
 use crate::refusals::refused_source;
@@ -48,6 +48,7 @@ pub(super) fn lex<'w, F: Files, O: Write>(
         files.new failure) }
     ensures silent { IfErr result (λ failure. status_of failure ≡ 1 →
         Keeps (O.contents out.old) (O.contents out.new)) }
+    ensures ends { IsLookedAt F.read_ends files.old files.new }
     ensures known { IfErr result IsNoMisuse }
 {
     let source = read_text(request.source, files)?;

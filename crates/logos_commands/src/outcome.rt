@@ -49,6 +49,7 @@ pub(super) fn of_file<'w, F: Files>(
     ensures denied { IfErr result (λ failure. status_of failure ≡ 1 →
         ReadsSource F.read_yields file.now files.old files.new
         (λ source. RefusesLexer source requested failure)) }
+    ensures ends { F.read_ends files.old files.new }
     ensures known { IfErr result IsNoMisuse }
 {
     let source = read_text(file, files)?;
@@ -127,6 +128,7 @@ pub(super) fn stripped<'w, F: Files>(
     ensures denied { IfErr result (λ failure. status_of failure ≡ 1 →
         ReadsSource F.read_yields file.now files.old files.new
         (λ source. RefusesStripping source failure)) }
+    ensures ends { F.read_ends files.old files.new }
     ensures known { IfErr result IsNoMisuse }
 {
     let source = read_text(file, files)?;

@@ -1,7 +1,7 @@
 //! The program `logos`, from its arguments to its exit status. `main` calls it.
 
 ghost use Rattle.std.specs.Prelude.{◌≡◌, ◌≢◌, ◌≤◌, ◌⊎◌, ◌↔◌, None, map, string_bytes, IfErr, IfOk, IfSome, OnOk};
-ghost use Rattle.logos_commands.specs.Views.{Appends, Carries, Failure as Why, HasEffect, IsDenied, IsDone, IsLeft, IsPartOf, Keeps, ReadsSource, RefusesLexer, RefusesStripping, requested, effect_of, status_of};
+ghost use Rattle.logos_commands.specs.Views.{Appends, Carries, Failure as Why, HasEffect, IsDenied, IsDone, IsLeft, IsPartOf, IsTouched, Keeps, ReadsSource, RefusesLexer, RefusesStripping, Touches, WritesFor, requested, effect_of, status_of};
 
 use crate::command::{Command, command_of};
 use crate::item_lines::lex;
@@ -34,6 +34,8 @@ pub fn run_with<F: Files, O: Write, E: Write>(
     ensures silent { result ≡ 1 → Keeps (O.contents out.old) (O.contents out.new) }
     ensures untouched { result ≡ 2 →
         (files.new ≡ files.old) × Keeps (O.contents out.old) (O.contents out.new) }
+    ensures touched { IfOk arguments.entry (λ passed. IfSome (requested (map string_bytes passed.items))
+        (λ command. Touches F.read_yields F.read_ends F.write_ends command files.old files.new)) }
     ensures unread { IfErr arguments.entry (λ failure. result ≡ status_of failure) }
     ensures known { result ≤ 3 }
 {
@@ -70,6 +72,9 @@ pub fn run<F: Files, O: Write, E: Write>(
     // At exit status 2 no file was read or written, and nothing was printed.
     ensures untouched { result ≡ 2 →
         (files.new ≡ files.old) × Keeps (O.contents out.old) (O.contents out.new) }
+    // At any exit status only the file of `export` was written, and only after its source was read.
+    ensures touched { IfSome (requested (map string_bytes arguments.now))
+        (λ command. Touches F.read_yields F.read_ends F.write_ends command files.old files.new) }
     ensures known { result ≤ 3 }
 {
     let Some(command) = command_of(arguments) else {
@@ -107,6 +112,8 @@ fn run_part<F: Files, O: Write, E: Write>(
         (O.contents out.old) (O.contents out.new) (IsPartOf request.entry.1) }
     ensures denied { result ≡ 1 → (failure : Why) × ReadsSource F.read_yields request.entry.0.now files.old
         files.new (λ source. RefusesLexer source request.entry.1 failure) }
+    ensures touched { IsTouched F.read_yields F.read_ends F.write_ends request.entry.0.now files.old files.new
+        (IsPartOf request.entry.1) }
     ensures silent { result ≡ 1 → Keeps (O.contents out.old) (O.contents out.new) }
     ensures known { (result ≤ 3) × (result ≢ 2) }
 {
@@ -129,6 +136,7 @@ fn run_strip<F: Files, O: Write, E: Write>(
         (O.contents out.old) (O.contents out.new) IsLeft }
     ensures denied { result ≡ 1 → (failure : Why) × ReadsSource F.read_yields file.now files.old
         files.new (λ source. RefusesStripping source failure) }
+    ensures touched { IsTouched F.read_yields F.read_ends F.write_ends file.now files.old files.new IsLeft }
     ensures silent { result ≡ 1 → Keeps (O.contents out.old) (O.contents out.new) }
     ensures known { (result ≤ 3) × (result ≢ 2) }
 {
@@ -147,6 +155,7 @@ fn run_outcome<F: Files, O: Write, E: Write>(
 ) -> u8
     ensures done { result ≡ 0 → HasEffect F.write_makes (effect_of outcome.now) files.old files.new
         (O.contents out.old) (O.contents out.new) }
+    ensures touched { WritesFor F.write_ends (effect_of outcome.now) files.old files.new }
     ensures known { (result ≡ 0) ⊎ (result ≡ 3) }
 {
     match deliver(outcome, files, out) {
@@ -163,6 +172,7 @@ fn deliver<'o, F: Files, O: Write>(
 ) -> Result<(), Failure<'o>>
     ensures done { OnOk result (HasEffect F.write_makes (effect_of outcome.now) files.old files.new
         (O.contents out.old) (O.contents out.new)) }
+    ensures touched { WritesFor F.write_ends (effect_of outcome.now) files.old files.new }
     ensures failed { IfErr result (λ failure. status_of failure ≡ 3) }
 {
     match outcome {

@@ -35,7 +35,8 @@ pub trait ComparableFiles: Files {
         ensures finds { IfOk result (λ occurrence.
             Self.compare_finds self.old path.now bytes.now occurrence self.new) }
         ensures same { IfOk result (λ occurrence. occurrence ≡ Occurrence.Same →
-            Self.read_yields self.old path.now bytes.now self.new) };
+            Self.read_yields self.old path.now bytes.now self.new) }
+        ensures ends { Self.read_ends self.old self.new };
 
     /// Returns the bytes of the file at a path, for a message. There are none if it is not a
     /// regular file, cannot be read, or has more than 67,108,864 bytes.

@@ -25,13 +25,22 @@ pub trait Files {
     // the files after it.
     ghost write_makes: { Self → List ℕ → List ℕ → Self → Type 0 } = { λ _ _ _ _. ⊤ };
 
+    // Holds of the files before a read or a comparison, and of those after it, whether it succeeds
+    // or fails.
+    ghost read_ends: { Self → Self → Type 0 } = { λ _ _. ⊤ };
+
+    // Holds of the files before a write, the path, and the files after it, whether it succeeds or
+    // fails.
+    ghost write_ends: { Self → List ℕ → Self → Type 0 } = { λ _ _ _. ⊤ };
+
     /// Returns all bytes of the file at this path.
     ///
     /// # Errors
     ///
     /// Returns `Failed` if the file cannot be read, and `Memory` if memory runs out.
     fn read(&mut self, path: &str) -> Result<Vec<u8>, FileError>
-        ensures { IfOk result (λ bytes. read_yields self.old path.now bytes.items self.new) };
+        ensures yields { IfOk result (λ bytes. read_yields self.old path.now bytes.items self.new) }
+        ensures ends { read_ends self.old self.new };
 
     /// Replaces the content of the file at this path with these bytes, and creates the missing
     /// folders of the path.
@@ -41,5 +50,6 @@ pub trait Files {
     /// Returns `Failed` if a folder or the file cannot be created or written, and `Memory` if
     /// memory runs out. Folders that were created stay.
     fn write(&mut self, path: &str, bytes: &[u8]) -> Result<(), FileError>
-        ensures { OnOk result (write_makes self.old path.now bytes.now self.new) };
+        ensures makes { OnOk result (write_makes self.old path.now bytes.now self.new) }
+        ensures ends { write_ends self.old path.now self.new };
 }

@@ -13,6 +13,7 @@ use crate::files::{FileError, Files};
 /// Returns `Read` if the file cannot be read, and `Memory` if memory runs out.
 pub fn read_bytes<'w, F: Files>(path: &'w str, files: &mut F) -> Result<Vec<u8>, Failure<'w>>
     ensures read { IfOk result (λ bytes. F.read_yields files.old path.now bytes.items files.new) }
+    ensures ends { F.read_ends files.old files.new }
     ensures failed { IfErr result (IsUnread path.now) }
     ensures status { IfErr result (λ failure. status_of failure ≡ 3) }
     ensures no_misuse { IfErr result IsNoMisuse }
@@ -32,6 +33,7 @@ pub fn read_bytes<'w, F: Files>(path: &'w str, files: &mut F) -> Result<Vec<u8>,
 pub fn read_text<'w, F: Files>(path: &'w str, files: &mut F) -> Result<String, Failure<'w>>
     ensures read { IfOk result (λ text.
         F.read_yields files.old path.now (string_bytes text) files.new) }
+    ensures ends { F.read_ends files.old files.new }
     ensures failed { IfErr result (IsUnread path.now) }
     ensures status { IfErr result (λ failure. status_of failure ≡ 3) }
     ensures no_misuse { IfErr result IsNoMisuse }
@@ -44,8 +46,9 @@ pub fn read_text<'w, F: Files>(path: &'w str, files: &mut F) -> Result<String, F
 
 /// Returns the text of a file.
 fn text_at<F: Files>(path: &str, files: &mut F) -> Result<String, FileError>
-    ensures { IfOk result (λ text.
+    ensures read { IfOk result (λ text.
         F.read_yields files.old path.now (string_bytes text) files.new) }
+    ensures ends { F.read_ends files.old files.new }
 {
     let bytes = match files.read(path) {
         Ok(bytes) => bytes,

@@ -49,6 +49,7 @@ pub fn write_file<'w, F: Files>(
     files: &mut F,
 ) -> Result<(), Failure<'w>>
     ensures written { OnOk result (F.write_makes files.old path.now bytes.now files.new) }
+    ensures ends { F.write_ends files.old path.now files.new }
     ensures failed { IfErr result (IsUnwritten path.now) }
     ensures status { IfErr result (λ failure. status_of failure ≡ 3) }
 {

@@ -2,6 +2,7 @@ use Rattle.std.proofs.Common.{◌∙◌, sym}
 use Rattle.logos_cli.specs.Orders.{order_value}
 use Rattle.logos_cli.specs.Runs.{IsDeniedOrder}
 use Rattle.logos_cli.proofs.RunLemmas.{carried_out, denied_check, fails_twice, known_status, written}
+use Rattle.logos_cli.proofs.TouchLemmas.{none_written}
 use Rattle.logos_cli.proofs.program.carry_out.Goals as goal
 
 pub returns-in-Ok-clause-done : goal.returns-in-Ok-clause-done
@@ -21,3 +22,10 @@ returns-in-Err-clause-denied g c = λ s. written (IsDeniedOrder g.F.Files.read_y
 
 pub returns-in-Err-clause-known : goal.returns-in-Err-clause-known
 returns-in-Err-clause-known g c = (rw c.failed.ensures.status (known_status c.in-Err.failure).0, λ s. fails_twice c.in-Err.failure c.in-Err.ensures.denied (sym c.failed.ensures.status ∙ s))
+
+pub returns-in-Ok-clause-touched : goal.returns-in-Ok-clause-touched
+returns-in-Ok-clause-touched g c = (c.expansion_of.new.files, c.expansion_of.ensures.ends, c.deliver_and_end.ensures.touched)
+
+pub returns-in-Err-clause-touched : goal.returns-in-Err-clause-touched
+returns-in-Err-clause-touched g c =
+    (c.expansion_of.new.files, c.expansion_of.ensures.ends, none_written g.F.Files.read_ends g.F.Files.write_ends (order_value c.args.order).output c.expansion_of.new.files)

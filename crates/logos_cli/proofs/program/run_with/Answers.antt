@@ -12,3 +12,6 @@ returns-in-Ok-clause-denied g c =
     rw c.in-Ok.is
     (λ s. shown_only (λ order shown. IsDenied g.F.Files.read_yields g.F.Files.write_makes g.F.ComparableFiles.compare_finds order c.args.files.now c.run.new.files shown)
     (λ order shown. IsTrue c.run.result.is_written → (front : List ℕ) × Appends (g.E.Write.contents c.args.err.now) (g.E.Write.contents c.run.new.err) (front ++ shown)) _ ((rw c.as_slice.ensures.value at c.run.ensures.denied) s))
+
+pub returns-in-Ok-clause-touched : goal.returns-in-Ok-clause-touched
+returns-in-Ok-clause-touched g c = rw c.in-Ok.is (rw c.as_slice.ensures.value at c.run.ensures.touched)
