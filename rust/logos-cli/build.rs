@@ -10,7 +10,9 @@ use std::process::{Command, ExitCode};
 /// An addition to the module of the program `logos`, in which its command is private.
 const RUN_LOGOS: &str = "\
 /// Runs the command of `logos` that the arguments name. Returns the exit status.
-pub fn run_logos_program(rt: &HostRuntime) -> u8 { run_logos(rt) }
+pub fn run_logos_program(rt: &HostRuntime, arguments: Result<Vec<String>, Failure<'static>>) -> u8 {
+    run_logos(rt, arguments)
+}
 ";
 
 /// The re-export that this package needs from the modules of `logos_cli` and `logos_show`, where it

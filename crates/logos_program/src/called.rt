@@ -1,5 +1,8 @@
 //! Selects the program by the name under which it was invoked. Called by `main`.
 
+ghost use Rattle.std.specs.Prelude.{◌≡◌, ◌≢◌, ◌<◌, ◌≤◌, ◌-◌, ℕ, List, MatchBool, length, slice_index};
+ghost use Rattle.logos_program.specs.Called.{IsLastName, IsNameStart, program_of};
+
 use std::env::Env;
 
 /// The program that a name selects.
@@ -18,16 +21,33 @@ pub(crate) enum Called {
 const LONGEST_PATH: usize = 4096;
 
 /// Returns the name of the file to which a path leads: the part after its last slash.
-fn name_in(path: &[u8]) -> &[u8] {
-    match path.iter().rposition(|byte| *byte == b'/') {
-        Some(at) => &path[at + 1..],
-        None => path,
+fn name_in(path: &[u8]) -> &[u8]
+    ensures { IsLastName path.now result.now }
+{
+    let mut from = path.len();
+    while !is_name_start(path, from) {
+        from -= 1;
     }
+    &path[from..]
+}
+
+/// Returns whether an offset of a path is its beginning, or the byte before it is a slash.
+fn is_name_start(path: &[u8], offset: usize) -> bool
+    requires { offset ≤ length path.now }
+    ensures { MatchBool result (IsNameStart path.now offset)
+        ((0 < offset) × (slice_index path.now (offset - 1) ≢ 47)) }
+{
+    if offset == 0 {
+        return true;
+    }
+    path[offset - 1] == b'/'
 }
 
 /// Returns the program for the name of an executable. Names may have a suffix, such as
 /// `logos_cli-0.1.0`. Any other name selects `logos`.
-fn requested_by(name: &[u8]) -> Called {
+fn requested_by(name: &[u8]) -> Called
+    ensures { result ≡ program_of name.now }
+{
     if name.starts_with(b"logos_cli") {
         return Called::LogosCli;
     }
@@ -37,12 +57,19 @@ fn requested_by(name: &[u8]) -> Called {
     Called::Logos
 }
 
+/// Returns the program for the path of an executable.
+fn requested_at(path: &[u8]) -> Called
+    ensures { (name : List ℕ) × IsLastName path.now name × (result ≡ program_of name) }
+{
+    requested_by(name_in(path))
+}
+
 /// Returns the program for the name under which the process was invoked. It allocates no memory, so
 /// that an allocation of any of the three programs is its own.
 pub(crate) fn requested_by_name<R: Env>(rt: &R) -> Called {
     let mut path = [0; LONGEST_PATH];
     match rt.arg(0, &mut path) {
-        Ok(length) => requested_by(name_in(&path[..length])),
+        Ok(length) => requested_at(&path[..length]),
         Err(_) => Called::Logos,
     }
 }

@@ -3,33 +3,59 @@
 
 #![tactic(auto)]
 
+ghost use Rattle.std.specs.Prelude.{◌≡◌, ◌≤◌, ◌↔◌, ◌⊎◌, None, IfErr, IfOk, IsOkAnd, Result, String, Vec, map, string_bytes};
+ghost use Rattle.std.specs.Process.{exit_status};
+ghost use Rattle.logos_program.specs.Endings.{IsEnding, logos_requested, status_of};
+
 mod called;
 
 use called::{Called, requested_by_name};
 use logos_cli::run_logos_cli;
 use logos_commands::run_with;
-use logos_host::{Disk, arguments};
+use logos_host::{Disk, Failure, arguments};
 use logos_show::run_logos_show;
 use std::io;
 use std::process::ExitCode;
 
-/// Runs `logos` with the arguments of the process: it prints the lexer of an enum in a file or its
-/// state diagram, or lexes another file with it. Returns the exit status.
-fn run_logos(rt: &HostRuntime) -> u8 {
+/// Runs `logos` with these arguments of the process: it prints the lexer of an enum in a file or
+/// its state diagram, or lexes another file with it. Returns the exit status.
+fn run_logos(rt: &HostRuntime, arguments: Result<Vec<String>, Failure<'static>>) -> u8
+    requires { IfErr arguments (λ failure. (status_of failure ≡ 2) ⊎ (status_of failure ≡ 3)) }
+    ensures usage { IfOk arguments.entry (λ passed.
+        (result ≡ 2) ↔ (logos_requested (map string_bytes passed.items) ≡ None)) }
+    ensures unread { IfErr arguments.entry (λ failure. result ≡ status_of failure) }
+    ensures known { result ≤ 3 }
+{
     run_with(
         rt.alloc(),
-        arguments(rt),
+        arguments,
         &mut Disk { rt },
         &mut rt.stdout(),
         &mut rt.stderr(),
     )
 }
 
-fn main(rt: HostRuntime) -> io::Result<ExitCode> {
-    let status = match requested_by_name(&rt) {
-        Called::Logos => run_logos(&rt),
-        Called::LogosCli => run_logos_cli(&rt),
-        Called::LogosShow => run_logos_show(&rt),
-    };
+/// Runs a program with these arguments of the process. Returns the exit status.
+fn run_called(
+    rt: &HostRuntime,
+    called: Called,
+    arguments: Result<Vec<String>, Failure<'static>>,
+) -> u8
+    requires { IfErr arguments (λ failure. (status_of failure ≡ 2) ⊎ (status_of failure ≡ 3)) }
+    ensures { IsEnding called arguments.entry result }
+{
+    match called {
+        Called::Logos => run_logos(rt, arguments),
+        Called::LogosCli => run_logos_cli(rt, arguments),
+        Called::LogosShow => run_logos_show(rt, arguments),
+    }
+}
+
+fn main(rt: HostRuntime) -> io::Result<ExitCode>
+    ensures { IsOkAnd result (λ code. (called : Called) × (passed : Result (Vec String) Failure)
+        × IsEnding called passed (exit_status code)) }
+{
+    let called = requested_by_name(&rt);
+    let status = run_called(&rt, called, arguments(&rt));
     Ok(ExitCode::from(status))
 }

@@ -1,7 +1,7 @@
 //! Runs a program on the runtime of this process, or on another system. Called by the programs
 //! `logos`, `logos_cli` and `logos_show`, and by the playground.
 
-use crate::logos_host::ComparableFiles;
+use crate::logos_host::{ComparableFiles, Failure, arguments};
 use std::alloc::{Global, set_budget_of_program};
 use std::env::Env;
 use std::io::{Input, Write};
@@ -16,14 +16,17 @@ const COMMIT: &str = concat!("commit: ", env!("LOGOS_COMMIT"), "\n");
 /// The exit status for an argument or a variable in an unknown form.
 const MISUSE: u8 = 2;
 
-/// Runs a program, which returns its exit status.
-pub fn run(program: fn(&HostRuntime) -> u8) -> ExitCode {
+/// A program: it takes the arguments of the process, and returns the exit status.
+type Program = fn(&HostRuntime, Result<Vec<String>, Failure<'static>>) -> u8;
+
+/// Runs a program.
+pub fn run(program: Program) -> ExitCode {
     if let Err(error) = set_budget_of_program() {
         let _ = writeln!(HostRuntime.stderr(), "error: {error}");
         return ExitCode::from(MISUSE);
     }
     std::fs::set_program(COMMIT.as_bytes());
-    ExitCode::from(program(&HostRuntime))
+    ExitCode::from(program(&HostRuntime, arguments(&HostRuntime)))
 }
 
 /// Runs `logos_show` with these arguments, without its name, on other files and on another system,
