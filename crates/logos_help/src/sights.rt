@@ -66,10 +66,18 @@ pub(crate) fn help_for_named(sight: Sight<'_>) -> &'static str {
     let text = sight.text;
     if text.contains('>') {
         "put the body of the closure in braces: a comma ends it, even between `<` and `>`"
-    } else if text.contains('|') {
+    } else if text.contains('|') & !has_parameters(text) {
         "write a closure with one parameter, as `|lex| ..`"
     } else {
         "name it, as in `callback = ..` or `priority = 3`"
+    }
+}
+
+/// Returns whether a text begins with the parameters of a closure, which no comma cut in two.
+fn has_parameters(text: &str) -> bool {
+    match text.strip_prefix("|") {
+        Some(rest) => rest.contains('|'),
+        None => false,
     }
 }
 
