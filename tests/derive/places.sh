@@ -37,7 +37,24 @@ by_patch() {
     printf '\n[patch.crates-io]\nlogos = { path = "%s" }\n' "$root/rust/logos" >> "$room/places/patch/Cargo.toml"
     prints 'a tree by [patch.crates-io]' "$here/tree/expected" cargo run --offline --quiet --manifest-path "$room/places/patch/Cargo.toml"
     cargo tree --offline --prefix none --edges normal --manifest-path "$room/places/patch/Cargo.toml" > "$room/found" 2>&1
+    has_our_crate_once
+}
+
+# The crate of this repository is in the tree that cargo printed, and no other of its name.
+has_our_crate_once() {
     expect 'the crate of this repository, once' [ "$(grep -c '^logos v' "$room/found"):$(grep -cF "($root/rust/logos)" "$room/found")" = 2:2 ]
+}
+
+# A tree with a Cargo.lock that names the crate of the registry.
+by_patch_and_update() {
+    local package=$room/places/locked
+    cp -r "$here/tree" "$package"
+    cp "$here/tree/registry.lock" "$package/Cargo.lock"
+    printf '\n[patch.crates-io]\nlogos = { path = "%s" }\n' "$root/rust/logos" >> "$package/Cargo.toml"
+    expect 'cargo update in a tree with a Cargo.lock' cargo update --offline --quiet logos --manifest-path "$package/Cargo.toml"
+    prints 'a tree with a Cargo.lock' "$here/tree/expected" cargo run --offline --quiet --manifest-path "$package/Cargo.toml"
+    cargo tree --offline --prefix none --edges normal --manifest-path "$package/Cargo.toml" > "$room/found" 2>&1
+    has_our_crate_once
 }
 
 by_git() {
@@ -81,6 +98,7 @@ places() {
     expect 'no program is needed' needs_no_program
     by_path
     by_patch
+    by_patch_and_update
     make_repository
     by_git
     by_vendoring
