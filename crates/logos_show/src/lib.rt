@@ -2,6 +2,9 @@
 
 #![tactic(auto)]
 
+ghost use Rattle.std.specs.Prelude.{◌≡◌, ◌≤◌, ◌↔◌, ◌⊎◌, None, IfErr, IfOk, map, string_bytes};
+ghost use Rattle.logos_show.specs.Views.{requested, status_of};
+
 mod candidates;
 mod choice;
 mod comparison;
@@ -16,16 +19,22 @@ mod program;
 mod refusals;
 mod stream;
 
-use logos_host::{Disk, arguments};
+use logos_host::{Disk, Failure};
 use logos_screen::{CountedOutput, MessageOutput, ProgressLine};
 use program::run_with;
 
-/// Runs `logos_show` with the arguments of the process. Returns the exit status.
-pub fn run_logos_show(rt: &HostRuntime) -> u8 {
+/// Runs `logos_show` with these arguments of the process. Returns the exit status.
+pub fn run_logos_show(rt: &HostRuntime, arguments: Result<Vec<String>, Failure<'static>>) -> u8
+    requires { IfErr arguments (λ failure. (status_of failure ≡ 2) ⊎ (status_of failure ≡ 3)) }
+    ensures usage { IfOk arguments.entry (λ passed.
+        (result ≡ 2) ↔ (requested (map string_bytes passed.items) ≡ None)) }
+    ensures unread { IfErr arguments.entry (λ failure. result ≡ status_of failure) }
+    ensures known { result ≤ 3 }
+{
     let line = ProgressLine::new();
     let status = run_with(
         rt.alloc(),
-        arguments(rt),
+        arguments,
         &mut Disk { rt },
         rt,
         &mut MessageOutput::new(&line, rt.stderr(), rt.stderr()),
