@@ -2,7 +2,7 @@
 use Rattle.std.specs.Prelude.{◌≡◌, ◌≤◌, ◌↔◌, ℕ, List, None, Result, String, Vec, IfErr, IfOk, map, string_bytes}
 use Rattle.logos_cli.specs.Orders.{requested as cli_requested}
 use Rattle.logos_commands.specs.Commands.{requested as commands_requested}
-use Rattle.logos_questions.specs.Orders.{requested as show_requested}
+use Rattle.logos_show.specs.Orders.{requested as show_requested}
 pub use Rattle.logos_commands.specs.Commands.{requested as logos_requested}
 pub use Rattle.logos_host.specs.Failures.{status_of}
 use Rattle.logos_host.specs.declared.failure.Failure.{Failure}

@@ -1,12 +1,14 @@
-//! The replies of `logos_show` to questions about lexers, written as text or as lines of JSON: the
-//! matches from a point of an input, inputs that take all edges, the verdict on two lexers, and
-//! whether an answer equals a stored one. Called by `logos_show`.
+//! The replies of `logos_show` to questions about lexers, as text or as lines of JSON: the leaves
+//! of a lexer, the matches from a point of an input, inputs that take all edges, the verdict on two
+//! lexers, and whether an answer equals a stored one. Called by `logos_show`.
 
 #![tactic(auto)]
 
+mod leaves;
 mod replies;
 mod verdict;
 
+pub use leaves::{EnumInFile, Form, push_form, rows_of};
 pub use replies::{
     Agreement, InputPoint, refusal_of, write_agreement, write_input_records, write_inputs,
     write_match_records, write_matches,

@@ -5,13 +5,13 @@ ghost use Rattle.logos_show.specs.Imports.{IsNoMisuse};
 
 use crate::choice::lexer_in;
 use crate::lexers::{SHAPE, part_of};
-use crate::pages::{EnumInFile, rows_of};
 use crate::program::Task;
 use crate::refusals::{refused, text_of};
 use logos_codegen::{Generated, generate};
 use logos_host::{Failure, Files, print_bytes, read_bytes, write_file};
 use logos_html::{LexerPage, PageInput, page_of};
 use logos_lines::LineIndex;
+use logos_replies::{EnumInFile, rows_of};
 use logos_report::Source;
 use logos_rust_file::FoundEnum;
 use std::io::Write;
@@ -87,7 +87,6 @@ fn page_by_lexer(
         part,
         lines: &lines,
         text: text_of(source, one),
-        found: one,
     };
     let rows = rows_of(alloc, found, made)?;
     let page = LexerPage {

@@ -6,7 +6,6 @@ ghost use Rattle.logos_show.specs.Orders.{IsNoMisuse};
 use crate::choice::has_name;
 use crate::lexers::SHAPE;
 use crate::refusals::{refused, refused_with, text_of};
-use logos_answers::{push_costs, push_examples, push_rows};
 use logos_causes::{Explained, Lexer, explain_enum};
 use logos_codegen::error::Memory;
 use logos_codegen::token::{TokenStream, tokenize};
@@ -16,13 +15,10 @@ use logos_file_warnings::{
     warning_text,
 };
 use logos_host::Failure;
-use logos_inspect::{LeafRow, costs_of, row_of};
 use logos_lines::LineIndex;
 use logos_page::Page;
-use logos_records::{
-    JsonLines, NamedGraph, push_cost_record, push_example_records, push_leaf_records,
-};
-use logos_replies::refusal_of;
+use logos_records::JsonLines;
+use logos_replies::{EnumInFile, Form, push_form, refusal_of};
 use logos_report::{Part, Source, Warning};
 use logos_rust_file::{FoundEnum, read_file};
 use logos_warnings::Origin;
@@ -40,15 +36,6 @@ pub(crate) struct Shown {
     pub(crate) warnings: Vec<u8>,
 }
 
-/// The form in which the lexers of a file are shown.
-#[derive(Clone, Copy)]
-pub(crate) enum Form {
-    Tables,
-    Examples,
-    LeafRecords,
-    ExampleRecords,
-}
-
 /// The style in which a file is shown.
 #[derive(Clone, Copy)]
 pub(crate) struct PageStyle {
@@ -64,15 +51,6 @@ struct Pages {
     records: JsonLines,
     warned: Vec<Warning>,
     style: PageStyle,
-}
-
-/// An enum of a file: its offset there, the lines of the file, and its own text.
-#[derive(Clone, Copy)]
-pub(crate) struct EnumInFile<'f, 's> {
-    pub(crate) part: Part<'f, 's>,
-    pub(crate) lines: &'f LineIndex<'s>,
-    pub(crate) text: &'s str,
-    pub(crate) found: FoundEnum,
 }
 
 /// Returns the output for a file, or for the enums in it with a given name.
@@ -119,7 +97,7 @@ fn pages_of<'f, 's>(
         style,
     };
     for one in found {
-        push_named(&mut pages, enum_in(source, lines, *one), name)?;
+        push_named(&mut pages, enum_in(source, lines, *one), *one, name)?;
     }
     Ok(pages)
 }
@@ -160,7 +138,6 @@ fn enum_in<'f, 's>(
         },
         lines,
         text: text_of(source, found),
-        found,
     }
 }
 
@@ -168,26 +145,28 @@ fn enum_in<'f, 's>(
 fn push_named(
     pages: &mut Pages,
     one: EnumInFile<'_, '_>,
+    found: FoundEnum,
     name: Option<&str>,
 ) -> Result<(), Failure<'static>>
     ensures { IfErr result IsNoMisuse }
 {
     let alloc = pages.style.showing.alloc;
-    if has_name(alloc, one.part.source, one.found, name)? {
-        push_enum(alloc, pages, one)?;
+    if has_name(alloc, one.part.source, found, name)? {
+        push_enum(alloc, pages, one, found.derives)?;
     }
     Ok(())
 }
 
-/// Appends the output for an enum.
+/// Appends the output for an enum, given whether it derives `Logos`.
 fn push_enum(
     alloc: Global,
     pages: &mut Pages,
     one: EnumInFile<'_, '_>,
+    derives: bool,
 ) -> Result<(), Failure<'static>>
     ensures { IfErr result IsNoMisuse }
 {
-    if one.found.derives {
+    if derives {
         return push_lexer(alloc, pages, one);
     }
     add_text(one.text, one.part.offset, false, &mut pages.warned)?;
@@ -235,7 +214,14 @@ fn push_made(
 ) -> Result<(), Failure<'static>>
     ensures { IfErr result IsNoMisuse }
 {
-    push_form(alloc, pages, one, made)?;
+    push_form(
+        alloc,
+        &mut pages.tables,
+        &mut pages.records,
+        pages.style.form,
+        one,
+        made,
+    )?;
     let stream = tokens_of(alloc, one.text)?;
     let lexer = Lexer {
         graph: &made.graph,
@@ -251,90 +237,4 @@ fn tokens_of<'s>(alloc: Global, text: &'s str) -> Result<TokenStream<'s>, Memory
         Ok(stream) => Ok(stream),
         Err(_) => Err(Memory),
     }
-}
-
-/// Appends the leaves of a lexer or its examples, in the requested form.
-fn push_form(
-    alloc: Global,
-    pages: &mut Pages,
-    one: EnumInFile<'_, '_>,
-    made: &Generated<'_>,
-) -> Result<(), Memory> {
-    let named = NamedGraph {
-        name: made.name.text,
-        graph: &made.graph,
-    };
-    match pages.style.form {
-        Form::Tables => push_table(alloc, &mut pages.tables, one, made),
-        Form::Examples => push_example_lines(alloc, &mut pages.tables, one.part, made),
-        Form::LeafRecords => push_leaves(alloc, &mut pages.records, one, made),
-        Form::ExampleRecords => match push_example_records(alloc, &mut pages.records, named) {
-            Ok(()) => Ok(()),
-            Err(_) => Err(Memory),
-        },
-    }
-}
-
-/// Appends the leaves of the lexer of an enum, and the cost of the lexer.
-fn push_table(
-    alloc: Global,
-    page: &mut Page,
-    one: EnumInFile<'_, '_>,
-    made: &Generated<'_>,
-) -> Result<(), Memory> {
-    let rows = rows_of(alloc, one, made)?;
-    push_title(page, one.part, made);
-    push_rows(page, &rows);
-    push_costs(page, costs_of(&made.code));
-    Ok(())
-}
-
-/// Appends the examples of the leaves of a lexer.
-fn push_example_lines(
-    alloc: Global,
-    page: &mut Page,
-    part: Part<'_, '_>,
-    made: &Generated<'_>,
-) -> Result<(), Memory> {
-    push_title(page, part, made);
-    push_examples(alloc, page, &made.graph)?;
-    page.push("\n");
-    Ok(())
-}
-
-/// Appends the leaves of the lexer of an enum and its cost, as lines of JSON.
-fn push_leaves(
-    alloc: Global,
-    lines: &mut JsonLines,
-    one: EnumInFile<'_, '_>,
-    made: &Generated<'_>,
-) -> Result<(), Memory> {
-    let rows = rows_of(alloc, one, made)?;
-    push_leaf_records(lines, made.name.text, &rows);
-    push_cost_record(lines, made.name.text, costs_of(&made.code));
-    Ok(())
-}
-
-/// Returns the rows of the leaves of an enum.
-pub(crate) fn rows_of<'l>(
-    alloc: Global,
-    one: EnumInFile<'_, 'l>,
-    made: &'l Generated<'_>,
-) -> Result<Vec<LeafRow<'l>>, Memory> {
-    let mut rows = Vec::new(alloc);
-    for leaf in made.graph.leaves() {
-        rows.push(row_of(alloc, one.lines, one.part.offset, one.text, leaf)?)?;
-    }
-    Ok(rows)
-}
-
-/// Appends the name of the enum and its location.
-fn push_title(page: &mut Page, part: Part<'_, '_>, made: &Generated<'_>) {
-    page.push("enum ");
-    page.push(made.name.text);
-    page.push(" (");
-    page.push_shown(part.source.path());
-    page.push(":");
-    page.push_number(part.location(made.name.span.from).line);
-    page.push(")\n\n");
 }

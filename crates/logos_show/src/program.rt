@@ -10,7 +10,7 @@ use crate::inputs::yield_inputs;
 use crate::items::lex;
 use crate::matches::{FilePoint, show_matches};
 use crate::page_files::{PageOrder, write_page};
-use crate::pages::{Form, PageStyle, Shown, shown_of};
+use crate::pages::{PageStyle, Shown, shown_of};
 use crate::refusals::write_note;
 use crate::stream::lex_stream;
 use logos_file_warnings::Showing;
@@ -20,7 +20,7 @@ use logos_options::{
     with_nearest,
 };
 use logos_questions::{Question, RequestKind, ShowOrder, ShowRequest, request_of};
-use logos_replies::{Agreement, write_agreement};
+use logos_replies::{Agreement, Form, write_agreement};
 use logos_report::Source;
 use logos_screen::{PLAIN, Screen, allows_colors, push_fitted, screen_of};
 use std::alloc::{AllocError, Global};

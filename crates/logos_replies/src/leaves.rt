@@ -1,0 +1,127 @@
+//! The leaves of a lexer and its cost, or examples of its leaves. Used by `page_files` and `pages`.
+
+use logos_answers::{push_costs, push_examples, push_rows};
+use logos_codegen::Generated;
+use logos_codegen::error::Memory;
+use logos_inspect::{LeafRow, costs_of, row_of};
+use logos_lines::LineIndex;
+use logos_page::Page;
+use logos_records::{
+    JsonLines, NamedGraph, push_cost_record, push_example_records, push_leaf_records,
+};
+use logos_report::Part;
+use std::alloc::Global;
+
+/// The form in which the lexers of a file are shown.
+#[derive(Clone, Copy)]
+pub enum Form {
+    Tables,
+    Examples,
+    LeafRecords,
+    ExampleRecords,
+}
+
+/// An enum of a file: its offset there, the lines of the file, and its own text.
+#[derive(Clone, Copy)]
+pub struct EnumInFile<'f, 's> {
+    pub part: Part<'f, 's>,
+    pub lines: &'f LineIndex<'s>,
+    pub text: &'s str,
+}
+
+/// Appends the leaves of the lexer of an enum and its cost, or examples of its leaves: to a page as
+/// text, or to lines of JSON.
+///
+/// # Errors
+///
+/// Returns `Memory` if memory runs out.
+pub fn push_form(
+    alloc: Global,
+    page: &mut Page,
+    lines: &mut JsonLines,
+    form: Form,
+    one: EnumInFile<'_, '_>,
+    made: &Generated<'_>,
+) -> Result<(), Memory> {
+    let named = NamedGraph {
+        name: made.name.text,
+        graph: &made.graph,
+    };
+    match form {
+        Form::Tables => push_table(alloc, page, one, made),
+        Form::Examples => push_example_lines(alloc, page, one.part, made),
+        Form::LeafRecords => push_leaves(alloc, lines, one, made),
+        Form::ExampleRecords => match push_example_records(alloc, lines, named) {
+            Ok(()) => Ok(()),
+            Err(_) => Err(Memory),
+        },
+    }
+}
+
+/// Appends the leaves of the lexer of an enum, and the cost of the lexer.
+fn push_table(
+    alloc: Global,
+    page: &mut Page,
+    one: EnumInFile<'_, '_>,
+    made: &Generated<'_>,
+) -> Result<(), Memory> {
+    let rows = rows_of(alloc, one, made)?;
+    push_title(page, one.part, made);
+    push_rows(page, &rows);
+    push_costs(page, costs_of(&made.code));
+    Ok(())
+}
+
+/// Appends the examples of the leaves of a lexer.
+fn push_example_lines(
+    alloc: Global,
+    page: &mut Page,
+    part: Part<'_, '_>,
+    made: &Generated<'_>,
+) -> Result<(), Memory> {
+    push_title(page, part, made);
+    push_examples(alloc, page, &made.graph)?;
+    page.push("\n");
+    Ok(())
+}
+
+/// Appends the leaves of the lexer of an enum and its cost, as lines of JSON.
+fn push_leaves(
+    alloc: Global,
+    lines: &mut JsonLines,
+    one: EnumInFile<'_, '_>,
+    made: &Generated<'_>,
+) -> Result<(), Memory> {
+    let rows = rows_of(alloc, one, made)?;
+    push_leaf_records(lines, made.name.text, &rows);
+    push_cost_record(lines, made.name.text, costs_of(&made.code));
+    Ok(())
+}
+
+/// Returns the rows of the leaves of an enum.
+///
+/// # Errors
+///
+/// Returns `Memory` if memory runs out.
+pub fn rows_of<'l>(
+    alloc: Global,
+    one: EnumInFile<'_, 'l>,
+    made: &'l Generated<'_>,
+) -> Result<Vec<LeafRow<'l>>, Memory> {
+    let mut rows = Vec::new(alloc);
+    for leaf in made.graph.leaves() {
+        rows.push(row_of(alloc, one.lines, one.part.offset, one.text, leaf)?)?;
+    }
+    Ok(rows)
+}
+
+/// Appends the name of the enum and its location.
+fn push_title(page: &mut Page, part: Part<'_, '_>, made: &Generated<'_>) {
+    page.push("enum ");
+    page.push(made.name.text);
+    page.push(" (");
+    page.push_shown(part.source.path());
+    page.push(":");
+    page.push_number(part.location(made.name.span.from).line);
+    page.push(")\n\n");
+}
