@@ -31,7 +31,7 @@ pub enum Token {
     Equals,
     #[regex(r"[0-9]{8}T[0-9]{6}Z?")]
     Time,
-    #[regex(r"[0-9]{8}")]
+    #[regex(r"[0-9]{8}", priority = 10)]
     Date,
     #[regex(r"-?PT?[0-9]+[WDHMS]", priority = 9)]
     Duration,
