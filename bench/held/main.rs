@@ -5,8 +5,8 @@
 //! the sum of the ends of both, and the sum of the numbers of the tokens' variants, from 1 on.
 //!
 //! A loop takes the items with their places; with `--cfg folded` it is `for_each`, and with `--cfg
-//! parser` `next` is called from three places, as parsers do. With `--cfg ahead` a lexer of the shape
-//! `tables` looks ahead everywhere, and with `--cfg plain` nowhere.
+//! parser` `next` is called from three places, as parsers do. With `--cfg ahead` a lexer of the
+//! shape `tables` looks ahead everywhere, and with `--cfg plain` nowhere.
 
 #![allow(warnings)]
 

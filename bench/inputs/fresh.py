@@ -4,7 +4,7 @@ A text is made from a fixed seed, and nothing in it is repeated as a whole."""
 import random
 
 from .fresh_programs import erlang, gcode, onec, proto, verilog
-from .pieces import DIGITS, LOWER, clock, filled, some
+from .pieces import DIGITS, clock, filled, some
 from .vocabularies import ACCENTED, ARABIC, HEBREW, LATIN, RUSSIAN, number, snake, word, words
 
 
@@ -42,18 +42,27 @@ def noise(rng, most):
     return bytes(rng.choices(NOISE, k=rng.randint(1, most)))
 
 
+def seen(rng):
+    """The fields of a satellite."""
+    return [f"{rng.randrange(1, 33):02}", number(rng, 2), f"{rng.randrange(360):03}", rng.choice(["", number(rng, 2)])]
+
+
 def nmea_fields(rng):
-    place = [f"{rng.randrange(10000):04}.{rng.randrange(10000):04}", rng.choice("NS"), f"{rng.randrange(18000):05}.{rng.randrange(10000):04}", rng.choice("EW")]
-    time = f"{clock(rng).replace(':', '')}.{rng.randrange(100):02}"
-    view = [field for _ in range(rng.randint(1, 4)) for field in (f"{rng.randrange(1, 33):02}", number(rng, 2), f"{rng.randrange(360):03}", rng.choice(["", number(rng, 2)]))]
-    return rng.choice([
-        ["$GPGGA", time, *place, "1", f"{rng.randrange(4, 13):02}", f"{rng.uniform(0, 3):.1f}", f"{rng.uniform(-9, 900):.1f}", "M", f"{rng.uniform(-60, 60):.1f}", "M", "", ""],
-        ["$GPRMC", time, rng.choice("AAAV"), *place, f"{rng.uniform(0, 40):.2f}", f"{rng.uniform(0, 360):.2f}", f"{rng.randrange(1, 29):02}0126", "", "", "A"],
-        ["$GPGSV", "3", number(rng, 1), f"{rng.randrange(4, 13):02}", *view], ["$GPGSV", "2", number(rng, 1), f"{rng.randrange(4, 13):02}", *view],
-        ["$GPGSA", "A", "3", *(rng.choice(["", f"{rng.randrange(1, 33):02}"]) for _ in range(12)), *(f"{rng.uniform(0, 9):.1f}" for _ in range(3))],
-        ["$GPVTG", f"{rng.uniform(0, 360):.1f}", "T", "", "M", f"{rng.uniform(0, 40):.1f}", "N", f"{rng.uniform(0, 75):.1f}", "K", "A"],
-        ["!AIVDM", "1", "1", "", rng.choice("AB"), some(rng, DIGITS + "ABCDEFGHIJKLMNOPQRSTUVW:;<=>?@`abcdefghijklmnopqrstuvw", 28, 56), "0"],
-        [f"$P{some(rng, 'ABCDEFGHIJKLMNOPQRSTUVWXYZ', 4, 4)}", word(rng), number(rng), word(rng)]])
+    kind, time = rng.randrange(8), f"{clock(rng).replace(':', '')}.{rng.randrange(100):02}"
+    where = [f"{rng.randrange(10000):04}.{rng.randrange(10000):04}", rng.choice("NS"), f"{rng.randrange(18000):05}.{rng.randrange(10000):04}", rng.choice("EW")]
+    if kind == 0:
+        return ["$GPGGA", time, *where, "1", f"{rng.randrange(4, 13):02}", f"{rng.uniform(0, 3):.1f}", f"{rng.uniform(-9, 900):.1f}", "M", f"{rng.uniform(-60, 60):.1f}", "M", "", ""]
+    if kind == 1:
+        return ["$GPRMC", time, rng.choice("AAAV"), *where, f"{rng.uniform(0, 40):.2f}", f"{rng.uniform(0, 360):.2f}", f"{rng.randrange(1, 29):02}0126", "", "", "A"]
+    if kind < 4:
+        return ["$GPGSV", str(kind), number(rng, 1), f"{rng.randrange(4, 13):02}", *(field for _ in range(rng.randint(1, 4)) for field in seen(rng))]
+    if kind == 4:
+        return ["$GPGSA", "A", "3", *(rng.choice(["", f"{rng.randrange(1, 33):02}"]) for _ in range(12)), *(f"{rng.uniform(0, 9):.1f}" for _ in range(3))]
+    if kind == 5:
+        return ["$GPVTG", f"{rng.uniform(0, 360):.1f}", "T", "", "M", f"{rng.uniform(0, 40):.1f}", "N", f"{rng.uniform(0, 75):.1f}", "K", "A"]
+    if kind == 6:
+        return ["!AIVDM", "1", "1", "", rng.choice("AB"), some(rng, DIGITS + "ABCDEFGHIJKLMNOPQRSTUVW:;<=>?@`abcdefghijklmnopqrstuvw", 28, 56), "0"]
+    return [f"$P{some(rng, 'ABCDEFGHIJKLMNOPQRSTUVWXYZ', 4, 4)}", word(rng), number(rng), word(rng)]
 
 
 def nmea(rng):
