@@ -1,6 +1,7 @@
 """What the scripts of this folder share: tables, measured programs, and what is kept of a run."""
 import hashlib
 import math
+import operator
 import os
 import pathlib
 import re
@@ -86,14 +87,13 @@ class Runs:
     def __init__(self):
         self.best, self.found = {}, {}
 
-    def measure(self, text, way, words):
-        """Runs a program, which prints its seconds and what it found. The variable BEFORE has the
-        words in front of it."""
+    def measure(self, text, way, words, compared=None):
+        """Runs a program, which prints its seconds and what it found, of which so many numbers are
+        compared. The variable BEFORE has the words in front of it."""
         before = shlex.split(os.environ.get("BEFORE", ""))
         seconds, *found = said_by([*before, *words]).split()
         self.best[text, way] = min(self.best.get((text, way), math.inf), float(seconds))
-        # (leaves have other numbers in C, where skips have one too)
-        self.found.setdefault(text, {})[way] = found[:3]
+        self.found.setdefault(text, {})[way] = found[:compared]
 
     def seconds(self, text, *ways):
         """Returns the least seconds of some programs, or None where a text has none of them."""
@@ -112,7 +112,7 @@ class Runs:
         different = False
         for text, found in self.found.items():
             first, *others = found
-            for way in (it for it in others if found[it] != found[first]):
+            for way in (it for it in others if any(map(operator.ne, found[it], found[first]))):
                 print(f"{text}: {way} finds {found[way]}, {first} {found[first]}", file=sys.stderr)
                 different = True
         sys.exit(different)

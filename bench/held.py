@@ -1,34 +1,39 @@
 #!/usr/bin/env python3
-"""Measures `Token::lexer` on lexers and texts on which nothing was fitted: those of
-bench/inputs/held_rules.py, and the eight of examples/lexers. Change no constant of the runtime by
-what this script prints; `bench/lexer.py` has the texts for that.
+"""Measures `Token::lexer` on lexers and texts on which nothing was fitted. The variable SET selects
+them: `held`, which stands for no variable, those of bench/inputs/held_rules.py and the eight of
+examples/lexers; `fresh`, those of bench/held/rules, on which nothing was measured while constants
+were chosen. Change no constant of the runtime by what this script prints; `bench/lexer.py` has the
+texts for that.
 
   python3 bench/held.py [RUNS [KIND..]]
 
 Each program reads the leaf and the end of each item, and prints their sums: where two find
 different items the script fails. In Rust these are lexers of the shape `tables`, by a loop over
-`spanned`, by `for_each` and, as `parser`, by calls of `next` from three places, and of the shapes
-`tailcall` and `state_machine`. In C these are the scanners of the new kinds by flex (-CF, -Cf),
-re2c (-b, -g) and ragel (-G2), as their users build the fast ones. Those of examples/lexers have
-callbacks and Unicode names, and so none in C.
+`spanned`, by `for_each` and, as `parser`, by calls of `next` from three places; by the same loop
+where they look ahead everywhere, as `ahead`, and nowhere, as `plain`; and of the shapes `tailcall`
+and `state_machine`. In C these are the scanners by flex (-CF, -Cf), re2c (-b, -g) and ragel (-G2),
+as their users build the fast ones. Those of examples/lexers have callbacks and Unicode names, and
+so none in C.
 
-A text has 2 MiB, and no part of it is repeated as a whole. It is read as a whole, and in fresh
-pieces that end with lines: single lines, and of at least 256 bytes, 1, 4 and 16 KiB. Each piece has
-a lexer of its own. Programs take turns in an order of chance, and the fastest run counts: of six,
-if no number is given.
+A text has 2 MiB, and 4 MiB in the set `fresh`, and no part of it is repeated as a whole. It is read
+as a whole, and in fresh pieces that end with lines: single lines, and of at least 256 bytes, 1, 4
+and 16 KiB. Each piece has a lexer of its own. Programs take turns in an order of chance, and the
+fastest run counts: of six, if no number is given.
 
 The variable LEXER names the program of bench/lexer, built by `bench/lexer.py`: then the library's
-own `Lexer` and its run by chunks are measured on whole texts of the new kinds, and which of them
-the programs choose is shown.
+own `Lexer` and its run by chunks are measured on the same whole texts, but for those of the
+examples, and which of them the programs choose is shown.
 
 The variable OTHER names the folder `src` of another version of rust/logos to measure beside this
-one, whose lexers are then `other`. KEEP names a folder in which programs are kept for the next
-time, CLI a `logos_cli`, SIZE the bytes of a text, and BEFORE words in front of each program that is
-measured, such as `chrt -f 1 taskset -c 3`. JOBS is how many compilers run at once, two without it.
+one, whose lexers are then `other`. KEEP names a folder in which texts and programs are kept for the
+next time, CLI a `logos_cli`, SIZE the bytes of a text, and BEFORE words in front of each program
+that is measured, such as `chrt -f 1 taskset -c 3`. JOBS is how many compilers run at once, two
+without it.
 
 It needs rustc, cargo and gcc; flex, re2c and ragel where they are found. A shape for which rustc
 takes more than 60 processor seconds, or as many as the variable SECONDS says, is left out. What
 takes longest is compiling: with KEEP, `python3 bench/held.py 0` does that alone."""
+import glob
 import os
 import random
 import shutil
@@ -38,32 +43,37 @@ from concurrent.futures import ThreadPoolExecutor
 
 import scanners
 from common import BENCH, ROOT, Room, Runs, print_means, print_table, said_by, shown, write
-from inputs import held, held_rules
+from inputs import fresh, fresh_rules, held, held_rules
 
+# The texts, the rules and the MiB of a text of each set.
+SETS = {"held": (held, held_rules, 2), "fresh": (fresh, fresh_rules, 4)}
+SET = os.environ.get("SET", "held")
+TEXTS, RULES, MIB = SETS[SET]
 SHAPES = ["tailcall", "state_machine"]
 FLAGS = {"flex": ("-CF", "-Cf"), "re2c": ("-b", "-g"), "ragel": ("-G2",)}
 IN_C = [f"{tool}{flag}" for tool, flags in FLAGS.items() for flag in flags]
 # The lexers of the shape `tables`, with what rustc gets for each, and those of the other version.
-TABLES = {"lexer": (), "folded": ("--cfg", "folded"), "parser": ("--cfg", "parser")}
+TABLES = {"lexer": (), **{way: ("--cfg", way) for way in ("folded", "parser", "ahead", "plain")}}
 OTHER = {"other": (), "other_parser": ("--cfg", "parser")}
 PIECES = {"1": "a line", "256": "256", "1024": "1,024", "4096": "4,096", "16384": "16,384"}
-IN_PIECES = ["lexer", "other", "parser", "other_parser"]
+IN_PIECES = ["lexer", "folded", "parser", "other", "other_parser", *SHAPES]
 # The library, with what its program is asked for.
 LIBRARY = {"own_lexer": "lexer_items", "own_chunks": "chunk_items"}
 # The examples, with the type of their tokens.
 EXAMPLES = {"access_log": "Part", "css": "Token", "json": "Token", "mustache": "Part<'static>",
             "pythonic": "Token", "rusty": "Token", "sql": "Token", "toml": "Token<'static>"}
-KINDS = [*held_rules.KINDS, *(f"examples/{name}" for name in EXAMPLES)]
+KINDS = [*RULES.KINDS, *(f"examples/{name}" for name in EXAMPLES if SET == "held")]
 # For the means of whole texts, and of pieces: a program, and by which others its speed is shown.
 RATIOS = {
     "lexer by the faster shape": ("lexer", SHAPES),
     "for_each by it": ("folded", SHAPES),
     "parser by it": ("parser", SHAPES),
     "lexer by the fastest in C": ("lexer", IN_C),
+    "lexer by the better of ahead and plain": ("lexer", ["ahead", "plain"]),
     "lexer by the other version": ("lexer", ["other"]),
     "parser by its parser": ("parser", ["other_parser"]),
 }
-BY_OTHER = list(RATIOS)[-2:]
+BY_SHAPE, BY_OTHER = list(RATIOS)[:3], list(RATIOS)[-2:]
 PEERS = [*SHAPES, *IN_C]
 SECONDS = int(os.environ.get("SECONDS", 60))
 
@@ -81,7 +91,7 @@ def lay_out(folder, cli, kind, shape):
     """Writes the parts of the program of a kind and a shape. Returns their paths."""
     name = kind.removeprefix("examples/")
     if name == kind:
-        write(f"{folder}/source.rs", held_rules.source(kind, "rust"))
+        write(f"{folder}/source.rs", RULES.source(kind, "rust"))
     else:
         os.makedirs(folder, exist_ok=True)
         shutil.copy(f"{ROOT}/examples/lexers/{name}.rs", f"{folder}/source.rs")
@@ -101,9 +111,9 @@ def compiled(room, kind, cli, library, other):
         for way, words, of in ways:
             main = f"{BENCH}/held/main.rs"
             found[way] = scanners.in_rust(room, f"{name}.{way}", parts, main, of, SECONDS, words)
-    for tool in (it for it in FLAGS if kind in held_rules.KINDS and shutil.which(it)):
+    for tool in (it for it in FLAGS if kind in RULES.KINDS and shutil.which(it)):
         source = f"{room.folder}/{name}.{tool}.source"
-        write(source, held_rules.source(kind, tool))
+        write(source, RULES.source(kind, tool))
         for flag in FLAGS[tool]:
             way = f"{tool}{flag}"
             found[way] = scanners.in_c(room, f"{name}.{way}", [tool, flag], source, f"{BENCH}/held")
@@ -112,7 +122,7 @@ def compiled(room, kind, cli, library, other):
 
 def write_enum(path, kind):
     """Writes the enum of a new kind alone."""
-    lines = held_rules.source(kind, "rust").splitlines(keepends=True)
+    lines = RULES.source(kind, "rust").splitlines(keepends=True)
     first = next(n for n, line in enumerate(lines) if line.startswith("#[derive("))
     write(path, "".join(lines[first:lines.index("}\n", first) + 1]))
 
@@ -120,7 +130,7 @@ def write_enum(path, kind):
 def library_commands(room, kind, path):
     """Returns the commands that measure the library on a text, and which of them it chooses."""
     lexer = os.environ.get("LEXER")
-    if not lexer or kind not in held_rules.KINDS:
+    if not lexer or kind not in RULES.KINDS:
         return {}, None
     enum = f"{room.folder}/{kind}.enum.rs"
     write_enum(enum, kind)
@@ -132,7 +142,8 @@ def library_commands(room, kind, path):
 def measure_library(runs, name, commands):
     """Runs the library once on a whole text."""
     for way in random.sample(list(commands), len(commands)):
-        runs.measure((name, "0"), way, commands[way])
+        # (its leaves have other numbers, since skips have one too)
+        runs.measure((name, "0"), way, commands[way], 3)
 
 
 def print_library(runs, choices):
@@ -165,19 +176,41 @@ def print_ratios(runs, names, piece, kinds):
     print_means({kind: {name: runs.ratio((name, piece), *RATIOS[kind]) for name in names} for kind in kinds})
 
 
-def print_pieces(runs, names):
-    """Prints the ratios of fresh pieces."""
-    print("\nFresh pieces: lexer by the other version's, and parser by its parser")
-    pair = lambda key: ", ".join(shown(runs.ratio(key, *RATIOS[kind])) for kind in BY_OTHER)
-    rows = [[name, *(pair((name, piece)) for piece in PIECES)] for name in names]
+def print_pieces(runs, names, kinds):
+    """Prints some ratios of fresh pieces."""
+    print(f"\nFresh pieces: {', '.join(kinds)}")
+    several = lambda key: ", ".join(shown(runs.ratio(key, *RATIOS[kind])) for kind in kinds)
+    rows = [[name, *(several((name, piece)) for piece in PIECES)] for name in names]
     print_table(["Text", *PIECES.values()], rows)
     for piece in PIECES:
         print(f"\nPieces of {piece}")
-        print_ratios(runs, names, piece, BY_OTHER)
+        print_ratios(runs, names, piece, kinds)
+
+
+def write_text(room, kind, size):
+    """Writes the text of a kind, if it is not there. Returns its path."""
+    path = room.path(f"{kind.replace('/', '_')}.{size}.text", *sorted(glob.glob(f"{BENCH}/inputs/*.py")))
+    if not os.path.exists(path):
+        write(path, TEXTS.text(kind, size))
+    return path
+
+
+def print_whole(runs, paths, all_ways):
+    """Prints MB/s of all programs on whole texts, and the means of their ratios."""
+    shown_ways = [it for it in [*TABLES, *OTHER, *SHAPES, *IN_C] if any(it in ways for ways in all_ways.values())]
+    first = ["lexer by the faster shape", "lexer by the fastest in C", "lexer by the better of ahead and plain"]
+    rows = []
+    for name in paths:
+        key, size = (name, "0"), runs.sizes[name]
+        speeds = [runs.speed(key, way, size) for way in shown_ways]
+        rows.append([name, *speeds, *(shown(runs.ratio(key, *RATIOS[kind])) for kind in first)])
+    print("MB/s on whole texts")
+    print_table(["Text", *shown_ways, *first], rows)
+    print_ratios(runs, paths, "0", RATIOS)
 
 
 def main(count=6, *kinds):
-    room, runs, size = Room(), Runs(), int(os.environ.get("SIZE", 2 << 20))
+    room, runs, size = Room(), Runs(), int(os.environ.get("SIZE", MIB << 20))
     names = {kind: kind.replace("/", "_") for kind in kinds or KINDS}
     cli = logos_cli()
     runtime = scanners.runtime(f"{room.folder}/liblogos.rlib")
@@ -186,9 +219,7 @@ def main(count=6, *kinds):
     with ThreadPoolExecutor(int(os.environ.get("JOBS", 2))) as pool:
         jobs = [pool.submit(compiled, room, kind, cli, runtime, other) for kind in names]
         all_ways = {name: job.result() for name, job in zip(names.values(), jobs)}
-    paths = {name: f"{room.folder}/{name}.text" for name in all_ways}
-    for kind, name in names.items():
-        write(paths[name], held.text(kind, size))
+    paths = {name: write_text(room, kind, size) for kind, name in names.items()}
     library = {name: library_commands(room, kind, paths[name]) for kind, name in names.items()}
     runs.sizes = {name: os.path.getsize(path) for name, path in paths.items()}
     for _ in range(int(count)):
@@ -197,18 +228,10 @@ def main(count=6, *kinds):
             measure_library(runs, name, library[name][0])
     if not runs.best:
         return
-    shown_ways = [it for it in [*TABLES, *OTHER, *SHAPES, *IN_C] if any(it in ways for ways in all_ways.values())]
-    first = ["lexer by the faster shape", "lexer by the fastest in C"]
-    rows = []
-    for name, path in paths.items():
-        key, bytes_there = (name, "0"), os.path.getsize(path)
-        speeds = [runs.speed(key, way, bytes_there) for way in shown_ways]
-        rows.append([name, *speeds, *(shown(runs.ratio(key, *RATIOS[kind])) for kind in first)])
-    print("MB/s on whole texts")
-    print_table(["Text", *shown_ways, *first], rows)
-    print_ratios(runs, paths, "0", RATIOS)
+    print_whole(runs, paths, all_ways)
+    print_pieces(runs, paths, BY_SHAPE)
     if other:
-        print_pieces(runs, paths)
+        print_pieces(runs, paths, BY_OTHER)
     choices = {name: choice for name, (_, choice) in library.items() if choice}
     if choices:
         print_library(runs, choices)

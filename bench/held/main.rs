@@ -5,7 +5,8 @@
 //! the sum of the ends of both, and the sum of the numbers of the tokens' variants, from 1 on.
 //!
 //! A loop takes the items with their places; with `--cfg folded` it is `for_each`, and with `--cfg
-//! parser` `next` is called from three places, as parsers do.
+//! parser` `next` is called from three places, as parsers do. With `--cfg ahead` a lexer of the
+//! shape `tables` looks ahead everywhere, and with `--cfg plain` nowhere.
 
 #![allow(warnings)]
 
@@ -28,7 +29,10 @@ fn main() {
             to = if least == 0 { input.len() } else { (from + least - 1).min(input.len()) };
             to += input[to..].iter().position(|byte| *byte == b'\n').map_or(input.len() - to, |n| n + 1);
             let piece = <<Rules as logos::Logos>::Source as Read>::read(&input[from..to]);
-            let found = count(logos::Lexer::<Rules>::new(std::hint::black_box(piece)));
+            let lexer = logos::Lexer::<Rules>::new(std::hint::black_box(piece));
+            #[cfg(any(plain, ahead))]
+            let lexer = logos::internal::looking(lexer, cfg!(ahead));
+            let found = count(lexer);
             sums = Sums {
                 tokens: sums.tokens + found.tokens,
                 errors: sums.errors + found.errors,

@@ -1,4 +1,4 @@
-"""Lexers of kinds on which nothing is fitted, as sources of the programs in `PRINTERS`.
+"""Lexers of kinds on which nothing was fitted at first, as sources in Rust and for `PRINTERS`.
 
 A kind is a list of rules in order: a name, which is `-` for what is skipped, and a regex in the
 syntax of Rust's. The longest match counts, and of equally long ones that of the first rule. The
@@ -103,32 +103,33 @@ def rust(rules):
     return lines + ["}"]
 
 
-def flex(rules):
+def flex(numbers):
     lines = ["%{", '#include "main.h"', "%}", "%option noyywrap nounput noinput never-interactive 8bit", "%%"]
-    lines += [f"{flex_text(tree)} {f'TAKE({number}, yyleng);' if number else 'at += yyleng;'}" for number, tree in numbered(rules)]
+    lines += [f"{flex_text(tree)} {f'TAKE({number}, yyleng);' if number else 'at += yyleng;'}" for number, tree in numbers]
     return lines + [".|\\n errors++; at += yyleng; ends += at;", "%%", '#include "main_flex.h"']
 
 
-def re2c(rules):
+def re2c(numbers):
     lines = ['#include "main.h"', "static void lex(const unsigned char *cursor, const unsigned char *limit) {", "const unsigned char *marker; (void)marker;"]
     lines += ["for (;;) { const unsigned char *start = cursor;", "/*!re2c", 're2c:define:YYCTYPE = "unsigned char";']
     lines += ["re2c:define:YYCURSOR = cursor;", "re2c:define:YYMARKER = marker;", "re2c:yyfill:enable = 0;"]
-    lines += [f"{flex_text(tree)} {{ {f'TAKE({number}, cursor - start);' if number else 'at += cursor - start;'} continue; }}" for number, tree in numbered(rules)]
+    lines += [f"{flex_text(tree)} {{ {f'TAKE({number}, cursor - start);' if number else 'at += cursor - start;'} continue; }}" for number, tree in numbers]
     lines += ['[\\x00] { if (cursor > limit) return; errors++; at++; ends += at; continue; }', "* { errors++; at++; ends += at; continue; }", "*/ } }"]
     return lines + ['#include "main_re2c.h"']
 
 
-def ragel(rules):
+def ragel(numbers):
     lines = ['#include "main.h"', "%%{ machine lexer; alphtype unsigned char; main := |*"]
-    lines += [f"({ragel_text(tree)}) => {{ {f'TAKE({number}, te - ts);' if number else 'at += te - ts;'} }};" for number, tree in numbered(rules)]
+    lines += [f"({ragel_text(tree)}) => {{ {f'TAKE({number}, te - ts);' if number else 'at += te - ts;'} }};" for number, tree in numbers]
     lines += ["any => { errors++; at++; ends += at; };", "*|; }%%", "%% write data nofinal noerror noentry;"]
     lines += ["static void lex(const unsigned char *p, const unsigned char *pe) {", "const unsigned char *ts, *te, *eof = pe; int cs, act; (void)act;"]
     return lines + ["%% write init;", "%% write exec;", "}", '#include "main_re2c.h"']
 
 
-PRINTERS = {"rust": rust, "flex": flex, "re2c": re2c, "ragel": ragel}
+PRINTERS = {"flex": flex, "re2c": re2c, "ragel": ragel}
 
 
 def source(kind, program):
     """Returns the lexer of a kind as a source of a program."""
-    return "\n".join(PRINTERS[program](KINDS[kind])) + "\n"
+    lines = rust(KINDS[kind]) if program == "rust" else PRINTERS[program](numbered(KINDS[kind]))
+    return "\n".join(lines) + "\n"
