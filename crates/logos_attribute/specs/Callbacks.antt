@@ -8,7 +8,7 @@ use Rattle.logos_token.specs.Punctuation.{is_alone}
 use Rattle.logos_attribute.specs.Slices.{Slice}
 use Rattle.logos_attribute.specs.Reports.{Report, with_faults, without_faults, fault, fault_also, only}
 
--- `|`
+-- The character `|`.
 abbrev pub bar : ℕ
 bar = 124
 
@@ -28,18 +28,18 @@ callback_closure span = fault CallbackClosure (codes "Inline callbacks must use 
 abbrev pub callback_body : Span → Fault
 callback_body span = fault CallbackBody (codes "Callback missing a body") span
 
--- After the second `|`: the body. If it is a group, the body is the tokens inside it.
+-- The closure after the second `|`: its body. If the body is a group, it is the tokens inside it.
 abbrev pub body_in : Span → Slice → TokenList → Result CallbackView Fault
 body_in span arg none = Err (callback_body span)
 body_in span arg (also (group delimiter at inside) rest) = Ok (inline arg inside span)
 body_in span arg run = Ok (inline arg run span)
 
--- After the parameter: a lone `|`.
+-- The closure after its parameter: a lone `|`, then the body.
 abbrev pub bar_in : Span → Slice → TokenList → Result CallbackView Fault
 bar_in span arg none = Err (callback_body span)
 bar_in span arg (also token rest) = if is_alone bar token then body_in span arg rest else Err (callback_closure span)
 
--- After the first `|`: the parameter.
+-- The closure after the first `|`: its parameter, then the second `|`.
 abbrev pub parameter_in : Span → TokenList → Result CallbackView Fault
 parameter_in span (also (identifier text at) rest) = bar_in span (record { text = text; span = at }) rest
 parameter_in span run = Err (callback_closure span)

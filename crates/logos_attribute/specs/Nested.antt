@@ -38,7 +38,7 @@ rest_after parser = if parser.after_group then rest_after_group (tokens_of parse
 abbrev pub YieldsNext : AttributeParser → Option Nested → AttributeParser → Type 0
 YieldsNext old given new = YieldsFirstBy piece_of pieces_left old given new × MatchOption given (new ≡ old) (λ _. tokens_of new.rest ≡ rest_after old)
 
--- The pieces are this one and those that have not been read, and these tokens are left.
+-- The pieces are `piece` and those that the parser has not read; `rest` are the tokens left to it.
 abbrev pub Cuts : List Piece → TokenList → Nested → AttributeParser → Type 0
 Cuts pieces rest piece parser = (pieces ≡ piece_of piece ∷ pieces_left parser) × (tokens_of parser.rest ≡ rest)
 

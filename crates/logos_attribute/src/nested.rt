@@ -31,8 +31,8 @@ pub enum Nested<'t, 's> {
     Unexpected(Tokens<'t, 's>),
 }
 
-/// Splits an attribute's argument into pieces, at each comma that is not directly followed by
-/// punctuation (a lone comma).
+/// A parser that splits an attribute's argument into pieces at each lone comma: a comma that is not
+/// directly followed by punctuation.
 #[derive(Clone, Copy)]
 pub struct AttributeParser<'t, 's> {
     rest: Tokens<'t, 's>,
@@ -304,8 +304,8 @@ impl<'t, 's> AttributeParser<'t, 's> {
         begin(tokens)
     }
 
-    /// Removes the tokens up to the next lone comma, and that comma, and returns these tokens.
-    /// Returns `None` if no token comes before that comma.
+    /// Removes and returns the tokens up to the next lone comma, and removes that comma. Returns
+    /// `None` if no token comes before the comma.
     pub fn run(&mut self) -> Option<Tokens<'t, 's>>
         ensures run { MatchOption result
             (up_to_comma (tokens_of self.old.rest) ≡ none)

@@ -63,8 +63,8 @@ abbrev pub joined : List (ℕ × ℕ) → List Comparison
 joined [] = []
 joined (r ∷ rest) = join r (joined rest)
 
--- The number of operations that test a byte: one for a single byte, otherwise one for each end that
--- a byte can pass, and one for each exception.
+-- The number of operations that test a byte: one for a single byte, otherwise one for a start above
+-- 0 and one for an end below 255; and one for each exception.
 abbrev pub operations : Comparison → ℕ
 operations c =
     (if c.first == c.last then 1 else (if nat_lt 0 c.first then 1 else 0) + (if nat_lt c.last 255 then 1 else 0)) + length c.except

@@ -12,7 +12,7 @@ use Rattle.logos_attribute.specs.Flags.{flags_report}
 use Rattle.logos_attribute.specs.Values.{number_in, boolean_in}
 use Rattle.logos_attribute.specs.Literals.{LiteralView, literal_report}
 
--- A definition.
+-- A definition as a value.
 pub record DefinitionView : Type 0 where
   pub literal : LiteralView
   pub priority : Option ℕ
@@ -20,11 +20,11 @@ pub record DefinitionView : Type 0 where
   pub allow_greedy : Option Bool
   pub ignore_case : Bool
 
--- A literal without arguments.
+-- The definition with this literal and no arguments.
 abbrev pub plain : LiteralView → DefinitionView
 plain literal = record { literal = literal; priority = None; callback = None; allow_greedy = None; ignore_case = false }
 
--- The fault of a second value.
+-- The fault of a second value, if there is a former one.
 abbrev pub again : {A : Type 0} → Option A → Fault → List Fault
 again None f = []
 again (Some former) f = only f

@@ -7,7 +7,7 @@ use Rattle.logos_attribute.specs.Slices.{Slice, ident_slice}
 use Rattle.logos_enum.specs.AttributeValues.{AttributeValue}
 use Rattle.logos_definition.specs.declared.meta.Meta.{Meta as MetaView}
 
--- `:`
+-- The character `:`.
 abbrev pub colon : ℕ
 colon = 58
 

@@ -39,19 +39,19 @@ pub record OptionsView : Type 0 where
 abbrev pub utf8_mode : OptionsView → Bool
 utf8_mode o = unwrap_or (option_map (λ m. m.value) o.utf8) true
 
--- No options.
+-- The options before an attribute is read.
 abbrev pub no_options : OptionsView
 no_options = record { utf8 = None; skips = []; extras = None; subpatterns = []; error_type = None; logos_path = None; export_path = None; types = record { names = []; types = []; lifetime = false } }
 
 abbrev pub more_skips : OptionsView → DefinitionView → OptionsView
 more_skips o definition = record o { skips = o.skips ++ definition ∷ [] }
 
--- A literal of `skip`, if it is a string or byte string.
+-- The options with the definition of `skip "..."` added, if its literal is a string or byte string.
 abbrev pub skip_plain : OptionsView → Option LiteralView → OptionsView
 skip_plain o None = o
 skip_plain o (Some literal) = more_skips o (plain literal)
 
--- A definition of `skip(..)`, if there is one.
+-- The report of `skip(..)`, given its definition if it has one.
 abbrev pub skip_whole : TokenList → OptionsView → Option DefinitionView → Report OptionsView
 skip_whole run o None = with_faults o (only (skip_group run))
 skip_whole run o (Some definition) = without_faults (more_skips o definition)
@@ -86,12 +86,12 @@ crate_report name value o = with_faults o (only (crate_form name))
 abbrev pub path_set : TokenList → List ℕ → OptionsView → Report OptionsView
 path_set run path o = with_faults (record o { export_path = Some (record { path = path; span = run_span run }) }) (export_twice (run_span run) (option_map (λ e. e.span) o.export_path))
 
--- The report of a path that is the value of a literal.
+-- The report of `export_dir = run`, given the value of the literal.
 abbrev pub held_path : TokenList → OptionsView → Held → Report OptionsView
 held_path run o (of_text path) = path_set run path o
 held_path run o (of_bytes bytes) = with_faults o (only (export_bytes run))
 
--- The literal of a path, if the run is one.
+-- The report of `export_dir = run`, given the literal if the run is one.
 abbrev pub path_report : TokenList → OptionsView → Option LiteralView → Report OptionsView
 path_report run o (Some literal) = held_path run o literal.held
 path_report run o None = with_faults o (only (literal_syntax run))
@@ -100,7 +100,7 @@ abbrev pub export_report : Slice → PieceValue → OptionsView → Report Optio
 export_report name (assigned run) o = path_report run o (string_in run)
 export_report name value o = with_faults o (only (export_form name))
 
--- The literal of a subpattern, if the run is one.
+-- The report of `subpattern name = run`, given the literal if the run is one.
 abbrev pub subpattern_set : Slice → TokenList → OptionsView → Option LiteralView → Report OptionsView
 subpattern_set name run o (Some literal) = without_faults (record o { subpatterns = o.subpatterns ++ (record { name = name; literal = literal }) ∷ [] })
 subpattern_set name run o None = with_faults o (only (literal_syntax run))

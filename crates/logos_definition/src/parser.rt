@@ -51,9 +51,9 @@ pub struct ExportPath {
     pub span: Span,
 }
 
-/// Collects the options in the attributes of an enum, and the faults found in them. If memory runs
-/// out in a call that changes the parser, the parser has failed, and each later call returns
-/// `Memory`.
+/// The options in the attributes of an enum, as they are collected, and the faults found in them.
+/// If memory runs out in a call that changes the parser, the parser has failed, and each later call
+/// returns `Memory`.
 #[derive(Drop)]
 pub struct Parser<'s> {
     pub errors: Errors,

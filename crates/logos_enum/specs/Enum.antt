@@ -45,7 +45,7 @@ pub data FieldType (run : TokenList) : Outcome Typed → Type 0 where
 abbrev pub visibility_in : TokenList → Outcome (Unit {0})
 visibility_in run = Ok (tt, after_visibility run)
 
--- `:`
+-- The `:` that must come first.
 abbrev pub colon_in : TokenList → Outcome (Unit {0})
 colon_in (also (punctuation character spacing span) rest) = if character == colon then Ok (tt, rest) else mismatch (also (punctuation character spacing span) rest)
 colon_in run = mismatch run

@@ -13,7 +13,7 @@ Outcome A = Result (A × TokenList) ReadError
 abbrev pub Rule : Type 0 → Type 1
 Rule A = TokenList → Outcome A → Type 0
 
--- The first token does not fit.
+-- The error that the first token does not fit.
 abbrev pub mismatch : {A : Type 0} → TokenList → Outcome A
 mismatch run = Err (Grammar (first_span run))
 
@@ -57,6 +57,6 @@ pub data Listed {A : Type 0} (ends : TokenList → Bool) (Item : Rule A) : Token
       ends run ≡ false → Item run (Ok (value, rest)) → after_item ends rest ≡ Err error → Listed ends Item run (Err error)
   stopped : {run : TokenList} {error : ReadError} → ends run ≡ false → Item run (Err error) → Listed ends Item run (Err error)
 
--- Memory ran out, or this holds of the error.
+-- Memory ran out, or the error has the property `Holds`.
 abbrev pub Occurs : (ReadError → Type 0) → ReadError → Type 0
 Occurs Holds error = (error ≡ Memory) ⊎ Holds error

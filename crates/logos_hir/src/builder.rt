@@ -73,7 +73,8 @@ pub fn byte_class(alloc: Global, set: RangeSet) -> Result<Hir, AllocError>
     }
 }
 
-/// Returns whether the tree matches no byte in any context.
+/// Returns whether the tree has neither a literal nor a class, so that each of its matches is
+/// empty.
 pub fn is_byteless(hir: &Hir) -> bool
     ensures { result ≡ is_byteless (tree_of hir.now) }
 {
@@ -92,7 +93,7 @@ pub fn is_byteless(hir: &Hir) -> bool
     }
 }
 
-/// Returns whether the greatest count is `n`.
+/// Returns whether a greatest count is `n`.
 fn is_most(n: u32, max: Option<u32>) -> bool
     ensures { result ≡ is_most n max }
 {
@@ -252,7 +253,7 @@ pub(crate) fn push_flat(parts: &mut Vec<Hir>, part: Hir) -> Result<(), AllocErro
     }
 }
 
-/// Makes a concatenation of the parts, unchanged. One part is itself, and no part is `Empty`.
+/// Makes a concatenation of the parts, unchanged. One part is itself, and no parts make `Empty`.
 pub(crate) fn in_a_row(mut parts: Vec<Hir>) -> Hir
     ensures { tree_of result ≡ in_a_row (map tree_of parts.items) }
 {

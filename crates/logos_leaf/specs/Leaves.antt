@@ -106,7 +106,7 @@ priority_overflow span = fault PriorityOverflow (codes "the default priority is 
 abbrev pub greedy_faults : DefinitionView → Tree → List Fault
 greedy_faults d tree = if not (unwrap_or d.allow_greedy false) && has_greedy_dot tree then only (greedy_dot d.literal.token.span) else []
 
--- The leaf with this priority, if there is one.
+-- The report of a pattern with this priority, if it has one.
 abbrev pub fitted_report : DefinitionView → KindValue → Tree → Option ℕ → Report (Option LeafView)
 fitted_report d kind tree (Some priority) = without_faults (Some (leaf_with false d kind tree priority))
 fitted_report d kind tree None = with_faults None (only (priority_overflow d.literal.token.span))
@@ -115,7 +115,7 @@ fitted_report d kind tree None = with_faults None (only (priority_overflow d.lit
 abbrev pub regex_priority : DefinitionView → Tree → Option ℕ
 regex_priority d tree = option_or d.priority (fitted (value tree))
 
--- The leaf of a pattern whose text spells this tree.
+-- The report of a pattern whose text spells this tree.
 abbrev pub tree_report : DefinitionView → KindValue → Tree → Report (Option LeafView)
 tree_report d kind tree = and_then (with_faults tree (greedy_faults d tree)) (λ t. fitted_report d kind t (regex_priority d t))
 

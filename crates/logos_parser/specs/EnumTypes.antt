@@ -3,13 +3,15 @@ use Rattle.std.specs.Prelude.{ℕ, Bool, true, false, not, List, [], ◌∷◌, 
 use Rattle.logos_type.specs.Parts.{Tree, sign, name, whole, trees, word, mark, lifetime}
 use Rattle.logos_type_params.specs.Generics.{GenericsValue}
 
--- `,`, `<` and `>` as parts of a type.
+-- The comma between arguments, as a part of a type.
 abbrev pub comma : Tree
 comma = sign (mark 44)
 
+-- The `<` before arguments, as a part of a type.
 abbrev pub less : Tree
 less = sign (mark 60)
 
+-- The `>` after arguments, as a part of a type.
 abbrev pub greater : Tree
 greater = sign (mark 62)
 

@@ -71,7 +71,7 @@ fn read_typed<'s>(
     Ok((leaves, this))
 }
 
-/// Analyzes an enum whose tokens have this span. Faults do not stop the analysis.
+/// Analyzes an enum whose tokens have the span `span`. Faults do not stop the analysis.
 ///
 /// # Errors
 ///

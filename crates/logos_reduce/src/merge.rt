@@ -178,6 +178,10 @@ pub struct Partition {
 
 /// Returns the blocks of the states that no word distinguishes. If many states have equal marks and
 /// equal rows, these are first grouped into classes.
+///
+/// # Errors
+///
+/// Returns `AllocError` if memory runs out.
 pub fn merge(alloc: Global, table: &Table) -> Result<Partition, AllocError>
     ensures len { IfOk result (λ m. vec_len m.blocks.of ≡ size table.now) }
     ensures leaders_len { IfOk result (λ m. vec_len m.leaders ≡ vec_len m.blocks.splits) }

@@ -206,6 +206,10 @@ pub struct Numbering {
 
 /// Returns the blocks as the states of a table, in the order of first visits from the block of the
 /// root.
+///
+/// # Errors
+///
+/// Returns `AllocError` if memory runs out.
 pub fn number(
     alloc: Global,
     table: &Table,

@@ -131,6 +131,10 @@ fn pruned_rows(rows: Rows, order: &Order) -> Rows
 }
 
 /// Returns the table without the edges to states that have no mark and do not lead to one.
+///
+/// # Errors
+///
+/// Returns `AllocError` if memory runs out.
 pub fn prune(alloc: Global, table: Table) -> Result<Table, AllocError>
     ensures { IfOk result (IsPrunedTable table) }
 {

@@ -158,6 +158,10 @@ fn settled_marks(
 }
 
 /// Returns the table with its early marks, and without the late marks that they make redundant.
+///
+/// # Errors
+///
+/// Returns `AllocError` if memory runs out.
 pub fn settle(alloc: Global, table: Table) -> Result<Table, AllocError>
     ensures { IfOk result (IsSettled table) }
 {

@@ -1,5 +1,5 @@
-//! The enums of a file. `logos_cli` and `logos_show` call `read_file` or `enums_in` once for each
-//! file.
+//! Finds the enums of a file. `logos_cli` and `logos_show` call `read_file` or `enums_in` once for
+//! each file.
 
 ghost use Rattle.std.specs.Prelude.{◌≡◌, ◌∷◌, [], All, IfOk, IfErr, OnOk, length, map};
 ghost use Rattle.logos_rust_file.specs.Views.{Fault, Spells, stream_tokens, tokens_of, EndsReading, Refuses, AreEnumsOf, Describes, Finds, AreInOrder, IsFoundCut, found_span, AddsItem, AddsRun};
@@ -61,7 +61,7 @@ pub fn enums_in(alloc: Global, text: &str) -> Result<Vec<FoundEnum>, Refusal>
 ///
 /// # Errors
 ///
-/// Returns the same errors.
+/// Returns the errors of `enums_in`.
 pub fn read_file<'s>(alloc: Global, text: &'s str) -> Result<ReadFile<'s>, Refusal>
     ensures spelled { IfOk result (λ file. Spells text.now (stream_tokens file.stream)) }
     ensures found { IfOk result (λ file. AreEnumsOf text.now file.found.items) }
@@ -80,7 +80,7 @@ pub fn read_file<'s>(alloc: Global, text: &'s str) -> Result<ReadFile<'s>, Refus
     }
 }
 
-/// Returns the enums of all these items.
+/// Returns the enums of the items in `tokens`.
 fn enums_of(alloc: Global, tokens: Tokens<'_, '_>) -> Result<Vec<FoundEnum>, Memory>
     ensures { IfOk result (λ found. Finds (tokens_of tokens.entry) found.items) }
 {
@@ -89,7 +89,7 @@ fn enums_of(alloc: Global, tokens: Tokens<'_, '_>) -> Result<Vec<FoundEnum>, Mem
     Ok(found)
 }
 
-/// Appends the enums of all these items.
+/// Appends the enums of the items in `run`.
 #[cycle(find)]
 fn add_all(run: Tokens<'_, '_>, found: &mut Vec<FoundEnum>) -> Result<(), Memory>
     ensures { OnOk result (AddsRun (tokens_of run.entry) found.old.items found.new.items) }

@@ -1,4 +1,5 @@
-//! Whether an enum derives `Logos` by its name alone, and thus through an import. Used by `finder`.
+//! Determines whether an enum derives `Logos` without a path, and thus through an import. `finder`
+//! calls it for each enum.
 
 use logos_strip::helpers::{is_comma, is_macro_entry};
 use logos_token::token::{Delimiter, TokenTree, Tokens};
@@ -39,7 +40,7 @@ fn lists_name(inside: Tokens<'_, '_>) -> bool {
     }
 }
 
-/// Returns whether one of these entries is `Logos` without a path.
+/// Returns whether one of the entries of a `derive` is `Logos` without a path.
 fn has_name(entries: Tokens<'_, '_>) -> bool {
     let mut begins = true;
     let mut rest = entries;

@@ -1,4 +1,5 @@
-//! The paths of enums in a file. `logos_show` requests them for an enum that is given by its name.
+//! The paths of enums in a file. `logos_show` compares them with the name of the enum that it
+//! shows.
 
 ghost use Rattle.std.specs.Prelude.{◌↔◌, IfOk, IsTrue, string_bytes};
 ghost use Rattle.logos_rust_file.specs.Views.{EndsWithPath, IsNameAt, IsPathOf};

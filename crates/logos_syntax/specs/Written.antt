@@ -18,7 +18,7 @@ mutual
     first : Items → Branches
     next : Branches → Items → Branches
 
-  -- One branch.
+  -- One branch: parts and flag settings.
   pub data Items : Type 0 where
     nothing : Items
     piece : Items → Piece → Items
@@ -55,7 +55,7 @@ pub data Starts : Token → Text → Text → Type 0 where
   taken : (t : Token) (text rest : Text) → Takes t text rest → Starts t text rest
   enclosed : (b : Bracket) (text rest : Text) → Encloses b text rest → Starts (bracketed b) (91 ∷ text) rest
 
--- The text is these tokens followed by the rest.
+-- The text consists of these tokens, followed by the rest.
 abbrev pub Cuts : Text → List Token → Text → Type 0
 Cuts text [] rest = text ≡ rest
 Cuts text (token ∷ tokens) rest = (after : Text) × Starts token text after × Cuts after tokens rest

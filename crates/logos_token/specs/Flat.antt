@@ -45,7 +45,7 @@ abbrev mutual
   flat none = []
   flat (also token rest) = flat_token token ++ flat rest
 
--- The tokens of at most `n` entries.
+-- The tokens of a list of entries, if it has at most `n` entries.
 abbrev pub trees_of : ℕ → List EntryValue → TokenList
 trees_of zero entries = none
 trees_of (suc n) [] = none

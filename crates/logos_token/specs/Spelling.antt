@@ -64,7 +64,7 @@ pub record Spells (bytes : List ℕ) (tokens : TokenList) : Type 0 where
   pub nested : lexemes tokens ≡ seen bytes pieces
 
 abbrev mutual
-  -- A token is at or after this byte offset. It is not empty, its text is the source at its span,
+  -- A token occurs at or after a byte offset: it is not empty, its text is the source at its span,
   -- and the tokens inside a group are between its delimiters.
   pub TokenOccurs : List ℕ → ℕ → Token → Type 0
   TokenOccurs bytes from (identifier text span) = (from ≤ span.from) × (span.from < span.to) × (text ≡ slice_range bytes span.from span.to)

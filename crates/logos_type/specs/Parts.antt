@@ -63,13 +63,13 @@ sign_of (OtherLifetime text) = other_lifetime text.now
 sign_of (Punct character spacing) = spaced_mark character spacing
 sign_of (Doc text) = comment text.now
 
--- One part, with the trees of the parts inside it.
+-- The tree of a part, made from the trees of the parts inside it.
 abbrev pub node_tree : TypePart-F Tree → Tree
 node_tree (TypePart-F.Leaf leaf) = sign (sign_of leaf)
 node_tree (TypePart-F.Name text) = name text.now
 node_tree (TypePart-F.Whole parts) = whole (trees parts.items)
 node_tree (TypePart-F.Still parts) = still (trees parts.items)
 
--- The tree that a part holds.
+-- The tree that a part represents.
 abbrev pub tree_of : TypePart → Tree
 tree_of = fold-TypePart Tree node_tree

@@ -137,8 +137,8 @@ abbrev pub given_faults : Option Span → Named → List Fault
 given_faults None named = []
 given_faults (Some span) named = type_twice named ∷ previous span ∷ []
 
--- A value is given to a name. Either the value is not a type, or the name is not declared, or the
--- name has this type afterwards.
+-- The result of assigning a value to a name: the value is not a type, or the name is not declared,
+-- or the name has this type afterwards.
 pub data IsSet (old : Value) (named : Named) (run : TokenList) (before : List Fault) (new : Value) (after : List Fault) : Type 0 where
   no_value : ReadsValue run (run_span run) before after None → new ≡ old → IsSet old named run before new after
   undeclared : {tree : Tree} → ReadsValue run (run_span run) before before (Some tree) → is_declared old.names named.text ≡ false → new ≡ old → after ≡ before ++ not_type_parameter named ∷ [] → IsSet old named run before new after

@@ -1,4 +1,4 @@
--- The contracts of the functions that read types.
+-- Properties of the results of the functions that read types.
 use Rattle.std.specs.Prelude.{◌≡◌, ℕ, ◌+◌, ◌*◌, ◌++◌, List, Bool, Option, Some, None, Result, Ok, Err}
 use Rattle.logos_token.specs.Tokens.{TokenList, count_of}
 use Rattle.logos_token.specs.declared.token.views.Tokens.{Tokens}
@@ -27,7 +27,7 @@ abbrev pub left : TokenList → Option TokenList → ℕ
 left run None = 2 * count_of run
 left run (Some rest) = 2 * (count_of run + count_of rest) + 1
 
--- The result is this next step.
+-- The result represents the next step `next`.
 abbrev pub IsStep : Result TypeStep StepFault → Move → Type 0
 IsStep (Ok End) next = next ≡ ends
 IsStep (Ok (Take leaf spot)) next = next ≡ takes (sign_of leaf) (spot_of spot)
@@ -39,7 +39,7 @@ IsStep (Ok (Nest leaf spot stage)) next = next ≡ nests (sign_of leaf) (spot_of
 IsStep (Err (Unsupported span)) next = next ≡ stops (unsupported span)
 IsStep (Err (Mismatch span)) next = next ≡ stops (mismatch span)
 
--- The result is this first token.
+-- The result represents the first token `first`.
 abbrev pub IsFirst : Result Beginning StepFault → First → Type 0
 IsFirst (Ok read) first = first ≡ starts read.barred (sign_of read.leaf) (spot_of read.spot)
 IsFirst (Err (Unsupported span)) first = first ≡ refused (unsupported span)

@@ -10,6 +10,10 @@ use std::fmt;
 
 impl State {
     /// Returns `State` and the number. Fails with `Memory` if memory runs out.
+    ///
+    /// # Errors
+    ///
+    /// Returns `Memory` if memory runs out.
     pub fn pascal_case(self, alloc: Global) -> Result<String, Memory>
         ensures { IfOk result (λ text. string_bytes text ≡ codes "State" ++ decimal self.0) }
     {
@@ -18,6 +22,10 @@ impl State {
     }
 
     /// Returns `state` and the number. Fails with `Memory` if memory runs out.
+    ///
+    /// # Errors
+    ///
+    /// Returns `Memory` if memory runs out.
     pub fn snake_case(self, alloc: Global) -> Result<String, Memory>
         ensures { IfOk result (λ text. string_bytes text ≡ codes "state" ++ decimal self.0) }
     {

@@ -189,6 +189,10 @@ impl Graph<'_> {
 
     /// Returns the state diagram of the graph in Mermaid's language: a flow chart with a node for
     /// each state and for each edge. Fails only with `Memory`.
+    ///
+    /// # Errors
+    ///
+    /// Returns `Memory` if memory runs out.
     pub fn get_mermaid(&self, alloc: Global) -> Result<String, Memory>
         ensures { IfOk result (λ text. string_bytes text ≡ mermaid_of self.now.states) }
     {

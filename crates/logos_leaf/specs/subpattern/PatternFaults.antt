@@ -1,4 +1,4 @@
--- Reading texts as patterns, and the faults of that.
+-- The readings of texts as patterns, and their faults.
 use Rattle.std.specs.Prelude.{◌≡◌, ℕ, ◌<◌, Bool, List, [], ◌++◌, codes, Option, Some, None, chars, drop, slice_get, unwrap_or}
 use Rattle.std.specs.Fmt.{decimal}
 use Rattle.logos_lexeme.specs.declared.lexeme.Span.{Span}

@@ -12,12 +12,12 @@ use Rattle.logos_attribute.specs.Reports.{Report, with_faults, without_faults, a
 abbrev pub is_word : ℕ → Bool
 is_word c = ((nat_lt 47 c && nat_lt c 58) || (nat_lt 64 c && nat_lt c 91)) || ((nat_lt 96 c && nat_lt c 123) || (c == 95))
 
--- The longest prefix of a text that consists of such characters.
+-- The longest prefix of a text that consists of digits, ASCII letters and `_`.
 abbrev pub word_front : List ℕ → List ℕ
 word_front [] = []
 word_front (c ∷ rest) = if is_word c then c ∷ word_front rest else []
 
--- The rest of the text after that prefix.
+-- The rest of a text after its longest prefix of digits, ASCII letters and `_`.
 abbrev pub word_rest : List ℕ → List ℕ
 word_rest [] = []
 word_rest (c ∷ rest) = if is_word c then word_rest rest else c ∷ rest
@@ -74,7 +74,7 @@ put s text = record { text = s.text ++ text; complete = s.complete }
 abbrev pub subpattern_missing : Span → List ℕ → Fault
 subpattern_missing span name = fault SubpatternMissing ((codes "Subpattern `" ++ name) ++ codes "` not found") span
 
--- The report of adding the text that is stored for a name, if there is one.
+-- The report of adding the text that is stored for a name, if one is.
 abbrev pub name_report : Span → List ℕ → Substituted → Option (List ℕ) → Report Substituted
 name_report span name s (Some text) = without_faults (put s text)
 name_report span name s None = with_faults (record s { complete = false }) (only (subpattern_missing span name))

@@ -22,7 +22,8 @@ pub enum Making<'p, 's> {
     Escaped,
     /// By substituting subpatterns in the text that the literal spells.
     PutIn(&'p Subpatterns<'s>),
-    /// By substituting subpatterns in that text, in a group that sets its flags.
+    /// By substituting subpatterns in the text that the literal spells, in a group that sets its
+    /// flags.
     Grouped(&'p Subpatterns<'s>),
 }
 

@@ -19,13 +19,13 @@ use Rattle.logos_pattern_tokens.specs.bracket.Spelling.{code_of, begins_operator
 
 -- ---- elements.
 
--- An escape that is a character.
+-- The character or the byte of an escape, if it is one.
 abbrev pub symbol_of : Atom → Option Symbol
 symbol_of (atoms.Character c) = Some (Character c)
 symbol_of (atoms.Byte b) = Some (Byte b)
 symbol_of _ = None
 
--- The end of a range, after its `-`.
+-- The end of a range, from the text after its `-`.
 unfoldable pub last_at : Text → Option (Symbol × Text)
 last_at [] = None
 last_at (c ∷ rest) =
@@ -35,7 +35,7 @@ last_at (c ∷ rest) =
 unfoldable pub range_token : Symbol → Symbol × Text → Option (BracketToken × Text)
 range_token a x = if nat_le (code_of a) (code_of x.0) then Some (tokens.Item (items.Range a x.0), x.1) else None
 
--- A character, or the range that it begins.
+-- A character, or the range that begins with it.
 unfoldable pub range_at : Symbol → Text → Option (BracketToken × Text)
 range_at a rest = if begins_range rest then last_at (drop 1 rest) >>= range_token a else Some (tokens.Item (items.One a), rest)
 
@@ -65,7 +65,7 @@ unfoldable pub lead_at : Text → Lead × Text
 lead_at [] = (Dashes 0, [])
 lead_at (c ∷ rest) = if c == 93 then (LoneBracket, rest) else (Dashes (dashes_from 0 (c ∷ rest)).0, (dashes_from 0 (c ∷ rest)).1)
 
--- The text after `[`.
+-- Whether a bracket is negated, its leading literals and the rest, from the text after `[`.
 unfoldable pub open_at : Text → Bool × Lead × Text
 open_at text =
     if begins 94 text then (true, (lead_at (drop 1 text)).0, (lead_at (drop 1 text)).1)
@@ -73,28 +73,28 @@ open_at text =
 
 -- ---- classes of ASCII characters.
 
--- `]` after `[:name:`.
+-- The class that ends with the `]` at the front, after `[:name:`.
 unfoldable pub class_end : Bool → Text → Text → Option (BracketToken × Text)
 class_end negated name [] = None
 class_end negated name (c ∷ rest) = if c == 93 then option_map (λ kind. (tokens.Item (items.Ascii kind negated), rest)) (ascii_named name) else None
 
--- `name:]`
+-- The class of the text `name:]`, after `[:` or `[:^`.
 unfoldable pub name_end : Bool → Text → Option (BracketToken × Text)
 name_end negated text = cut_at 58 text >>= (λ x. class_end negated x.0 x.1)
 
--- The text after `[:`.
+-- The class of the text after `[:`.
 unfoldable pub colon_at : Text → Option (BracketToken × Text)
 colon_at [] = None
 colon_at (c ∷ rest) = if c == 94 then name_end true rest else name_end false (c ∷ rest)
 
--- The text after `[`.
+-- The class of ASCII characters, from the text after `[`.
 unfoldable pub class_at : Text → Option (BracketToken × Text)
 class_at [] = None
 class_at (c ∷ rest) = if c == 58 then colon_at rest else None
 
 -- ---- tokens.
 
--- A class, or the start of a nested bracket.
+-- A class of ASCII characters, or the start of a nested bracket, from the text after `[`.
 unfoldable pub inner_at : Text → BracketToken × Text
 inner_at text = unwrap_or (class_at text) (tokens.Open (open_at text).0 (open_at text).1, (open_at text).2)
 

@@ -63,6 +63,10 @@ fn parted_by_marks(alloc: Global, count: usize) -> Result<Vec<Split>, AllocError
 }
 
 /// Returns the blocks of states with equal marks.
+///
+/// # Errors
+///
+/// Returns `AllocError` if memory runs out.
 pub fn by_marks(alloc: Global, table: &Table) -> Result<Blocks, AllocError>
     ensures len { IfOk result (λ b. vec_len b.of ≡ size table.now) }
     ensures sound { IfOk result (λ b. IsSound table.now b.splits.items (slice_index b.of.items)) }
@@ -78,6 +82,10 @@ pub fn by_marks(alloc: Global, table: &Table) -> Result<Blocks, AllocError>
 }
 
 /// Returns for each block one of its states.
+///
+/// # Errors
+///
+/// Returns `AllocError` if memory runs out.
 pub fn leaders_of(alloc: Global, of: &Vec<usize>, count: usize) -> Result<Vec<usize>, AllocError>
     requires { (s : ℕ) → s < vec_len of.now → slice_index of.now.items s < count }
     ensures len { IfOk result (λ v. vec_len v ≡ count) }

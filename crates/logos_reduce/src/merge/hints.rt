@@ -28,6 +28,10 @@ pub struct Hints {
 
 impl Hints {
     /// Returns hints by which each of the first `count` blocks is still to be processed.
+    ///
+    /// # Errors
+    ///
+    /// Returns `AllocError` if memory runs out.
     pub fn new(
         alloc: Global,
         blocks: &Vec<usize>,

@@ -343,6 +343,10 @@ fn look_at_all(
 }
 
 /// Splits the blocks by the blocks to which their states lead, until no block is left to process.
+///
+/// # Errors
+///
+/// Returns `AllocError` if memory runs out.
 pub fn refine(alloc: Global, table: &Table, blocks: Blocks) -> Result<Blocks, AllocError>
     requires len { vec_len blocks.of ≡ size table.now }
     requires sound { IsSound table.now blocks.splits.items (slice_index blocks.of.items) }

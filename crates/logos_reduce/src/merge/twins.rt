@@ -218,6 +218,10 @@ pub struct Refinement {
 }
 
 /// Cuts the blocks by the hit states, which lead into one block on the symbol.
+///
+/// # Errors
+///
+/// Returns `AllocError` if memory runs out.
 pub fn split_on(
     alloc: Global,
     parts: Refinement,

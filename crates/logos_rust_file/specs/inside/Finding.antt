@@ -6,7 +6,7 @@ use Rattle.logos_token.specs.Views.{tokens_of}
 use Rattle.logos_rust_file.specs.declared.finder.FoundEnum.{FoundEnum}
 use Rattle.logos_rust_file.specs.Files.{Finds}
 
--- All enums of a run were added.
+-- The enums of a run were added.
 pub record AddsRun (run : TokenList) (before after : List FoundEnum) : Type 0 where
   pub added : List FoundEnum
   pub finds : Finds run added

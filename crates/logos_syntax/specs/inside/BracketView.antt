@@ -106,7 +106,7 @@ ReadsBracket flags base text (Err e) =
     ((b : Bracket) (rest : Text) → Encloses b text rest → Denies flags base e b)
     × IfDeepBracket flags base e text
 
--- A fault as a stop.
+-- The stop is the one for this fault.
 abbrev pub IsStopOf : Fault → Stop → Type 0
 IsStopOf (faults.Syntax kind) (stops.Syntax other left) = Unit {0}
 IsStopOf (faults.Syntax kind) _ = ⊥

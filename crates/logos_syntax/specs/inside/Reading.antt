@@ -57,12 +57,12 @@ ReadsSimple old seen text (Err stop) new names =
 
 -- ---- the whole text.
 
--- The names after these tokens.
+-- The names that have been read after more tokens.
 abbrev pub names_after : List Text → List Token → List Text
 names_after seen [] = seen
 names_after seen (token ∷ tokens) = names_after (with_name seen token) tokens
 
--- These tokens of the text are read, up to the rest.
+-- Tokens of the text have been read, up to `rest`.
 pub record HasRead (flags : Flags) (text rest : Text) (s : State) (names : GroupNames) : Type 0 where
   pub tokens : List Token
   pub cut : Cuts text tokens rest

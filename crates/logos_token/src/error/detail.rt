@@ -1,5 +1,5 @@
-//! Details of a fault, recorded where it is found by the crates that read a source. Reports, helps
-//! and messages match on them, so that none of them parses the text of a fault.
+//! Details of a fault, which the crates that read a source record where they find the fault.
+//! Reports, helps and messages match on them, so that none of them parses the text of a fault.
 
 use crate::token::Span;
 use logos_lexeme::lexeme::LexicalKind;

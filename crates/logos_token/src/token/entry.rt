@@ -3,7 +3,7 @@
 
 use crate::token::{Delimiter, Doc, Ident, Literal, Punct, Span};
 
-/// One token. The tokens inside a group are the entries after it.
+/// One token. A group is followed by the entries of the tokens inside it.
 #[derive(Clone, Copy)]
 pub enum Entry<'s> {
     Ident(Ident<'s>),

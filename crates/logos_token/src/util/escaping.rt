@@ -1,4 +1,5 @@
-//! Escapes texts for string literals. Faults that show tokens escape them with it.
+//! Escapes texts for string literals. `Errors::render`, `logos_attribute` and `logos_attempts` call
+//! it.
 
 ghost use Rattle.std.specs.Prelude.{◌≡◌, ◌++◌, OnOk, string_bytes};
 ghost use Rattle.logos_token.specs.Imports.{escaped_character, escaped};

@@ -5,7 +5,7 @@ use Rattle.std.specs.declared.alloc.Global.{Global}
 use Rattle.logos_type_params.specs.cycles.Cycles.{targets_of}
 use Rattle.logos_type_params.specs.declared.cycles.evidence.Membership.{Membership}
 
--- The lists of an argument as a graph.
+-- The graph whose lists of targets these are.
 abbrev pub graph : List (Vec ℕ Global) → List (List ℕ)
 graph lists = map (λ list. list.items) lists
 
@@ -69,7 +69,7 @@ pub record HasRoot (memberships : List Membership) (node root : ℕ) : Type 0 wh
   pub is : slice_get memberships node ≡ Some membership
   pub same : membership.root ≡ root
 
--- One of these nodes has this root.
+-- One of the nodes in `targets` has this root.
 pub record HasInner (memberships : List Membership) (root : ℕ) (targets : List ℕ) : Type 0 where
   pub to : ℕ
   pub target : Contains targets to

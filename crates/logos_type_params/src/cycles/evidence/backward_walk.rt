@@ -99,7 +99,7 @@ impl Backward {
         }
     }
 
-    /// Returns one of the edges that lead to a node.
+    /// Returns the edge at the index `at` among those that lead to a node.
     fn arrow(&self, node: usize, at: usize) -> Option<Arrow> {
         self.arrows.get(node)?.get(at).copied()
     }
@@ -125,7 +125,7 @@ impl Backward {
         Ok(())
     }
 
-    /// Traverses the graph from each of these nodes, the last one first.
+    /// Traverses the graph from each node in `nodes`, the last one first.
     ///
     /// # Errors
     ///
