@@ -5,7 +5,8 @@ use Rattle.logos_byte_class.specs.Bytes.{Comparison}
 use Rattle.logos_code.specs.declared.code.CodeLeaf.{CodeLeaf}
 use Rattle.logos_code.specs.declared.code.Header.{Header}
 
--- A match of this leaf ends at the state, or one byte before it if the mark is late.
+-- The mark of a state: a match of `leaf` ends at the state, or one byte before it if `late` is
+-- `true`.
 pub record Mark : Type 0 where
   pub leaf : ℕ
   pub late : Bool

@@ -45,7 +45,8 @@ IsPlainUse leaf Emits = leaf ≡ record { skips = false; calls_back = false }
 IsPlainUse leaf Skips = leaf ≡ record { skips = true; calls_back = false }
 IsPlainUse leaf CallsBack = ⊥
 
--- The use of the matches of a leaf. A callback may be called for any of them.
+-- The use describes the matches of a leaf. `CallsBack` describes those of any leaf, since a
+-- callback may be called for them.
 abbrev pub IsUse : CodeValue → ℕ → MatchUse → Type 0
 IsUse code leaf Emits = slice_get code.leaves leaf ≡ Some (record { skips = false; calls_back = false })
 IsUse code leaf Skips = slice_get code.leaves leaf ≡ Some (record { skips = true; calls_back = false })
@@ -102,7 +103,7 @@ pub record IsLastEntry (code : CodeValue) (state : CodeState) (entry : ℕ) : Ty
   pub describes : (step : Step) → IsStepOf entry step → DescribesEnd code state step
   pub last : 536870912 ≤ entry
 
--- An entry for each byte.
+-- The row has the entry of each byte.
 abbrev pub IsRow : CodeValue → CodeState → List ℕ → Type 0
 IsRow code state row = (b : ℕ) → b < 256 → IsEntry code state b (slice_index row b)
 

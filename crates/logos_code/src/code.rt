@@ -23,7 +23,8 @@ use signs::Sign;
 use std::marker::Model;
 use uses::LeafUse;
 
-/// A match of this leaf ends at the state, or one byte before it if the mark is late.
+/// The mark of a state: a match of `leaf` ends at the state, or one byte before it if `late` is
+/// `true`.
 #[derive(Clone, Copy, Debug, PartialEq, Eq)]
 pub struct Mark {
     pub leaf: LeafId,
@@ -90,7 +91,8 @@ impl Config {
         use_state_machine_codegen: false,
     };
 
-    /// Returns the shape with this name: `state_machine` or `tailcall`.
+    /// Returns the shape with this name, `state_machine` or `tailcall`, or `None` for any other
+    /// name.
     pub fn by_name(name: &str) -> Option<Config>
         ensures { result ≡ shape_named name.now }
     {

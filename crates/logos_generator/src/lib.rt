@@ -1,4 +1,5 @@
-//! Turns graphs into code values. Re-exports code values and the machine that runs them.
+//! Turns graphs into code values, and re-exports code values and the machine that runs them.
+//! `logos_codegen` generates the code of each source with it.
 
 #![tactic(auto)]
 

@@ -1,4 +1,5 @@
-//! Lines and columns of a text, for reports of faults and for tables.
+//! Lines and columns of a text. Reports of faults and tables compute the locations of offsets with
+//! it.
 
 #![tactic(auto)]
 

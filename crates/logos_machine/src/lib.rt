@@ -1,4 +1,5 @@
-//! The machine that runs code values: lexers, and the lexing of parts of an input.
+//! The machine that runs code values: lexers, and the lexing of parts of an input. `logos_scan`,
+//! `logos_stream`, `logos_relex` and users of the library run code with it.
 
 #![tactic(auto)]
 

@@ -20,7 +20,7 @@ abbrev pub is_ordered : ℕ → Option ℕ → Bool
 is_ordered least None = true
 is_ordered least (Some most) = nat_le least most && nat_lt 0 most
 
--- One node, with the values of its children in their places.
+-- The value of a node, made from the values of its children.
 abbrev pub node_sized : Node-F Sized → Sized
 node_sized Node-F.Void = record { written = core.void; measured = true }
 node_sized Node-F.Empty = record { written = core.empty; measured = true }

@@ -1,4 +1,4 @@
-//! For each state or block, a list of states. Merging and pruning use them.
+//! Lists of states, one for each state or block. Merging and pruning use them.
 
 ghost use Rattle.std.specs.Prelude.{true, ◌≡◌, ◌≢◌, ℕ, ◌+◌, ◌-◌, ◌<◌, ◌≤◌, ◌⊎◌, Some, OnOk, IfOk, IsTrue, IsFalse, length, slice_get, vec_len, slice_index};
 ghost use Rattle.logos_reduce.specs.Views.{has, has_in, Rises, AreRising, ArePredecessors, target_by, size, to};
@@ -71,7 +71,7 @@ pub fn file(lists: &mut Vec<Vec<usize>>, b: usize, s: usize) -> Result<(), Alloc
     Ok(())
 }
 
-/// Appends a state to the list of a target, if there is one.
+/// Appends the state `s` to the list of a target, if there is a target.
 fn file_target(
     lists: &mut Vec<Vec<usize>>,
     target: Option<usize>,
@@ -143,7 +143,7 @@ pub fn predecessors(
     Ok(lists)
 }
 
-/// Returns the entries of the table at these numbers.
+/// Returns the entry of `table` at each index in `numbers`.
 ///
 /// # Errors
 ///

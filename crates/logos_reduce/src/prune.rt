@@ -46,7 +46,7 @@ fn seeds(alloc: Global, table: &Table) -> Result<Order, AllocError>
     Ok(order)
 }
 
-/// Visits all states of a list.
+/// Appends the states of a list that are not in the order yet.
 fn meet_all(order: &mut Order, list: &Vec<usize>) -> Result<(), AllocError>
     requires { (s : ℕ) → has list.now.items s ≡ true → s < vec_len order.old.numbers }
     ensures len { vec_len order.new.numbers ≡ vec_len order.old.numbers }

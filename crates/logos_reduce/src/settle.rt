@@ -57,7 +57,8 @@ fn early_marks(alloc: Global, table: &Table) -> Result<Vec<Option<usize>>, Alloc
     Ok(early)
 }
 
-/// Sets the flag of the target `t`, if its late mark is needed after this early mark.
+/// Sets the flag of the target `t` if its late mark differs from `early`, the early mark of a state
+/// that leads to it, and so is needed.
 fn note_target(table: &Table, t: usize, early: Option<usize>, needed: &mut Vec<bool>)
     requires inside { t < size table.now }
     requires len { vec_len needed.old ≡ size table.now }
@@ -72,8 +73,8 @@ fn note_target(table: &Table, t: usize, early: Option<usize>, needed: &mut Vec<b
     }
 }
 
-/// Sets the flag of the target of an edge, if there is one and its late mark is needed after this
-/// early mark.
+/// Sets the flag of the target of an edge, if there is one and its late mark is needed beside
+/// `early`, the early mark of the state that the edge leaves.
 fn note_edge(table: &Table, target: Option<usize>, early: Option<usize>, needed: &mut Vec<bool>)
     requires inside { (t : ℕ) → target ≡ Some t → t < size table.now }
     requires len { vec_len needed.old ≡ size table.now }
@@ -89,7 +90,8 @@ fn note_edge(table: &Table, target: Option<usize>, early: Option<usize>, needed:
     }
 }
 
-/// Sets the flags of those targets of a state whose late marks are needed after this early mark.
+/// Sets the flags of the targets of a state whose late marks are needed beside `early`, the state's
+/// early mark.
 fn note_targets(table: &Table, s: usize, early: Option<usize>, needed: &mut Vec<bool>)
     requires state { s < size table.now }
     requires len { vec_len needed.old ≡ size table.now }

@@ -1,5 +1,5 @@
-//! Estimates whether a scan by chunks takes less time than a lexer. Called once for each input by
-//! `items` and by the programs.
+//! Estimates whether a scan by chunks takes less time than a lexer. `logos_items` and
+//! `logos_commands` call it once for each input.
 
 ghost use Rattle.std.specs.Prelude.{◌≡◌, IfOk, IfSome};
 

@@ -15,13 +15,13 @@ pub mod guess;
 pub mod masks;
 pub mod repair;
 
-/// The bits of an entry that name the next row, by its offset.
+/// The bits of an entry that contain the offset of the next row.
 pub const OFFSET_MASK: u32 = 0xF_FFFF;
 
 /// The flag of an entry where a match ends before the byte.
 pub const ENDED: u32 = 1 << 31;
 
-/// The flag of an entry at whose byte there is something to do.
+/// The flag of a pending entry, which the scan must process.
 pub const TOKEN: u32 = 1 << 30;
 
 /// Returns the entry of a byte in a row. The byte is added first: the offset of the row, which

@@ -11,7 +11,7 @@ use Rattle.logos_type.specs.Parts.{Tree}
 use Rattle.logos_type.specs.Printed.{printed_type}
 use Rattle.logos_type.specs.TypeTrees.{type_tree}
 
--- The tokens of a type that is printed so: they are repeated where they print as it does.
+-- The tokens of a type with this printed text. They are repeated if they print as the type does.
 abbrev pub typed_runs : List ℕ → TokenList → List TokenList
 typed_runs text run = if bytes_eq (printed run) text then noted_runs run else []
 
@@ -28,7 +28,7 @@ error_type_runs None run = option_runs run
 abbrev pub head_runs : Option TokenList → Ident → List ℕ → List TokenList
 head_runs logos name this = option_runs logos ++ this_runs name this
 
--- Its types: those of errors and of extras.
+-- The associated types of the implementation: those of errors and of extras.
 abbrev pub types_runs : AroundValue → List TokenList
 types_runs around = error_type_runs around.error_type around.error ++ option_runs around.extras
 
@@ -51,7 +51,7 @@ text_runs around code =
     opening_runs around code.header.name (printed_type (type_tree code.header.this))
     ++ action_runs code.header.name code.header.error_callback code.code_leaves
 
--- Those that the front of an implementation by tables repeats.
+-- The tokens of a source that the front of an implementation by tables repeats.
 abbrev pub front_runs : AroundValue → CodeValue → List TokenList
 front_runs around code =
     opening_runs around code.header.name (printed_type (type_tree code.header.this))

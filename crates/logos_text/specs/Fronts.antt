@@ -50,7 +50,7 @@ error_type_text None run = type_text run
 abbrev pub head_text : List ℕ → List ℕ → List ℕ
 head_text logos this = codes "impl < 's > " ++ logos ++ codes ":: Logos < 's > for " ++ this ++ codes " { "
 
--- Its associated types.
+-- The associated type of sources.
 abbrev pub source_text : List ℕ → List ℕ
 source_text source = codes "; type Source = " ++ source ++ codes "; "
 
@@ -58,11 +58,12 @@ abbrev pub types_text : AroundValue → List ℕ
 types_text around =
     codes "type Error = " ++ error_type_text around.error_type around.error ++ codes "; type Extras = " ++ type_text around.extras ++ source_text around.source
 
--- The path of Rust's `core`, with the gap after it, as a text of code has it, and as one of tables:
--- there a module of this name beside the enum is another one.
+-- The path of Rust's `core`, with the gap after it, in a text of code.
 abbrev pub short_core : List ℕ
 short_core = codes "core "
 
+-- The whole path of Rust's `core`, with the gap after it, in a text of tables. No module beside the
+-- enum changes it.
 abbrev pub whole_core : List ℕ
 whole_core = codes ":: core "
 
@@ -79,8 +80,8 @@ answer_text core =
 abbrev pub signature_text : List ℕ → List ℕ → List ℕ → List ℕ
 signature_text lead core logos = lead ++ codes "fn lex ( lex : & mut " ++ logos ++ answer_text core ++ logos ++ codes ":: Logos < 's >> :: Error >> { "
 
--- The imports of that function: of items of the library that only it uses, of types of `core`, and
--- of `Logos`, with the type of the lexer.
+-- The imports of the function that lexes: of items of the library that only it uses, of types of
+-- `core`, and of `Logos`, with the type of the lexer.
 abbrev pub internals_text : List ℕ → List ℕ
 internals_text logos =
     codes "use " ++ logos ++ codes ":: internal :: { LexerInternal , CallbackRetVal , CallbackResult , SkipRetVal , SkipResult , } ; "
@@ -112,7 +113,7 @@ tables_use_text logos = codes "use " ++ logos ++ codes ":: internal :: { _Data ,
 abbrev pub last_arm_text : List ℕ
 last_arm_text = codes "_ => _Option :: None } } "
 
--- The text begins with this one.
+-- The text begins with `front`.
 pub record BeginsWith (front text : List ℕ) : Type 0 where
   pub rest : List ℕ
   pub is : text ≡ front ++ rest

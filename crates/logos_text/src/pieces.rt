@@ -1,4 +1,4 @@
-//! Appends to a text. Called by all printers.
+//! Appends parts to a text. All printers call it.
 
 ghost use Rattle.std.specs.Prelude.{◌≡◌, ◌==◌, ◌++◌, OnOk, codes, if◌then◌else◌, string_bytes};
 ghost use Rattle.logos_text.specs.Imports.{Grows};

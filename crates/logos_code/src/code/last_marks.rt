@@ -141,7 +141,7 @@ impl Search {
     }
 }
 
-/// Returns the last mark if both are possible.
+/// Returns the last mark of a state for which both `one` and `other` were found.
 fn either(one: LastMark, other: LastMark) -> LastMark {
     if one == LastMark::Unseen || one == other {
         other

@@ -1,5 +1,5 @@
 //! Rows: the step for each byte in each state, as one number. `construction` computes them, and
-//! `logos_machine` and `logos_fold` read them.
+//! `logos_machine` and `logos_scan` read them.
 //!
 //! The rows of all states are in one table, one after another, with `WIDTH` entries each: the step
 //! for byte `b` in state `s` is entry `WIDTH * s + b`. The row offset of a state is the index of
@@ -45,8 +45,8 @@ pub const WIDTH: usize = 272;
 /// The number of states that entries can represent.
 const STATES: usize = 986_896;
 
-/// Added to an entry of a match that ends before the byte, where the byte leads to a state that
-/// marks the match late.
+/// The number that is added to the entry of a match that ends before the byte, if the byte leads to
+/// a state that marks the match late.
 pub const LATE: u32 = 1 << 27;
 
 /// The first entry of a test: the byte does not change the state, whose fast loop has this test. A
@@ -201,7 +201,8 @@ fn entry_at(parts: &CodeParts, state: &CodeState, byte: u8) -> u32
 }
 
 /// Returns the row for the first byte of an attempt, given the rows of all states and the state in
-/// which match attempts begin. An entry of it leads to a state, ends a match, or is `UNDESCRIBED`.
+/// which match attempts begin. Each of its entries leads to a state, ends a match, or is
+/// `UNDESCRIBED`.
 pub(super) fn first_row(rows: &[u32], root: usize) -> [u32; 256]
     requires { WIDTH * root + 256 ≤ length rows.now }
     ensures { IsFirstOf rows.now root result }
@@ -213,7 +214,8 @@ pub(super) fn first_row(rows: &[u32], root: usize) -> [u32; 256]
     first
 }
 
-/// Returns the entry in the row for first bytes.
+/// Returns the entry in the row for first bytes, given the entry in the row of the state in which
+/// match attempts begin.
 fn first_entry(entry: u32) -> u32
     ensures { IsFirstEntry entry result }
 {

@@ -9,7 +9,7 @@ use std::alloc::Global;
 use std::fmt;
 
 impl State {
-    /// Returns `State` and the number. Fails with `Memory` if memory runs out.
+    /// Returns `State` followed by the number of the state.
     ///
     /// # Errors
     ///
@@ -21,7 +21,7 @@ impl State {
         Ok(format!(in alloc; "State{number}")?)
     }
 
-    /// Returns `state` and the number. Fails with `Memory` if memory runs out.
+    /// Returns `state` followed by the number of the state.
     ///
     /// # Errors
     ///

@@ -10,9 +10,10 @@ use logos_code::code::Code;
 use logos_code::code::signs::Sign;
 use logos_hir::leaf::LeafId;
 
-/// The bytes from the first constant on, and below the second, are UTF-8 continuation bytes.
+/// The first UTF-8 continuation byte.
 const CONTINUES: u8 = 128;
 
+/// The byte after the last UTF-8 continuation byte.
 const LEADS: u8 = 192;
 
 /// The status of an attempt as it enters a state.

@@ -45,7 +45,7 @@ impl<'c, 's, 'i, C: Fn(LeafId, &[u8]) -> Action> Lexer<'c, 's, 'i, C> {
         }
     }
 
-    /// Returns the next item, if it is the same regardless of the bytes after the part.
+    /// Returns the next item, if no byte after the part can change it.
     fn next_in_part(&mut self) -> Within<'i>
         requires { TakesMatches C.Fn self.old.code self.old.callback }
         ensures keeps { KeepsGiven self.old self.new }

@@ -27,7 +27,8 @@ pub struct Hints {
 }
 
 impl Hints {
-    /// Returns hints by which each of the first `count` blocks is still to be processed.
+    /// Returns hints in which each of the first `count` blocks is still to be processed. `room` is
+    /// the greatest number of blocks that there can be.
     ///
     /// # Errors
     ///

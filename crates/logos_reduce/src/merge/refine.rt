@@ -289,7 +289,7 @@ struct Edges {
     symbols: Vec<Symbols>,
 }
 
-/// Splits the blocks by the states that lead into a block, if there is such a block.
+/// Splits the blocks by the states that lead into the block `b`, if there is such a block.
 fn look_at(
     alloc: Global,
     table: &Table,

@@ -1,5 +1,4 @@
-//! The pending entries of a chunk, found by the flags of its entries. The scan of `logos_scan`
-//! iterates over them.
+//! The pending entries of a chunk, found by the flags of its entries. `run` iterates over them.
 
 ghost use Rattle.std.specs.Prelude.{◌≡◌, ◌<◌, ◌+◌, ◌*◌, MatchOption};
 ghost use Rattle.logos_scan.specs.walk.Views.{HasRoom, Finds, Finishes, IsInWord, IsMarked, Passes, IsAt, start_at, start_by, start_of};
