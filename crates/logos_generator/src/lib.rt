@@ -1,5 +1,5 @@
-//! Turns graphs into code values, and re-exports code values and the machine that runs them.
-//! `logos_codegen` generates the code of each source with it.
+//! Turns graphs into code values for `logos_codegen`, and re-exports code values and the machine
+//! that runs them.
 
 #![tactic(auto)]
 

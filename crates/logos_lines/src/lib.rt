@@ -1,5 +1,4 @@
-//! Lines and columns of a text. Reports of faults and tables compute the locations of offsets with
-//! it.
+//! Lines and columns of a text, for reports of faults and for tables.
 
 #![tactic(auto)]
 

@@ -1,5 +1,4 @@
-//! The machine that runs code values: lexers, and the lexing of parts of an input. `logos_scan`,
-//! `logos_stream`, `logos_relex` and users of the library run code with it.
+//! The machine that runs code values: lexers, and the lexing of parts of an input.
 
 #![tactic(auto)]
 
