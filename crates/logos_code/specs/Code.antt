@@ -20,9 +20,9 @@ pub data Condition : Type 0 where
 
 -- The transitions of a state on bytes.
 pub data Fork : Type 0 where
-  -- To the state of the first condition that holds.
+  -- A byte leads to the state of the first condition that holds for it.
   by_conditions : List (Condition × ℕ) → Fork
-  -- To its entry in a table.
+  -- A byte leads to its entry in a table.
   by_table : List (Option ℕ) → Fork
 
 pub record CodeState : Type 0 where

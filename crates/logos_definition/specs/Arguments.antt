@@ -1,5 +1,5 @@
--- The arguments of a `logos` attribute, one after another. Types in them are read by the grammar of
--- types.
+-- The arguments of a `logos` attribute, one after another. Types in them are read with the grammar
+-- of types.
 use Rattle.std.specs.Prelude.{◌≡◌, ◌≢◌, Bool, true, false, List, [], ◌∷◌, ◌++◌, codes, Option, Some, None}
 use Rattle.std.specs.Str.{bytes_eq}
 use Rattle.logos_token.specs.Faults.{Fault}

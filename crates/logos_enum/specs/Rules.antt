@@ -25,7 +25,7 @@ by f run outcome = f run ≡ outcome
 abbrev pub given : {A : Type 0} → A → Rule A
 given value run outcome = Ok (value, run) ≡ outcome
 
--- One rule after another. The second one can depend on the value of the first.
+-- Two rules in sequence. The second one can depend on the value of the first.
 pub data Then {A B : Type 0} (First : Rule A) (Next : A → Rule B) (run : TokenList) : Outcome B → Type 0 where
   goes : {value : A} {rest : TokenList} {outcome : Outcome B} → First run (Ok (value, rest)) → Next value rest outcome → Then First Next run outcome
   stops : {error : ReadError} → First run (Err error) → Then First Next run (Err error)

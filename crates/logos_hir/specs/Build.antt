@@ -1,5 +1,5 @@
--- Trees in their simplest form: how characters, classes, parts, branches and repetitions are
--- combined.
+-- Trees in their simplest form: the combination of characters, classes, parts, branches and
+-- repetitions.
 use Rattle.std.specs.Prelude.{ℕ, min, Bool, true, false, ◌&&◌, ◌==◌, List, [], ◌∷◌, ◌++◌, Option, Some, None, unwrap_or, option_map, option_and_then, flat_map, if◌then◌else◌, encode_utf8, chars}
 use Rattle.std.specs.Str.{is_utf8}
 use Rattle.logos_hir.specs.Sets.{Set, members, char_ranges, byte_ranges}

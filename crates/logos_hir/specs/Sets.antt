@@ -64,7 +64,7 @@ rises_from n (r ∷ rest) = (nat_le n r.0 && is_range r) && rises_from (next r.1
 abbrev pub AreCanonical : List (ℕ × ℕ) → Type 0
 AreCanonical ranges = rises_from 0 ranges ≡ true
 
--- ---- the ranges of a set, as few as can be.
+-- ---- the ranges of a set, as few as possible.
 
 -- A number before ranges that start after it: it extends the first range, or is a range of its own.
 abbrev pub with_number : ℕ → List (ℕ × ℕ) → List (ℕ × ℕ)

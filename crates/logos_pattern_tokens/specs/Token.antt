@@ -52,8 +52,8 @@ token_view values.Close = closes
 token_view (values.Setting change) = sets change
 token_view (values.Repeat op) = repeats op
 
--- Unless memory ran out, the view of the result of a function is the value of the reading
--- definition.
+-- Unless memory ran out, the result of a function represents the result of the definition that
+-- reads the same token: its view is the value, or a fault if there is none.
 abbrev pub Yields : {X Y : Type 0} → (X → Y) → Result X Fault → Option Y → Type 0
 Yields view (Ok x) read = read ≡ Some (view x)
 Yields view (Err (faults.Syntax kind)) read = read ≡ None

@@ -1,4 +1,4 @@
--- The kind of a byte determines which look-around assertions hold after it.
+-- The kinds of bytes, as look-around assertions distinguish them.
 use Rattle.std.specs.Prelude.{ℕ, Bool, ◌||◌, ◌==◌, if◌then◌else◌, List, Option, Some, None}
 use Rattle.std.specs.Char.{is_ascii_alphanumeric}
 use Rattle.logos_hir.specs.Text.{byte_before, byte_after}
@@ -20,7 +20,7 @@ side_before kind.Cr = Some 13
 side_before kind.Lf = Some 10
 side_before kind.Other = Some 32
 
--- Which look-around assertions hold in the context.
+-- Whether a look-around assertion holds in the context.
 abbrev pub test_at : Context → Look → Bool
 test_at at l = holds_between l (side_before at.before) at.after
 

@@ -78,7 +78,7 @@ fn find_difference(table: &Table, blocks: &Vec<usize>, leaders: &Vec<usize>) -> 
     None
 }
 
-/// A cut of a block: its states that lead to one block on a symbol, or to none, go into a new
+/// A cut of a block: its states that lead to one block on a symbol, or to none, move to a new
 /// block.
 #[derive(Clone, Copy, Drop)]
 struct Cut {

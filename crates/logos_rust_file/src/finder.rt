@@ -16,12 +16,14 @@ use std::alloc::Global;
 /// An enum of a file.
 #[derive(Clone, Copy, Debug)]
 pub struct FoundEnum {
-    /// Its span in the file, in bytes: from its first attribute, its visibility or `enum` to the
-    /// end of its braces.
+    /// The span of the enum in the file, in bytes: from its first attribute, its visibility or
+    /// `enum` to the end of its braces.
     pub span: Span,
-    /// The span of its name in the file, in bytes: of the identifier after `enum`, if there is one.
+    /// The byte span of the enum's name, which is the identifier after `enum`. `None` if there is
+    /// no such identifier.
     pub name: Option<Span>,
-    /// Whether one of its `derive` attributes lists `Logos`, `logos::Logos` or `::logos::Logos`.
+    /// Whether one of the enum's `derive` attributes lists `Logos`, `logos::Logos` or
+    /// `::logos::Logos`.
     pub derives: bool,
     /// Whether one of these entries is `Logos` without a path, which the file then imports.
     pub by_name: bool,
@@ -30,9 +32,9 @@ pub struct FoundEnum {
 /// A Rust file that was read.
 #[derive(Drop)]
 pub struct ReadFile<'s> {
-    /// Its tokens.
+    /// The tokens of the file.
     pub stream: TokenStream<'s>,
-    /// Its enums, in order.
+    /// The enums of the file, in order.
     pub found: Vec<FoundEnum>,
 }
 

@@ -11,7 +11,7 @@ use std::alloc::{AllocError, Global};
 pub struct Replacement {
     /// The part, in bytes.
     pub span: Span,
-    /// Its replacement.
+    /// The text that replaces the part.
     pub text: String,
 }
 

@@ -35,7 +35,7 @@ pub(crate) fn entry_of(rows: &[u32], byte: u8, row_start: usize) -> u32
     column[row_start]
 }
 
-/// Steps over the byte at `at`: writes its entry, and returns the row that it names.
+/// Steps over the byte at `at`: writes its entry, and returns the row to which the entry leads.
 #[inline(always)]
 pub fn step(rows: &[u32], text: &[u8], row_start: usize, trace: &mut [u32], at: usize) -> usize
     requires closed { IsClosed rows.now }

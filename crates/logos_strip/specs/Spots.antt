@@ -1,5 +1,5 @@
--- Which tokens are removed from an enum, determined by their spots. A run is read from the left.
--- The spot of a token determines which part can begin there: after attributes comes their part,
+-- The tokens that are removed from an enum, determined by their spots. A run is read from the left.
+-- The spot of a token determines the part that can begin there: attributes can come before a part,
 -- and after a comma attributes can begin again.
 use Rattle.std.specs.Prelude.{◌==◌, if◌then◌else◌, Bool, true, false, Option, Some, None, codes}
 use Rattle.std.specs.Str.{bytes_eq}

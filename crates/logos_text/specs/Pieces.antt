@@ -1,4 +1,4 @@
--- Where tokens of a source are printed in a text.
+-- The locations at which tokens of a source are printed in a text.
 use Rattle.std.specs.Prelude.{◌≡◌, ℕ, ◌+◌, List, [], ◌∷◌, ◌++◌, length, string_bytes}
 use Rattle.logos_lexeme.specs.declared.lexeme.Span.{Span}
 use Rattle.logos_text.specs.declared.sink.Piece.{Piece}

@@ -23,7 +23,7 @@ value_of (Literal l) = literal_entry l.text.now l.span
 value_of (Doc d) = doc_entry d.text.now d.span
 value_of (Group delimiter span size) = group_entry delimiter span size
 
--- The number of the next entries that belong to an entry.
+-- The number of entries inside an entry, which follow it.
 abbrev pub size_of : Entry → ℕ
 size_of (Ident i) = 0
 size_of (Punct p) = 0

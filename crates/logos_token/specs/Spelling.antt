@@ -1,5 +1,5 @@
--- The tokens that a source spells: the source is a sequence of pieces, and these are the lexemes of
--- the tokens.
+-- The tokens that a source spells: the source is a sequence of pieces, and the lexemes of the
+-- pieces are those of the tokens.
 use Rattle.std.specs.Prelude.{◌≡◌, ℕ, ◌+◌, ◌-◌, ◌<◌, ◌≤◌, max, Bool, true, false, List, [], ◌∷◌, ◌++◌, length, slice_index, slice_range, Option, Some, None, if◌then◌else◌}
 use Rattle.logos_lexeme.specs.declared.lexeme.Span.{Span}
 use Rattle.logos_lexeme.specs.declared.lexeme.Delimiter.{Delimiter}

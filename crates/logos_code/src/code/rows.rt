@@ -77,32 +77,32 @@ pub const STUCK: u32 = 8 * NAMED;
 /// The first entry that does not describe the step for its byte.
 pub const UNDESCRIBED: u32 = 9 * NAMED;
 
-/// How the matches of a leaf are used, as far as entries describe it.
+/// The use of the matches of a leaf, as far as entries describe it.
 #[derive(Clone, Copy)]
 pub enum MatchUse {
-    /// They are tokens, without a callback.
+    /// The matches are tokens, without a callback.
     Emits,
-    /// They are skipped, without a callback.
+    /// The matches are skipped, without a callback.
     Skips,
-    /// A callback may decide how they are used.
+    /// A callback may determine the use of the matches.
     CallsBack,
 }
 
 /// The step for a byte in a state.
 #[derive(Clone, Copy)]
 pub enum Step {
-    /// It leads to this state.
+    /// The byte leads to this state.
     Leads(usize),
-    /// It does not change the state, whose fast loop has this test.
+    /// The byte does not change the state, whose fast loop has this test.
     Stays(usize),
-    /// It leads nowhere, and a match of this leaf ends before it.
+    /// The byte leads nowhere, and a match of this leaf ends before it.
     Halts(LeafId, MatchUse),
-    /// It leads to a state that marks a match of this leaf late, which ends before the byte, and
-    /// has no other step.
+    /// The byte leads to a state that marks a match of this leaf late, which ends before the byte.
+    /// The state has no other step.
     Looks(LeafId, MatchUse),
-    /// It leads to a state that marks a match of this leaf, and has no other step.
+    /// The byte leads to a state that marks a match of this leaf and has no other step.
     Closes(LeafId, MatchUse),
-    /// It leads nowhere.
+    /// The byte leads nowhere.
     Stuck,
     /// The step cannot be described by an entry.
     Undescribed,
@@ -307,7 +307,7 @@ impl CodeParts<'_> {
         }
     }
 
-    /// Returns how the matches of the leaf are used.
+    /// Returns the use of the matches of the leaf.
     fn match_use(&self, leaf: LeafId) -> MatchUse
         ensures { IsUse (code_of self.now) leaf.0 result }
     {
@@ -364,7 +364,7 @@ impl CodeParts<'_> {
     }
 }
 
-/// Returns how the matches of a leaf without a callback are used.
+/// Returns the use of the matches of a leaf without a callback.
 fn plain_use(leaf: &CodeLeaf) -> MatchUse
     requires { leaf.now.callback ≡ None }
     ensures { IsPlainUse (use_of leaf.now) result }

@@ -8,7 +8,7 @@ use Rattle.logos_hir.specs.Sets.{Set, next, is_range, in_ranges}
 abbrev pub IsLimit : ℕ → Type 0
 IsLimit c = (scalar c || (c == 0x11_0000)) ≡ true
 
--- Each is a range of characters, in any order.
+-- Ranges of characters, in any order.
 abbrev pub AreRanges : List (ℕ × ℕ) → Type 0
 AreRanges ranges = list_all is_range ranges ≡ true
 

@@ -8,7 +8,7 @@ use logos_token::error::{ByteOrigin, Memory};
 use logos_token::token::Span;
 use std::alloc::Global;
 
-/// The literal of a pattern, and how the text of the pattern was made from it.
+/// The literal of a pattern, and the way in which the text of the pattern was made from it.
 #[derive(Clone, Copy)]
 pub struct WrittenPattern<'l, 'p, 's> {
     pub literal: &'l Literal<'s>,
@@ -18,12 +18,12 @@ pub struct WrittenPattern<'l, 'p, 's> {
 /// The ways in which the text of a pattern is made from its literal.
 #[derive(Clone, Copy)]
 pub enum Making<'p, 's> {
-    /// As the text of a pattern that matches exactly the value of the literal.
+    /// The text is escaped, so that the pattern matches exactly the value of the literal.
     Escaped,
-    /// By substituting subpatterns in the text that the literal spells.
+    /// Subpatterns are substituted in the text that the literal spells.
     PutIn(&'p Subpatterns<'s>),
-    /// By substituting subpatterns in the text that the literal spells, in a group that sets its
-    /// flags.
+    /// Subpatterns are substituted in the text that the literal spells, which is in a group that
+    /// sets its flags.
     Grouped(&'p Subpatterns<'s>),
 }
 

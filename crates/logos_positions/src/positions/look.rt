@@ -7,7 +7,8 @@ ghost use Rattle.logos_hir.specs.Looks as looks;
 
 use logos_hir::hir::Look;
 
-/// The kind of the byte before a point: all that look-around assertions after it can depend on.
+/// The kind of the byte before a point. Look-around assertions at the point depend on no other
+/// property of that byte.
 #[derive(Clone, Copy, PartialEq, Eq, Hash)]
 pub enum ByteKind {
     /// There is no byte: the point is the start of the input.

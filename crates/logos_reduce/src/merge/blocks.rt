@@ -9,7 +9,8 @@ use crate::table::{StateMarks, Table};
 use indexmap::IndexSet;
 use std::alloc::{AllocError, Global};
 
-/// How a block was made: it was separated from another one, by a symbol or by the marks of states.
+/// A split, which made a block: the block was separated from another one, by a symbol or by the
+/// marks of states.
 #[derive(Clone, Copy, Drop)]
 pub struct Split {
     /// The number of the other block, which is lower.
@@ -19,12 +20,12 @@ pub struct Split {
     pub symbol: Option<usize>,
 }
 
-/// The block of each state, and how each block was made.
+/// The block of each state, and the splits that made the blocks.
 #[derive(Drop)]
 pub struct Blocks {
     /// For each state, its block.
     pub of: Vec<usize>,
-    /// For each block but 0, how it was separated from one with a lower number.
+    /// For each block but 0, the split that separated it from a block with a lower number.
     pub splits: Vec<Split>,
     ghost within: { (s : ℕ) → s < vec_len of → slice_index of.items s < vec_len splits },
 }

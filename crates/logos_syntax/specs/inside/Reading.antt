@@ -36,7 +36,7 @@ pub data IsDeepAt (old : State) (seen : List Text) (names : GroupNames) : Text �
   token_deep : (text rest : Text) (new : State) → Continues old seen text new names rest → 250 < deepest new → IsDeepAt old seen names text
   bracket_deep : (following : Text) (count : ℕ) → BracketFront old.top.flags following count → 250 < length old.below + count → IsDeepAt old seen names (91 ∷ following)
 
--- If the parser stops at the limit, it is at such a position.
+-- If the parser stops at the limit, it exceeds the limit at the front of the text.
 abbrev pub IfDeepToken : Stop → State → List Text → Text → GroupNames → Type 0
 IfDeepToken (stops.Syntax kind left) old seen text names = Unit {0}
 IfDeepToken stops.LimitPatternNesting old seen text names = IsDeepAt old seen names text

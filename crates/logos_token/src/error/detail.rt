@@ -9,9 +9,9 @@ use logos_lexeme::lexeme::LexicalKind;
 pub enum Detail {
     /// No detail.
     Plain,
-    /// Why a source cannot be cut into tokens.
+    /// The reason why a source cannot be cut into tokens.
     Lexical(LexicalKind),
-    /// Why a text is not a pattern, and where.
+    /// The fault of a text that is not a pattern, and its location.
     Pattern(PatternDetail),
     /// The unknown argument belongs to the option `error`, not to a pattern.
     ErrorArgument,

@@ -22,7 +22,7 @@ impl Entry<'_> {
     ghost use Rattle.std.specs.Prelude.{◌≡◌};
     ghost use Rattle.logos_token.specs.ViewImports.{size_of};
 
-    /// Returns the number of the next entries that belong to this one.
+    /// Returns the number of entries inside this one, which follow it.
     pub fn size(&self) -> usize
         ensures { result ≡ size_of self.now }
     {

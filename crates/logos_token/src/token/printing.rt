@@ -7,7 +7,7 @@ use crate::error::Memory;
 use crate::token::{Delimiter, Group, Spacing, TokenTree, Tokens};
 use std::alloc::Global;
 
-/// Prints lexemes one by one, each with the gap after it.
+/// A printer of lexemes, each with the gap after it.
 #[derive(Drop)]
 pub struct Printer {
     /// The lexemes printed so far.

@@ -14,7 +14,7 @@ use logos_type::TypeExpr;
 use logos_type_reader::{TYPE_NESTING, TypeFault};
 use std::collections::HashSet;
 
-/// Adds a name if its type contains it.
+/// Adds the name `text` to `held`, if a chain of types leads from the name back to it.
 fn add_held<'s>(
     chains: &Chains<'_, 's>,
     text: &'s str,

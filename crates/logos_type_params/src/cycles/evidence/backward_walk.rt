@@ -104,7 +104,7 @@ impl Backward {
         self.arrows.get(node)?.get(at).copied()
     }
 
-    /// Adds the nodes that lead to `node` to its component.
+    /// Adds the nodes that lead to `node` to the component of `root`.
     fn spread(&mut self, node: usize, root: usize, start: usize) -> Result<(), AllocError> {
         for at in 0..self.arrow_count(node) {
             if let Some(arrow) = self.arrow(node, at) {
@@ -114,8 +114,8 @@ impl Backward {
         Ok(())
     }
 
-    /// Visits the nodes at the index `start` and after it in the order, and adds those that lead to
-    /// them to the component.
+    /// Visits the nodes in `order` from the index `start` on, and adds the nodes that lead to them
+    /// to the component of `root`.
     fn finish(&mut self, root: usize, start: usize) -> Result<(), AllocError> {
         let mut at = start;
         while let Some(node) = self.order.get(at).copied() {
