@@ -18,6 +18,7 @@ pub data CallbackView : Type 0 where
   label : (tokens : TokenList) → CallbackView
   inline : (arg : Slice) (body : TokenList) (span : Span) → CallbackView
 
+-- The span of a callback.
 abbrev pub view_span : CallbackView → Span
 view_span (label tokens) = run_span tokens
 view_span (inline arg body span) = span
@@ -72,6 +73,7 @@ callback_value_fault run = callback_no_value (run_span run)
 abbrev pub twice_at : Slice → (here there : Span) → List Fault
 twice_at name here there = callback_twice name here ∷ previous_callback there ∷ []
 
+-- The faults of `callback = run` after a former callback, if there is one.
 abbrev pub callback_again : Slice → TokenList → Option CallbackView → List Fault
 callback_again name run None = []
 callback_again name run (Some former) = twice_at name (run_span run) (view_span former)

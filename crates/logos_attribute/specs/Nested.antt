@@ -20,6 +20,7 @@ value_of (Literal literal) = beside (literal_slice literal)
 value_of (Group run) = grouped (tokens_of run)
 value_of (KeywordAssign name run) = keyed (ident_slice name) (tokens_of run)
 
+-- The piece that a view represents.
 abbrev pub piece_of : Nested → Piece
 piece_of (Unnamed run) = unnamed (tokens_of run)
 piece_of (Named name value) = named (ident_slice name) (value_of value)

@@ -40,6 +40,7 @@ abbrev pub after_comma : TokenList → TokenList
 after_comma none = none
 after_comma (also token rest) = if is_alone comma token then rest else after_comma rest
 
+-- A name as a token.
 abbrev pub name_token : Slice → Token
 name_token name = identifier name.text name.span
 

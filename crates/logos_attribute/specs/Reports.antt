@@ -12,6 +12,7 @@ pub record Report (A : Type 0) : Type 0 where
   pub value : A
   pub faults : List Fault
 
+-- A report with this value and these faults.
 abbrev pub with_faults : {A : Type 0} → A → List Fault → Report A
 with_faults value faults = record { value = value; faults = faults }
 

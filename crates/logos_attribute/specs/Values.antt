@@ -13,6 +13,7 @@ abbrev pub number_in : TokenList → Option ℕ
 number_in (also (literal text span) none) = decimal text
 number_in run = None
 
+-- The boolean with this name.
 abbrev pub boolean_named : List ℕ → Option Bool
 boolean_named text = if bytes_eq text (codes "true") then Some true else (if bytes_eq text (codes "false") then Some false else None)
 

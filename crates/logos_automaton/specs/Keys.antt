@@ -16,6 +16,7 @@ pub record State : Type 0 where
   pub kind : ByteKind
   pub matches : List ℕ
 
+-- The state that a key represents.
 abbrev pub state_of : Key → State
 state_of k = record { positions = k.positions.items; kind = k.kind; matches = k.matches.items }
 

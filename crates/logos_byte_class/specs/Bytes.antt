@@ -39,6 +39,7 @@ pub record Comparison : Type 0 where
 abbrev pub comparison_of : Comparisons → Comparison
 comparison_of c = record { first = range_inclusive_start c.range; last = range_inclusive_end c.range; except = c.except.items }
 
+-- The byte is in the list.
 abbrev pub is_among : List ℕ → ℕ → Bool
 is_among bs b = list_any (λ c. c == b) bs
 

@@ -18,10 +18,12 @@ lower_digit n = if nat_lt n 10 then 48 + n else 87 + n
 abbrev pub plain_byte_text : ℕ → List ℕ
 plain_byte_text b = if nat_le 32 b && nat_lt b 127 then b ∷ [] else 92 ∷ 120 ∷ lower_digit (b / 16) ∷ lower_digit (b % 16) ∷ []
 
+-- The printed text of a byte, given the letter of its escape if it has one.
 abbrev pub text_by : Option ℕ → ℕ → List ℕ
 text_by None b = plain_byte_text b
 text_by (Some letter) b = 92 ∷ letter ∷ []
 
+-- The printed text of a byte.
 abbrev pub byte_text : ℕ → List ℕ
 byte_text b = text_by (letter_of b) b
 

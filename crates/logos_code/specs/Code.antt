@@ -25,6 +25,7 @@ pub data Fork : Type 0 where
   -- A byte leads to its entry in a table.
   by_table : List (Option ℕ) → Fork
 
+-- The steps of a state: its fast loop, its mark, its fork, and its end branch.
 pub record CodeState : Type 0 where
   -- The test of the bytes on which the state does not change.
   pub fast_loop : Option ℕ

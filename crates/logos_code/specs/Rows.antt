@@ -121,6 +121,7 @@ BeginsAttempt entry = (entry < 268435456) ⊎ (1073741824 ≤ entry)
 abbrev pub IsFirstEntry : ℕ → ℕ → Type 0
 IsFirstEntry entry first = ((first ≡ entry) ⊎ (2415919104 ≤ first)) × BeginsAttempt first
 
+-- The entries of the first byte of an attempt, made from the row of the root.
 abbrev pub IsFirstOf : List ℕ → ℕ → List ℕ → Type 0
 IsFirstOf rows root first = (length first ≡ 256) × ((b : ℕ) → b < 256 → IsFirstEntry (slice_index rows (272 * root + b)) (slice_index first b))
 
@@ -128,5 +129,6 @@ IsFirstOf rows root first = (length first ≡ 256) × ((b : ℕ) → b < 256 →
 abbrev pub IsFirst : CodeValue → ℕ → ℕ → Type 0
 IsFirst code b entry = IsEntry code (state_at code code.root) b entry × BeginsAttempt entry
 
+-- The row has, for each byte, its entry as the first byte of an attempt.
 abbrev pub IsFirstRow : CodeValue → List ℕ → Type 0
 IsFirstRow code row = (b : ℕ) → b < 256 → IsFirst code b (slice_index row b)

@@ -76,6 +76,7 @@ greedy_set run former = elim (boolean_in run) [
   | None ↦ with_faults former (only (greedy_value run))
 ]
 
+-- The report of the argument `priority`.
 abbrev pub priority_report : Slice → PieceValue → DefinitionView → Report DefinitionView
 priority_report name (assigned run) d = map_report (λ priority. record d { priority = priority }) (priority_set run d.priority)
 priority_report name value d = with_faults d (only (priority_form name))
@@ -90,13 +91,16 @@ abbrev pub unnamed_callback : Bool → TokenList → Option CallbackView → Rep
 unnamed_callback true run former = callback_report run
 unnamed_callback false run former = with_faults former (only (named_expected run))
 
+-- The definition with this callback.
 abbrev pub with_callback : DefinitionView → Option CallbackView → DefinitionView
 with_callback d callback = record d { callback = callback }
 
+-- The report of the argument `ignore`.
 abbrev pub ignore_report : Slice → PieceValue → DefinitionView → Report DefinitionView
 ignore_report name (grouped run) d = map_report (λ ignore_case. record d { ignore_case = ignore_case }) (flags_report name false d.ignore_case run)
 ignore_report name value d = with_faults d (only (ignore_form name))
 
+-- The report of the argument `allow_greedy`.
 abbrev pub greedy_report : Slice → PieceValue → DefinitionView → Report DefinitionView
 greedy_report name (assigned run) d = map_report (λ allow. record d { allow_greedy = allow }) (greedy_set run d.allow_greedy)
 greedy_report name value d = with_faults d (only (greedy_form name))

@@ -60,6 +60,7 @@ error_span e = run_slot e.type_run
 abbrev pub unknown_error_argument : Slice → Fault
 unknown_error_argument name = fault_with UnknownNested ((codes "Unknown nested attribute: " ++ name.text) ++ codes "\n\nExpected one of: callback") name.span ErrorArgument
 
+-- The error type with this callback.
 abbrev pub error_with : ErrorView → Option CallbackView → ErrorView
 error_with e callback = record e { callback = callback }
 

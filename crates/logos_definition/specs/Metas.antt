@@ -38,6 +38,7 @@ inside_meta (Some run) = meta_inside run
 abbrev pub meta_of : AttributeValue → Option Meta
 meta_of attribute = inside_meta attribute.inside
 
+-- The tokens inside the group of an attribute, if it has one.
 abbrev pub arguments_view : Option Tokens → Option TokenList
 arguments_view None = None
 arguments_view (Some tokens) = Some (tokens_of tokens)

@@ -43,6 +43,7 @@ utf8_mode o = unwrap_or (option_map (λ m. m.value) o.utf8) true
 abbrev pub no_options : OptionsView
 no_options = record { utf8 = None; skips = []; extras = None; subpatterns = []; error_type = None; logos_path = None; export_path = None; types = record { names = []; types = []; lifetime = false } }
 
+-- The options with one more definition of `skip`.
 abbrev pub more_skips : OptionsView → DefinitionView → OptionsView
 more_skips o definition = record o { skips = o.skips ++ definition ∷ [] }
 
@@ -56,24 +57,29 @@ abbrev pub skip_whole : TokenList → OptionsView → Option DefinitionView → 
 skip_whole run o None = with_faults o (only (skip_group run))
 skip_whole run o (Some definition) = without_faults (more_skips o definition)
 
+-- The report of `skip`.
 abbrev pub skip_report : Slice → PieceValue → OptionsView → Report OptionsView
 skip_report name (beside text) o = map_report (skip_plain o) (text_report text)
 skip_report name (grouped run) o = and_then (definition_report run) (skip_whole run o)
 skip_report name value o = with_faults o (only (skip_form name))
 
+-- The report of `utf8 = run`.
 abbrev pub mode_set : TokenList → OptionsView → Report OptionsView
 mode_set run o = elim (boolean_in run) [
   | Some value ↦ with_faults (record o { utf8 = Some (record { value = value; span = run_span run }) }) (utf8_twice (run_span run) (option_map (λ m. m.span) o.utf8))
   | None ↦ with_faults o (only (utf8_value run))
 ]
 
+-- The report of `utf8`.
 abbrev pub utf8_report : Slice → PieceValue → OptionsView → Report OptionsView
 utf8_report name (assigned run) o = mode_set run o
 utf8_report name value o = with_faults o (only (utf8_form name))
 
+-- The report of `extras = run`.
 abbrev pub extras_set : TokenList → OptionsView → Report OptionsView
 extras_set run o = with_faults (record o { extras = Some run }) (extras_twice (run_span run) (option_map run_span o.extras))
 
+-- The report of `extras`.
 abbrev pub extras_report : Slice → PieceValue → OptionsView → Report OptionsView
 extras_report name (assigned run) o = extras_set run o
 extras_report name value o = with_faults o (only (extras_form name))
@@ -83,6 +89,7 @@ abbrev pub crate_report : Slice → PieceValue → OptionsView → Report Option
 crate_report name (assigned run) o = without_faults (record o { logos_path = Some run })
 crate_report name value o = with_faults o (only (crate_form name))
 
+-- The report of `export_dir = run`, given the path.
 abbrev pub path_set : TokenList → List ℕ → OptionsView → Report OptionsView
 path_set run path o = with_faults (record o { export_path = Some (record { path = path; span = run_span run }) }) (export_twice (run_span run) (option_map (λ e. e.span) o.export_path))
 
@@ -96,6 +103,7 @@ abbrev pub path_report : TokenList → OptionsView → Option LiteralView → Re
 path_report run o (Some literal) = held_path run o literal.held
 path_report run o None = with_faults o (only (literal_syntax run))
 
+-- The report of `export_dir`.
 abbrev pub export_report : Slice → PieceValue → OptionsView → Report OptionsView
 export_report name (assigned run) o = path_report run o (string_in run)
 export_report name value o = with_faults o (only (export_form name))
@@ -105,6 +113,7 @@ abbrev pub subpattern_set : Slice → TokenList → OptionsView → Option Liter
 subpattern_set name run o (Some literal) = without_faults (record o { subpatterns = o.subpatterns ++ (record { name = name; literal = literal }) ∷ [] })
 subpattern_set name run o None = with_faults o (only (literal_syntax run))
 
+-- The report of `subpattern`.
 abbrev pub subpattern_report : Slice → PieceValue → OptionsView → Report OptionsView
 subpattern_report name (keyed second run) o = subpattern_set second run o (string_in run)
 subpattern_report name value o = with_faults o (only (subpattern_form name))

@@ -67,6 +67,7 @@ tail Const = by constant_in >>= λ _. by default_in
 abbrev pub shape : Rule Head
 shape = Attributes >>= λ _. by head_in >>= λ head. tail head.kind >>= λ _. given head
 
+-- The parameter with this kind and name, and with all its tokens.
 abbrev pub parameter_of : Head → TokenList → ParameterValue
 parameter_of head run = record { kind = head.kind; name = head.name; run = run }
 

@@ -10,6 +10,7 @@ use Rattle.logos_enum.specs.Marks.{comma, first_span}
 abbrev pub Outcome : Type 0 → Type 0
 Outcome A = Result (A × TokenList) ReadError
 
+-- A rule: the relation between a run and the outcome of reading it.
 abbrev pub Rule : Type 0 → Type 1
 Rule A = TokenList → Outcome A → Type 0
 

@@ -5,6 +5,7 @@ use Rattle.std.specs.Str.{is_utf8}
 use Rattle.logos_hir.specs.Sets.{Set, members, char_ranges, byte_ranges}
 use Rattle.logos_hir.specs.Tree.{Tree, empty, literal, byte_class, char_class, look, repetition, capture, concat, alternation, Trees, none, also, trees}
 
+-- The trees as a list.
 abbrev pub list_of : Trees → List Tree
 list_of none = []
 list_of (also t rest) = t ∷ list_of rest

@@ -12,6 +12,7 @@ use Rattle.logos_hir.specs.Tree.{Tree, empty, literal, byte_class, char_class, l
 abbrev pub pairs : List Range → List (ℕ × ℕ)
 pairs = map (λ r. (r.first, r.last))
 
+-- The tree of a class.
 abbrev pub class_tree : Class → Tree
 class_tree (Bytes ranges) = byte_class (pairs ranges.items)
 class_tree (Characters ranges) = char_class (pairs ranges.items)

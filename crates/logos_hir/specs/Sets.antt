@@ -38,6 +38,7 @@ complement last set c = scalar c && (nat_le c last && not (set c))
 abbrev pub in_range : ℕ × ℕ → Set
 in_range r c = nat_le r.0 c && nat_le c r.1
 
+-- The numbers in one of the ranges.
 abbrev pub in_ranges : List (ℕ × ℕ) → Set
 in_ranges [] c = false
 in_ranges (r ∷ rest) c = in_range r c || in_ranges rest c

@@ -70,6 +70,7 @@ leaf_with is_token d kind tree priority = record {
 abbrev pub token_priority : DefinitionView → ℕ
 token_priority d = unwrap_or d.priority (2 * length (bytes_of d.literal.held))
 
+-- The leaf of a `token` with this tree.
 abbrev pub token_leaf : DefinitionView → KindValue → Tree → LeafView
 token_leaf d kind tree = leaf_with true d kind tree (token_priority d)
 
@@ -135,6 +136,7 @@ text_report d kind reading (Some text) = reading_report d kind reading
 abbrev pub whole_report : DefinitionView → List Stored → Report (Option (List ℕ))
 whole_report d names = subst_report names d.literal.token.span (chars (pattern_text d.literal.held))
 
+-- The report of a `regex` or `skip`, given the result of reading its text.
 abbrev pub regex_report : DefinitionView → KindValue → List Stored → Reading → Report (Option LeafView)
 regex_report d kind names reading = and_then (whole_report d names) (text_report d kind reading)
 

@@ -20,6 +20,7 @@ abbrev pub argument : Bool → Tree → List Tree
 argument true tree = tree ∷ []
 argument false tree = comma ∷ tree ∷ []
 
+-- Arguments, with a comma before each unless it is the first argument.
 abbrev pub arguments : Bool → List Tree → List Tree
 arguments is_first [] = []
 arguments is_first (tree ∷ rest) = argument is_first tree ++ arguments false rest
@@ -33,6 +34,7 @@ lifetime_argument false = []
 abbrev pub between : GenericsValue → List Tree
 between g = lifetime_argument g.lifetime ++ arguments (not g.lifetime) g.types
 
+-- The type with this name and these generic arguments.
 abbrev pub bracketed : List ℕ → GenericsValue → Tree
 bracketed text g = whole (trees (sign (word text) ∷ less ∷ between g ++ greater ∷ []))
 

@@ -47,6 +47,7 @@ is_form name = is_among 61 name || is_among 58 name || begins 94 name
 unfoldable pub plain_property : Text → Option Set
 plain_property name = if is_form name then None else property_named name
 
+-- The property with this name, or its complement, and the rest of the text.
 unfoldable pub property_of : Bool → Text → Text → Option (Atom × Text)
 property_of negated name rest = option_map (λ set. (Property set negated, rest)) (plain_property name)
 

@@ -18,6 +18,7 @@ is_name_start c = c == 95 || is_alphabetic c
 abbrev pub is_name_part : ℕ → Bool
 is_name_part c = is_name_start c || in_group Number (general_category c) || is_among c (46 ∷ 91 ∷ 93 ∷ [])
 
+-- A group's name can have each of the characters after its first one.
 abbrev pub are_name_parts : Text → Bool
 are_name_parts = list_all is_name_part
 
@@ -39,6 +40,7 @@ python_at (c ∷ rest) = if c == 60 then name_at rest else None
 unfoldable pub dash : Letters → Option Letters
 dash s = if s.on then Some (record s { on = false; pending = true }) else None
 
+-- The letters with one more letter, or with a dash.
 unfoldable pub next_letter : Letters → ℕ → Option Letters
 next_letter s c =
     if c == 45 then dash s

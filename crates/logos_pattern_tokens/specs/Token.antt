@@ -27,6 +27,7 @@ pub data Opening : Type 0 where
   -- `(?:` or `(?flags:`.
   plain : Change → Opening
 
+-- A token outside brackets.
 pub data Token : Type 0 where
   atom : Atom → Token
   bracketed : Bracket → Token
@@ -38,6 +39,7 @@ pub data Token : Type 0 where
   sets : Change → Token
   repeats : Operator → Token
 
+-- The opening of a group that a value represents.
 abbrev pub opening_view : OpeningValue → Opening
 opening_view Capture = capturing
 opening_view (Named name) = named name.now
@@ -73,6 +75,7 @@ is_among c = list_any (λ d. d == c)
 abbrev pub is_meta : ℕ → Bool
 is_meta c = is_among c (92 ∷ 46 ∷ 43 ∷ 42 ∷ 63 ∷ 40 ∷ 41 ∷ 124 ∷ 91 ∷ 123 ∷ 94 ∷ 36 ∷ [])
 
+-- The character is an ASCII digit.
 abbrev pub is_digit : ℕ → Bool
 is_digit c = nat_le 48 c && nat_le c 57
 
@@ -87,6 +90,7 @@ abbrev pub hex_from : ℕ → Text → Option ℕ
 hex_from n [] = Some n
 hex_from n (c ∷ rest) = hex_digit c >>= λ d. hex_from (n * 16 + d) rest
 
+-- The number, if it is the number of a Unicode scalar value.
 abbrev pub only_scalar : ℕ → Option ℕ
 only_scalar n = if scalar n then Some n else None
 
@@ -100,6 +104,7 @@ abbrev pub number_from : ℕ → Text → ℕ × Text
 number_from n [] = (n, [])
 number_from n (c ∷ rest) = if is_digit c then number_from (n * 10 + (c - 48)) rest else (n, c ∷ rest)
 
+-- The number and the rest of the text, if the number is less than 2^32.
 abbrev pub fits : ℕ × Text → Option (ℕ × Text)
 fits x = if nat_lt x.0 (2 ^ 32) then Some x else None
 
@@ -127,6 +132,8 @@ unfoldable pub count_end : ℕ → Option ℕ → Text → Option (Token × Text
 count_end least most [] = None
 count_end least most (c ∷ rest) = if c == 125 then Some (lazy_at least most rest) else None
 
+-- The operator whose greatest count is the number that was read, unless it is less than the least
+-- count.
 unfoldable pub order_at : ℕ → ℕ × Text → Option (Token × Text)
 order_at least x = if nat_le least x.0 then count_end least (Some x.0) x.1 else None
 

@@ -12,6 +12,7 @@ pub record Reader : Type 0 where
   pub first : ℕ → Option ℕ
   pub follow : ℕ → ℕ → Option ℕ
 
+-- A core pattern: a pattern without counted repetitions.
 pub data Core : Type 0 where
   -- Matches nothing.
   void : Core

@@ -41,6 +41,7 @@ node_sized (Node-F.Repeat least most each body) = record {
   measured = is_ordered least most && (each == width body.value.written) && body.value.measured;
 }
 
+-- The core pattern of a node, and whether the numbers stored in the node are correct.
 abbrev pub sized_of : Node → Sized
 sized_of = fold-Node Sized node_sized
 

@@ -45,12 +45,15 @@ byte_tree flags b =
 abbrev pub dot_set : Flags → Set
 dot_set flags = only_chars (λ c. flags.dot_all || not ((c == 10) || (flags.crlf && (c == 13))))
 
+-- The look-around assertion of `^`.
 abbrev pub start_look : Flags → Look
 start_look flags = if flags.multi_line then (if flags.crlf then StartCRLF else StartLF) else Start
 
+-- The look-around assertion of `$`.
 abbrev pub end_look : Flags → Look
 end_look flags = if flags.multi_line then (if flags.crlf then EndCRLF else EndLF) else End
 
+-- The tree of an atom.
 abbrev pub atom_tree : Flags → Atom → Tree
 atom_tree flags (Character c) = character_tree flags c
 atom_tree flags (Byte b) = byte_tree flags b
@@ -83,6 +86,7 @@ TokenFits flags (atom a) = atom_fits flags a ≡ true
 TokenFits flags (bracketed b) = BracketFits flags b
 TokenFits flags _ = Unit {0}
 
+-- The tree of a bracket.
 abbrev pub class_tree : Flags → Bracket → Tree
 class_tree flags b = one_of flags (bracket_set flags b)
 
@@ -94,6 +98,7 @@ captures capturing = true
 captures (named name) = true
 captures (plain change) = false
 
+-- The tree of a group, which is a capture if `captured` holds.
 abbrev pub group_tree : Bool → Tree → Tree
 group_tree captured tree = if captured then capture tree else tree
 
@@ -118,6 +123,7 @@ abbrev mutual
   piece_tree flags (group opening bs) = group_tree (captures opening) (alternation_of (branch_list (inner_flags opening flags) bs))
   piece_tree flags (repeated p op) = repetition_of op.least op.most (is_greedy flags op) (piece_tree flags p)
 
+-- The tree of the inside of a group.
 abbrev pub written_tree : Flags → Branches → Tree
 written_tree flags bs = alternation_of (branch_list flags bs)
 

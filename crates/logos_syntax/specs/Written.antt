@@ -67,6 +67,7 @@ abbrev pub IsNew : List Text → Token → Type 0
 IsNew seen (opens (named name)) = list_any (bytes_eq name) seen ≡ false
 IsNew seen _ = Unit {0}
 
+-- The names of groups after a token.
 abbrev pub with_name : List Text → Token → List Text
 with_name seen (opens (named name)) = name ∷ seen
 with_name seen _ = seen
@@ -84,6 +85,7 @@ items_flags flags nothing = flags
 items_flags flags (piece its p) = items_flags flags its
 items_flags flags (setting its change) = flags_after change (items_flags flags its)
 
+-- The flags after the inside of a group.
 abbrev pub branches_flags : Flags → Branches → Flags
 branches_flags flags (first its) = items_flags flags its
 branches_flags flags (next bs its) = items_flags (branches_flags flags bs) its

@@ -15,6 +15,7 @@ use Rattle.logos_type.specs.TypeTrees.{type_tree}
 abbrev pub typed_runs : List ℕ → TokenList → List TokenList
 typed_runs text run = if bytes_eq (printed run) text then noted_runs run else []
 
+-- The runs of a type that was read from tokens.
 abbrev pub read_type_runs : Tree → Option TokenList → List TokenList
 read_type_runs type None = []
 read_type_runs type (Some run) = typed_runs (printed_type type) run

@@ -54,6 +54,7 @@ head_text logos this = codes "impl < 's > " ++ logos ++ codes ":: Logos < 's > f
 abbrev pub source_text : List ℕ → List ℕ
 source_text source = codes "; type Source = " ++ source ++ codes "; "
 
+-- The associated types of the implementation.
 abbrev pub types_text : AroundValue → List ℕ
 types_text around =
     codes "type Error = " ++ error_type_text around.error_type around.error ++ codes "; type Extras = " ++ type_text around.extras ++ source_text around.source
@@ -71,31 +72,37 @@ whole_core = codes ":: core "
 abbrev pub tables_lead : List ℕ
 tables_lead = codes "# [ inline ] "
 
--- The signature of the function that lexes, with this text before it and this path of `core`.
+-- The type of the lexer and the result type in the signature of the function that lexes, up to the
+-- path of the library.
 abbrev pub answer_text : List ℕ → List ℕ
 answer_text core =
     codes ":: Lexer < 's , Self > ) -> " ++ core ++ codes ":: option :: Option < " ++ core
     ++ codes ":: result :: Result < Self , < Self as "
 
+-- The signature of the function that lexes, with the text `lead` before it and this path of `core`.
 abbrev pub signature_text : List ℕ → List ℕ → List ℕ → List ℕ
 signature_text lead core logos = lead ++ codes "fn lex ( lex : & mut " ++ logos ++ answer_text core ++ logos ++ codes ":: Logos < 's >> :: Error >> { "
 
--- The imports of the function that lexes: of items of the library that only it uses, of types of
--- `core`, and of `Logos`, with the type of the lexer.
+-- The import of the items of the library that only the function that lexes uses.
 abbrev pub internals_text : List ℕ → List ℕ
 internals_text logos =
     codes "use " ++ logos ++ codes ":: internal :: { LexerInternal , CallbackRetVal , CallbackResult , SkipRetVal , SkipResult , } ; "
 
+-- The imports of types of `core`.
 abbrev pub core_text : List ℕ → List ℕ
 core_text core = codes "use " ++ core ++ codes ":: result :: Result as _Result ; use " ++ core ++ codes ":: option :: Option as _Option ; "
 
+-- The rest of the type of the lexer, after the path of the library.
 abbrev pub lexer_end_text : List ℕ → List ℕ
 lexer_end_text this = codes ":: Lexer < 's , " ++ this ++ codes " > ; "
 
+-- The import of `Logos`, and the type of the lexer.
 abbrev pub lexer_text : List ℕ → List ℕ → List ℕ
 lexer_text logos this =
     codes "use " ++ logos ++ codes ":: Logos ; type _Lexer < 's > = " ++ logos ++ lexer_end_text this
 
+-- All imports of the function that lexes: of items of the library, of types of `core`, and of
+-- `Logos`, with the type of the lexer.
 abbrev pub uses_text : List ℕ → List ℕ → List ℕ → List ℕ
 uses_text core logos this = internals_text logos ++ core_text core ++ lexer_text logos this
 

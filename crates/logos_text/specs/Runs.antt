@@ -11,6 +11,7 @@ use Rattle.logos_token.specs.Tokens.{TokenList, identifier, none, also}
 abbrev pub name_run : Ident → TokenList
 name_run name = also (identifier name.text.now name.span) none
 
+-- The run of a name, as a list.
 abbrev pub name_runs : Ident → List TokenList
 name_runs name = name_run name ∷ []
 
@@ -19,6 +20,7 @@ abbrev pub noted_runs : TokenList → List TokenList
 noted_runs none = []
 noted_runs (also token rest) = also token rest ∷ []
 
+-- A run, if there is one and it is not empty.
 abbrev pub option_runs : Option TokenList → List TokenList
 option_runs None = []
 option_runs (Some run) = noted_runs run
@@ -32,6 +34,7 @@ abbrev pub callback_runs : CallbackValue → List TokenList
 callback_runs (named tokens) = noted_runs tokens
 callback_runs (written arg body span) = inline_runs arg body
 
+-- The runs of a callback, if there is one.
 abbrev pub called_runs : Option CallbackValue → List TokenList
 called_runs None = []
 called_runs (Some callback) = callback_runs callback

@@ -16,6 +16,7 @@ pub data EntryValue : Type 0 where
   doc_entry : (text : List ℕ) (span : Span) → EntryValue
   group_entry : (delimiter : Delimiter) (span : Span) (size : ℕ) → EntryValue
 
+-- The value that an entry of a buffer represents.
 abbrev pub value_of : Entry → EntryValue
 value_of (Ident i) = identifier_entry i.text.now i.span
 value_of (Punct p) = punctuation_entry p.character p.spacing p.span

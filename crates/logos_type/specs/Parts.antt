@@ -48,6 +48,7 @@ abbrev pub trees : List Tree → Trees
 trees [] = none
 trees (t ∷ rest) = also t (trees rest)
 
+-- The token that a value of type `TypeToken` represents.
 abbrev pub sign_of : TypeToken → Sign
 sign_of (Word text) = word text.now
 sign_of (Mark character) = mark character

@@ -33,5 +33,6 @@ abbrev pub Has : List (List ℕ) → List ℕ → Type 0
 Has [] text = ⊥
 Has (t ∷ ts) text = (t ≡ text) ⊎ Has ts text
 
+-- The texts to which references point.
 abbrev pub texts : List (Bor (List ℕ)) → List (List ℕ)
 texts = map (λ b. b.now)

@@ -38,6 +38,7 @@ pub data Given : Type 0 where
   a_name : (text : List ℕ) → Given
   a_type : (parts : Trees) → Given
 
+-- The replacement of a parameter with this type.
 abbrev pub given_type : Tree → Given
 given_type (sign s) = nothing
 given_type (name text) = a_name text

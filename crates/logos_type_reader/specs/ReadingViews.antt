@@ -15,10 +15,12 @@ use Rattle.logos_type_reader.specs.declared.reader.TypeFault.TheVariants as faul
 use Rattle.logos_type_reader.specs.Reading.{next_of, IsMove, NoMove, AreParts, NoParts}
 use Rattle.logos_type_reader.specs.Table.{Spot, Move, ends, takes, bars, needs, keeps_type, keeps, nests, stops, First, starts, refused, Fault, unsupported, mismatch, too_deep}
 
+-- The tokens after the open group, if a group is open.
 abbrev pub outside_of : Option Tokens → Option TokenList
 outside_of (Some tokens) = Some (tokens_of tokens)
 outside_of None = None
 
+-- The spot that a value of the reader represents.
 abbrev pub spot_of : SpotView → Spot
 spot_of spot = record { stage = spot.stage; run = tokens_of spot.run; outside = outside_of spot.outside }
 
@@ -52,10 +54,12 @@ IfFault Holds (faults.Mismatch span) = Holds (mismatch span)
 IfFault Holds faults.LimitNesting = Holds too_deep
 IfFault Holds faults.Memory = Unit {0}
 
+-- The fault of a type for the fault of one of its steps.
 abbrev pub fault_of : StepFault → TypeFault
 fault_of (Unsupported span) = faults.Unsupported span
 fault_of (Mismatch span) = faults.Mismatch span
 
+-- The termination measure of the tokens that are left at a spot.
 abbrev pub spot_left : Spot → ℕ
 spot_left spot = left spot.run spot.outside
 

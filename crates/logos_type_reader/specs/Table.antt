@@ -68,6 +68,7 @@ pub data First : Type 0 where
   starts : (barred : Bool) → Sign → Spot → First
   refused : Fault → First
 
+-- No step fits, since the first token does not fit.
 abbrev pub mismatches : TokenList → Move
 mismatches run = stops (mismatch (first_span run))
 
@@ -172,6 +173,7 @@ abbrev pub inputs_move : TokenList → Option TokenList → Move
 inputs_move none outside = closes Parenthesis stage.Output outside
 inputs_move run outside = needs true stage.InputEnd
 
+-- After a type in the parentheses of a path: `,` or the end.
 abbrev pub input_end_move : TokenList → Option TokenList → Move
 input_end_move none outside = closes Parenthesis stage.Output outside
 input_end_move (also (punctuation c spacing span) rest) outside = if c == 44 then takes (mark 44) (to stage.Inputs rest outside) else stops (mismatch span)
@@ -251,6 +253,7 @@ abbrev pub list_move : TokenList → Option TokenList → Move
 list_move none outside = closes Parenthesis stage.End outside
 list_move run outside = needs true stage.ListEnd
 
+-- After a type in parentheses: `,` or the end.
 abbrev pub list_end_move : TokenList → Option TokenList → Move
 list_end_move none outside = closes Parenthesis stage.End outside
 list_end_move (also (punctuation c spacing span) rest) outside = if c == 44 then takes (mark 44) (to stage.List rest outside) else stops (mismatch span)
@@ -343,6 +346,7 @@ abbrev pub for_move : Binder → TokenList → Option TokenList → Move
 for_move binder (also (punctuation c spacing span) rest) outside = if c == 60 then takes (mark 60) (to (stage.ForList binder) rest outside) else stops (mismatch span)
 for_move binder run outside = mismatches run
 
+-- At `'` in `for<..>`: a lifetime.
 abbrev pub for_lifetime_move : Binder → TokenList → Option TokenList → Move
 for_lifetime_move binder (also (identifier text span) rest) outside = takes (other_lifetime text) (to (stage.ForEnd binder) rest outside)
 for_lifetime_move binder run outside = mismatches run
@@ -403,6 +407,7 @@ abbrev pub typed_move : TokenList → Option TokenList → Move
 typed_move (also (punctuation c spacing span) rest) outside = if c == 58 then takes (mark 58) (to stage.TypedValue rest outside) else stops (mismatch span)
 typed_move run outside = mismatches run
 
+-- After one parameter of a function: `,` or the end.
 abbrev pub one_taken_move : TokenList → Option TokenList → Move
 one_taken_move none outside = closes Parenthesis stage.Output outside
 one_taken_move (also (punctuation c spacing span) rest) outside = if c == 44 then takes (mark 44) (to stage.Taken rest outside) else stops (mismatch span)
@@ -414,6 +419,7 @@ variadic_move none outside = closes Parenthesis stage.Output outside
 variadic_move (also (punctuation c spacing span) rest) outside = if c == 44 then takes (mark 44) (to stage.VariadicEnd rest outside) else stops (mismatch span)
 variadic_move run outside = mismatches run
 
+-- After the `,` that follows `...`: the end.
 abbrev pub variadic_end_move : TokenList → Option TokenList → Move
 variadic_end_move none outside = closes Parenthesis stage.Output outside
 variadic_end_move run outside = mismatches run

@@ -15,6 +15,7 @@ abbrev pub run_view : Span → CallbackRun → CallbackView
 run_view span (Label run) = label (tokens_of run)
 run_view span (Inline arg body) = inline (ident_slice arg) (tokens_of body) span
 
+-- The fault of a run that is not a callback.
 abbrev pub callback_fault : Span → CallbackFault → Fault
 callback_fault span Closure = callback_closure span
 callback_fault span Body = callback_body span

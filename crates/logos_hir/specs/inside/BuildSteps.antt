@@ -24,6 +24,7 @@ abbrev pub add_parts : List Tree → List Tree → List Tree
 add_parts parts [] = parts
 add_parts parts (t ∷ more) = add_parts (add_part parts t) more
 
+-- The tree is a literal.
 abbrev pub is_literal_tree : Tree → Bool
 is_literal_tree (literal text) = true
 is_literal_tree t = false

@@ -68,6 +68,7 @@ pub record Substituted : Type 0 where
   pub text : List ℕ
   pub complete : Bool
 
+-- The text so far, with one more part.
 abbrev pub put : Substituted → List ℕ → Substituted
 put s text = record { text = s.text ++ text; complete = s.complete }
 
@@ -79,10 +80,12 @@ abbrev pub name_report : Span → List ℕ → Substituted → Option (List ℕ)
 name_report span name s (Some text) = without_faults (put s text)
 name_report span name s None = with_faults (record s { complete = false }) (only (subpattern_missing span name))
 
+-- The report of one more part of the text.
 abbrev pub part_report : List Stored → Span → Part → Substituted → Report Substituted
 part_report names span (itself c) s = without_faults (put s (encode_utf8 c))
 part_report names span (used name) s = name_report span (encoded name) s (text_of names (encoded name))
 
+-- The report of more parts of the text, from the left.
 abbrev pub parts_report : List Stored → Span → List Part → Substituted → Report Substituted
 parts_report names span [] s = without_faults s
 parts_report names span (part ∷ rest) s = and_then (part_report names span part s) (parts_report names span rest)
@@ -91,6 +94,7 @@ parts_report names span (part ∷ rest) s = and_then (part_report names span par
 abbrev pub whole_text : Substituted → Option (List ℕ)
 whole_text s = if s.complete then Some s.text else None
 
+-- The text before its first part.
 abbrev pub nothing_yet : Substituted
 nothing_yet = record { text = []; complete = true }
 

@@ -32,6 +32,8 @@ last_at (c ∷ rest) =
     if c == 92 then escape_at rest >>= (λ x. option_map (λ s. (s, x.1)) (symbol_of x.0))
     else Some (Character c, rest)
 
+-- The range from one character to another, unless it ends before it begins, and the rest of the
+-- text.
 unfoldable pub range_token : Symbol → Symbol × Text → Option (BracketToken × Text)
 range_token a x = if nat_le (code_of a) (code_of x.0) then Some (tokens.Item (items.Range a x.0), x.1) else None
 
@@ -43,6 +45,7 @@ range_at a rest = if begins_range rest then last_at (drop 1 rest) >>= range_toke
 unfoldable pub lone_at : BracketItem → Text → Option (BracketToken × Text)
 lone_at item rest = if begins_range rest then None else Some (tokens.Item item, rest)
 
+-- The element that begins with an escape, and the text after it.
 unfoldable pub escape_item : Atom → Text → Option (BracketToken × Text)
 escape_item (atoms.Character c) rest = range_at (Character c) rest
 escape_item (atoms.Byte b) rest = range_at (Byte b) rest
@@ -50,6 +53,7 @@ escape_item (atoms.Perl kind negated) rest = lone_at (items.Perl kind negated) r
 escape_item (atoms.Property set negated) rest = lone_at (items.Property set negated) rest
 escape_item _ rest = None
 
+-- The element at the front of a text, and the text after it.
 unfoldable pub item_at : Text → Option (BracketToken × Text)
 item_at [] = None
 item_at (c ∷ rest) = if c == 92 then escape_at rest >>= (λ x. escape_item x.0 x.1) else range_at (Character c) rest
@@ -61,6 +65,7 @@ abbrev pub dashes_from : ℕ → Text → ℕ × Text
 dashes_from n [] = (n, [])
 dashes_from n (c ∷ rest) = if c == 45 then dashes_from (n + 1) rest else (n, c ∷ rest)
 
+-- The literals at the front of a text, and the text after them.
 unfoldable pub lead_at : Text → Lead × Text
 lead_at [] = (Dashes 0, [])
 lead_at (c ∷ rest) = if c == 93 then (LoneBracket, rest) else (Dashes (dashes_from 0 (c ∷ rest)).0, (dashes_from 0 (c ∷ rest)).1)
@@ -98,6 +103,7 @@ class_at (c ∷ rest) = if c == 58 then colon_at rest else None
 unfoldable pub inner_at : Text → BracketToken × Text
 inner_at text = unwrap_or (class_at text) (tokens.Open (open_at text).0 (open_at text).1, (open_at text).2)
 
+-- The operator that is written as this character twice.
 abbrev pub operator_of : ℕ → SetOperator
 operator_of c = if c == 38 then Intersection else if c == 45 then Difference else SymmetricDifference
 

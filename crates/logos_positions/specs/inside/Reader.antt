@@ -44,6 +44,7 @@ pub record IsRest (r : Remainder) (n : ℕ) (f : ℕ → Bool) : Type 0 where
   pub same : Same n r.has f
   pub some : IsOpen n f
 
+-- No offset remains.
 abbrev pub IsShut : ℕ → (ℕ → Bool) → Type 0
 IsShut n f = (o : ℕ) → o < size n → f o ≡ false
 

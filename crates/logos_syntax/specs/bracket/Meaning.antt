@@ -37,6 +37,7 @@ item_test flags (items.Perl kind negated) = perl_set kind flags.unicode
 item_test flags (items.Property set negated) = in_set set
 item_test flags (items.Ascii kind negated) = ascii_set kind
 
+-- The element is negated.
 abbrev pub is_negated : BracketItem → Bool
 is_negated (items.One s) = false
 is_negated (items.Range a b) = false
@@ -44,6 +45,7 @@ is_negated (items.Perl kind negated) = negated
 is_negated (items.Property set negated) = negated
 is_negated (items.Ascii kind negated) = negated
 
+-- The set of an element.
 abbrev pub item_set : Flags → BracketItem → Set
 item_set flags item = set_or_complement flags (is_negated item) (case_closure flags (only_chars (item_test flags item)))
 
@@ -83,6 +85,7 @@ item_fits flags (items.Perl kind negated) = true
 item_fits flags (items.Property set negated) = flags.unicode
 item_fits flags (items.Ascii kind negated) = true
 
+-- The flags allow each of the tokens.
 abbrev pub TokensFit : Flags → List BracketToken → Type 0
 TokensFit flags [] = Unit {0}
 TokensFit flags (tokens.Item item ∷ others) = (item_fits flags item ≡ true) × TokensFit flags others
@@ -90,6 +93,7 @@ TokensFit flags (tokens.Open negated lead ∷ others) = TokensFit flags others
 TokensFit flags (tokens.Operator op ∷ others) = TokensFit flags others
 TokensFit flags (tokens.Close ∷ others) = TokensFit flags others
 
+-- The flags allow the bracket.
 abbrev pub BracketFits : Flags → Bracket → Type 0
 BracketFits flags b = TokensFit flags (bracket_tokens b)
 

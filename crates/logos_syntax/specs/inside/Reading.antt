@@ -42,6 +42,7 @@ IfDeepToken (stops.Syntax kind left) old seen text names = Unit {0}
 IfDeepToken stops.LimitPatternNesting old seen text names = IsDeepAt old seen names text
 IfDeepToken stops.Memory old seen text names = Unit {0}
 
+-- The contract of reading one token or bracket.
 abbrev pub ReadsToken : State → List Text → Text → Result (Bor Text) Stop → State → GroupNames → Type 0
 ReadsToken old seen text (Ok rest) new names = Continues old seen text new names rest.now
 ReadsToken old seen text (Err stop) new names =

@@ -33,6 +33,7 @@ pub record StepsToward (graph : List (List ℕ)) (memberships : List Membership)
   pub root : next.root ≡ membership.root
   pub nearer : next.to_rank < membership.to_rank
 
+-- The node is its own root, or an edge leads from it nearer to its root.
 abbrev pub GoesToward : List (List ℕ) → List Membership → ℕ → Membership → Type 0
 GoesToward graph memberships node membership = (membership.root ≡ node) ⊎ StepsToward graph memberships node membership
 
@@ -46,6 +47,8 @@ pub record StepsFrom (graph : List (List ℕ)) (memberships : List Membership)
   pub root : before.root ≡ membership.root
   pub nearer : before.from_rank < membership.from_rank
 
+-- The node is its own root, or an edge comes to it from a node that the root reaches in fewer
+-- edges.
 abbrev pub ComesFrom : List (List ℕ) → List Membership → ℕ → Membership → Type 0
 ComesFrom graph memberships node membership = (membership.root ≡ node) ⊎ StepsFrom graph memberships node membership
 
