@@ -260,7 +260,8 @@ fn name_at<'t, 's>(
     }
 }
 
-/// Returns the piece at the front, and a parser of the tokens after it.
+/// Returns the piece at the front, and a parser of the tokens after it. Returns `None` if there are
+/// no tokens.
 fn piece_at<'t, 's>(tokens: Tokens<'t, 's>) -> Option<(Nested<'t, 's>, AttributeParser<'t, 's>)>
     ensures { MatchOption result
         (pieces (tokens_of tokens.entry) ≡ [])
@@ -278,7 +279,8 @@ fn piece_at<'t, 's>(tokens: Tokens<'t, 's>) -> Option<(Nested<'t, 's>, Attribute
     }
 }
 
-/// Returns the piece that follows a name and a group, and a parser of the tokens after it.
+/// Returns the piece that follows a name and a group, and a parser of the tokens after it. Returns
+/// `None` if no piece follows.
 fn piece_after_group<'t, 's>(
     tokens: Tokens<'t, 's>,
 ) -> Option<(Nested<'t, 's>, AttributeParser<'t, 's>)>
@@ -322,7 +324,8 @@ impl<'t, 's> AttributeParser<'t, 's> {
         Some(run)
     }
 
-    /// Returns the next piece, and a parser of the pieces after it.
+    /// Returns the next piece, and a parser of the pieces after it. Returns `None` if no piece is
+    /// left.
     fn read(self) -> Option<(Nested<'t, 's>, AttributeParser<'t, 's>)>
         ensures { MatchOption result
             (pieces_left self.entry ≡ [])

@@ -187,8 +187,8 @@ impl<'c, 's, 'i, C: Fn(LeafId, &[u8]) -> Action> Lexer<'c, 's, 'i, C> {
         self.steps = steps;
     }
 
-    /// Returns the span of the last item: 0..0 before the first, and the empty span at the end of
-    /// the input after `None`.
+    /// Returns the span of the last item. It is 0..0 before the first item, and empty at the end of
+    /// the input once `next` has returned `None`.
     pub fn span(&self) -> Span
         ensures { result ≡ record { from = self.now.from; to = self.now.to } }
     {

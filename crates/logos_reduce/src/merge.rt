@@ -18,7 +18,8 @@ use crate::rows::{Row, WIDTH, same_until, target_at};
 use crate::table::Table;
 use std::alloc::{AllocError, Global};
 
-/// Returns the first symbol on which two rows lead to different blocks.
+/// Returns the first symbol on which two rows lead to different blocks, or `None` if there is no
+/// such symbol.
 fn first_difference(row: &Row, other: &Row, blocks: &Vec<usize>) -> Option<usize>
     requires row { (k t : ℕ) → target_by row.now k ≡ Some t → t < vec_len blocks.now }
     requires other { (k t : ℕ) → target_by other.now k ≡ Some t → t < vec_len blocks.now }

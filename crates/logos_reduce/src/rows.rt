@@ -149,7 +149,7 @@ impl Rows {
     }
 }
 
-/// Returns the target of a row on the symbol `k`.
+/// Returns the target of a row on the symbol `k`, or `None` if there is none.
 pub fn target_at(row: &Row, k: usize) -> Option<usize>
     requires { k < WIDTH }
     ensures { result ≡ target_by row.now k }

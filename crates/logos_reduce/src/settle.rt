@@ -8,7 +8,7 @@ use crate::rows::{END, Row, WIDTH, run_end, target_at};
 use crate::table::{StateMarks, Table};
 use std::alloc::{AllocError, Global};
 
-/// Returns the leaf that is accepted by the target of a row on the symbol `k`.
+/// Returns the leaf that is accepted by the target of a row on the symbol `k`, if there is one.
 fn accepted_by(table: &Table, row: &Row, k: usize) -> Option<usize>
     requires { k < WIDTH }
     ensures { result ≡ accepted_in table.now row.now k }
@@ -30,7 +30,7 @@ fn common_leaf(table: &Table, row: &Row) -> Option<usize>
     Some(leaf)
 }
 
-/// Returns for each distinct row the leaf that is accepted by all its targets.
+/// Returns for each distinct row the leaf that is accepted by all its targets, if there is one.
 fn common_leaves(alloc: Global, table: &Table) -> Result<Vec<Option<usize>>, AllocError>
     ensures len { IfOk result (λ v. vec_len v ≡ length table.now.rows.distinct.keys.items) }
     ensures leaves { IfOk result (λ v.
@@ -44,7 +44,7 @@ fn common_leaves(alloc: Global, table: &Table) -> Result<Vec<Option<usize>>, All
     Ok(leaves)
 }
 
-/// Returns the early mark of each state.
+/// Returns the early mark of each state, or `None` for a state that has none.
 fn early_marks(alloc: Global, table: &Table) -> Result<Vec<Option<usize>>, AllocError>
     ensures len { IfOk result (λ v. vec_len v ≡ size table.now) }
     ensures marks { IfOk result (λ v. AreCommon table.now (size table.now) v.items) }

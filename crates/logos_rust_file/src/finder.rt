@@ -1,5 +1,5 @@
-//! Finds the enums of a file. `logos_cli` and `logos_show` call `read_file` or `enums_in` once for
-//! each file.
+//! Finds the enums of a file. `logos_expand` and `logos_show` call `read_file` or `enums_in` once
+//! for each file.
 
 ghost use Rattle.std.specs.Prelude.{◌≡◌, ◌∷◌, [], All, IfOk, IfErr, OnOk, length, map};
 ghost use Rattle.logos_rust_file.specs.Views.{Fault, Spells, stream_tokens, tokens_of, EndsReading, Refuses, AreEnumsOf, Describes, Finds, AreInOrder, IsFoundCut, found_span, AddsItem, AddsRun};

@@ -1,4 +1,4 @@
-//! Replaces parts of a text. `logos_cli` inserts the expansions into a file with it.
+//! Replaces parts of a text. `logos_expand` inserts the expansions into a file with it.
 
 ghost use Rattle.std.specs.Prelude.{◌≡◌, ◌≤◌, IfOk, length, map, slice_range};
 ghost use Rattle.logos_rust_file.specs.Views.{AreInOrder, part_span, replaced};

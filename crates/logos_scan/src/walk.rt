@@ -1,5 +1,6 @@
 //! Walks over folded rows: a chunk of bytes at once, in six parallel blocks and without a branch
-//! for each byte, and the bit masks of the entries at which attempts end.
+//! for each byte, and the bit masks of the entries at which attempts end. `run` and `trial` call
+//! it.
 //!
 //! Folded rows are rows of 256 entries. A row is identified by its row offset, the index of its
 //! first entry. The lowest twenty bits of the entry of a byte are the offset of the next row. Its

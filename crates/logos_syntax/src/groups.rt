@@ -241,7 +241,7 @@ impl Groups {
     }
 
     /// Returns the number of characters from the start of the part that an operator would repeat to
-    /// the end of the text.
+    /// the end of the text. Returns `None` if there is no such part.
     pub(crate) fn repeated(&self) -> Option<usize> {
         match &self.top.last {
             Some(part) => Some(part.left),

@@ -59,7 +59,7 @@ fn report_no_type(
 }
 
 /// Returns the type if no tokens are left after it. Otherwise reports at the span `at` that the run
-/// is not a type.
+/// is not a type, and returns `None`.
 fn whole_type<'s>(
     type_expr: TypeExpr<'s>,
     rest: Tokens<'_, 's>,

@@ -240,7 +240,7 @@ fn closing_mark(state: &CodeState) -> Option<Mark>
     state.mark
 }
 
-/// Returns the leaf of a mark that is not late.
+/// Returns the leaf of a mark that is not late, or `None` for any other mark and for no mark.
 pub(super) fn early_leaf(mark: Option<Mark>) -> Option<LeafId>
     ensures { IfSome result (λ leaf. option_map mark_of mark
         ≡ Some (record { leaf = leaf.0; late = false })) }
@@ -330,7 +330,8 @@ impl CodeParts<'_> {
         }
     }
 
-    /// Returns the target of the first of the branches whose condition holds.
+    /// Returns the target of the first branch whose condition holds, or `None` if no condition
+    /// holds.
     fn first_target(&self, branches: &[(Condition, usize)], byte: u8) -> Option<usize>
         requires { NamesFork (code_of self.now) (by_conditions (map branch_of branches.now)) }
         ensures { result ≡ target (code_of self.now)
@@ -375,7 +376,7 @@ fn plain_use(leaf: &CodeLeaf) -> MatchUse
     }
 }
 
-/// Returns the target of the jump table for the byte.
+/// Returns the target of the jump table for the byte, or `None` if the byte leads nowhere.
 fn jump(table: &[u32; 256], byte: u8) -> Option<usize>
     ensures { result ≡ slice_index_or (jumps_of table.now) byte None }
 {

@@ -214,7 +214,7 @@ pub(crate) fn name_at(source: &str, at: usize) -> Option<usize>
     None
 }
 
-/// Returns whether punctuation that ends at `at` is joint.
+/// Returns the spacing of the punctuation that ends at `at`.
 #[tactic(auto, unfolding(crate::specs::LexemeOpenings::spacing))]
 fn spacing(source: &str, at: usize) -> Spacing
     requires { IsCharBoundary source.now at }
@@ -320,8 +320,8 @@ fn is_lifetime_name(source: &str, at: usize) -> bool
     is_start(char_at(source, at))
 }
 
-/// Returns the literal that opens at a byte offset. No literal opens where the name of a lifetime
-/// begins.
+/// Returns the literal that opens at a byte offset, or `None` if none opens there. No literal opens
+/// where the name of a lifetime begins.
 #[tactic(auto, unfolding(crate::specs::LexemeOpenings::literal_at))]
 fn literal_at(source: &str, at: usize) -> Option<Opening>
     requires inside { at < length source.now }

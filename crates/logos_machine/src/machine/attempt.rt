@@ -120,7 +120,8 @@ fn loop_end(code: &Code, input: &[u8], state: usize, offset: usize) -> usize
     }
 }
 
-/// Returns the context after a mark.
+/// Returns the last mark passed once a state with this sign is entered. `context` is the last mark
+/// passed before.
 #[inline]
 pub(super) fn marked(
     sign: Sign,

@@ -257,7 +257,7 @@ fn block_size(left: u8) -> u32
     }
 }
 
-/// Returns, for each first byte, the number of the row after it.
+/// Returns, for each first byte, the number of the row after it, or `None` if there is no such row.
 ///
 /// # Errors
 ///
@@ -316,8 +316,8 @@ fn follow_row(
     Ok(())
 }
 
-/// Returns the rows after each row and each continuation byte, and adds the rows to which these
-/// lead.
+/// Returns the rows after each row and each continuation byte, or `None` where there is no such
+/// row, and adds the rows to which these lead.
 ///
 /// # Errors
 ///

@@ -198,8 +198,8 @@ fn is_marked_alike(
     copies.base + shift + copies.each <= marks[at + i]
 }
 
-/// Returns the number of copies after the first one that have the same positions as it, up to the
-/// next copy that does not.
+/// Returns the number of consecutive copies after the first one that have the same positions as the
+/// first.
 pub fn alike_copies(marks: &[usize], copies: Copies) -> usize
     requires rising { IsRising marks.now }
     requires fits { copies.base + copies.each * copies.count < 2 ^ 64 }

@@ -1,5 +1,5 @@
-//! Chooses the part of a block that becomes the new block, and the next blocks to process. No proof
-//! about blocks depends on it.
+//! Chooses the part of a block that becomes the new block, and the next blocks to process. `refine`
+//! and `twins` call it for each block. No proof about blocks depends on it.
 
 ghost use Rattle.std.specs.Prelude.{◌≡◌, ℕ, ◌+◌, ◌<◌, ◌≤◌, OnSome, IfOk, vec_len, slice_index};
 
@@ -180,7 +180,7 @@ impl Hints {
         self.counts[block] = 0;
     }
 
-    /// Removes and returns the next block to process.
+    /// Removes and returns the next block to process, or returns `None` if no block is left.
     pub fn next(&mut self) -> Option<usize>
         ensures some { OnSome result (vec_len self.new.todo + 1 ≡ vec_len self.old.todo) }
         ensures sizes { vec_len self.new.sizes ≡ vec_len self.old.sizes }

@@ -14,7 +14,7 @@ use crate::rows::WIDTH;
 use crate::table::Table;
 use std::alloc::{AllocError, Global};
 
-/// Returns the block of a target.
+/// Returns the block of a target, or `None` if there is no target.
 pub fn block_of(target: Option<usize>, blocks: &Vec<usize>) -> Option<usize>
     requires { (t : ℕ) → target ≡ Some t → t < vec_len blocks.now }
     ensures { result ≡ option_map (slice_index blocks.now.items) target }
@@ -214,7 +214,7 @@ fn split_by_block(
 }
 
 impl Refinement {
-    /// Removes and returns the next block to process.
+    /// Removes and returns the next block to process, or returns `None` if no block is left.
     fn next(&mut self) -> Option<usize>
         ensures some { OnSome result (vec_len self.new.cuts.hints.todo + 1
             ≡ vec_len self.old.cuts.hints.todo) }

@@ -1,4 +1,5 @@
-//! Sets of symbols for which a block is processed. No proof about blocks depends on them.
+//! Sets of symbols for which a block is processed. `refine` makes one for each state. No proof
+//! about blocks depends on them.
 
 ghost use Rattle.std.specs.Prelude.{◌<◌, ◌≤◌};
 

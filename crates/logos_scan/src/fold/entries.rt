@@ -85,7 +85,7 @@ fn row_start_after(code: &Code, state: usize, byte: u8) -> Option<usize>
     }
 }
 
-/// Returns the row offset of the state to which the byte leads.
+/// Returns the row offset of the state to which the byte leads, or `None` if it leads nowhere.
 fn row_start_of_target(code: &Code, state: usize, byte: u8) -> Option<usize>
     requires few { IsFew code.now }
     requires sound { IsSound code.now }

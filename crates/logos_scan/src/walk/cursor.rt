@@ -114,8 +114,8 @@ impl ChunkCursor {
         cursor
     }
 
-    /// Returns the next pending entry, and passes it. If there is none, all entries are passed, and
-    /// the attempt that is active at the end began at `word_start`.
+    /// Returns the next pending entry, and passes it. If there is none, returns `None`: all entries
+    /// are passed, and the attempt that is active at the end began at `word_start`.
     #[inline(always)]
     pub fn next(&mut self, chunk: &ChunkEntries) -> Option<usize>
         requires marked { IsMarked chunk.now }

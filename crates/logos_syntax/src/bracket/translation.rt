@@ -109,7 +109,7 @@ fn item_set(alloc: Global, flags: Flags, item: BracketItem) -> Result<RangeSet, 
 }
 
 /// Returns the ends of an element whose set is one range and needs no case folding: a character, a
-/// byte or a range while `i` is off.
+/// byte or a range while `i` is off. Returns `None` for any other element.
 fn plain_ends(flags: Flags, item: BracketItem) -> Option<(u32, u32)>
     ensures { IfSome result (λ ends. item_set flags item ≡ members (ends ∷ [])) }
 {

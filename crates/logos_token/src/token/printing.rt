@@ -157,7 +157,7 @@ fn leave<'t, 's>(
 }
 
 /// Prints the first tree of `rest`, or closes a group if `rest` is empty. Returns the trees to
-/// print next.
+/// print next, or `None` if everything is printed.
 fn step<'t, 's>(
     printer: &mut Printer,
     outer: &mut Vec<Outer<'t, 's>>,

@@ -1,5 +1,4 @@
-//! Escapes texts for string literals. `Errors::render`, `logos_attribute` and `logos_attempts` call
-//! it.
+//! Escapes texts for string literals. `Errors::render` and `logos_attribute` call it.
 
 ghost use Rattle.std.specs.Prelude.{◌≡◌, ◌++◌, OnOk, string_bytes};
 ghost use Rattle.logos_token.specs.Imports.{escaped_character, escaped};

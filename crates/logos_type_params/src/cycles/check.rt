@@ -8,7 +8,7 @@ use crate::cycles::evidence::Membership;
 use std::alloc::{AllocError, Global};
 
 /// Returns the node to which an edge of `node` leads, where `edge` is the index of the edge in the
-/// list of `node`.
+/// list of `node`. Returns `None` if there is no such edge.
 fn target(lists: &[Vec<usize>], node: usize, edge: usize) -> Option<usize>
     ensures { IfSome result (λ to. Edge (graph lists.now) node to) }
 {

@@ -99,7 +99,8 @@ impl Backward {
         }
     }
 
-    /// Returns the edge at the index `at` among those that lead to a node.
+    /// Returns the edge at the index `at` among those that lead to a node, or `None` if there is no
+    /// such edge.
     fn arrow(&self, node: usize, at: usize) -> Option<Arrow> {
         self.arrows.get(node)?.get(at).copied()
     }
