@@ -1,4 +1,4 @@
-//! The bytes whose steps on a tree differ from those of the byte before them, found in one pass
+//! Finds the bytes whose steps on a tree differ from those of the byte before them, in one pass
 //! over the tree from the positions that read the last byte. `byte_equivalence` and the steps of
 //! trees call it.
 

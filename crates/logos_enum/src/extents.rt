@@ -1,5 +1,5 @@
-//! Finds the extents of bounds, defaults and types: their tokens, up to the one that ends them.
-//! Parameters and fields are split with it before their types are read.
+//! Finds the extents of bounds, defaults and types: their tokens, up to the one that ends them. The
+//! readers of parameters and fields call it before they read types.
 
 ghost use Rattle.std.specs.Prelude.{◌≡◌, ◌+◌, ◌<◌, ◌≤◌, MatchOption};
 ghost use Rattle.logos_enum.specs.Views.{TokenList, also, punctuation, count_of, append, IsRestOf, tokens_of, ends, begins_arrow, depth_after, is_end, after_from, after_extent, after_generics, IsStep};

@@ -1,4 +1,4 @@
-//! A location: a line and a column. `index` and `cursor` compute locations with it.
+//! A location: a line and a column. `index` and `cursor` compute locations.
 
 ghost use Rattle.std.specs.Prelude.{◌≡◌, ◌<◌, ◌+◌, ◌^◌, ℕ, List, IsCharBoundary};
 ghost use Rattle.logos_lines.specs.Views.{after_byte, continues, location_at};

@@ -1,5 +1,5 @@
-//! Fast loops: find the end of the bytes that pass a test. Both paths of an attempt call it in a
-//! state that has a fast loop.
+//! Finds the end of a fast loop: of the bytes that pass its test. Both paths of an attempt call it
+//! in a state that has a fast loop.
 
 ghost use Rattle.std.specs.Prelude.{◌≡◌, ◌+◌, ◌/◌, ◌%◌, ◌<◌, ◌≤◌, length, map, not, slice_index};
 ghost use Rattle.logos_machine.specs.Views.{mask_l, passes_test, NamesTest, StopsAt};

@@ -1,4 +1,4 @@
-//! Classes of bytes as ranges, and the union of two classes. `prepare` calls it where it makes the
+//! Adds ranges to classes of bytes, and unites two classes. `prepare` calls it where it makes the
 //! choice of two trees.
 
 ghost use Rattle.std.specs.Prelude.{◌≡◌, ◌+◌, ◌<◌, ◌≤◌, ◌||◌, ℕ, IsTrue, IfOk, IfSome, OnOk, length, max, min, slice_get};
