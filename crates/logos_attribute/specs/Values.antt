@@ -4,7 +4,7 @@ use Rattle.std.specs.Str.{bytes_eq, all_ascii_digits}
 use Rattle.std.specs.Str.Parse.{digits_value}
 use Rattle.logos_token.specs.Tokens.{TokenList, identifier, literal, none, also}
 
--- The number that decimal digits spell, if it fits 64 bits.
+-- The number that decimal digits spell, if it fits in 64 bits.
 abbrev pub decimal : List ℕ → Option ℕ
 decimal text = if all_ascii_digits text && (nat_lt 0 (length text) && nat_lt (digits_value 10 text) (2 ^ 64)) then Some (digits_value 10 text) else None
 

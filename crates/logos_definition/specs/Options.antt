@@ -14,7 +14,7 @@ use Rattle.logos_definition.specs.Definitions.{DefinitionView, plain, definition
 use Rattle.logos_definition.specs.ErrorTypes.{ErrorView, error_span, error_alone}
 use Rattle.logos_definition.specs.OptionFaults.{utf8_twice, extras_twice, error_twice, export_twice, skip_form, skip_group, utf8_value, utf8_form, extras_form, crate_form, export_bytes, export_form, subpattern_form, error_form, source_old, unknown_logos}
 
--- Whether inputs are UTF-8, and the span of that value in the source.
+-- The UTF-8 mode: whether inputs are UTF-8, and the span of that value in the source.
 pub record ModeView : Type 0 where
   pub value : Bool
   pub span : Span

@@ -35,7 +35,7 @@ use logos_token::util::MaybeVoid;
 use logos_type_params::TypeParams;
 use std::alloc::Global;
 
-/// Whether inputs are UTF-8, and the span of that value in the source.
+/// The UTF-8 mode: whether inputs are UTF-8, and the span of that value in the source.
 #[derive(Clone, Copy)]
 pub struct Utf8Mode {
     pub value: bool,
