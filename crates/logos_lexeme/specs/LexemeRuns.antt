@@ -16,7 +16,7 @@ pub record Until (Step : ℕ → ℕ → Type 0) (Stop : ℕ → Type 0) (from t
 abbrev pub IsLast : (ℕ → ℕ → Type 0) → ℕ → Type 0
 IsLast Step at = (next : ℕ) → Step at next → ⊥
 
--- Steps lead as far as they can.
+-- Steps lead to an offset from which no step leads on.
 abbrev pub Run : (ℕ → ℕ → Type 0) → ℕ → ℕ → Type 0
 Run Step from to = Until Step (IsLast Step) from to
 

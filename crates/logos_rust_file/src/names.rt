@@ -17,8 +17,8 @@ pub(crate) fn derives_by_name(item: Tokens<'_, '_>) -> bool {
     false
 }
 
-/// Returns whether the run begins with brackets that contain a `derive` which lists `Logos` without
-/// a path.
+/// Returns whether the run begins with brackets that contain a `derive` with the entry `Logos`,
+/// without a path.
 fn begins_list(tokens: Tokens<'_, '_>) -> bool {
     match tokens.first() {
         Some(TokenTree::Group(group)) if group.delimiter == Delimiter::Bracket => {

@@ -14,8 +14,7 @@ is_alone expected (literal text span) = false
 is_alone expected (doc text span) = false
 is_alone expected (group delimiter span inside) = false
 
--- The token, or nothing if it is the punctuation `expected` with no other punctuation directly
--- after it.
+-- The token, unless it is the punctuation `expected` with no other punctuation directly after it.
 abbrev pub unless_alone : ℕ → Option TokenTree → Option TokenTree
 unless_alone expected None = None
 unless_alone expected (Some tree) = if is_alone expected (tree_of tree) then None else Some tree

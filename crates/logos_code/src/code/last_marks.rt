@@ -34,7 +34,7 @@ struct Search {
     open: Vec<usize>,
 }
 
-/// Returns the last marks of all states, or no list if the check fails.
+/// Returns the last marks of all states, or an empty list if the check fails.
 ///
 /// # Errors
 ///

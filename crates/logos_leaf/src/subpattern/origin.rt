@@ -1,5 +1,5 @@
-//! Finds where the bytes of a pattern's text are written: in its own literal, or in a subpattern
-//! that was substituted. `fault` looks up the byte of each fault here.
+//! Finds the locations at which the bytes of a pattern's text are written: in its own literal, or
+//! in a subpattern that was substituted. `fault` looks up the byte of each fault here.
 
 use crate::subpattern::substitution::{TextPart, characters, encoded, part_at};
 use crate::subpattern::{Subpatterns, flags_of, pattern_text, wrapped};

@@ -1,6 +1,5 @@
 //! The slow path of an attempt: state by state, recording the last mark passed. `walk` takes it if
-//! entries do not determine which mark was passed last, and `part` for inputs whose rest is not
-//! known.
+//! entries do not determine the last mark passed, and `part` for inputs whose rest is not known.
 
 ghost use Rattle.std.specs.Prelude.{◌≡◌, ◌+◌, ◌-◌, ◌<◌, ◌≤◌, ℕ, max, length, slice_get, drop, option_map, IfSome, IsTrue, IsCharBoundary, ◌^◌, ◌↔◌};
 ghost use Rattle.logos_machine.specs.Views.{state_at, mark_by, Does, Attempts, EndsError, target, looped, marked, IsStatus, StaysWithin, context_of, status_of, turn_of, found_of};

@@ -150,9 +150,9 @@ impl Hints {
         None
     }
 
-    /// Records which parts of a block are to be processed, once its hits are in the block `twin`:
-    /// the smaller part for all symbols, and the larger part for the symbols that are left for the
-    /// block.
+    /// Records the parts of a block that are to be processed, once its hits are in the block
+    /// `twin`: the smaller part for all symbols, and the larger part for the symbols that are left
+    /// for the block.
     ///
     /// # Errors
     ///

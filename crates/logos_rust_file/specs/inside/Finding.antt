@@ -12,7 +12,8 @@ pub record AddsRun (run : TokenList) (before after : List FoundEnum) : Type 0 wh
   pub finds : Finds run added
   pub are : after ≡ before ++ added
 
--- The enums of the first item were added, and with those of the rest they are those of the run.
+-- The enums of the first item were added. Together with the enums of the rest they are the enums of
+-- the run.
 pub record AddsFirst (run rest : TokenList) (before after : List FoundEnum) : Type 0 where
   pub added : List FoundEnum
   pub are : after ≡ before ++ added

@@ -15,7 +15,7 @@ struct Arrow {
 /// The state of the traversals against the edges.
 #[derive(Drop)]
 pub(crate) struct Backward {
-    /// The memberships of the nodes. The nodes that were visited have their components.
+    /// The memberships of the nodes, with the component of each node that was visited.
     pub(crate) memberships: Vec<Membership>,
     /// The edges that lead to each node.
     arrows: Vec<Vec<Arrow>>,
