@@ -63,7 +63,7 @@ abbrev pub is_most : ℕ → Option ℕ → Bool
 is_most n None = false
 is_most n (Some most) = most == n
 
--- A greatest count cut to at most 1.
+-- A greatest count, limited to at most 1.
 abbrev pub cut : Option ℕ → Option ℕ
 cut None = Some 1
 cut (Some most) = Some (min most 1)

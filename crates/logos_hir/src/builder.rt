@@ -100,7 +100,7 @@ fn is_most(n: u32, max: Option<u32>) -> bool
     max == Some(n)
 }
 
-/// Returns the greatest count, cut to at most 1.
+/// Returns the greatest count, limited to at most 1.
 fn cut(max: Option<u32>) -> u32
     ensures { Some result ≡ cut max }
 {
@@ -132,8 +132,8 @@ fn times(
 }
 
 /// Makes a repetition in its simplest form. A repetition of zero times is `Empty`. If the body
-/// matches no byte, both counts are cut to at most 1. A repetition of exactly one time is the body
-/// itself.
+/// matches no byte, both counts are limited to at most 1. A repetition of exactly one time is the
+/// body itself.
 ///
 /// # Errors
 ///

@@ -126,7 +126,7 @@ fn push_chars(out: &mut Vec<Range>, range: Range) -> Result<(), AllocError>
     Ok(())
 }
 
-/// Returns the ranges cut to characters, without ranges that contain none.
+/// Returns the characters of the ranges, as ranges.
 fn chars_of(alloc: Global, ranges: &[Range]) -> Result<Vec<Range>, AllocError>
     ensures ranges { IfOk result (λ out. AreRanges (pairs out.items)) }
     ensures members { IfOk result (λ out. HasCharacters (pairs out.items)

@@ -67,7 +67,7 @@ const NOTHING: TrialCounts = TrialCounts {
     again: 0,
 };
 
-/// Returns the counts of walks over chunks from all over an input, each from the root on.
+/// Returns the counts of walks over chunks at regular distances in an input, each from the root on.
 pub fn trial_counts(reading: &Reading) -> TrialCounts
     requires { IsReading reading.now }
 {
