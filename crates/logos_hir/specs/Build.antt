@@ -103,7 +103,8 @@ abbrev pub junction : List Tree → List Tree
 junction [] = []
 junction (t ∷ rest) = join t (junction rest)
 
--- A concatenation of the parts, unchanged. One part is itself, and no parts make `Empty`.
+-- A concatenation of the parts, unchanged. A single part is the result itself, and no parts make
+-- `Empty`.
 abbrev pub in_a_row : List Tree → Tree
 in_a_row [] = empty
 in_a_row (t ∷ []) = t
@@ -159,8 +160,8 @@ abbrev pub chars_or : List Tree → Option (List (ℕ × ℕ)) → Tree
 chars_or branches (Some ranges) = one_char_of (members ranges)
 chars_or branches None = bytes_or branches (all_ranges byte_ranges_of branches)
 
--- An alternation of branches that are not alternations. One branch is itself, and branches that fit
--- a class become that class.
+-- An alternation of branches that are not alternations. A single branch is the result itself, and
+-- branches that fit a class become that class.
 abbrev pub choice_of : List Tree → Tree
 choice_of [] = chars_or [] (all_ranges char_ranges_of [])
 choice_of (t ∷ []) = t

@@ -253,7 +253,8 @@ pub(crate) fn push_flat(parts: &mut Vec<Hir>, part: Hir) -> Result<(), AllocErro
     }
 }
 
-/// Makes a concatenation of the parts, unchanged. One part is itself, and no parts make `Empty`.
+/// Makes a concatenation of the parts, unchanged. A single part is returned unchanged, and no parts
+/// make `Empty`.
 pub(crate) fn in_a_row(mut parts: Vec<Hir>) -> Hir
     ensures { tree_of result ≡ in_a_row (map tree_of parts.items) }
 {
