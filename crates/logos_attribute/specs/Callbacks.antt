@@ -8,7 +8,7 @@ use Rattle.logos_token.specs.Punctuation.{is_alone}
 use Rattle.logos_attribute.specs.Slices.{Slice}
 use Rattle.logos_attribute.specs.Reports.{Report, with_faults, without_faults, fault, fault_also, only}
 
--- `|`
+-- The character `|`.
 abbrev pub bar : ℕ
 bar = 124
 
@@ -18,6 +18,7 @@ pub data CallbackView : Type 0 where
   label : (tokens : TokenList) → CallbackView
   inline : (arg : Slice) (body : TokenList) (span : Span) → CallbackView
 
+-- The span of a callback.
 abbrev pub view_span : CallbackView → Span
 view_span (label tokens) = run_span tokens
 view_span (inline arg body span) = span
@@ -28,18 +29,18 @@ callback_closure span = fault CallbackClosure (codes "Inline callbacks must use 
 abbrev pub callback_body : Span → Fault
 callback_body span = fault CallbackBody (codes "Callback missing a body") span
 
--- After the second `|`: the body. If it is a group, the body is the tokens inside it.
+-- The closure after the second `|`: its body. If the body is a group, it is the tokens inside it.
 abbrev pub body_in : Span → Slice → TokenList → Result CallbackView Fault
 body_in span arg none = Err (callback_body span)
 body_in span arg (also (group delimiter at inside) rest) = Ok (inline arg inside span)
 body_in span arg run = Ok (inline arg run span)
 
--- After the parameter: a lone `|`.
+-- The closure after its parameter: a lone `|`, then the body.
 abbrev pub bar_in : Span → Slice → TokenList → Result CallbackView Fault
 bar_in span arg none = Err (callback_body span)
 bar_in span arg (also token rest) = if is_alone bar token then body_in span arg rest else Err (callback_closure span)
 
--- After the first `|`: the parameter.
+-- The closure after the first `|`: its parameter, then the second `|`.
 abbrev pub parameter_in : Span → TokenList → Result CallbackView Fault
 parameter_in span (also (identifier text at) rest) = bar_in span (record { text = text; span = at }) rest
 parameter_in span run = Err (callback_closure span)
@@ -72,6 +73,7 @@ callback_value_fault run = callback_no_value (run_span run)
 abbrev pub twice_at : Slice → (here there : Span) → List Fault
 twice_at name here there = callback_twice name here ∷ previous_callback there ∷ []
 
+-- The faults of `callback = run` after a former callback, if there is one.
 abbrev pub callback_again : Slice → TokenList → Option CallbackView → List Fault
 callback_again name run None = []
 callback_again name run (Some former) = twice_at name (run_span run) (view_span former)

@@ -33,6 +33,7 @@ text_by token None = None
 abbrev pub text_in : Slice → Option LiteralView
 text_in token = text_by token (held token.text)
 
+-- The report of a literal token with this value, or of the fault that it has none.
 abbrev pub text_or_fault : Slice → Option LiteralView → Report (Option LiteralView)
 text_or_fault token (Some view) = without_faults (Some view)
 text_or_fault token None = with_faults None (only (not_text token))

@@ -20,6 +20,7 @@ value_of (Literal literal) = beside (literal_slice literal)
 value_of (Group run) = grouped (tokens_of run)
 value_of (KeywordAssign name run) = keyed (ident_slice name) (tokens_of run)
 
+-- The piece that a view represents.
 abbrev pub piece_of : Nested → Piece
 piece_of (Unnamed run) = unnamed (tokens_of run)
 piece_of (Named name value) = named (ident_slice name) (value_of value)
@@ -38,7 +39,7 @@ rest_after parser = if parser.after_group then rest_after_group (tokens_of parse
 abbrev pub YieldsNext : AttributeParser → Option Nested → AttributeParser → Type 0
 YieldsNext old given new = YieldsFirstBy piece_of pieces_left old given new × MatchOption given (new ≡ old) (λ _. tokens_of new.rest ≡ rest_after old)
 
--- The pieces are this one and those that have not been read, and these tokens are left.
+-- The pieces are `piece` and those that the parser has not read; `rest` are the tokens left to it.
 abbrev pub Cuts : List Piece → TokenList → Nested → AttributeParser → Type 0
 Cuts pieces rest piece parser = (pieces ≡ piece_of piece ∷ pieces_left parser) × (tokens_of parser.rest ≡ rest)
 

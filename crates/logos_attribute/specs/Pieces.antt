@@ -5,11 +5,11 @@ use Rattle.logos_token.specs.Tokens.{Token, TokenList, identifier, literal, grou
 use Rattle.logos_token.specs.Punctuation.{is_alone}
 use Rattle.logos_attribute.specs.Slices.{Slice}
 
--- `,`
+-- The character `,`.
 abbrev pub comma : ℕ
 comma = 44
 
--- `=`
+-- The character `=`.
 abbrev pub equals : ℕ
 equals = 61
 
@@ -24,7 +24,7 @@ pub data PieceValue : Type 0 where
   -- A second name, and `= run`.
   keyed : (name : Slice) (run : TokenList) → PieceValue
 
--- A piece.
+-- A piece of an attribute's argument.
 pub data Piece : Type 0 where
   unnamed : (run : TokenList) → Piece
   named : (name : Slice) (value : PieceValue) → Piece
@@ -40,6 +40,7 @@ abbrev pub after_comma : TokenList → TokenList
 after_comma none = none
 after_comma (also token rest) = if is_alone comma token then rest else after_comma rest
 
+-- A name as a token.
 abbrev pub name_token : Slice → Token
 name_token name = identifier name.text name.span
 

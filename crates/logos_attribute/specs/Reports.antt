@@ -12,6 +12,7 @@ pub record Report (A : Type 0) : Type 0 where
   pub value : A
   pub faults : List Fault
 
+-- A report with this value and these faults.
 abbrev pub with_faults : {A : Type 0} → A → List Fault → Report A
 with_faults value faults = record { value = value; faults = faults }
 
@@ -19,11 +20,11 @@ with_faults value faults = record { value = value; faults = faults }
 abbrev pub without_faults : {A : Type 0} → A → Report A
 without_faults value = with_faults value []
 
--- One report after another, which depends on the value of the first.
+-- The report of `next` for the value of a report, with the faults of both in order.
 abbrev pub and_then : {A B : Type 0} → Report A → (A → Report B) → Report B
 and_then report next = with_faults (next report.value).value (report.faults ++ (next report.value).faults)
 
--- A report with the same faults, and with a function of its value as the value.
+-- A report with the function applied to its value, and with its faults unchanged.
 abbrev pub map_report : {A B : Type 0} → (A → B) → Report A → Report B
 map_report f report = with_faults (f report.value) report.faults
 

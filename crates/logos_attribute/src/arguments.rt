@@ -70,9 +70,9 @@ impl<'s> FromRun<'s> for TypeExpr<'s> {
 }
 
 impl<'t, 's> AttributeParser<'t, 's> {
-    /// Removes the tokens up to the next lone comma, and that comma, and reads these tokens as one
-    /// value. Returns `None` if no token comes before that comma, and `Reported` if the tokens are
-    /// not such a value.
+    /// Reads the tokens up to the next lone comma as one value, and removes them and that comma.
+    /// Returns `None` if no token comes before the comma, and `Some(Err(Reported))` if the tokens
+    /// are not a value of the type `T`.
     ///
     /// # Errors
     ///

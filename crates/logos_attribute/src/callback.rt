@@ -27,7 +27,7 @@ enum CallbackFault {
     Body,
 }
 
-/// Returns the closure with this parameter and the body at the front of the tokens.
+/// Returns the closure with the parameter `arg` and the body at the front of the tokens.
 fn body_in<'t, 's>(
     arg: Ident<'s>,
     tokens: Tokens<'t, 's>,
@@ -42,7 +42,8 @@ fn body_in<'t, 's>(
     }
 }
 
-/// Returns the closure with this parameter and the body after the `|` at the front of the tokens.
+/// Returns the closure with the parameter `arg` and the body after the `|` at the front of the
+/// tokens.
 fn bar_in<'t, 's>(
     arg: Ident<'s>,
     tokens: Tokens<'t, 's>,
@@ -57,7 +58,7 @@ fn bar_in<'t, 's>(
     }
 }
 
-/// Returns the closure with the parameter at the front of the tokens.
+/// Returns the closure whose parameter is at the front of the tokens.
 fn parameter_in<'t, 's>(tokens: Tokens<'t, 's>) -> Result<CallbackRun<'t, 's>, CallbackFault>
     ensures { (span : Span) → read_view span result ≡ parameter_in span (tokens_of tokens.entry) }
 {

@@ -31,8 +31,8 @@ pub enum Nested<'t, 's> {
     Unexpected(Tokens<'t, 's>),
 }
 
-/// Splits an attribute's argument into pieces, at each comma that is not directly followed by
-/// punctuation (a lone comma).
+/// A parser that splits an attribute's argument into pieces at each lone comma: a comma that is not
+/// directly followed by punctuation.
 #[derive(Clone, Copy)]
 pub struct AttributeParser<'t, 's> {
     rest: Tokens<'t, 's>,
@@ -260,7 +260,8 @@ fn name_at<'t, 's>(
     }
 }
 
-/// Returns the piece at the front, and a parser of the tokens after it.
+/// Returns the piece at the front, and a parser of the tokens after it. Returns `None` if there are
+/// no tokens.
 fn piece_at<'t, 's>(tokens: Tokens<'t, 's>) -> Option<(Nested<'t, 's>, AttributeParser<'t, 's>)>
     ensures { MatchOption result
         (pieces (tokens_of tokens.entry) ≡ [])
@@ -278,7 +279,8 @@ fn piece_at<'t, 's>(tokens: Tokens<'t, 's>) -> Option<(Nested<'t, 's>, Attribute
     }
 }
 
-/// Returns the piece that follows a name and a group, and a parser of the tokens after it.
+/// Returns the piece that follows a name and a group, and a parser of the tokens after it. Returns
+/// `None` if no piece follows.
 fn piece_after_group<'t, 's>(
     tokens: Tokens<'t, 's>,
 ) -> Option<(Nested<'t, 's>, AttributeParser<'t, 's>)>
@@ -304,8 +306,8 @@ impl<'t, 's> AttributeParser<'t, 's> {
         begin(tokens)
     }
 
-    /// Removes the tokens up to the next lone comma, and that comma, and returns these tokens.
-    /// Returns `None` if no token comes before that comma.
+    /// Removes and returns the tokens up to the next lone comma, and removes that comma. Returns
+    /// `None` if no token comes before the comma.
     pub fn run(&mut self) -> Option<Tokens<'t, 's>>
         ensures run { MatchOption result
             (up_to_comma (tokens_of self.old.rest) ≡ none)
@@ -322,7 +324,8 @@ impl<'t, 's> AttributeParser<'t, 's> {
         Some(run)
     }
 
-    /// Returns the next piece, and a parser of the pieces after it.
+    /// Returns the next piece, and a parser of the pieces after it. Returns `None` if no piece is
+    /// left.
     fn read(self) -> Option<(Nested<'t, 's>, AttributeParser<'t, 's>)>
         ensures { MatchOption result
             (pieces_left self.entry ≡ [])

@@ -19,7 +19,8 @@ fn all_digits(bytes: &[u8]) -> bool
     true
 }
 
-/// Returns the number that decimal digits spell, if it fits `usize`.
+/// Returns the number that decimal digits spell, or `None` if a byte is not a digit or the number
+/// does not fit `usize`.
 #[tactic(auto, using(crate::proofs::NumberLemmas::decimal_parsed))]
 fn decimal(text: &str) -> Option<usize>
     ensures { result ≡ decimal text.now }
@@ -41,7 +42,7 @@ pub fn number_in(tokens: Tokens<'_, '_>) -> Option<usize>
     }
 }
 
-/// Returns the boolean that a word spells.
+/// Returns the boolean that a word spells, or `None` if it is neither `true` nor `false`.
 fn boolean_named(text: &str) -> Option<bool>
     ensures { result ≡ boolean_named text.now }
 {

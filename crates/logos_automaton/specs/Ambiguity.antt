@@ -9,8 +9,8 @@ pub record IsHighest (rules : List Rule) (bytes : List ℕ) (from to leaf : ℕ)
   pub matches : RuleMatches rules leaf bytes from to
   pub highest : (other : ℕ) → RuleMatches rules other bytes from to → priority_of rules other ≤ priority_of rules leaf
 
--- These are all rules with the highest priority at some span of some bytes, and there are two or
--- more.
+-- The set consists of all rules with the highest priority at some span of some bytes, and has two
+-- or more rules.
 pub record IsAmbiguous (rules : List Rule) (set : List ℕ) : Type 0 where
   pub several : 2 ≤ length set
   pub ascending : IsStrictlyIncreasing set

@@ -16,6 +16,7 @@ pub record State : Type 0 where
   pub kind : ByteKind
   pub matches : List ℕ
 
+-- The state that a key represents.
 abbrev pub state_of : Key → State
 state_of k = record { positions = k.positions.items; kind = k.kind; matches = k.matches.items }
 
@@ -36,12 +37,12 @@ start_state = record { positions = []; kind = kind.Start; matches = [] }
 abbrev pub dead_state : State
 dead_state = record { positions = []; kind = kind.Unseen; matches = [] }
 
--- The state after the end that lists these patterns.
+-- The state after the end that lists the patterns `matches`.
 abbrev pub ended_state : List ℕ → State
 ended_state matches = record { positions = []; kind = kind.Unseen; matches = matches }
 
--- The kind of the byte `x`, read at these positions, if there are positions and some tree has a
--- look-around assertion.
+-- The kind of the byte `x`, read at these positions. It is `Unseen` if there are no positions or no
+-- tree has a look-around assertion.
 abbrev pub next_kind : Bool → List ℕ → ℕ → ByteKind
 next_kind looks [] x = kind.Unseen
 next_kind false (p ∷ positions) x = kind.Unseen
@@ -138,7 +139,7 @@ automaton_of start ks rows ends = record {
   matches = map (λ k. k.matches.items) ks;
 }
 
--- These are the parts of the automaton of the patterns.
+-- An automaton with these parts is the automaton of the patterns.
 pub record IsBuilt (ts : List Core) (looks : Bool) (start : ℕ) (ks : List Key) (rows : List (List ℕ)) (ends : List ℕ) : Type 0 where
   pub start_is : IsAt ks start start_state
   pub rows_count : length rows ≡ length ks

@@ -6,6 +6,7 @@ use Rattle.logos_hir.specs.Looks.{is_word}
 use Rattle.logos_automaton.specs.Munch.{Rule, RuleMatches}
 use Rattle.logos_positions.specs.Positions.{Position, Reads, has_look}
 
+-- The kinds of bytes, as look-around assertions distinguish them.
 pub data Kind : Type 0 where
   unseen : Kind
   word : Kind

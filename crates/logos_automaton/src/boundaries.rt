@@ -1,4 +1,4 @@
-//! The bytes whose steps on a tree differ from those of the byte before them, found in one pass
+//! Finds the bytes whose steps on a tree differ from those of the byte before them, in one pass
 //! over the tree from the positions that read the last byte. `byte_equivalence` and the steps of
 //! trees call it.
 
@@ -195,8 +195,8 @@ fn follow(node: &Node, marks: &[usize], base: usize, marked: &mut [bool; 256]) -
     follow_node(node, marks, base, marked)
 }
 
-/// Acts as `follow`, for the positions of the set that are in a tree. Skips branches without one of
-/// them.
+/// Does the same as `follow` on a tree whose positions in the set are `own`. Skips branches without
+/// a position.
 #[cycle(follow)]
 fn follow_marked(node: &Node, marks: &[usize], own: OwnPositions, marked: &mut [bool; 256]) -> bool
     requires fits { own.base + core.width (core_of node.now) < 2 ^ 64 }
@@ -230,7 +230,7 @@ fn follow_marked(node: &Node, marks: &[usize], own: OwnPositions, marked: &mut [
     one | other
 }
 
-/// Acts as `follow`, by the form of the tree.
+/// Does the same as `follow`, dispatching on the form of the tree.
 #[cycle(follow)]
 fn follow_node(node: &Node, marks: &[usize], base: usize, marked: &mut [bool; 256]) -> bool
     requires fits { base + core.width (core_of node.now) < 2 ^ 64 }

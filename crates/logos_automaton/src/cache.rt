@@ -97,7 +97,7 @@ impl StepCache {
         }
     }
 
-    /// Removes all states and steps if there are too many.
+    /// Removes all states and steps if the cache is full.
     pub fn trim(&mut self)
         ensures { (trees : Trees) → IsCacheOf trees self.old → IsCacheOf trees self.new }
     {

@@ -1,5 +1,5 @@
-//! The faults of a list of rules. `Graph::new` of `logos_graph` calls it once the automaton is
-//! built.
+//! Finds the faults of a list of rules. `Graph::new` of `logos_graph` calls it once the automaton
+//! is built.
 
 ghost use Rattle.std.specs.Prelude.{◌≡◌, ℕ, ◌≤◌, ◌⊎◌, ◌↔◌, IfOk, OnOk, List, map, Contains, vec_len};
 ghost use Rattle.logos_automaton.specs.Views.{AreFaults, ArePassable, AreAmbiguous, Ascends, empty_match, disambiguation, AllStart, priority_of, highest_of, with_priority, top_of, IsTopSet, IsTopIn, AreTopSets, IsTotal, ReadsOneByteLate, dfa_of, fault_of, numbers, rules_of};

@@ -24,8 +24,8 @@ pub struct Key {
     pub matches: Vec<usize>,
 }
 
-/// Returns the kind of a byte that is read at these positions, if there are positions and some tree
-/// has a look-around assertion.
+/// Returns the kind of a byte that is read at `positions`, or `Unseen` if there are no positions or
+/// no tree has a look-around assertion.
 pub fn next_kind(looks: bool, positions: &[usize], byte: u8) -> ByteKind
     ensures { result ≡ keys.next_kind looks positions.now byte }
 {
@@ -113,7 +113,7 @@ pub fn end_key(trees: &Trees<'_>, key: &Key) -> Result<Key, AllocError>
     })
 }
 
-/// Returns the key of the state after the end that lists these trees.
+/// Returns the key of the state after the end that lists the trees `matches`.
 ///
 /// # Errors
 ///

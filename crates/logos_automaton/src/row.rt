@@ -1,5 +1,5 @@
-//! The targets of states, while the automaton is built. The loop of `dfa::builder` calls it for
-//! each state in turn.
+//! Computes the targets of states while the automaton is built. The loop of `dfa::builder` calls it
+//! for each state in turn.
 
 ghost use Rattle.std.specs.Prelude.{Bool, List, ℕ, ◌≡◌, ◌^◌, ◌<◌, ◌≤◌, ◌+◌, IfOk, IfSome, IsFalse, OnOk, false, length, slice_index};
 ghost use Rattle.logos_automaton.specs.Views.{Core, AreKindBytes, IsCacheOf, IsPrepared, cores_of, Foresees, IsNotStart, state_after, AreRising, AreReached, AreFirstIn, Extends, Grows, IsAt, LeadsTo, EndsIn, IsRow};

@@ -8,7 +8,7 @@ ghost use Rattle.logos_automaton.specs.View.{rules_of};
 use crate::measures::{has_look, leads, passable};
 use logos_hir::hir::Hir;
 
-/// A leaf as a rule: its tree, its priority, and how its matches are used.
+/// A leaf as a rule: its tree, its priority, and the use of its matches.
 #[derive(Clone, Copy)]
 pub struct RuleView<'h> {
     /// The tree of the leaf's pattern.

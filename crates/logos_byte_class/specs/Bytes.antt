@@ -39,6 +39,7 @@ pub record Comparison : Type 0 where
 abbrev pub comparison_of : Comparisons → Comparison
 comparison_of c = record { first = range_inclusive_start c.range; last = range_inclusive_end c.range; except = c.except.items }
 
+-- The byte is in the list.
 abbrev pub is_among : List ℕ → ℕ → Bool
 is_among bs b = list_any (λ c. c == b) bs
 
@@ -63,8 +64,8 @@ abbrev pub joined : List (ℕ × ℕ) → List Comparison
 joined [] = []
 joined (r ∷ rest) = join r (joined rest)
 
--- The number of operations that test a byte: one for a single byte, otherwise one for each end that
--- a byte can pass, and one for each exception.
+-- The number of operations that test a byte: one for a single byte, otherwise one for a start above
+-- 0 and one for an end below 255; and one for each exception.
 abbrev pub operations : Comparison → ℕ
 operations c =
     (if c.first == c.last then 1 else (if nat_lt 0 c.first then 1 else 0) + (if nat_lt c.last 255 then 1 else 0)) + length c.except

@@ -48,11 +48,11 @@ pub fn lower_digit(value: u8) -> char
     char::from(b'a' + (value - 10))
 }
 
-/// Prints a byte.
+/// A byte, displayed as its text.
 #[derive(Clone, Copy)]
 struct ByteText(u8);
 
-/// Prints a range of bytes.
+/// A range of bytes, displayed as its text.
 #[derive(Clone, Copy)]
 struct RangeText(u8, u8);
 
@@ -87,7 +87,7 @@ impl fmt::Display for RangeText {
     }
 }
 
-/// Prints ranges of bytes, each after a separator.
+/// Ranges of bytes, displayed as their texts, each after a separator.
 #[derive(Clone, Copy)]
 struct NextRanges<'c> {
     ranges: &'c [RangeInclusive<u8>],

@@ -5,7 +5,8 @@ use Rattle.logos_byte_class.specs.Bytes.{Comparison}
 use Rattle.logos_code.specs.declared.code.CodeLeaf.{CodeLeaf}
 use Rattle.logos_code.specs.declared.code.Header.{Header}
 
--- A match of this leaf ends at the state, or one byte before it if the mark is late.
+-- The mark of a state: a match of `leaf` ends at the state, or one byte before it if `late` is
+-- `true`.
 pub record Mark : Type 0 where
   pub leaf : ℕ
   pub late : Bool
@@ -19,11 +20,12 @@ pub data Condition : Type 0 where
 
 -- The transitions of a state on bytes.
 pub data Fork : Type 0 where
-  -- To the state of the first condition that holds.
+  -- A byte leads to the state of the first condition that holds for it.
   by_conditions : List (Condition × ℕ) → Fork
-  -- To its entry in a table.
+  -- A byte leads to its entry in a table.
   by_table : List (Option ℕ) → Fork
 
+-- The steps of a state: its fast loop, its mark, its fork, and its end branch.
 pub record CodeState : Type 0 where
   -- The test of the bytes on which the state does not change.
   pub fast_loop : Option ℕ

@@ -16,13 +16,16 @@ use Rattle.logos_code.specs.declared.code.CodeState.{CodeState as TheState}
 use Rattle.logos_code.specs.declared.code.CodeLeaf.{CodeLeaf}
 use Rattle.logos_code.specs.declared.code.CodeParts.{CodeParts}
 
+-- The mark that a value represents.
 abbrev pub mark_of : TheMark → Mark
 mark_of mark = record { leaf = mark.leaf.0; late = mark.late }
 
+-- The condition that a value represents.
 abbrev pub condition_of : TheCondition → Condition
 condition_of (Comparisons all) = by_comparisons (map comparison_of all.items)
 condition_of (Test k) = by_test k
 
+-- The branch that a value represents.
 abbrev pub branch_of : TheCondition × ℕ → Condition × ℕ
 branch_of branch = (condition_of branch.0, branch.1)
 
@@ -30,6 +33,7 @@ branch_of branch = (condition_of branch.0, branch.1)
 abbrev pub entry_of : ℕ → Option ℕ
 entry_of entry = if entry == 4294967295 then None else Some entry
 
+-- The targets in a jump table.
 abbrev pub jumps_of : List ℕ → List (Option ℕ)
 jumps_of table = map entry_of table
 
@@ -38,6 +42,7 @@ abbrev pub fork_of : List (List ℕ) → TheFork → Fork
 fork_of tables (Conditions all) = by_conditions (map branch_of all.items)
 fork_of tables (Table k) = by_table (jumps_of (slice_index_or tables k []))
 
+-- The state that a value represents, given the jump tables.
 abbrev pub state_of : List (List ℕ) → TheState → CodeState
 state_of tables state = record {
   fast_loop = state.fast_loop;
@@ -46,6 +51,7 @@ state_of tables state = record {
   at_end = state.at_end;
 }
 
+-- The use of the matches of a leaf.
 abbrev pub use_of : CodeLeaf → Use
 use_of leaf = record { skips = is_skip leaf.kind; calls_back = is_some leaf.callback }
 

@@ -23,14 +23,17 @@ NamesState code s = s < length code.states
 abbrev pub NamesTest : CodeValue → ℕ → Type 0
 NamesTest code k = k < 8 * length code.bit_tables
 
+-- The test of the condition exists, if it has one.
 abbrev pub NamesCondition : CodeValue → Condition → Type 0
 NamesCondition code (by_comparisons all) = Unit {0}
 NamesCondition code (by_test k) = NamesTest code k
 
+-- The states and the tests to which the fork refers exist, and a table has an entry for each byte.
 abbrev pub NamesFork : CodeValue → Fork → Type 0
 NamesFork code (by_conditions edges) = All (λ edge. NamesCondition code edge.0 × NamesState code edge.1) edges
 NamesFork code (by_table entries) = (length entries ≡ 256) × All (λ target. IfSome target (NamesState code)) entries
 
+-- All that the state refers to exists.
 pub record NamesExisting (code : CodeValue) (state : CodeState) : Type 0 where
   pub fast_loop : IfSome state.fast_loop (NamesTest code)
   pub mark : IfSome state.mark (λ mark. mark.leaf < length code.leaves)

@@ -29,5 +29,6 @@ IsLastMark code s mark = (bytes : List ℕ) (start : ℕ) (at : Status) (passed 
 abbrev pub last_mark_at : List LastMark → ℕ → LastMark
 last_mark_at marks s = slice_index_or marks s Unseen
 
+-- The list contains the last mark of each state.
 abbrev pub AreLastMarks : CodeValue → List LastMark → Type 0
 AreLastMarks code marks = (s : ℕ) → IsLastMark code s (last_mark_at marks s)

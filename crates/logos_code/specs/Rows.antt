@@ -45,7 +45,8 @@ IsPlainUse leaf Emits = leaf ≡ record { skips = false; calls_back = false }
 IsPlainUse leaf Skips = leaf ≡ record { skips = true; calls_back = false }
 IsPlainUse leaf CallsBack = ⊥
 
--- The use of the matches of a leaf. A callback may be called for any of them.
+-- The use describes the matches of a leaf. `CallsBack` describes those of any leaf, since a
+-- callback may be called for them.
 abbrev pub IsUse : CodeValue → ℕ → MatchUse → Type 0
 IsUse code leaf Emits = slice_get code.leaves leaf ≡ Some (record { skips = false; calls_back = false })
 IsUse code leaf Skips = slice_get code.leaves leaf ≡ Some (record { skips = true; calls_back = false })
@@ -102,7 +103,7 @@ pub record IsLastEntry (code : CodeValue) (state : CodeState) (entry : ℕ) : Ty
   pub describes : (step : Step) → IsStepOf entry step → DescribesEnd code state step
   pub last : 536870912 ≤ entry
 
--- An entry for each byte.
+-- The row has the entry of each byte.
 abbrev pub IsRow : CodeValue → CodeState → List ℕ → Type 0
 IsRow code state row = (b : ℕ) → b < 256 → IsEntry code state b (slice_index row b)
 
@@ -120,6 +121,7 @@ BeginsAttempt entry = (entry < 268435456) ⊎ (1073741824 ≤ entry)
 abbrev pub IsFirstEntry : ℕ → ℕ → Type 0
 IsFirstEntry entry first = ((first ≡ entry) ⊎ (2415919104 ≤ first)) × BeginsAttempt first
 
+-- The entries of the first byte of an attempt, made from the row of the root.
 abbrev pub IsFirstOf : List ℕ → ℕ → List ℕ → Type 0
 IsFirstOf rows root first = (length first ≡ 256) × ((b : ℕ) → b < 256 → IsFirstEntry (slice_index rows (272 * root + b)) (slice_index first b))
 
@@ -127,5 +129,6 @@ IsFirstOf rows root first = (length first ≡ 256) × ((b : ℕ) → b < 256 →
 abbrev pub IsFirst : CodeValue → ℕ → ℕ → Type 0
 IsFirst code b entry = IsEntry code (state_at code code.root) b entry × BeginsAttempt entry
 
+-- The row has, for each byte, its entry as the first byte of an attempt.
 abbrev pub IsFirstRow : CodeValue → List ℕ → Type 0
 IsFirstRow code row = (b : ℕ) → b < 256 → IsFirst code b (slice_index row b)

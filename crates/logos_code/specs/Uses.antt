@@ -11,6 +11,7 @@ use Rattle.logos_code.specs.declared.code.last_marks.LastMark.{LastMark}
 use Rattle.logos_code.specs.declared.code.signs.Sign.{Sign}
 use Rattle.logos_code.specs.declared.code.uses.LeafUse.{LeafUse}
 
+-- The use that two flags represent.
 abbrev pub use_by : LeafUse → Use
 use_by flags = record { skips = flags.skips; calls_back = flags.calls_back }
 

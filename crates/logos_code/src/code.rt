@@ -23,7 +23,8 @@ use signs::Sign;
 use std::marker::Model;
 use uses::LeafUse;
 
-/// A match of this leaf ends at the state, or one byte before it if the mark is late.
+/// The mark of a state: a match of `leaf` ends at the state, or one byte before it if `late` is
+/// `true`.
 #[derive(Clone, Copy, Debug, PartialEq, Eq)]
 pub struct Mark {
     pub leaf: LeafId,
@@ -42,9 +43,9 @@ pub enum Condition {
 /// The transitions of a state on bytes.
 #[derive(Drop)]
 pub enum Fork {
-    /// To the state of the first condition that holds.
+    /// A byte leads to the state of the first condition that holds for it.
     Conditions(Vec<(Condition, usize)>),
-    /// To its entry in the jump table with this number.
+    /// A byte leads to the state in its entry of the jump table with this number.
     Table(usize),
 }
 
@@ -63,7 +64,7 @@ pub struct CodeState {
     pub at_end: Option<usize>,
 }
 
-/// How the matches of a leaf are used.
+/// The use of the matches of a leaf: the kind of their results, and their callback.
 #[derive(Drop)]
 pub struct CodeLeaf<'s> {
     pub kind: VariantKind<'s>,
@@ -90,7 +91,8 @@ impl Config {
         use_state_machine_codegen: false,
     };
 
-    /// Returns the shape with this name: `state_machine` or `tailcall`.
+    /// Returns the shape with this name, `state_machine` or `tailcall`, or `None` for any other
+    /// name.
     pub fn by_name(name: &str) -> Option<Config>
         ensures { result ≡ shape_named name.now }
     {
@@ -126,7 +128,7 @@ pub struct CodeParts<'s> {
     pub bit_tables: Vec<[u8; 256]>,
     /// An entry for each byte: the state to which it leads, or `NOWHERE`.
     pub jump_tables: Vec<[u32; 256]>,
-    /// How the matches of each leaf are used, in the order of their numbers.
+    /// The use of the matches of each leaf, in the order of the numbers of the leaves.
     pub leaves: Vec<CodeLeaf<'s>>,
     /// The state in which each attempt begins.
     pub root: usize,
@@ -150,7 +152,7 @@ pub struct Code<'s> {
     signs: Vec<Sign>,
     /// The last mark that an attempt has passed, for each state in which it can end.
     last_marks: Vec<LastMark>,
-    /// How the matches of each leaf are used.
+    /// The use of the matches of each leaf.
     uses: Vec<LeafUse>,
 }
 

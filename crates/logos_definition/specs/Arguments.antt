@@ -1,5 +1,5 @@
--- The arguments of a `logos` attribute, one after another. Types in them are read by the grammar of
--- types.
+-- The arguments of a `logos` attribute, one after another. Types in them are read with the grammar
+-- of types.
 use Rattle.std.specs.Prelude.{◌≡◌, ◌≢◌, Bool, true, false, List, [], ◌∷◌, ◌++◌, codes, Option, Some, None}
 use Rattle.std.specs.Str.{bytes_eq}
 use Rattle.logos_token.specs.Faults.{Fault}
@@ -39,7 +39,7 @@ pub data ReadsError (name : Slice) (o : OptionsView) (o' : OptionsView) (old new
       ReadsError name o o' old new (grouped group) true
   without_type : {group : TokenList} → ErrorGroup group old new None → o' ≡ o → ReadsError name o o' old new (grouped group) false
 
--- The options with these type parameters.
+-- The options with other type parameters.
 abbrev pub with_types : OptionsView → Value → OptionsView
 with_types o types = record o { types = types }
 

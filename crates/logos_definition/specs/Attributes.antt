@@ -61,6 +61,7 @@ abbrev pub arguments_report : Option TokenList → Report (Option DefinitionView
 arguments_report None = without_faults None
 arguments_report (Some run) = definition_report run
 
+-- The report of the definition in an attribute of a variant.
 abbrev pub meta_report : Option Meta → Report (Option DefinitionView)
 meta_report None = without_faults None
 meta_report (Some meta) = arguments_report meta.arguments

@@ -12,7 +12,7 @@ use Rattle.logos_attribute.specs.Flags.{flags_report}
 use Rattle.logos_attribute.specs.Values.{number_in, boolean_in}
 use Rattle.logos_attribute.specs.Literals.{LiteralView, literal_report}
 
--- A definition.
+-- A definition as a value.
 pub record DefinitionView : Type 0 where
   pub literal : LiteralView
   pub priority : Option ℕ
@@ -20,11 +20,11 @@ pub record DefinitionView : Type 0 where
   pub allow_greedy : Option Bool
   pub ignore_case : Bool
 
--- A literal without arguments.
+-- The definition with this literal and no arguments.
 abbrev pub plain : LiteralView → DefinitionView
 plain literal = record { literal = literal; priority = None; callback = None; allow_greedy = None; ignore_case = false }
 
--- The fault of a second value.
+-- The fault of a second value, if there is a former one.
 abbrev pub again : {A : Type 0} → Option A → Fault → List Fault
 again None f = []
 again (Some former) f = only f
@@ -76,6 +76,7 @@ greedy_set run former = elim (boolean_in run) [
   | None ↦ with_faults former (only (greedy_value run))
 ]
 
+-- The report of the argument `priority`.
 abbrev pub priority_report : Slice → PieceValue → DefinitionView → Report DefinitionView
 priority_report name (assigned run) d = map_report (λ priority. record d { priority = priority }) (priority_set run d.priority)
 priority_report name value d = with_faults d (only (priority_form name))
@@ -90,13 +91,16 @@ abbrev pub unnamed_callback : Bool → TokenList → Option CallbackView → Rep
 unnamed_callback true run former = callback_report run
 unnamed_callback false run former = with_faults former (only (named_expected run))
 
+-- The definition with this callback.
 abbrev pub with_callback : DefinitionView → Option CallbackView → DefinitionView
 with_callback d callback = record d { callback = callback }
 
+-- The report of the argument `ignore`.
 abbrev pub ignore_report : Slice → PieceValue → DefinitionView → Report DefinitionView
 ignore_report name (grouped run) d = map_report (λ ignore_case. record d { ignore_case = ignore_case }) (flags_report name false d.ignore_case run)
 ignore_report name value d = with_faults d (only (ignore_form name))
 
+-- The report of the argument `allow_greedy`.
 abbrev pub greedy_report : Slice → PieceValue → DefinitionView → Report DefinitionView
 greedy_report name (assigned run) d = map_report (λ allow. record d { allow_greedy = allow }) (greedy_set run d.allow_greedy)
 greedy_report name value d = with_faults d (only (greedy_form name))

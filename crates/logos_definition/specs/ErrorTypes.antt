@@ -22,15 +22,15 @@ pub record ErrorView : Type 0 where
   pub type : Option Tree
   pub callback : Option CallbackView
 
--- Tokens that are not read as a type.
+-- The error type of tokens that are not read as a type, without a callback.
 abbrev pub error_alone : TokenList → ErrorView
 error_alone run = record { type_run = Some run; type = None; callback = None }
 
--- A type that was read from its tokens, without a callback.
+-- The error type that was read from its tokens, without a callback.
 abbrev pub error_read : TokenList → Tree → ErrorView
 error_read run tree = record { type_run = Some run; type = Some tree; callback = None }
 
--- The type `()`.
+-- The error type `()`, without a callback.
 abbrev pub no_error : ErrorView
 no_error = record { type_run = None; type = None; callback = None }
 
@@ -48,7 +48,7 @@ type_or_run None run = run_text run
 abbrev pub error_text : ErrorView → List ℕ
 error_text e = type_or_run e.type e.type_run
 
--- The span of the type.
+-- The span of the tokens, or 0..0 if there are none.
 abbrev pub run_slot : Option TokenList → Span
 run_slot (Some run) = run_span run
 run_slot None = run_span none
@@ -60,6 +60,7 @@ error_span e = run_slot e.type_run
 abbrev pub unknown_error_argument : Slice → Fault
 unknown_error_argument name = fault_with UnknownNested ((codes "Unknown nested attribute: " ++ name.text) ++ codes "\n\nExpected one of: callback") name.span ErrorArgument
 
+-- The error type with this callback.
 abbrev pub error_with : ErrorView → Option CallbackView → ErrorView
 error_with e callback = record e { callback = callback }
 

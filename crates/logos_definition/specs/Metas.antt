@@ -7,7 +7,7 @@ use Rattle.logos_attribute.specs.Slices.{Slice, ident_slice}
 use Rattle.logos_enum.specs.AttributeValues.{AttributeValue}
 use Rattle.logos_definition.specs.declared.meta.Meta.{Meta as MetaView}
 
--- `:`
+-- The character `:`.
 abbrev pub colon : ℕ
 colon = 58
 
@@ -38,6 +38,7 @@ inside_meta (Some run) = meta_inside run
 abbrev pub meta_of : AttributeValue → Option Meta
 meta_of attribute = inside_meta attribute.inside
 
+-- The tokens inside the group of an attribute, if it has one.
 abbrev pub arguments_view : Option Tokens → Option TokenList
 arguments_view None = None
 arguments_view (Some tokens) = Some (tokens_of tokens)

@@ -10,9 +10,11 @@ use Rattle.logos_definition.specs.Options.{ModeView, ExportView, OptionsView}
 use Rattle.logos_definition.specs.DefinitionViews.{definition_view}
 use Rattle.logos_definition.specs.ErrorTypeViews.{run_in, error_view}
 
+-- The UTF-8 mode that a value represents.
 abbrev pub mode_view : Utf8Mode → ModeView
 mode_view mode = record { value = mode.value; span = mode.span }
 
+-- The export path that a value represents.
 abbrev pub export_view : ExportPath → ExportView
 export_view export = record { path = string_bytes export.path; span = export.span }
 

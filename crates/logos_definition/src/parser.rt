@@ -35,7 +35,7 @@ use logos_token::util::MaybeVoid;
 use logos_type_params::TypeParams;
 use std::alloc::Global;
 
-/// Whether inputs are UTF-8, and the span of that value in the source.
+/// The UTF-8 mode: whether inputs are UTF-8, and the span of that value in the source.
 #[derive(Clone, Copy)]
 pub struct Utf8Mode {
     pub value: bool,
@@ -51,9 +51,9 @@ pub struct ExportPath {
     pub span: Span,
 }
 
-/// Collects the options in the attributes of an enum, and the faults found in them. If memory runs
-/// out in a call that changes the parser, the parser has failed, and each later call returns
-/// `Memory`.
+/// The options in the attributes of an enum, as they are collected, and the faults found in them.
+/// If memory runs out in a call that changes the parser, the parser has failed, and each later call
+/// returns `Memory`.
 #[derive(Drop)]
 pub struct Parser<'s> {
     pub errors: Errors,

@@ -165,7 +165,7 @@ pub item-occurs : (run attributes rest : TokenList) (error : ReadError) → IsFr
 item-occurs run attributes rest error f (inl m) = inl m
 item-occurs run attributes rest error f (inr h) = inr (refuses f h)
 
--- an enum is refused for want of memory alone
+-- an enum is refused only if memory runs out
 pub complete : (run : TokenList) (error : ReadError) → Occurs (λ e. Reads run (Err e)) error → (value : EnumValue) → Reads run (Ok value) → error ≡ Memory
 complete run error (inl m) value h = m
 complete run error (inr k) value h = absurd (read-or-fail EnumValue value error (once-reads run (Ok value) (Err error) h k))

@@ -1,4 +1,4 @@
--- A run begins with one type at most, or has one fault.
+-- A run begins with at most one type, or has one fault.
 use Rattle.std.proofs.Common.{◌≡◌}
 use Rattle.logos_token.specs.Tokens.{TokenList}
 use Rattle.logos_type.specs.Parts.{Tree}

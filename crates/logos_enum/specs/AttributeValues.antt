@@ -29,6 +29,7 @@ attribute_in (also (doc text span) rest) = Some (record { attribute = record { s
 attribute_in (also (punctuation character spacing span) rest) = bracketed span (bracket_in rest)
 attribute_in run = None
 
+-- The tokens inside the brackets of an attribute, if it has brackets.
 abbrev pub inside_value : Option Tokens → Option TokenList
 inside_value None = None
 inside_value (Some tokens) = Some (tokens_of tokens)

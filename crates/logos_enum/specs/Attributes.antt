@@ -60,7 +60,7 @@ abbrev pub attribute_mismatch : TokenList → Option Span
 attribute_mismatch (also (punctuation character spacing span) rest) = if is_path_mark character spacing then colon_mismatch span rest else Some span
 attribute_mismatch run = segment_mismatch run
 
--- This run, or the error for the mismatch if there is one.
+-- The outcome `outcome`, or the error for the mismatch if there is one.
 abbrev pub unless : Option Span → Result TokenList ReadError → Result TokenList ReadError
 unless None outcome = outcome
 unless (Some span) outcome = Err (Grammar span)
@@ -73,7 +73,7 @@ abbrev mutual
   after_attributes (also (punctuation character spacing span) rest) = if character == hash then after_hash rest else Ok (also (punctuation character spacing span) rest)
   after_attributes run = Ok run
 
-  -- The tokens after all attributes, from after the `#` of the first one.
+  -- The tokens after all attributes. The run begins after the `#` of the first one.
   pub after_hash : TokenList → Result TokenList ReadError
   after_hash (also (group Bracket span inside) rest) = unless (attribute_mismatch inside) (after_attributes rest)
   after_hash run = Err (Grammar (first_span run))

@@ -45,7 +45,7 @@ pub data FieldType (run : TokenList) : Outcome Typed → Type 0 where
 abbrev pub visibility_in : TokenList → Outcome (Unit {0})
 visibility_in run = Ok (tt, after_visibility run)
 
--- `:`
+-- The `:` that must come first.
 abbrev pub colon_in : TokenList → Outcome (Unit {0})
 colon_in (also (punctuation character spacing span) rest) = if character == colon then Ok (tt, rest) else mismatch (also (punctuation character spacing span) rest)
 colon_in run = mismatch run
@@ -55,6 +55,7 @@ abbrev pub label : Bool → Rule (Unit {0})
 label true = by name_in >>= λ _. by colon_in
 label false = given tt
 
+-- The field with these attributes and this type.
 abbrev pub field_of : TokenList → Typed → FieldValue
 field_of attributes typed = record { attributes = attributes; type = typed.type; run = typed.run }
 
@@ -96,6 +97,7 @@ abbrev pub discriminant_in : TokenList → Outcome (Unit {0})
 discriminant_in (also (punctuation character spacing span) rest) = if character == equals then value_in rest else Ok (tt, also (punctuation character spacing span) rest)
 discriminant_in run = Ok (tt, run)
 
+-- The variant with these attributes, this name and these fields.
 abbrev pub variant_of : TokenList → Slice → FieldsValue → VariantValue
 variant_of attributes name held = record { attributes = attributes; name = name; fields = held }
 
@@ -130,6 +132,7 @@ abbrev pub end_in : TokenList → Outcome (Unit {0})
 end_in none = Ok (tt, none)
 end_in run = mismatch run
 
+-- The enum with these attributes, this name, these parameters and these variants.
 abbrev pub enum_of : TokenList → Slice → List ParameterValue → List VariantValue → EnumValue
 enum_of attributes name parameters list = record { attributes = attributes; name = name; parameters = parameters; variants = list }
 

@@ -30,6 +30,7 @@ pub data FieldsValue : Type 0 where
   in_parenthesis : (span : Span) (fields : List FieldValue) → FieldsValue
   in_braces : (span : Span) (fields : List FieldValue) → FieldsValue
 
+-- A variant: its attributes, its name and its fields.
 pub record VariantValue : Type 0 where
   pub attributes : TokenList
   pub name : Slice
@@ -42,17 +43,21 @@ pub record EnumValue : Type 0 where
   pub parameters : List ParameterValue
   pub variants : List VariantValue
 
+-- The type, and its tokens, that a value represents.
 abbrev pub typed_value : TypedView → Typed
 typed_value typed = record { type = type_tree typed.field_type; run = tokens_of typed.run }
 
+-- The field that a value represents.
 abbrev pub field_value : Field → FieldValue
 field_value field = record { attributes = tokens_of field.attributes; type = type_tree field.field_type; run = tokens_of field.run }
 
+-- The fields that a value represents.
 abbrev pub fields_value : Fields → FieldsValue
 fields_value Unit = no_fields
 fields_value (Tuple span list) = in_parenthesis span (map field_value list.items)
 fields_value (Named span list) = in_braces span (map field_value list.items)
 
+-- The variant that a value represents.
 abbrev pub variant_value : Variant → VariantValue
 variant_value variant = record { attributes = tokens_of variant.attributes; name = ident_slice variant.name; fields = fields_value variant.fields }
 

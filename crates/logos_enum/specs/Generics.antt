@@ -18,12 +18,12 @@ abbrev pub name_in : TokenList → Outcome Slice
 name_in (also (identifier text span) rest) = Ok (record { text = text; span = span }, rest)
 name_in run = mismatch run
 
--- A name as the name of a parameter of this kind.
+-- The head of a parameter of this kind: its name is at the front.
 abbrev pub head_of : ParameterKind → TokenList → Outcome Head
 head_of kind (also (identifier text span) rest) = Ok (record { kind = kind; name = record { text = text; span = span } }, rest)
 head_of kind run = mismatch run
 
--- A lifetime, `const` and a name, or the name of a type.
+-- The head of a parameter: a lifetime, `const` and a name, or the name of a type.
 abbrev pub head_in : TokenList → Outcome Head
 head_in (also (punctuation character spacing span) rest) = if character == quote then head_of Lifetime rest else mismatch (also (punctuation character spacing span) rest)
 head_in (also (identifier text span) rest) = if bytes_eq text (codes "const") then head_of Const rest else head_of «Type» (also (identifier text span) rest)
@@ -67,6 +67,7 @@ tail Const = by constant_in >>= λ _. by default_in
 abbrev pub shape : Rule Head
 shape = Attributes >>= λ _. by head_in >>= λ head. tail head.kind >>= λ _. given head
 
+-- The parameter with this kind and name, and with all its tokens.
 abbrev pub parameter_of : Head → TokenList → ParameterValue
 parameter_of head run = record { kind = head.kind; name = head.name; run = run }
 
@@ -76,7 +77,7 @@ pub data OneParameter (run : TokenList) : Outcome ParameterValue → Type 0 wher
       shape run (Ok (head, rest)) → run ≡ append front (after_extent OfDefault run) → OneParameter run (Ok (parameter_of head front, rest))
   broken : {error : ReadError} → shape run (Err error) → OneParameter run (Err error)
 
--- `>`
+-- The `>` after the parameters.
 abbrev pub closing_in : TokenList → Outcome (Unit {0})
 closing_in (also (punctuation character spacing span) rest) = if character == greater then Ok (tt, rest) else mismatch (also (punctuation character spacing span) rest)
 closing_in run = mismatch run

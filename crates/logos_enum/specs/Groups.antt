@@ -27,5 +27,6 @@ abbrev pub brace_in : TokenList → Option Opened
 brace_in (also (group Brace span inside) rest) = Some (record { span = span; inside = inside; rest = rest })
 brace_in run = None
 
+-- The group that a value represents.
 abbrev pub opened_value : OpenedView → Opened
 opened_value opened = record { span = opened.span; inside = tokens_of opened.inside; rest = tokens_of opened.rest }

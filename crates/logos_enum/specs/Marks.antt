@@ -4,31 +4,31 @@ use Rattle.logos_lexeme.specs.declared.lexeme.Span.{Span}
 use Rattle.logos_token.specs.Tokens.{TokenList, none, also, span_of}
 pub use Rattle.logos_token.specs.First.{colon, begins_with}
 
--- `#`
+-- The character `#`.
 abbrev pub hash : ℕ
 hash = 35
 
--- `'`
+-- The character `'`.
 abbrev pub quote : ℕ
 quote = 39
 
--- `,`
+-- The character `,`.
 abbrev pub comma : ℕ
 comma = 44
 
--- `-`
+-- The character `-`.
 abbrev pub dash : ℕ
 dash = 45
 
--- `<`
+-- The character `<`.
 abbrev pub less : ℕ
 less = 60
 
--- `=`
+-- The character `=`.
 abbrev pub equals : ℕ
 equals = 61
 
--- `>`
+-- The character `>`.
 abbrev pub greater : ℕ
 greater = 62
 

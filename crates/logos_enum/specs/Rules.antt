@@ -10,10 +10,11 @@ use Rattle.logos_enum.specs.Marks.{comma, first_span}
 abbrev pub Outcome : Type 0 → Type 0
 Outcome A = Result (A × TokenList) ReadError
 
+-- A rule: the relation between a run and the outcome of reading it.
 abbrev pub Rule : Type 0 → Type 1
 Rule A = TokenList → Outcome A → Type 0
 
--- The first token does not fit.
+-- The error that the first token does not fit.
 abbrev pub mismatch : {A : Type 0} → TokenList → Outcome A
 mismatch run = Err (Grammar (first_span run))
 
@@ -25,7 +26,7 @@ by f run outcome = f run ≡ outcome
 abbrev pub given : {A : Type 0} → A → Rule A
 given value run outcome = Ok (value, run) ≡ outcome
 
--- One rule after another. The second one can depend on the value of the first.
+-- Two rules in sequence. The second one can depend on the value of the first.
 pub data Then {A B : Type 0} (First : Rule A) (Next : A → Rule B) (run : TokenList) : Outcome B → Type 0 where
   goes : {value : A} {rest : TokenList} {outcome : Outcome B} → First run (Ok (value, rest)) → Next value rest outcome → Then First Next run outcome
   stops : {error : ReadError} → First run (Err error) → Then First Next run (Err error)
@@ -57,6 +58,6 @@ pub data Listed {A : Type 0} (ends : TokenList → Bool) (Item : Rule A) : Token
       ends run ≡ false → Item run (Ok (value, rest)) → after_item ends rest ≡ Err error → Listed ends Item run (Err error)
   stopped : {run : TokenList} {error : ReadError} → ends run ≡ false → Item run (Err error) → Listed ends Item run (Err error)
 
--- Memory ran out, or this holds of the error.
+-- Memory ran out, or the error has the property `Holds`.
 abbrev pub Occurs : (ReadError → Type 0) → ReadError → Type 0
 Occurs Holds error = (error ≡ Memory) ⊎ Holds error

@@ -28,8 +28,10 @@ pub record ParameterValue : Type 0 where
 abbrev pub ident_slice : Ident → Slice
 ident_slice ident = record { text = ident.text.now; span = ident.span }
 
+-- The kind and the name that a value represents.
 abbrev pub head_value : HeadView → Head
 head_value head = record { kind = head.kind; name = ident_slice head.name }
 
+-- The parameter that a value represents.
 abbrev pub parameter_value : Parameter → ParameterValue
 parameter_value parameter = record { kind = parameter.kind; name = ident_slice parameter.name; run = tokens_of parameter.run }

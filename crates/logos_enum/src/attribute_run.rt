@@ -1,5 +1,5 @@
-//! Splits the attributes of a run one by one. The readers of the attributes of enums and variants
-//! call it, here and in the crates above.
+//! Splits attributes off the front of a run one by one. The readers of the attributes of enums and
+//! variants call it, here and in the crates above.
 
 ghost use Rattle.std.specs.Prelude.{◌≡◌, ◌<◌, Some, None, MatchOption};
 ghost use Rattle.logos_enum.specs.Views.{count_of, tokens_of, attribute_in, split_value};

@@ -12,8 +12,8 @@ pub enum ReadError {
     /// The run does not begin with well-formed attributes, an optional visibility, and `enum`.
     /// `span` is the span of the whole run.
     NotAnEnum { span: Span },
-    /// The run begins with these, but a token after `enum` does not fit. `span` is the span of the
-    /// first such token, or of the whole group if it is a group. It is `0..0` at the end of the
+    /// The run begins as an enum does, but a token after `enum` does not fit. `span` is the span of
+    /// the first such token, or of the whole group if it is a group. It is `0..0` at the end of the
     /// tokens, also inside a group.
     Grammar { span: Span },
     /// The type of a field is not supported. `span` is the span of the innermost unsupported type.
@@ -41,7 +41,7 @@ impl<T: Drop> From<AllocFailed<T>> for ReadError {
     }
 }
 
-/// The first token that does not fit is at this span.
+/// The span of the first token that does not fit.
 #[derive(Clone, Copy)]
 pub(crate) struct Mismatch {
     pub span: Span,

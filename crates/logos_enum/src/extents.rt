@@ -1,5 +1,5 @@
-//! Finds the extents of bounds, defaults and types. Parameters and fields are split with it before
-//! their types are read.
+//! Finds the extents of bounds, defaults and types: their tokens, up to the one that ends them. The
+//! readers of parameters and fields call it before they read types.
 
 ghost use Rattle.std.specs.Prelude.{◌≡◌, ◌+◌, ◌<◌, ◌≤◌, MatchOption};
 ghost use Rattle.logos_enum.specs.Views.{TokenList, also, punctuation, count_of, append, IsRestOf, tokens_of, ends, begins_arrow, depth_after, is_end, after_from, after_extent, after_generics, IsStep};
@@ -42,7 +42,7 @@ pub(crate) fn ends(end: End, character: char) -> bool
     }
 }
 
-/// Returns whether this punctuation can be the first character of `->`.
+/// Returns whether `punct` can be the first character of `->`.
 fn begins_arrow(punct: Punct) -> bool
     ensures { result ≡ begins_arrow punct.character punct.spacing }
 {
@@ -106,13 +106,14 @@ fn skip_token<'t, 's>(
     }
 }
 
-/// Returns the tokens after an extent.
+/// Returns the tokens after the extent at the front of `tokens`.
 pub(crate) fn skip_extent<'t, 's>(end: End, tokens: Tokens<'t, 's>) -> Tokens<'t, 's>
     ensures value { tokens_of result ≡ after_extent end (tokens_of tokens.entry) }
     ensures shorter { count_of (tokens_of result) ≤ count_of (tokens_of tokens.entry) }
     ensures front { IsRestOf (tokens_of tokens.entry) (tokens_of result) }
 {
-    // At most this many angle brackets can be open, so that a `usize` can count them.
+    // The number of tokens bounds the number of open angle brackets, so that a `usize` can count
+    // them.
     if tokens.count() == 0 {
         return tokens;
     }
@@ -139,7 +140,7 @@ pub fn skip_generics<'t, 's>(tokens: Tokens<'t, 's>) -> Tokens<'t, 's>
     }
 }
 
-/// Returns the tokens of an extent.
+/// Returns the tokens of the extent at the front of `tokens`.
 pub(crate) fn extent<'t, 's>(end: End, tokens: Tokens<'t, 's>) -> Tokens<'t, 's>
     ensures { tokens_of tokens.entry ≡
         append (tokens_of result) (after_extent end (tokens_of tokens.entry)) }

@@ -41,7 +41,7 @@ pub(crate) struct Typed<'t, 's> {
     run: Tokens<'t, 's>,
 }
 
-/// Returns the error for a field's type with these tokens.
+/// Returns the error for the fault of a field's type. `run` is the tokens of the type.
 fn error_of(run: Tokens<'_, '_>, fault: TypeFault) -> ReadError
     ensures { error_is (tokens_of run.entry) fault result }
 {

@@ -19,7 +19,7 @@ pub enum ParameterKind {
     Const,
 }
 
-/// A generic parameter.
+/// A generic parameter: its kind, its name and its tokens.
 #[derive(Clone, Copy)]
 pub struct Parameter<'t, 's> {
     pub kind: ParameterKind,
@@ -36,7 +36,8 @@ pub(crate) struct Head<'s> {
     name: Ident<'s>,
 }
 
-/// Returns the name at the front as the name of a parameter of this kind, and the tokens after it.
+/// Returns the name at the front as the head of a parameter of the kind `kind`, and the tokens
+/// after it.
 fn read_head_of<'t, 's>(
     kind: ParameterKind,
     tokens: Tokens<'t, 's>,

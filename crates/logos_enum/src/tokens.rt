@@ -43,7 +43,7 @@ pub(crate) fn split<'t, 's>(tokens: Tokens<'t, 's>) -> Option<(TokenTree<'t, 's>
     Some((tree, tokens.rest()))
 }
 
-/// Returns the tokens after this character, or `None` if it does not come first.
+/// Returns the tokens after `mark`, or `None` if the run does not begin with it.
 pub(crate) fn after_mark<'t, 's>(mark: char, tokens: Tokens<'t, 's>) -> Option<Tokens<'t, 's>>
     ensures { MatchOption result (begins_with mark (tokens_of tokens.entry) ≡ false)
         (λ rest. (begins_with mark (tokens_of tokens.entry) ≡ true)
@@ -81,8 +81,8 @@ pub(crate) fn read_name<'t, 's>(
     }
 }
 
-/// Returns the tokens after the comma between elements of a list that reaches to the end of its
-/// group.
+/// Returns the tokens after the comma that must follow an element of a list in a group. At the end
+/// of the group no comma is needed.
 pub(crate) fn skip_comma<'t, 's>(tokens: Tokens<'t, 's>) -> Result<Tokens<'t, 's>, ReadError>
     ensures { MatchResult result
         (λ rest. (after_item is_none (tokens_of tokens.entry) ≡ Ok (tt, tokens_of rest))
@@ -96,7 +96,8 @@ pub(crate) fn skip_comma<'t, 's>(tokens: Tokens<'t, 's>) -> Result<Tokens<'t, 's
     }
 }
 
-/// Returns the tokens after the comma between elements of a list that reaches to `>`.
+/// Returns the tokens after the comma that must follow an element of a list in angle brackets.
+/// Before `>` no comma is needed.
 pub(crate) fn skip_comma_or_angle<'t, 's>(
     tokens: Tokens<'t, 's>,
 ) -> Result<Tokens<'t, 's>, ReadError>

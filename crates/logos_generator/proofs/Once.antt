@@ -1,4 +1,4 @@
--- An input has one list of items, where each match has one answer.
+-- An input has one list of items, if each match has one action.
 use Rattle.std.proofs.Common.{◌≡◌, ℕ, ◌≤◌, Bool, true, false, List, ◌∷◌, ◌++◌, length, map, MatchBool, None, slice_range, refl, sym, ◌∙◌, ap}
 use Rattle.logos_automaton.specs.Munch.{Use, Rule, ended, matched, failed, Finds}
 use Rattle.logos_automaton.proofs.munch.Unique.{finds_one}

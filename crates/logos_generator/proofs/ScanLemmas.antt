@@ -1,5 +1,5 @@
--- The last mark on the way through a graph, and how far it can be followed, by one walk over the
--- rest of the input.
+-- The last mark on the way through a graph, and the number of bytes that can be followed, by one
+-- walk over the rest of the input.
 use Rattle.std.proofs.Common.{◌≡◌, ℕ, zero, suc, ◌+◌, ◌<◌, ◌≤◌, ◌↔◌, ◌⊎◌, inl, inr, ⊎_elim, true, false, List, [], ◌∷◌, length, take, Option, Some, None, IsSome, option_map, option_and_then, slice_get, nat_lt, refl, ◌∙◌, arith, rules}
 use Rattle.std.specs.Option.{option_map_or}
 use Rattle.logos_code.specs.Code.{Mark}
@@ -21,7 +21,7 @@ module _ (graph : List GraphState) where
   last_of s [] at context = option_map_or (λ t. passed t (at + 1) (passed s at context)) (next_at_end graph s) (passed s at context)
   last_of s (b ∷ rest) at context = option_map_or (λ t. last_of t rest (at + 1) (passed s at context)) (next_by graph s b) (passed s at context)
 
-  -- how many bytes can be followed
+  -- the number of bytes that can be followed
   abbrev pub reach : ℕ → List ℕ → ℕ
   reach s [] = 0
   reach s (b ∷ rest) = option_map_or (λ t. suc (reach t rest)) (next_by graph s b) 0

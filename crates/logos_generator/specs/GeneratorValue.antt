@@ -8,6 +8,7 @@ use Rattle.logos_code.specs.Code.{CodeValue}
 use Rattle.logos_code.specs.declared.code.CodeLeaf.{CodeLeaf}
 use Rattle.logos_code.specs.declared.code.Header.{Header}
 
+-- A generator: its arguments, and the tables of the nodes that it has made.
 pub record GeneratorValue : Type 0 where
   pub given : Header
   pub graph : GraphValue

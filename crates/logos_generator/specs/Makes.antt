@@ -6,12 +6,13 @@ use Rattle.logos_reduce.specs.Edges.{StateType}
 use Rattle.logos_graph.specs.Graph.{GraphState}
 use Rattle.logos_hir.specs.ByteRanges.{is_in}
 
--- An early mark takes precedence over a late one.
+-- The mark of a state, given its early and its late leaf. The early one takes precedence.
 abbrev pub mark_by : Option ℕ → Option ℕ → Option Mark
 mark_by (Some leaf) accept = Some (record { leaf = leaf; late = false })
 mark_by None (Some leaf) = Some (record { leaf = leaf; late = true })
 mark_by None None = None
 
+-- The mark of a state of this type.
 abbrev pub mark_made : StateType → Option Mark
 mark_made type = mark_by type.early type.accept
 

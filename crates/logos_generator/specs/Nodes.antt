@@ -47,11 +47,13 @@ module _ (tests : List (List Bool)) where
   abbrev pub IsTest : List (ℕ × ℕ) → ℕ → Type 0
   IsTest ranges k = IsSomeAnd (slice_get tests k) (IsSetOf ranges)
 
-  -- Comparisons, or a bit if the comparisons cost more than two operations.
+  -- The condition of an edge with these ranges: comparisons, or a bit if the comparisons cost more
+  -- than two operations.
   abbrev pub IsConditionOf : List (ℕ × ℕ) → Condition → Type 0
   IsConditionOf ranges (by_comparisons all) = (all ≡ joined ranges) × (cost all ≤ 2) × ((b : ℕ) → b < 256 → some_compares all b ≡ is_in ranges b)
   IsConditionOf ranges (by_test k) = (2 < cost (joined ranges)) × IsTest ranges k
 
+  -- The branch of an edge: the condition of its ranges, and its target.
   pub record IsBranchOf (edge : Edge) (branch : Condition × ℕ) : Type 0 where
     pub condition : IsConditionOf edge.0 branch.0
     pub target : branch.1 ≡ edge.1
@@ -63,7 +65,7 @@ module _ (tests : List (List Bool)) where
       (AreBranchesOf s edges branches)
       ((branch : Condition × ℕ) × (rest : List (Condition × ℕ)) × (branches ≡ branch ∷ rest) × IsBranchOf edge branch × AreBranchesOf s edges rest)
 
-  -- A table if there are more than two edges, and conditions otherwise.
+  -- The fork of these edges: a table if there are more than two edges, and conditions otherwise.
   abbrev pub IsForkOf : ℕ → List Edge → Fork → Type 0
   IsForkOf s edges (by_conditions branches) = (length edges ≤ 2) × AreBranchesOf s edges branches
   IsForkOf s edges (by_table entries) = (2 < length edges) × (length entries ≡ 256) × ((b : ℕ) → b < 256 → slice_index_or entries b None ≡ leads_beside s edges b)

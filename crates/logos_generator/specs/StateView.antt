@@ -36,8 +36,8 @@ pub record AreStatesOf (tests : List (List Bool)) (jumps : List (List ℕ)) (gra
   pub count : length states ≡ length graph
   pub each : (s : ℕ) (state : GraphState) → slice_get graph s ≡ Some state → IsSomeAnd (slice_get states s) (λ made. IsStateOf tests s state (state_of jumps made))
 
--- The states are made in this way, with the graph's tests in the bit tables and with its jump
--- tables, no two of which are equal.
+-- The states of a code are made from those of the graph, with the graph's tests in the bit tables
+-- and with its jump tables, no two of which are equal.
 pub record AreTablesOf (graph : List GraphState) (states : List TheState) (bit_tables jump_tables : List (List ℕ)) : Type 0 where
   pub are : AreStatesOf (tests_of graph) jump_tables graph states
   pub hold : (k b : ℕ) → b < 256 → passes_test bit_tables k b ≡ tests_byte (tests_of graph) k b

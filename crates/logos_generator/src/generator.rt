@@ -24,7 +24,7 @@ use states::code_of;
 use std::alloc::{AllocError, Global};
 use std::marker::Model;
 
-/// Makes the code value of a graph without faults, as a whole or node by node.
+/// A generator, which makes the code value of a graph without faults, as a whole or node by node.
 #[derive(Drop)]
 pub struct Generator<'g, 's> {
     config: Config,

@@ -1,4 +1,5 @@
-//! Turns graphs into code values. Re-exports code values and the machine that runs them.
+//! Turns graphs into code values for `logos_codegen`, and re-exports code values and the machine
+//! that runs them.
 
 #![tactic(auto)]
 

@@ -201,7 +201,7 @@ in_last ranges range b e = in_append ranges range b ∙ ap (λ (t : Bool). is_in
 in_front : (ranges : List (ℕ × ℕ)) (range : ℕ × ℕ) (b : ℕ) → is_in (range ∷ []) b ≡ false → is_in (ranges ++ range ∷ []) b ≡ is_in ranges b
 in_front ranges range b e = in_append ranges range b ∙ ap (λ (t : Bool). is_in ranges b || t) e ∙ or_false (is_in ranges b)
 
--- where bytes lead when a range is added
+-- the targets of bytes once a range is added
 leads_in : (edges : List Edge) (range : ℕ × ℕ) (t b : ℕ) → is_in (range ∷ []) b ≡ true → edge_leads edges b ≡ None → edge_leads (with_range edges range t) b ≡ Some t
 leads_in [] range t b in_range none = here (range ∷ [], t) [] b in_range
 leads_in (edge ∷ edges) range t b in_range none = go (order t edge.1) (is_in edge.0 b) refl (leads_in edges range t b in_range)

@@ -149,7 +149,7 @@ module _ (graph : List GraphState) where
       go None e ih = inr record { none = λ k l. mark_stuck s b rest at k e; result_is = refl }
       go (Some t) e ih = step t e (last_mark g t rest (at + 1) (marked (g.type_of t) at before)) (ih t (at + 1) (marked (g.type_of t) at before))
 
-  -- how far a walk goes
+  -- the length of a walk
   pub followed_fits : (rest : List ℕ) (s : ℕ) → followed g s rest ≤ length rest
   followed_fits [] s = omega arith
   followed_fits (b ∷ rest) s = go (next_by graph s b) (followed_fits rest)

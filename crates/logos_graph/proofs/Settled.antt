@@ -1,4 +1,5 @@
--- Early marks set, and late marks dropped, keep the last mark, and the stop where there is no mark.
+-- Setting early marks and removing late marks preserves the last mark, and the end of an error if
+-- there is no mark.
 use Rattle.std.proofs.Common.{◌≡◌, ◌↔◌, ℕ, ◌+◌, ◌<◌, ◌≤◌, ◌⊎◌, inl, inr, List, [], ◌∷◌, Option, Some, None, IsSome, refl, sym, ap, subst, arith}
 use Rattle.std.specs.Option.{option_map_or}
 use Rattle.logos_hir.specs.Text.{IsBytes}

@@ -9,7 +9,7 @@ use Rattle.logos_graph.specs.declared.graph.StateData.{StateData}
 abbrev pub LeadsTo : List GraphState → ℕ → ℕ → Type 0
 LeadsTo graph r s = ((b : ℕ) × (b < 256) × (next_by graph r b ≡ Some s)) ⊎ (next_at_end graph r ≡ Some s)
 
--- These are the numbers of the states that lead to `s`, ascending and without duplicates.
+-- `numbers` are the numbers of the states that lead to `s`, ascending and without duplicates.
 pub record AreBackward (graph : List GraphState) (s : ℕ) (numbers : List ℕ) : Type 0 where
   pub ascending : IsStrictlyIncreasing numbers
   pub exactly : (r : ℕ) → Contains numbers r ↔ LeadsTo graph r s

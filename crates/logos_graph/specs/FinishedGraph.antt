@@ -8,15 +8,15 @@ use Rattle.logos_reduce.specs.Edges.{StateType}
 use Rattle.logos_reduce.specs.Table.{size, to, mark, type_of}
 use Rattle.logos_reduce.specs.declared.table.Table.{Table}
 
--- Only a late mark.
+-- The state type has only a late mark.
 abbrev pub IsLate : StateType → Type 0
 IsLate type = (type.early ≡ None) × IsSome type.accept
 
--- No mark.
+-- The state type has no mark.
 abbrev pub IsUnmarked : StateType → Type 0
 IsUnmarked type = (type.early ≡ None) × (type.accept ≡ None)
 
--- Each mark is a leaf below this number.
+-- Each mark of the state type is a leaf below this number.
 abbrev pub NamesLeaves : ℕ → StateType → Type 0
 NamesLeaves leaves type = IfSome type.accept (λ leaf. leaf < leaves) × IfSome type.early (λ leaf. leaf < leaves)
 
@@ -24,7 +24,7 @@ NamesLeaves leaves type = IfSome type.accept (λ leaf. leaf < leaves) × IfSome 
 abbrev pub Edge : Type 0
 Edge = List (ℕ × ℕ) × ℕ
 
--- The target of a byte.
+-- The target of a byte, if an edge contains the byte.
 abbrev pub edge_leads : List Edge → ℕ → Option ℕ
 edge_leads edges b = option_map (λ e. e.1) (find (λ e. is_in e.0 b) edges)
 
@@ -45,7 +45,7 @@ pub record IsFit (table : Table) (leaves : ℕ) : Type 0 where
   pub first_edges : (b t : ℕ) → b < 256 → to table 0 b ≡ Some t → ¬ IsLate (type_of (mark table t))
   pub first_end : to table 0 256 ≡ None
 
--- The same properties for a finished graph.
+-- The properties that `IsFit` has for a table, for a finished graph.
 module _ (graph : List GraphState) (leaves : ℕ) where
   pub record IsFinishedState (state : GraphState) : Type 0 where
     pub neat : AreNeat state.normal

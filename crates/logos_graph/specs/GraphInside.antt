@@ -10,6 +10,7 @@ use Rattle.logos_reduce.specs.History.{YieldsEvidence}
 use Rattle.logos_graph.specs.View.{GraphValue}
 use Rattle.logos_graph.specs.declared.graph.value.Graph.TheInside.{Inside}
 
+-- The graph that a value represents.
 abbrev pub value_of : Inside → GraphValue
 value_of graph = record {
   leaves = graph.leaves.items;

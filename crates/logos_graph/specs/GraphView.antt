@@ -9,6 +9,7 @@ use Rattle.logos_graph.specs.declared.graph.State.{State}
 use Rattle.logos_graph.specs.declared.graph.StateType.{StateType as TheStateType}
 use Rattle.logos_graph.specs.declared.graph.StateData.{StateData}
 
+-- The number of a leaf.
 abbrev pub leaf_number : LeafId → ℕ
 leaf_number leaf = leaf.0
 
@@ -16,6 +17,7 @@ leaf_number leaf = leaf.0
 abbrev pub state_number : State → ℕ
 state_number state = state.0
 
+-- The type of a state that a value represents.
 abbrev pub state_type_of : TheStateType → StateType
 state_type_of type = record { accept = option_map leaf_number type.accept; early = option_map leaf_number type.early }
 

@@ -10,6 +10,7 @@ use Rattle.logos_graph.specs.Graph.{GraphState}
 abbrev pub label_character : ℕ → List ℕ
 label_character c = if c == 34 then codes "&quot" else (if c == 92 then codes "\\\\" else (if c == 10 then codes "<br>" else c ∷ []))
 
+-- A text in a label.
 abbrev pub label_text : List ℕ → List ℕ
 label_text text = flat_map label_character text
 
@@ -31,12 +32,15 @@ mark_label (Some leaf) accept = codes "<br>early(" ++ decimal leaf ++ codes ")"
 mark_label None (Some leaf) = codes "<br>late(" ++ decimal leaf ++ codes ")"
 mark_label None None = []
 
+-- The label of the node of a state.
 abbrev pub state_label : ℕ → StateType → List ℕ
 state_label s type = codes "State " ++ decimal s ++ mark_label type.early type.accept
 
+-- The colour of states without a mark and of edges.
 abbrev pub black : List ℕ
 black = codes "#000000"
 
+-- The colour of states with a mark.
 abbrev pub green : List ℕ
 green = codes "#00C853"
 
@@ -46,19 +50,23 @@ mark_colour (Some leaf) accept = green
 mark_colour None (Some leaf) = green
 mark_colour None None = black
 
+-- The colour of a state.
 abbrev pub state_colour : StateType → List ℕ
 state_colour type = mark_colour type.early type.accept
 
--- The name of the node of a state or of an edge.
+-- The name of the node of a state.
 abbrev pub node_name : ℕ → List ℕ
 node_name s = codes "n" ++ decimal s
 
+-- The name of the node of an edge between two nodes.
 abbrev pub edge_name : List ℕ → List ℕ → List ℕ
 edge_name from to = codes "e" ++ from ++ to
 
+-- The line with the colour of a node.
 abbrev pub style_line : List ℕ → List ℕ → List ℕ
 style_line name colour = codes "style " ++ name ++ codes " stroke:" ++ colour ++ 10 ∷ []
 
+-- The line of a link between two nodes.
 abbrev pub link_line : List ℕ → List ℕ → List ℕ
 link_line from to = from ++ codes "-->" ++ to ++ 10 ∷ []
 
@@ -71,6 +79,7 @@ abbrev pub edge_lines : List ℕ → List ℕ → List ℕ → List ℕ
 edge_lines from to label =
     edge_name from to ++ codes "{\"" ++ label ++ codes "\"}" ++ 10 ∷ [] ++ style_line (edge_name from to) black ++ link_line from (edge_name from to) ++ link_line (edge_name from to) to
 
+-- The lines of an edge on bytes.
 abbrev pub byte_edge_lines : List ℕ → List (ℕ × ℕ) × ℕ → List ℕ
 byte_edge_lines from edge = edge_lines from (node_name edge.1) (class_label edge.0)
 
@@ -79,6 +88,7 @@ abbrev pub end_edge_lines : List ℕ → Option ℕ → List ℕ
 end_edge_lines from None = []
 end_edge_lines from (Some t) = edge_lines from (node_name t) (codes "EOI")
 
+-- The lines of a state and of its edges.
 abbrev pub state_lines : ℕ → GraphState → List ℕ
 state_lines s state =
     node_lines (node_name s) (state_label s state.state_type) (state_colour state.state_type)

@@ -39,7 +39,8 @@ pub record IsReduced (rules : List Rule) (graph : List GraphState) : Type 0 wher
       (s label : ℕ) × HasEdge graph s label t × HasType graph s (λ type. type.early ≢ Some leaf)
   -- No two states are equal.
   pub distinct : (s t : ℕ) → s < length graph → slice_get graph s ≡ slice_get graph t → s ≡ t
-  -- The first edges into 1, 2, 3 and so on come in this order, each from a lower number.
+  -- The first edges into the states 1, 2, 3 and so on come in this order, each from a state with a
+  -- lower number.
   pub numbered : (t : ℕ) → 0 < t → t < length graph → (s label : ℕ) × (s < t) × IsFirstEdge graph t s label
   pub ordered : (t u s label r at : ℕ) → 0 < t → t < u → IsFirstEdge graph t s label → IsFirstEdge graph u r at → (s < r) ⊎ ((s ≡ r) × (label < at))
   -- The edges on bytes are in the order of their targets, and no two have the same target.

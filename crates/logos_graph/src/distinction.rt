@@ -9,7 +9,7 @@ use logos_reduce::rows::{END, WIDTH};
 use logos_reduce::table::{StateMarks, Table};
 use std::alloc::{AllocError, Global};
 
-/// Returns the state to which bytes lead from a state.
+/// Returns the state to which bytes lead from a state, or `None` if they lead to none.
 fn state_after(table: &Table, s: usize, bytes: &[u8]) -> Option<usize>
     requires { s < size table.now }
     ensures state { result ≡ state_after table.now (Some s) bytes.now }
@@ -23,7 +23,7 @@ fn state_after(table: &Table, s: usize, bytes: &[u8]) -> Option<usize>
 }
 
 /// Returns the mark of a state, or of the state to which the end leads from it if `at_end` is
-/// `true`.
+/// `true`. Returns `None` if there is no such state.
 fn mark_with_end(table: &Table, s: usize, at_end: bool) -> Option<StateMarks>
     requires { s < size table.now }
     ensures { result ≡ mark_with_end table.now s at_end }
@@ -35,7 +35,8 @@ fn mark_with_end(table: &Table, s: usize, at_end: bool) -> Option<StateMarks>
     Some(table.mark(t))
 }
 
-/// Returns the mark to which bytes lead from a state, with or without the end after them.
+/// Returns the mark to which bytes lead from a state, with or without the end after them. Returns
+/// `None` if they lead to no state.
 fn mark_after(table: &Table, s: usize, bytes: &[u8], at_end: bool) -> Option<StateMarks>
     requires { s < size table.now }
     ensures { result ≡ mark_after table.now s bytes.now at_end }

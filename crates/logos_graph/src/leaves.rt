@@ -1,4 +1,5 @@
-//! Leaves as rules of an automaton. `graph::construction` calls it before it builds the automaton.
+//! Turns leaves into rules of an automaton. `graph::construction` calls it before it builds the
+//! automaton.
 
 ghost use Rattle.std.specs.Prelude.{◌≡◌, ◌^◌, ◌≤◌, ◌↔◌, IsTrue, IfOk};
 ghost use Rattle.logos_graph.specs.Imports.{size_of, rule_of, rules_of};

@@ -38,7 +38,7 @@ fn best_with(leaves: &[Leaf<'_>], best: Option<usize>, leaf: usize) -> usize
     }
 }
 
-/// Returns the first leaf with the highest priority among `listed`.
+/// Returns the first leaf with the highest priority among `listed`, or `None` if no leaf is listed.
 fn first_leaf(leaves: &[Leaf<'_>], listed: &[usize]) -> Option<usize>
     ensures { result ≡ first_of (rules_of leaves.now) listed.now }
 {

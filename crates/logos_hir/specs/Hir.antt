@@ -1,4 +1,4 @@
--- The tree that a `Hir` holds.
+-- The tree that a `Hir` represents.
 use Rattle.std.specs.Prelude.{ℕ, List, [], ◌∷◌, map}
 use Rattle.logos_hir.specs.declared.hir.Range.{Range}
 use Rattle.logos_hir.specs.declared.hir.Class.{Class}
@@ -12,11 +12,12 @@ use Rattle.logos_hir.specs.Tree.{Tree, empty, literal, byte_class, char_class, l
 abbrev pub pairs : List Range → List (ℕ × ℕ)
 pairs = map (λ r. (r.first, r.last))
 
+-- The tree of a class.
 abbrev pub class_tree : Class → Tree
 class_tree (Bytes ranges) = byte_class (pairs ranges.items)
 class_tree (Characters ranges) = char_class (pairs ranges.items)
 
--- One node with the trees of its children.
+-- The tree of a node, made from the trees of its children.
 abbrev pub node_tree : Hir-F Tree → Tree
 node_tree Hir-F.Empty = empty
 node_tree (Hir-F.Literal bytes) = literal bytes.items
@@ -27,7 +28,7 @@ node_tree (Hir-F.Capture sub) = capture sub.value
 node_tree (Hir-F.Concat parts) = concat (trees parts.items)
 node_tree (Hir-F.Alternation branches) = alternation (trees branches.items)
 
--- The tree that a `Hir` holds.
+-- The tree that a `Hir` represents.
 abbrev pub tree_of : Hir → Tree
 tree_of = fold-Hir Tree node_tree
 

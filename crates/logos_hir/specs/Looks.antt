@@ -8,11 +8,11 @@ use Rattle.logos_hir.specs.declared.hir.Look.{Look}
 use Rattle.logos_hir.specs.declared.hir.Look.TheVariants.{Start, End, StartLF, EndLF, StartCRLF, EndCRLF, WordAscii, WordAsciiNegate}
 use Rattle.logos_hir.specs.Text.{byte_before, byte_after}
 
--- The byte exists and is this one.
+-- There is a byte, and it is `c`.
 abbrev pub is_byte : ℕ → Option ℕ → Bool
 is_byte c side = option_map_or (λ b. b == c) side false
 
--- The byte exists and is one of `[0-9A-Za-z_]`.
+-- There is a byte, and it is one of `[0-9A-Za-z_]`.
 abbrev pub is_word : Option ℕ → Bool
 is_word side = option_map_or (λ b. is_ascii_alphanumeric b || b == 95) side false
 

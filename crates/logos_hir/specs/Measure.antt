@@ -27,6 +27,7 @@ abbrev mutual
   all_text none = true
   all_text (also t rest) = is_text t && all_text rest
 
+-- The ranges are equal.
 abbrev pub is_same : ℕ × ℕ → ℕ × ℕ → Bool
 is_same r s = (r.0 == s.0) && (r.1 == s.1)
 

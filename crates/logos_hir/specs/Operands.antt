@@ -19,7 +19,7 @@ abbrev pub with_operand : Option SetOperator → Set → Set → Set
 with_operand None before set = set
 with_operand (Some op) before set = combination op before set
 
--- The members of the first set that are in the test, and those of the second that are not.
+-- The members of `inside` that are in `test`, and those of `outside` that are not.
 abbrev pub selection : Set → Set → Set → Set
 selection test inside outside c = if test c then inside c else outside c
 

@@ -1,4 +1,4 @@
--- Whether a tree matches the empty string, and whether a look-around assertion comes first.
+-- The trees that match the empty string, and those in which a look-around assertion can come first.
 use Rattle.std.specs.Prelude.{Bool, true, false, ◌&&◌, ◌||◌, length, ◌==◌}
 use Rattle.logos_hir.specs.Tree.{Tree, empty, literal, byte_class, char_class, look, repetition, capture, concat, alternation, Trees, none, also}
 

@@ -1,4 +1,4 @@
--- Sets of characters and of bytes, and the ranges that hold them.
+-- Sets of characters and of bytes, and the ranges that represent them.
 use Rattle.std.specs.Prelude.{◌≡◌, ℕ, zero, suc, ◌+◌, Bool, true, false, not, ◌&&◌, ◌||◌, ◌==◌, nat_le, List, [], ◌∷◌, if◌then◌else◌}
 use lib.Utf8.{scalar}
 
@@ -16,11 +16,11 @@ union a b c = a c || b c
 abbrev pub intersection : Set → Set → Set
 intersection a b c = a c && b c
 
--- In the first, and not in the second.
+-- The members of the first set that are not in the second.
 abbrev pub difference : Set → Set → Set
 difference a b c = a c && not (b c)
 
--- In exactly one of the two.
+-- The members of exactly one of the two sets.
 abbrev pub symmetric_difference : Set → Set → Set
 symmetric_difference a b c = if a c then not (b c) else b c
 
@@ -38,6 +38,7 @@ complement last set c = scalar c && (nat_le c last && not (set c))
 abbrev pub in_range : ℕ × ℕ → Set
 in_range r c = nat_le r.0 c && nat_le c r.1
 
+-- The numbers in one of the ranges.
 abbrev pub in_ranges : List (ℕ × ℕ) → Set
 in_ranges [] c = false
 in_ranges (r ∷ rest) c = in_range r c || in_ranges rest c
@@ -64,23 +65,23 @@ rises_from n (r ∷ rest) = (nat_le n r.0 && is_range r) && rises_from (next r.1
 abbrev pub AreCanonical : List (ℕ × ℕ) → Type 0
 AreCanonical ranges = rises_from 0 ranges ≡ true
 
--- ---- the ranges of a set, as few as can be.
+-- ---- the ranges of a set, as few as possible.
 
 -- A number before ranges that start after it: it extends the first range, or is a range of its own.
 abbrev pub with_number : ℕ → List (ℕ × ℕ) → List (ℕ × ℕ)
 with_number c [] = (c, c) ∷ []
 with_number c (r ∷ rest) = if next c == r.0 then (c, r.1) ∷ rest else (c, c) ∷ r ∷ rest
 
--- The members among `n` numbers from `c` on.
+-- The ranges of the members among the `n` numbers from `c` on.
 unfoldable pub ranges_from : ℕ → ℕ → Set → List (ℕ × ℕ)
 ranges_from c zero set = []
 ranges_from c (suc n) set =
     if set c then with_number c (ranges_from (c + 1) n set) else ranges_from (c + 1) n set
 
--- The characters of a set.
+-- The ranges of the characters of a set.
 unfoldable pub char_ranges : Set → List (ℕ × ℕ)
 char_ranges set = ranges_from 0 0x11_0000 (only_chars set)
 
--- The bytes of a set.
+-- The ranges of the bytes of a set.
 unfoldable pub byte_ranges : Set → List (ℕ × ℕ)
 byte_ranges set = ranges_from 0 256 (only_chars set)

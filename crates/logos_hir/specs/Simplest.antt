@@ -6,8 +6,8 @@ use Rattle.logos_hir.specs.Tree.{Tree, empty, literal, byte_class, char_class, l
 use Rattle.logos_hir.specs.Build.{repetition_of, concat_of, alternation_of}
 
 abbrev mutual
-  -- Each repetition, concatenation and alternation as its builder makes it, from the innermost
-  -- outwards.
+  -- The tree with each repetition, concatenation and alternation made by its builder, from the
+  -- innermost outwards.
   pub simplest : Tree → Tree
   simplest empty = empty
   simplest (literal text) = literal text
@@ -23,7 +23,7 @@ abbrev mutual
   all_simplest none = []
   all_simplest (also t rest) = simplest t ∷ all_simplest rest
 
--- The tree that the builders make from the tree that a `Hir` holds.
+-- The simplest tree of the tree that a `Hir` represents.
 abbrev pub simplest_tree : Hir → Tree
 simplest_tree hir = simplest (tree_of hir)
 

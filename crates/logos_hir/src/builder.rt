@@ -73,7 +73,8 @@ pub fn byte_class(alloc: Global, set: RangeSet) -> Result<Hir, AllocError>
     }
 }
 
-/// Returns whether the tree matches no byte in any context.
+/// Returns whether the tree has neither a literal nor a class, so that each of its matches is
+/// empty.
 pub fn is_byteless(hir: &Hir) -> bool
     ensures { result ≡ is_byteless (tree_of hir.now) }
 {
@@ -92,14 +93,14 @@ pub fn is_byteless(hir: &Hir) -> bool
     }
 }
 
-/// Returns whether the greatest count is `n`.
+/// Returns whether a greatest count is `n`.
 fn is_most(n: u32, max: Option<u32>) -> bool
     ensures { result ≡ is_most n max }
 {
     max == Some(n)
 }
 
-/// Returns the greatest count, cut to at most 1.
+/// Returns the greatest count, limited to at most 1.
 fn cut(max: Option<u32>) -> u32
     ensures { Some result ≡ cut max }
 {
@@ -131,8 +132,8 @@ fn times(
 }
 
 /// Makes a repetition in its simplest form. A repetition of zero times is `Empty`. If the body
-/// matches no byte, both counts are cut to at most 1. A repetition of exactly one time is the body
-/// itself.
+/// matches no byte, both counts are limited to at most 1. A repetition of exactly one time is the
+/// body itself.
 ///
 /// # Errors
 ///
@@ -252,7 +253,8 @@ pub(crate) fn push_flat(parts: &mut Vec<Hir>, part: Hir) -> Result<(), AllocErro
     }
 }
 
-/// Makes a concatenation of the parts, unchanged. One part is itself, and no part is `Empty`.
+/// Makes a concatenation of the parts, unchanged. A single part is returned unchanged, and no parts
+/// make `Empty`.
 pub(crate) fn in_a_row(mut parts: Vec<Hir>) -> Hir
     ensures { tree_of result ≡ in_a_row (map tree_of parts.items) }
 {

@@ -8,13 +8,16 @@ use crate::sets::RangeSet;
 use std::alloc::{AllocError, Global};
 use unicode::case;
 
-/// The first and the last capital letter of ASCII, and the first and the last small letter.
+/// The first capital letter of ASCII.
 const CAPITAL_A: u32 = 65;
 
+/// The last capital letter of ASCII.
 const CAPITAL_Z: u32 = 90;
 
+/// The first small letter of ASCII.
 const SMALL_A: u32 = 97;
 
+/// The last small letter of ASCII.
 const SMALL_Z: u32 = 122;
 
 /// Returns the pairs of a sorted table whose first number is in the range.
@@ -53,6 +56,10 @@ fn push_folds(out: &mut Vec<Range>, ranges: &[Range]) -> Result<(), AllocError>
 }
 
 /// Returns the closure of a set under simple case folding.
+///
+/// # Errors
+///
+/// Returns `AllocError` if memory runs out.
 pub fn fold_case(alloc: Global, set: &RangeSet) -> Result<RangeSet, AllocError>
     ensures { IfOk result (λ folded. set_of folded ≡ fold_case (set_of set.now)) }
 {
@@ -101,6 +108,10 @@ fn push_cases(out: &mut Vec<Range>, ranges: &[Range]) -> Result<(), AllocError>
 }
 
 /// Returns the set with both cases of each ASCII letter in it.
+///
+/// # Errors
+///
+/// Returns `AllocError` if memory runs out.
 pub fn fold_ascii(alloc: Global, set: &RangeSet) -> Result<RangeSet, AllocError>
     ensures { IfOk result (λ folded. set_of folded ≡ fold_ascii (set_of set.now)) }
 {

@@ -58,7 +58,7 @@ pub enum Hir {
     Literal(Vec<u8>),
     /// One member of the class.
     Class(Class),
-    /// A condition on the position.
+    /// A look-around assertion, which holds or fails at a position of the input.
     Look(Look),
     /// At least `min` times the body, and at most `max` times if `max` is not `None`.
     Repetition {

@@ -76,7 +76,7 @@ fn spells(name: &[char], word: &[u8]) -> bool
 }
 
 impl AsciiKind {
-    /// Returns the class with the name in `[:name:]`.
+    /// Returns the class that `name` denotes in `[:name:]`, or `None` if no class has this name.
     pub fn from_name(name: &[char]) -> Option<AsciiKind>
         ensures { result ≡ ascii_named name.now }
     {
@@ -113,6 +113,10 @@ impl AsciiKind {
 }
 
 /// Returns the members of an ASCII class.
+///
+/// # Errors
+///
+/// Returns `AllocError` if memory runs out.
 pub fn ascii_set(alloc: Global, kind: AsciiKind) -> Result<RangeSet, AllocError>
     ensures { IfOk result (λ set. set_of set ≡ only_chars (ascii_set kind)) }
 {
@@ -140,6 +144,10 @@ fn from_runs(alloc: Global, runs: &[(u32, u32)]) -> Result<RangeSet, AllocError>
 
 /// Returns the members of `\d`, `\s` or `\w`: Unicode characters, or only ASCII bytes if `unicode`
 /// is `false`.
+///
+/// # Errors
+///
+/// Returns `AllocError` if memory runs out.
 pub fn perl_set(alloc: Global, kind: PerlKind, unicode: bool) -> Result<RangeSet, AllocError>
     ensures { IfOk result (λ set. set_of set ≡ only_chars (perl_set kind unicode)) }
 {
@@ -153,7 +161,12 @@ pub fn perl_set(alloc: Global, kind: PerlKind, unicode: bool) -> Result<RangeSet
     }
 }
 
-/// Returns the set of the property with this name. Names are compared loosely.
+/// Returns the set of the property with this name, or `None` if no property has the name. Names are
+/// compared loosely.
+///
+/// # Errors
+///
+/// Returns `AllocError` if memory runs out.
 pub fn property_named(alloc: Global, name: &[char]) -> Result<Option<Set>, AllocError>
     ensures { IfOk result (λ set. set ≡ property_named name.now) }
 {
@@ -161,7 +174,8 @@ pub fn property_named(alloc: Global, name: &[char]) -> Result<Option<Set>, Alloc
     Ok(property_normalized(&name))
 }
 
-/// Returns the set of the property with this normalized name.
+/// Returns the set of the property with this normalized name, or `None` if no property has the
+/// name.
 fn property_normalized(name: &[u8]) -> Option<Set>
     ensures { result ≡ property_normalized name.now }
 {
@@ -178,6 +192,10 @@ fn property_normalized(name: &[u8]) -> Option<Set>
 }
 
 /// Returns the characters of a property's set.
+///
+/// # Errors
+///
+/// Returns `AllocError` if memory runs out.
 pub fn property_set(alloc: Global, set: Set) -> Result<RangeSet, AllocError>
     ensures { IfOk result (λ chars. set_of chars ≡ only_chars (in_set set)) }
 {

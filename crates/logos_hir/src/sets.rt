@@ -126,7 +126,7 @@ fn push_chars(out: &mut Vec<Range>, range: Range) -> Result<(), AllocError>
     Ok(())
 }
 
-/// Returns the ranges cut to characters, without ranges that contain none.
+/// Returns the characters of the ranges, as ranges.
 fn chars_of(alloc: Global, ranges: &[Range]) -> Result<Vec<Range>, AllocError>
     ensures ranges { IfOk result (λ out. AreRanges (pairs out.items)) }
     ensures members { IfOk result (λ out. HasCharacters (pairs out.items)
@@ -146,6 +146,10 @@ impl RangeSet {
     /// Returns the characters in the ranges. The ranges may be in any order, overlap, and contain
     /// numbers that are not characters. A range whose first number is greater than its last is
     /// empty.
+    ///
+    /// # Errors
+    ///
+    /// Returns `AllocError` if memory runs out.
     pub fn from_ranges(alloc: Global, ranges: &[Range]) -> Result<RangeSet, AllocError>
         ensures { IfOk result (λ set. set_of set ≡ members (pairs ranges.now)) }
     {
@@ -157,6 +161,10 @@ impl RangeSet {
     }
 
     /// Returns the characters up to `last` that are not members.
+    ///
+    /// # Errors
+    ///
+    /// Returns `AllocError` if memory runs out.
     pub fn complement(&self, last: char) -> Result<RangeSet, AllocError>
         ensures { IfOk result (λ set. set_of set ≡ complement last (set_of self.now)) }
     {
@@ -165,6 +173,10 @@ impl RangeSet {
     }
 
     /// Returns the members up to U+00FF, which are bytes.
+    ///
+    /// # Errors
+    ///
+    /// Returns `AllocError` if memory runs out.
     pub fn bytes(&self) -> Result<RangeSet, AllocError>
         ensures { IfOk result (λ set. set_of set ≡
             intersection (set_of self.now) (in_range (0, LAST_BYTE))) }
@@ -198,6 +210,10 @@ impl RangeSet {
     }
 
     /// Returns the members of either set.
+    ///
+    /// # Errors
+    ///
+    /// Returns `AllocError` if memory runs out.
     pub fn union(&self, other: &RangeSet) -> Result<RangeSet, AllocError>
         ensures { IfOk result (λ set. set_of set ≡ union (set_of self.now) (set_of other.now)) }
     {
@@ -208,6 +224,10 @@ impl RangeSet {
     }
 
     /// Returns the members of both sets.
+    ///
+    /// # Errors
+    ///
+    /// Returns `AllocError` if memory runs out.
     pub fn intersection(&self, other: &RangeSet) -> Result<RangeSet, AllocError>
         ensures { IfOk result (λ set. set_of set ≡
             intersection (set_of self.now) (set_of other.now)) }
@@ -219,6 +239,10 @@ impl RangeSet {
     }
 
     /// Returns the members of this set that are not in `other`.
+    ///
+    /// # Errors
+    ///
+    /// Returns `AllocError` if memory runs out.
     pub fn difference(&self, other: &RangeSet) -> Result<RangeSet, AllocError>
         ensures { IfOk result (λ set. set_of set ≡
             difference (set_of self.now) (set_of other.now)) }
@@ -227,6 +251,10 @@ impl RangeSet {
     }
 
     /// Returns the members of exactly one of the sets.
+    ///
+    /// # Errors
+    ///
+    /// Returns `AllocError` if memory runs out.
     pub fn symmetric_difference(&self, other: &RangeSet) -> Result<RangeSet, AllocError>
         ensures { IfOk result (λ set. set_of set ≡
             symmetric_difference (set_of self.now) (set_of other.now)) }

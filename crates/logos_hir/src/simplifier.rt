@@ -17,7 +17,7 @@ pub fn row(parts: Vec<Hir>) -> Hir
     in_a_row(parts)
 }
 
-/// Makes an alternation of the branches, unsimplified. One branch is itself.
+/// Makes an alternation of the branches, unsimplified. A single branch is returned unchanged.
 pub fn either(mut branches: Vec<Hir>) -> Hir
     ensures { simplest_tree result ≡ alternation_of (map simplest_tree branches.items) }
 {

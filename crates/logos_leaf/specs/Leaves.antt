@@ -70,6 +70,7 @@ leaf_with is_token d kind tree priority = record {
 abbrev pub token_priority : DefinitionView → ℕ
 token_priority d = unwrap_or d.priority (2 * length (bytes_of d.literal.held))
 
+-- The leaf of a `token` with this tree.
 abbrev pub token_leaf : DefinitionView → KindValue → Tree → LeafView
 token_leaf d kind tree = leaf_with true d kind tree (token_priority d)
 
@@ -106,7 +107,7 @@ priority_overflow span = fault PriorityOverflow (codes "the default priority is 
 abbrev pub greedy_faults : DefinitionView → Tree → List Fault
 greedy_faults d tree = if not (unwrap_or d.allow_greedy false) && has_greedy_dot tree then only (greedy_dot d.literal.token.span) else []
 
--- The leaf with this priority, if there is one.
+-- The report of a pattern with this priority, if it has one.
 abbrev pub fitted_report : DefinitionView → KindValue → Tree → Option ℕ → Report (Option LeafView)
 fitted_report d kind tree (Some priority) = without_faults (Some (leaf_with false d kind tree priority))
 fitted_report d kind tree None = with_faults None (only (priority_overflow d.literal.token.span))
@@ -115,7 +116,7 @@ fitted_report d kind tree None = with_faults None (only (priority_overflow d.lit
 abbrev pub regex_priority : DefinitionView → Tree → Option ℕ
 regex_priority d tree = option_or d.priority (fitted (value tree))
 
--- The leaf of a pattern whose text spells this tree.
+-- The report of a pattern whose text spells this tree.
 abbrev pub tree_report : DefinitionView → KindValue → Tree → Report (Option LeafView)
 tree_report d kind tree = and_then (with_faults tree (greedy_faults d tree)) (λ t. fitted_report d kind t (regex_priority d t))
 
@@ -135,6 +136,7 @@ text_report d kind reading (Some text) = reading_report d kind reading
 abbrev pub whole_report : DefinitionView → List Stored → Report (Option (List ℕ))
 whole_report d names = subst_report names d.literal.token.span (chars (pattern_text d.literal.held))
 
+-- The report of a `regex` or `skip`, given the result of reading its text.
 abbrev pub regex_report : DefinitionView → KindValue → List Stored → Reading → Report (Option LeafView)
 regex_report d kind names reading = and_then (whole_report d names) (text_report d kind reading)
 

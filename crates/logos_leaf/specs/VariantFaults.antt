@@ -6,6 +6,7 @@ use Rattle.logos_token.specs.declared.error.fault_code.FaultCode.TheVariants.{Va
 use Rattle.logos_token.specs.Faults.{Fault}
 use Rattle.logos_attribute.specs.Reports.{fault, only}
 
+-- The message for a variant with this number of fields.
 abbrev pub fields_text : ℕ → List ℕ
 fields_text count = codes "Logos currently only supports variants with one field, found " ++ decimal count
 

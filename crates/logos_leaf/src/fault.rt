@@ -6,6 +6,7 @@ ghost use Rattle.logos_leaf.specs.Imports.{AddsFault, greedy_dot, priority_overf
 use logos_token::error::{Errors, FaultCode, Memory};
 use logos_token::token::Span;
 
+/// The message for a greedy dot.
 const GREEDY_DOT: &str =
     "This pattern contains an unbounded greedy dot repetition, i.e. `.*` or `.+` (or a character class that is equivalent to a dot, i.e., `[^\\n]*`). This will cause the entirety of the input to be read for every token. Consider making your repetition non-greedy or changing it to a more specific character class. If this is the intended behavior, add #[regex(..., allow_greedy = true)] or#[logos(skip(..., allow_greedy = true))]";
 

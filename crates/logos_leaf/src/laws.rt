@@ -12,7 +12,8 @@ pub fn one_source()
     ensures one_set_of_options { (item : EnumValue) (o p : OptionsView) (leaves others : List LeafView)
         (faults : List Fault) → ReadsSource item o leaves [] → ReadsSource item p others faults →
         o ≡ p }
-    // The leaves without their kinds, and with the names and types of these.
+    // The leaves are compared without their kinds, which name a variant and the type of its field;
+    // those names and types are compared beside the leaves.
     ensures one_list { (item : EnumValue) (o p : OptionsView) (leaves others : List LeafView)
         (faults : List Fault) → ReadsSource item o leaves [] → ReadsSource item p others faults →
         let shown : LeafView → LeafView × Option (Slice × Option Tree)

@@ -279,7 +279,7 @@ fn whole_text(
 }
 
 /// Returns the pattern of a `regex` or `skip`, and its priority. Returns `None` if a subpattern is
-/// missing, when its text is not a pattern, or when its priority does not fit `usize`, and reports
+/// missing, if its text is not a pattern, or if its priority does not fit `usize`, and reports
 /// that.
 fn regex_pattern<'s>(
     definition: &Definition<'s>,

@@ -1,6 +1,6 @@
 //! Subpatterns: patterns with names, which other patterns use as `(?&name)`.
 //!
-//! Those of a lexer are made once, with their texts, after all attributes of the enum are read.
+//! `source` makes the subpatterns of a lexer once, after all attributes of the enum are read.
 
 ghost use Rattle.std.specs.Prelude.{◌≡◌, ◌++◌, ◌∷◌, [], ◌<◌, IfOk, IfSome, OnOk, string_bytes, ℕ, List, map, option_map, OnErr, chars, vec_len, None};
 ghost use Rattle.logos_leaf.specs.subpattern.Imports.{list_all, previous, ident_slice, literal_view, named_literal_view, AddsFault, is_word, is_name, flags_of, pattern_text, wrapped, subpattern_name, subpattern_twice, utf8_subpattern, utf8_text, Bor, IsReport, text_of, subst_report, stored_report, tested_report, IsAdded, AreAdded, IsTested, put_stored, stored_at, slot_in, FindSlots};

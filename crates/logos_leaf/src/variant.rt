@@ -46,7 +46,7 @@ fn value_kind<'s>(
     Ok(VariantKind::Value(name, got))
 }
 
-/// Returns the kind of a variant with these fields in the parentheses with this span. Reports the
+/// Returns the kind of a variant with these fields in the parentheses at `span`. Reports the
 /// variant if it does not have exactly one field.
 fn tuple_kind<'s>(
     types: Types<'_, 's>,

@@ -7,15 +7,15 @@ use Rattle.logos_lexeme.specs.LexemeOpenings.{name_at, prefix_of}
 use Rattle.logos_lexeme.specs.declared.lexeme.openings.Opening.{Opening}
 use Rattle.logos_lexeme.specs.declared.lexeme.openings.Opening.TheVariants.{Space, Line, Block, Word, Number, Quotes, Raw, Apostrophes, Character, Single, Nothing}
 
--- A line comment ends at `at`: a line feed or the end of the source is there, or carriage returns
--- come before it.
+-- A line comment ends at `at`: at a line feed, at the end of the source, or before the carriage
+-- returns that precede either.
 pub record IsLineEnd (bytes : List ℕ) (at : ℕ) : Type 0 where
   pub feed : ℕ
   pub begun : at ≤ feed
   pub returns : (i : ℕ) → at ≤ i → i < feed → slice_index bytes i ≡ 13
   pub closes : (feed ≡ length bytes) ⊎ (slice_index bytes feed ≡ 10)
 
--- These two bytes are next to each other.
+-- The bytes `first` and `second` are next to each other, at `at`.
 abbrev pub IsPair : List ℕ → ℕ → ℕ → ℕ → Type 0
 IsPair bytes at first second = (slice_index bytes at ≡ first) × (slice_index bytes (at + 1) ≡ second)
 
@@ -26,7 +26,7 @@ pub data Closes (bytes : List ℕ) : (depth at to : ℕ) → Type 0 where
   closes : {depth at to : ℕ} → 0 < depth → IsPair bytes at 42 47 → Closes bytes (depth - 1) (at + 2) to → Closes bytes depth at to
   inside : {depth at to : ℕ} → 0 < depth → at < length bytes → (IsPair bytes at 47 42 → ⊥) → (IsPair bytes at 42 47 → ⊥) → Closes bytes depth (at + 1) to → Closes bytes depth at to
 
--- The identifier at this byte offset ends at that one.
+-- The identifier at the first byte offset ends at the second.
 abbrev pub IsName : List ℕ → ℕ → ℕ → Type 0
 IsName bytes at to = MatchOption (name_at bytes at) ⊥ (λ name. Run (Passes is_continuing bytes) (past bytes name) to)
 
@@ -74,7 +74,7 @@ pub record IsRaw (count : ℕ) (bytes : List ℕ) (body to : ℕ) : Type 0 where
   pub first : IsFirst (IsRawEnd count bytes) body quote_at
   pub after : to ≡ quote_at + 1 + count
 
--- `'`, a character, `'`.
+-- A character literal: `'`, a character, `'`.
 pub record IsCharacter (bytes : List ℕ) (from to : ℕ) : Type 0 where
   pub quote : slice_index bytes (past bytes (from + 1)) ≡ 39
   pub after : to ≡ past bytes (from + 1) + 1

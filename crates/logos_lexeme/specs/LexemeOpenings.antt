@@ -17,33 +17,34 @@ use Rattle.logos_lexeme.specs.declared.lexeme.openings.Opening.TheVariants.{Spac
 unfoldable pub hashes : List ℕ → ℕ → ℕ
 hashes bytes at = prefix_len (λ c. c == 35) (drop at bytes)
 
--- After `r`: up to 255 `#` and a quote.
+-- The raw string that opens after an `r`: up to 255 `#` and a quote.
 unfoldable pub raw_opening : Content → List ℕ → ℕ → Option Opening
 raw_opening content bytes at =
     let count = hashes bytes at in
     if nat_le count 255 && (slice_index bytes (at + count) == 34) then Some (Raw content count) else None
 
--- A string, after its `b` or `c`.
+-- The string that opens at a byte offset, after its `b` or `c` if it has one.
 unfoldable pub string_opening : Content → List ℕ → ℕ → Option Opening
 string_opening content bytes at =
     if slice_index bytes at == 34 then Some (Quotes content)
     else (if slice_index bytes at == 114 then raw_opening content bytes (at + 1)
     else None)
 
--- After `'`: the next character is `\`, or the one after it is `'`.
+-- The character literal that opens after a `'`: the next character is `\`, or the one after it is
+-- `'`.
 unfoldable pub character_opening : List ℕ → ℕ → Option Opening
 character_opening bytes at =
     if slice_index bytes at == 92 then Some (Apostrophes Text)
     else (if slice_index bytes (past bytes at) == 39 then Some Character
     else None)
 
--- After `b`.
+-- The byte or byte string literal that opens after a `b`.
 unfoldable pub bytes_opening : List ℕ → ℕ → Option Opening
 bytes_opening bytes at =
     if slice_index bytes at == 39 then Some (Apostrophes Bytes)
     else string_opening Bytes bytes at
 
--- A literal.
+-- The literal that opens at a byte offset, if there is one.
 unfoldable pub literal_opening : List ℕ → ℕ → Option Opening
 literal_opening bytes at =
     if is_ascii_digit (slice_index bytes at) then Some Number
@@ -52,18 +53,19 @@ literal_opening bytes at =
     else (if slice_index bytes at == 99 then string_opening C bytes (at + 1)
     else string_opening Text bytes at)))
 
--- `///` that no `/` follows, and `//!`, are documentation; `at` is the offset after `//`.
+-- The kind of a line comment: `///` that no `/` follows, and `//!`, are documentation. `at` is the
+-- offset after `//`.
 unfoldable pub line_kind : List ℕ → ℕ → LexemeKind
 line_kind bytes at =
     if (slice_index bytes at == 33) || ((slice_index bytes at == 47) && not (slice_index bytes (at + 1) == 47)) then Doc else Gap
 
--- `/**` that neither `*` nor `/` follows, and `/*!`, are documentation; `at` is the offset after
--- `/*`.
+-- The kind of a block comment: `/**` that neither `*` nor `/` follows, and `/*!`, are
+-- documentation. `at` is the offset after `/*`.
 unfoldable pub block_kind : List ℕ → ℕ → LexemeKind
 block_kind bytes at =
     if (slice_index bytes at == 33) || ((slice_index bytes at == 42) && not ((slice_index bytes (at + 1) == 42) || (slice_index bytes (at + 1) == 47))) then Doc else Gap
 
--- A comment.
+-- The comment that opens at a byte offset, if there is one.
 unfoldable pub comment_opening : List ℕ → ℕ → Option Opening
 comment_opening bytes at =
     if not (slice_index bytes at == 47) then None
@@ -79,12 +81,13 @@ name_at bytes at =
     else (if is_start (character bytes at) then Some at
     else None)
 
--- Punctuation is joint before punctuation or `'`, unless a comment begins there.
+-- The spacing of punctuation that ends at a byte offset: it is joint before punctuation or `'`,
+-- unless a comment begins there.
 unfoldable pub spacing : List ℕ → ℕ → Spacing
 spacing bytes at =
     if (is_mark (slice_index bytes at) || (slice_index bytes at == 39)) && not (is_some (comment_opening bytes at)) then Joint else Alone
 
--- The delimiters.
+-- The kind of a delimiter, if a character is one.
 unfoldable pub delimiter_kind : ℕ → Option LexemeKind
 delimiter_kind c =
     if c == 40 then Some (OpeningKind Parenthesis)
@@ -95,8 +98,8 @@ delimiter_kind c =
     else (if c == 125 then Some (Closing Brace)
     else None)))))
 
--- A lexeme of one character: punctuation, the `'` of a lifetime, a delimiter, or U+FEFF
--- that a text may begin with.
+-- The kind of a lexeme of one character, if there is one: punctuation, the `'` of a lifetime, a
+-- delimiter, or U+FEFF at the start of a text.
 unfoldable pub single_kind : List ℕ → ℕ → Option LexemeKind
 single_kind bytes at =
     let c = character bytes at in
@@ -105,7 +108,7 @@ single_kind bytes at =
     else (if (c == 0xFEFF) && (at == 0) then Some Gap
     else delimiter_kind c))
 
--- Anything but a literal or a comment.
+-- The opening at a byte offset at which neither a literal nor a comment opens.
 unfoldable pub other_opening : List ℕ → ℕ → Opening
 other_opening bytes at =
     if is_space (character bytes at) then Space
@@ -138,7 +141,7 @@ prefix_of Text = 0
 prefix_of Bytes = 1
 prefix_of C = 1
 
--- The kind of a lexeme or gap that opens in this way.
+-- The kind of a lexeme or gap with this opening.
 abbrev pub kind_of : Opening → LexemeKind
 kind_of Space = Gap
 kind_of (Line kind) = kind

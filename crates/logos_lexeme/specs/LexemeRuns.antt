@@ -1,4 +1,4 @@
--- Byte offsets that are reached step by step from a byte offset.
+-- Byte offsets that steps reach from a byte offset.
 use Rattle.std.specs.Prelude.{◌≡◌, ℕ, ◌<◌, ◌≤◌, List, length, IsTrue, Bool}
 use Rattle.logos_lexeme.specs.LexemeCharacters.{character, past}
 
@@ -7,16 +7,16 @@ pub data Steps (Step : ℕ → ℕ → Type 0) : ℕ → ℕ → Type 0 where
   here : {at : ℕ} → Steps Step at at
   step : {at mid to : ℕ} → Step at mid → Steps Step mid to → Steps Step at to
 
--- Steps lead to a byte offset where they stop.
+-- Steps lead to a byte offset that has the property `Stop`.
 pub record Until (Step : ℕ → ℕ → Type 0) (Stop : ℕ → Type 0) (from to : ℕ) : Type 0 where
   pub steps : Steps Step from to
   pub stop : Stop to
 
--- No step leads from a byte offset to another.
+-- No step leads on from a byte offset.
 abbrev pub IsLast : (ℕ → ℕ → Type 0) → ℕ → Type 0
 IsLast Step at = (next : ℕ) → Step at next → ⊥
 
--- Steps lead as far as they can.
+-- Steps lead to an offset from which no step leads on.
 abbrev pub Run : (ℕ → ℕ → Type 0) → ℕ → ℕ → Type 0
 Run Step from to = Until Step (IsLast Step) from to
 

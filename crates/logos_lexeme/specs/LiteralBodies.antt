@@ -11,7 +11,7 @@ use Rattle.logos_lexeme.specs.declared.lexeme.openings.Content.TheVariants.{Text
 use Rattle.logos_lexeme.specs.declared.lexeme.openings.Opening.{Opening}
 use Rattle.logos_lexeme.specs.declared.lexeme.openings.Opening.TheVariants.{Quotes, Raw, Apostrophes, Character}
 
--- One of `n`, `r`, `t`, `\`, `0`, `'` and `"`, after a backslash.
+-- Whether a byte after a backslash is a complete escape: `n`, `r`, `t`, `\`, `0`, `'` or `"`.
 unfoldable pub is_simple : ℕ → Bool
 is_simple c = list_any (λ letter. letter == c) (110 ∷ 114 ∷ 116 ∷ 92 ∷ 48 ∷ 39 ∷ 34 ∷ [])
 
@@ -29,7 +29,7 @@ greatest_of Text = 0x7F
 greatest_of Bytes = 0xFF
 greatest_of C = 0xFF
 
--- `\xNN`
+-- The escape `\xNN` at a byte offset.
 pub record IsHexEscape (content : Content) (bytes : List ℕ) (at : ℕ) : Type 0 where
   pub backslash : slice_index bytes at ≡ 92
   pub letter : slice_index bytes (at + 1) ≡ 120
@@ -73,7 +73,7 @@ pub data IsEscape (content : Content) (bytes : List ℕ) (at next : ℕ) : List 
 unfoldable pub is_blank : ℕ → Bool
 is_blank c = (c == 32) || (c == 9) || (c == 10) || (c == 13)
 
--- A line break begins here: LF, or CR LF.
+-- A line break begins at a byte offset: LF, or CR LF.
 abbrev pub BreaksLine : List ℕ → ℕ → Type 0
 BreaksLine bytes at = (slice_index bytes at ≡ 10) ⊎ ((slice_index bytes at ≡ 13) × (slice_index bytes (at + 1) ≡ 10))
 
@@ -89,7 +89,7 @@ pub record IsAllowed (content : Content) (byte : ℕ) : Type 0 where
   pub no_return : byte ≢ 13
   pub ascii : content ≡ Bytes → byte < 128
 
--- A line break of CR and LF.
+-- The line break CR LF, which ends at `next`.
 abbrev pub IsReturn : List ℕ → ℕ → ℕ → Type 0
 IsReturn bytes at next = (slice_index bytes at ≡ 13) × (slice_index bytes (at + 1) ≡ 10) × (next ≡ at + 2)
 
@@ -107,7 +107,7 @@ bytes_of piece.Nothing = []
 bytes_of (piece.Byte byte) = byte ∷ []
 bytes_of (piece.Character character) = encode_utf8 character
 
--- A piece of a string, with any bytes.
+-- A piece of a string, whichever bytes it denotes.
 abbrev pub IsPiece : Bool → Content → List ℕ → ℕ → ℕ → Type 0
 IsPiece escapes content bytes at next = (held : List ℕ) × Represents escapes content bytes at next held
 
@@ -121,8 +121,8 @@ pub data IsCharacterPiece (content : Content) (bytes : List ℕ) (at next : ℕ)
   unescaped : slice_index bytes at ≢ 92 → IsAllowed content (slice_index bytes at) → next ≡ at + 1 → IsCharacterPiece content bytes at next
   escaped : {held : List ℕ} → IsEscape content bytes at next held → IsCharacterPiece content bytes at next
 
--- The literal that opens at `from` and ends at `to`, without its suffix, is well-formed inside.
--- This holds of anything that is not a literal.
+-- The literal that opens at `from` and ends at `to`, without its suffix, has well-formed contents.
+-- This holds for anything that is not a literal.
 abbrev pub IsSound : List ℕ → ℕ → Opening → ℕ → Type 0
 IsSound bytes from (Quotes content) to = Steps (IsPiece true content bytes) (body_of (Quotes content) from) (to - 1)
 IsSound bytes from (Raw content count) to = Steps (IsPiece false content bytes) (body_of (Raw content count) from) (to - 1 - count)

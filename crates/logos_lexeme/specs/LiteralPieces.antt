@@ -14,7 +14,7 @@ run_length test bytes at = prefix_len test (drop at bytes)
 abbrev pub is_hex_or_line : ℕ → Bool
 is_hex_or_line c = is_hex c || (c == 95)
 
--- `\xNN`
+-- The escape `\xNN` at a byte offset: its byte and its end.
 unfoldable pub hex_escape : Content → List ℕ → ℕ → Option (List ℕ × ℕ)
 hex_escape content bytes at =
     let value = hex_value (slice_range bytes (at + 2) (at + 4)) in
@@ -27,7 +27,7 @@ has_unicode Text = true
 has_unicode Bytes = false
 has_unicode C = true
 
--- `\u{N}`, whose brace closes after the digits.
+-- The escape `\u{N}`, whose brace closes after the digits: the bytes that it denotes, and its end.
 unfoldable pub unicode_escape : Content → List ℕ → ℕ → Option (List ℕ × ℕ)
 unicode_escape content bytes at =
     let brace = at + 3 + run_length is_hex_or_line bytes (at + 3) in
@@ -36,7 +36,7 @@ unicode_escape content bytes at =
     then Some (encode_utf8 (hex_value digits), brace + 1)
     else None
 
--- The escape that begins with a backslash.
+-- The escape that begins with a backslash at a byte offset: the bytes that it denotes, and its end.
 unfoldable pub escape_at : Content → List ℕ → ℕ → Option (List ℕ × ℕ)
 escape_at content bytes at =
     let letter = slice_index bytes (at + 1) in
@@ -51,18 +51,18 @@ is_allowed Text byte = not (byte == 13)
 is_allowed Bytes byte = not (byte == 13) && nat_lt byte 128
 is_allowed C byte = not (byte == 13)
 
--- Whether CR LF is here.
+-- Whether CR LF is at a byte offset.
 abbrev pub is_return : List ℕ → ℕ → Bool
 is_return bytes at = (slice_index bytes at == 13) && (slice_index bytes (at + 1) == 10)
 
--- A piece that is not an escape: a byte that represents itself, or CR LF, which denotes one LF.
+-- A piece without a backslash: a byte that represents itself, or CR LF, which denotes LF.
 unfoldable pub plain_at : Content → List ℕ → ℕ → Option (List ℕ × ℕ)
 plain_at content bytes at =
     if is_allowed content (slice_index bytes at) then Some (slice_index bytes at ∷ [], at + 1)
     else (if is_return bytes at then Some (10 ∷ [], at + 2)
     else None)
 
--- Whether a line break begins here: LF, or CR LF.
+-- Whether a line break begins at a byte offset: LF, or CR LF.
 abbrev pub breaks_line : List ℕ → ℕ → Bool
 breaks_line bytes at = (slice_index bytes at == 10) || is_return bytes at
 

@@ -27,7 +27,7 @@ pub struct Span {
     pub to: usize,
 }
 
-/// Whether more punctuation follows directly.
+/// The spacing of a character of punctuation: whether more punctuation follows it directly.
 #[derive(Clone, Copy, Debug, PartialEq, Eq)]
 pub enum Spacing {
     /// No other punctuation follows directly.

@@ -13,7 +13,7 @@ after_byte location byte =
     if byte == 10 then record { line = location.line + 1; column = 1 }
     else (if continues byte then location else record { line = location.line; column = location.column + 1 })
 
--- The location after these bytes.
+-- The location after the bytes of a list.
 abbrev pub after_bytes : Location → List ℕ → Location
 after_bytes location [] = location
 after_bytes location (byte ∷ rest) = after_bytes (after_byte location byte) rest
@@ -22,7 +22,7 @@ after_bytes location (byte ∷ rest) = after_bytes (after_byte location byte) re
 abbrev pub location_at : List ℕ → ℕ → Location
 location_at text offset = after_bytes (record { line = 1; column = 1 }) (take offset text)
 
--- Whether these bytes begin with LF or CR LF.
+-- Whether a list of bytes begins with LF or CR LF.
 abbrev pub ends_line : List ℕ → Bool
 ends_line [] = false
 ends_line (byte ∷ []) = byte == 10

@@ -13,6 +13,8 @@ use Rattle.logos_hir.specs.declared.leaf.LeafId.{LeafId}
 use Rattle.logos_machine.specs.declared.machine.Item.{Item as TheItem}
 use Rattle.logos_machine.specs.declared.machine.Item.TheVariants.{Token, Error}
 
+-- A lexer: its code, its input, its callback, the span of its last item, and the number of states
+-- that its last attempt entered.
 pub record LexerValue (C : Type 0) : Type 0 where
   pub code : CodeValue
   pub input : List ℕ

@@ -1,4 +1,4 @@
-//! All items of an input at once. `logos_scan` and `logos_relex` call it.
+//! Returns all items of an input at once. `logos_scan` and `logos_relex` call it.
 
 ghost use Rattle.std.specs.Prelude.{map, IfOk};
 ghost use Rattle.logos_machine.specs.Views.{Runs, TakesMatches, answers_of, item_of};

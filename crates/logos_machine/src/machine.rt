@@ -17,7 +17,8 @@ pub use part::Within;
 use std::marker::Model;
 use walk::{Outcome, attempt};
 
-/// A part of the input. Spans are byte offsets, and `slice` is the input at the span.
+/// An element of a lexer's output: a match of a leaf, or an error. Spans are byte offsets, and
+/// `slice` is the input at the span.
 #[derive(Clone, Copy, Debug)]
 pub enum Item<'i> {
     /// A match.
@@ -167,7 +168,7 @@ impl<'c, 's, 'i, C: Fn(LeafId, &[u8]) -> Action> Lexer<'c, 's, 'i, C> {
         }
     }
 
-    /// Moves to the point after the item at this span, whose attempt entered `steps` states.
+    /// Moves to the point after the item from `from` to `to`, whose attempt entered `steps` states.
     #[inline(always)]
     fn status_after(&mut self, from: usize, to: usize, steps: usize)
         requires order { from ≤ to }
@@ -186,8 +187,8 @@ impl<'c, 's, 'i, C: Fn(LeafId, &[u8]) -> Action> Lexer<'c, 's, 'i, C> {
         self.steps = steps;
     }
 
-    /// Returns the span of the last item: 0..0 before the first, and the empty span at the end of
-    /// the input after `None`.
+    /// Returns the span of the last item. It is 0..0 before the first item, and empty at the end of
+    /// the input once `next` has returned `None`.
     pub fn span(&self) -> Span
         ensures { result ≡ record { from = self.now.from; to = self.now.to } }
     {
@@ -244,7 +245,8 @@ impl<'c, 's, 'i, C: Fn(LeafId, &[u8]) -> Action> Lexer<'c, 's, 'i, C> {
 ///
 /// # Errors
 ///
-/// Returns the length of the longest prefix that is UTF-8.
+/// Returns `NotUtf8`, with the length of the longest prefix that is UTF-8, if the bytes are not
+/// UTF-8.
 fn check_utf8(input: &[u8]) -> Result<(), NotUtf8>
     ensures accepted { IfOk result (λ _. IsUtf8 input.now) }
     ensures refused { IfErr result

@@ -1,4 +1,4 @@
--- Faults of one leaf after another, and how kinds print.
+-- Faults of one leaf after another, and the printed text of kinds.
 use Rattle.std.proofs.Common.{◌≡◌, ℕ, ◌+◌, ◌<◌, List, ◌∷◌, ◌++◌, length, map, flat_map, drop, get_or, append_assoc, sym, ◌∙◌, ap, refl, codes}
 use Rattle.std.proofs.lemmas.List.{drop_more}
 use Rattle.logos_pattern.specs.Leaf.{kind_text, kind_value}

@@ -22,6 +22,7 @@ pub record YieldsEnum (source : List ℕ) (value : EnumValue) (item : Span) : Ty
   pub reads : Reads tokens (Ok value)
   pub whole : item ≡ run_span tokens
 
+-- The message of a lexical fault.
 abbrev pub lexical_text : LexicalKind → List ℕ
 lexical_text BadCharacter = codes "unreadable source: BadCharacter"
 lexical_text BadLiteral = codes "unreadable source: BadLiteral"

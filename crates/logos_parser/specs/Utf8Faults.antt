@@ -13,11 +13,13 @@ kind_name (plain name) = codes "::" ++ name.text.now
 kind_name (holding name type) = codes "::" ++ name.text.now ++ codes "(_)"
 kind_name skipped = codes "::<skip>"
 
+-- The message for a leaf that can match invalid UTF-8.
 abbrev pub utf8_text : LeafView → List ℕ
 utf8_text leaf =
     codes "UTF-8 mode is requested, but the pattern " ++ leaf.source ++ codes " of variant `" ++ kind_name leaf.kind
     ++ codes "` can match invalid utf8.\nYou can disable UTF-8 mode with #[logos(utf8 = false)]"
 
+-- The fault of a leaf that can match invalid UTF-8.
 abbrev pub utf8_fault : LeafView → Fault
 utf8_fault leaf = fault Utf8Pattern (utf8_text leaf) leaf.span
 

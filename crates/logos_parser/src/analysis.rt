@@ -34,7 +34,7 @@ pub struct Analysis<'s> {
 }
 
 /// Reports each leaf that can match invalid UTF-8 if inputs are UTF-8, and each type parameter
-/// without a type. Returns the generic arguments that follow the enum's name.
+/// without a type. Returns the generic arguments that follow the enum's name, if there are any.
 fn check_leaves<'s>(
     leaves: &[Leaf<'s>],
     parser: &mut Parser<'s>,
@@ -71,7 +71,7 @@ fn read_typed<'s>(
     Ok((leaves, this))
 }
 
-/// Analyzes an enum whose tokens have this span. Faults do not stop the analysis.
+/// Analyzes an enum whose tokens have the span `span`. Faults do not stop the analysis.
 ///
 /// # Errors
 ///

@@ -1,4 +1,4 @@
-//! Reports leaves that can match invalid UTF-8. `analyze` calls it if inputs are UTF-8.
+//! Reports leaves that can match invalid UTF-8. `analyze` calls it once the leaves are made.
 
 ghost use Rattle.std.specs.Prelude.{◌≡◌, ◌++◌, map, IfOk, OnOk, string_bytes};
 ghost use Rattle.logos_parser.specs.Imports.{AddsFault, leaf_view, utf8_text, utf8_fault, leaf_faults, utf8_faults};

@@ -9,7 +9,7 @@ use Rattle.std.specs.Str.{chars}
 abbrev pub is_metacharacter : ℕ → Bool
 is_metacharacter c = list_any (λ meta. meta == c) (codes "\\.+*?()|[]{}^$#&-~")
 
--- A character, with a `\` before it if it is one of these characters.
+-- A character, with a `\` before it if it needs one to match itself.
 abbrev pub escaped_character : ℕ → List ℕ
 escaped_character c = (if is_metacharacter c then codes "\\" else []) ++ encode_utf8 c
 

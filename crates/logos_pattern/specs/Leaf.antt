@@ -63,9 +63,11 @@ pub data CallbackValue : Type 0 where
   named : (tokens : TokenList) → CallbackValue
   written : (arg : Ident) (body : TokenList) (span : Span) → CallbackValue
 
+-- A closure as its parameter and the tokens of its body.
 abbrev pub inline_value : InlineCallback → CallbackValue
 inline_value inline = written inline.arg (stream_tokens inline.body) inline.span
 
+-- The callback that a value represents.
 abbrev pub callback_value : Callback → CallbackValue
 callback_value (Label tokens) = named (stream_tokens tokens)
 callback_value (Inline inline) = inline_value inline

@@ -1,4 +1,4 @@
--- How hex digits are read.
+-- The reading of hexadecimal digits.
 use Rattle.std.proofs.Common.{◌≡◌, ℕ, ◌+◌, ◌*◌, ◌<◌, ◌≤◌, Bool, true, false, cond, [], ◌∷◌, length, get_or, drop, Option, Some, None, refl, sym, ap, ◌∙◌, arith, ⊎_elim}
 use Rattle.std.proofs.lemmas.List.{at_drop_more, drop_all}
 use lib.Utf8.{scalar, scalar_cases}

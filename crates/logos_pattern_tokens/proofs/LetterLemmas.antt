@@ -13,7 +13,7 @@ pub data Completes : Letters → Text → Change → Type 0 where
   stops : (s : Letters) → s.pending ≡ false → Completes s [] s.change
   goes : (s t : Letters) (c : ℕ) (letters : Text) (change : Change) → next_letter s c ≡ Some t → Completes t letters change → Completes s (c ∷ letters) change
 
--- how the letters end
+-- the end of the letters
 pub data Ends : Change → Text → Token → Text → Type 0 where
   closes_setting : (change : Change) (rest : Text) → Ends change (41 ∷ rest) (sets change) rest
   opens_group : (change : Change) (rest : Text) → Ends change (58 ∷ rest) (opens (plain change)) rest

@@ -1,4 +1,4 @@
--- How a number is read, digit by digit.
+-- The reading of a number, digit by digit.
 use Rattle.std.proofs.Common.{◌≡◌, ℕ, ◌+◌, ◌*◌, ◌-◌, ◌<◌, ◌≤◌, true, false, cond, [], ◌∷◌, length, get_or, drop, Some, None, refl, sym, ap, ◌∙◌, arith, ltb}
 use Rattle.std.proofs.lemmas.Bool.{le-ltb, lt-ltb}
 use Rattle.logos_pattern_tokens.specs.Token.{Text, is_digit, number_from, fits}

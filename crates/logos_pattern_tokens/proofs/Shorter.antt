@@ -1,4 +1,4 @@
--- Each token takes a character at least.
+-- Each token takes at least one character.
 use Rattle.std.proofs.Common.{◌≡◌, ℕ, ◌<◌, ◌≤◌, Bool, List, [], ◌∷◌, ◌++◌, length, replicate, Option, Some, ap, subst, arith, length-append}
 use Rattle.logos_pattern_tokens.specs.declared.token.Atom.{Atom}
 use Rattle.logos_pattern_tokens.specs.declared.bracket.token.Symbol.{Symbol}

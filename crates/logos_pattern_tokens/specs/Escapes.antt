@@ -43,34 +43,35 @@ begins d (c ∷ rest) = c == d
 abbrev pub is_form : Text → Bool
 is_form name = is_among 61 name || is_among 58 name || begins 94 name
 
--- The set of a property's name.
+-- The set of the property with this name, if there is one.
 unfoldable pub plain_property : Text → Option Set
 plain_property name = if is_form name then None else property_named name
 
+-- The property with this name, or its complement, and the rest of the text.
 unfoldable pub property_of : Bool → Text → Text → Option (Atom × Text)
 property_of negated name rest = option_map (λ set. (Property set negated, rest)) (plain_property name)
 
--- `{name}`, or one character.
+-- The property after `\p` or `\P`: `{name}`, or a name of one character.
 unfoldable pub property_at : Bool → Text → Option (Atom × Text)
 property_at negated [] = None
 property_at negated (c ∷ rest) =
     if c == 123 then cut_at 125 rest >>= (λ x. property_of negated x.0 x.1)
     else property_of negated (c ∷ []) rest
 
--- Hexadecimal digits up to `}`.
+-- The character that hexadecimal digits up to `}` spell.
 unfoldable pub braces_at : Text → Option (Atom × Text)
 braces_at text = cut_at 125 text >>= λ x. if length x.0 == 0 then None else option_map (λ n. (Character n, x.1)) (scalar_of x.0)
 
--- A number of hexadecimal digits.
+-- The character that `width` hexadecimal digits spell.
 unfoldable pub fixed_at : ℕ → Text → Option (Atom × Text)
 fixed_at width text =
     if nat_le width (length text) then option_map (λ n. (Character n, drop width text)) (scalar_of (take width text)) else None
 
--- Two hexadecimal digits.
+-- The byte that two hexadecimal digits spell.
 unfoldable pub byte_at : Text → Option (Atom × Text)
 byte_at text = if nat_le 2 (length text) then option_map (λ n. (Byte n, drop 2 text)) (hex_from 0 (take 2 text)) else None
 
--- After `\x`, `\u` or `\U`.
+-- The character or the byte that the text after `\x`, `\u` or `\U` spells.
 unfoldable pub hex_at : ℕ → Text → Option (Atom × Text)
 hex_at letter [] = None
 hex_at letter (c ∷ rest) =
@@ -87,7 +88,7 @@ boundary_at text = if begins 123 text then None else Some (Boundary false, text)
 unfoldable pub single_at : ℕ → Text → Option (Atom × Text)
 single_at c rest = option_map (λ a. (a, rest)) (single_of c)
 
--- The text after a backslash.
+-- The atom of the escape after a backslash, and the rest of the text.
 unfoldable pub escape_at : Text → Option (Atom × Text)
 escape_at [] = None
 escape_at (c ∷ rest) =

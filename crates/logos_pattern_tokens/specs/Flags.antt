@@ -1,13 +1,13 @@
--- Flags, and how flag settings change them.
+-- Flags, and the effect of flag settings on them.
 use Rattle.std.specs.Prelude.{◌≡◌, ℕ, ◌<◌, Bool, true, false, ◌==◌, List, [], ◌∷◌, ◌++◌, length, Option, Some, None, option_map, unwrap_or, if◌then◌else◌}
 use Rattle.logos_pattern_tokens.specs.declared.token.Flags.{Flags}
 use Rattle.logos_pattern_tokens.specs.declared.token.Change.{Change}
 
--- A setting without letters.
+-- The flag setting that changes no flag.
 abbrev pub no_change : Change
 no_change = record { unicode = None; ignore_case = None; multi_line = None; dot_all = None; swap_greed = None; crlf = None }
 
--- A flag can be set once.
+-- The new setting of a flag that is turned on or off. A flag can be set only once.
 abbrev pub set_once : Option Bool → Bool → Option (Option Bool)
 set_once None on = Some (Some on)
 set_once (Some was) on = None
@@ -24,13 +24,13 @@ with_letter change on letter =
     else if letter == 82 then option_map (λ f. record change { crlf = f }) (set_once change.crlf on)
     else None
 
--- The letters turn their flags on, or off, in addition to the changes before.
+-- The letters turn their flags on, or off, in addition to the earlier changes.
 pub data Letters : Change → Bool → List ℕ → Change → Type 0 where
   no_letter : (change : Change) (on : Bool) → Letters change on [] change
   a_letter : (change next last : Change) (on : Bool) (letter : ℕ) (letters : List ℕ) →
       with_letter change on letter ≡ Some next → Letters next on letters last → Letters change on (letter ∷ letters) last
 
--- `letters`, or `letters-letters`.
+-- The letters of a flag setting, and their change: `letters`, or `letters-letters`.
 pub data Settings : List ℕ → Change → Type 0 where
   only_on : (on : List ℕ) (change : Change) → 0 < length on → Letters no_change true on change → Settings on change
   some_off : (on off : List ℕ) (half change : Change) → 0 < length off → Letters no_change true on half →

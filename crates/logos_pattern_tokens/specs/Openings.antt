@@ -9,27 +9,29 @@ use Rattle.logos_pattern_tokens.specs.declared.openings.Letters.{Letters}
 use Rattle.logos_pattern_tokens.specs.Flags.{no_change, with_letter}
 use Rattle.logos_pattern_tokens.specs.Token.{Text, Token, opens, sets, capturing, named, plain, ◌>>=◌, is_among, cut_at}
 
--- `_`, or an alphabetic character.
+-- A character with which a group's name can start: `_`, or an alphabetic character.
 abbrev pub is_name_start : ℕ → Bool
 is_name_start c = c == 95 || is_alphabetic c
 
--- A character with which a name can start, a number, `.`, `[` or `]`.
+-- A character that a group's name can have after its first one: one with which a name can start, a
+-- number, `.`, `[` or `]`.
 abbrev pub is_name_part : ℕ → Bool
 is_name_part c = is_name_start c || in_group Number (general_category c) || is_among c (46 ∷ 91 ∷ 93 ∷ [])
 
+-- A group's name can have each of the characters after its first one.
 abbrev pub are_name_parts : Text → Bool
 are_name_parts = list_all is_name_part
 
--- The name of a group.
+-- The text is the name of a group.
 abbrev pub is_name : Text → Bool
 is_name [] = false
 is_name (c ∷ rest) = is_name_start c && are_name_parts rest
 
--- The text after `(?<`.
+-- The token of a named group, from the text after `(?<`.
 unfoldable pub name_at : Text → Option (Token × Text)
 name_at text = cut_at 62 text >>= λ x. if is_name x.0 then Some (opens (named x.0), x.1) else None
 
--- The text after `(?P`.
+-- The token of a named group, from the text after `(?P`.
 unfoldable pub python_at : Text → Option (Token × Text)
 python_at [] = None
 python_at (c ∷ rest) = if c == 60 then name_at rest else None
@@ -38,6 +40,7 @@ python_at (c ∷ rest) = if c == 60 then name_at rest else None
 unfoldable pub dash : Letters → Option Letters
 dash s = if s.on then Some (record s { on = false; pending = true }) else None
 
+-- The letters with one more letter, or with a dash.
 unfoldable pub next_letter : Letters → ℕ → Option Letters
 next_letter s c =
     if c == 45 then dash s
@@ -47,7 +50,7 @@ next_letter s c =
 unfoldable pub setting_end : Letters → Token → Text → Option (Token × Text)
 setting_end s token rest = if s.pending then None else Some (token, rest)
 
--- Letters up to `)` or `:`.
+-- The token of a flag setting, from its letters up to `)` or `:`.
 abbrev pub letters_from : Letters → Text → Option (Token × Text)
 letters_from s [] = None
 letters_from s (c ∷ rest) =
@@ -59,7 +62,7 @@ letters_from s (c ∷ rest) =
 abbrev pub no_letters : Letters
 no_letters = record { change = no_change; on = true; pending = true }
 
--- The text after `(?`.
+-- The token of a group or of a flag setting, from the text after `(?`.
 unfoldable pub option_at : Text → Option (Token × Text)
 option_at [] = None
 option_at (c ∷ rest) =
@@ -68,7 +71,7 @@ option_at (c ∷ rest) =
     else if c == 80 then python_at rest
     else letters_from no_letters (c ∷ rest)
 
--- The text after `(`.
+-- The token of a group or of a flag setting, from the text after `(`.
 unfoldable pub group_at : Text → Option (Token × Text)
 group_at [] = Some (opens capturing, [])
 group_at (c ∷ rest) = if c == 63 then option_at rest else Some (opens capturing, c ∷ rest)

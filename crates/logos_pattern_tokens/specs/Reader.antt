@@ -5,11 +5,11 @@ use Rattle.logos_pattern_tokens.specs.Token.{Text, Token, atom, bar, closes, laz
 use Rattle.logos_pattern_tokens.specs.Escapes.{escape_at}
 use Rattle.logos_pattern_tokens.specs.Openings.{group_at}
 
--- The text after a backslash.
+-- The token of the escape after a backslash.
 unfoldable pub escape_token_at : Text → Option (Token × Text)
 escape_token_at text = option_map (λ x. (atom x.0, x.1)) (escape_at text)
 
--- The token at the front and the rest of the text. A bracket has no such token.
+-- The token at the front and the rest of the text. There is no such token at a `[`.
 unfoldable pub token_at : Text → Option (Token × Text)
 token_at [] = None
 token_at (c ∷ rest) =

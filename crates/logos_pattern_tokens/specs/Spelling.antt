@@ -21,6 +21,7 @@ Lacks d (c ∷ rest) = (c ≢ d) × Lacks d rest
 
 -- ---- counts.
 
+-- Each character of the text is an ASCII digit.
 abbrev pub AreDigits : Text → Type 0
 AreDigits [] = Unit {0}
 AreDigits (c ∷ rest) = (is_digit c ≡ true) × AreDigits rest

@@ -51,7 +51,7 @@ pub fn cut_at(end: char, text: &[char]) -> Option<(&[char], &[char])>
     }
 }
 
-/// Returns the index of the first `end` in the text.
+/// Returns the index of the first `end` in the text, or `None` if the text has no `end`.
 fn slot_of(end: char, text: &[char]) -> Option<usize>
     ensures { result ≡ position (λ c. c == end) text.now }
 {

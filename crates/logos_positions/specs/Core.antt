@@ -12,6 +12,7 @@ pub record Reader : Type 0 where
   pub first : ℕ → Option ℕ
   pub follow : ℕ → ℕ → Option ℕ
 
+-- A core pattern: a pattern without counted repetitions.
 pub data Core : Type 0 where
   -- Matches nothing.
   void : Core
@@ -93,7 +94,7 @@ abbrev pub At : ℕ → ℕ → Type 0
 At i k = k ≡ i
 
 -- The pattern can be left here. `M` are the positions that read the last byte, `entered` is whether
--- the pattern begins here, and `test` is which look-around assertions hold here.
+-- the pattern begins here, and `test` determines the look-around assertions that hold here.
 abbrev pub Exits : Core → (Look → Bool) → (ℕ → Type 0) → Type 0 → Type 0
 Exits void test M entered = ⊥
 Exits empty test M entered = entered

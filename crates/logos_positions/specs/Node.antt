@@ -20,7 +20,7 @@ abbrev pub is_ordered : ℕ → Option ℕ → Bool
 is_ordered least None = true
 is_ordered least (Some most) = nat_le least most && nat_lt 0 most
 
--- One node, with the values of its children in their places.
+-- The value of a node, made from the values of its children.
 abbrev pub node_sized : Node-F Sized → Sized
 node_sized Node-F.Void = record { written = core.void; measured = true }
 node_sized Node-F.Empty = record { written = core.empty; measured = true }
@@ -41,6 +41,7 @@ node_sized (Node-F.Repeat least most each body) = record {
   measured = is_ordered least most && (each == width body.value.written) && body.value.measured;
 }
 
+-- The core pattern of a node, and whether the numbers stored in the node are correct.
 abbrev pub sized_of : Node → Sized
 sized_of = fold-Node Sized node_sized
 

@@ -18,6 +18,7 @@ abbrev pub at_least : ℕ → Core → Core
 at_least zero a = core.alt (core.plus a) core.empty
 at_least (suc n) a = in_front n a (core.plus a)
 
+-- The core pattern of a repetition with these counts.
 abbrev pub repeated : ℕ → Option ℕ → Core → Core
 repeated least None a = at_least least a
 repeated least (Some most) a = in_front least a (up_to (most - least) a)

@@ -16,6 +16,7 @@ pub record Row : Type 0 where
   pub left : ℕ
   pub offsets : List CharRange
 
+-- The meaning of a stored row.
 abbrev pub row_of : CharacterRest → Row
 row_of r = record { left = r.left; offsets = r.offsets.items }
 
@@ -43,6 +44,7 @@ pub record IsRowFor (ks : List CharacterRest) (n : ℕ) (has : ℕ → Bool) (i 
   pub same : (o : ℕ) → o < size n → in_ranges row.offsets o ≡ has o
   pub some : IsOpen n has
 
+-- The row that has the remaining offsets, or none if no offset remains.
 abbrev pub Finds : List CharacterRest → ℕ → (ℕ → Bool) → Option ℕ → Type 0
 Finds ks n has to = MatchOption to (IsShut n has) (IsRowFor ks n has)
 
@@ -80,10 +82,12 @@ weight n ks = sum_by (λ r. 1 + 64 * led_to (r.left - 1)) (drop n ks)
 abbrev pub first_weight : ℕ → ℕ
 first_weight b = (min b 0xE0 - 0xC0) + 65 * (min b 0xF0 - 0xE0) + 4161 * (min b 0xF8 - 0xF0)
 
+-- The remainder of a character that a row represents, or an empty one if there is no row.
 abbrev pub rest_at : Option CharacterRest → Remainder
 rest_at None = record { left = 0; has = λ o. false }
 rest_at (Some k) = record { left = k.left; has = in_ranges k.offsets.items }
 
+-- The remainder of a character at row `q`.
 abbrev pub rest_of : List CharacterRest → ℕ → Remainder
 rest_of ks q = rest_at (slice_get ks q)
 

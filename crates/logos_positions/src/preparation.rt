@@ -145,7 +145,7 @@ fn join(alloc: Global, in_order: bool, mut nodes: Vec<Node>) -> Result<Node, All
     pair(alloc, in_order, first, second)
 }
 
-/// Returns a count as a `usize`.
+/// Returns a count, if there is one, as a `usize`.
 fn widen(count: Option<u32>) -> Option<usize>
     ensures { result ≡ count }
 {

@@ -1,12 +1,14 @@
 -- A graph as its edges, and the states that lead to a mark.
 use Rattle.std.specs.Prelude.{◌≡◌, ◌<◌, ◌⊎◌, ℕ, List, [], ◌∷◌, Option, Some, IsSome, option_and_then}
 
+-- The type of a state: the leaves whose matches end at the state, or one byte before it.
 pub record StateType : Type 0 where
   -- A match of this leaf ends one byte before the state.
   pub accept : Option ℕ
   -- A match of this leaf ends at the state.
   pub early : Option ℕ
 
+-- The state has a mark.
 abbrev pub IsMarked : StateType → Type 0
 IsMarked type = IsSome type.early ⊎ IsSome type.accept
 

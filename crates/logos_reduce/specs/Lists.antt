@@ -1,4 +1,4 @@
--- For each state or block, a list of states.
+-- Vectors of lists of states, with one list for each state or block.
 use Rattle.std.specs.Prelude.{◌≡◌, ◌<◌, ◌==◌, All, ℕ, zero, suc, Bool, true, false, List, [], ◌∷◌, Vec, Option, Some}
 use Rattle.std.specs.List.{list_any}
 use Rattle.std.specs.List.Sorted.{IsStrictlyIncreasing}

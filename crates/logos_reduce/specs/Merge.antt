@@ -1,4 +1,4 @@
--- States in blocks, and how the blocks were split.
+-- States in blocks, and the splits of the blocks.
 use Rattle.std.specs.Prelude.{◌≡◌, ◌≢◌, ◌+◌, ◌<◌, ◌≤◌, ◌⊎◌, ℕ, List, Option, Some, None, option_map, length, slice_index_or}
 use Rattle.logos_reduce.specs.Table.{size, to, mark}
 use Rattle.logos_reduce.specs.declared.merge.blocks.Split.{Split}
@@ -27,8 +27,8 @@ IsWithin n block m = (s : ℕ) → s < n → block s < m
 abbrev pub split_at : List Split → ℕ → Split
 split_at splits j = slice_index_or splits j (record { parent = 0; symbol = None })
 
--- How the blocks were made from one: block `j` was separated from its parent when there were `j`
--- blocks.
+-- The history of the blocks, which were made from one: block `j` was separated from its parent when
+-- there were `j` blocks.
 pub record IsHistory (table : Table) (splits : List Split) (block : ℕ → ℕ) : Type 0 where
   -- The block of a state when there were `j` blocks.
   pub at : ℕ → ℕ → ℕ

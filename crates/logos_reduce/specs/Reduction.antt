@@ -36,7 +36,8 @@ module _ (table : Table) where
     pub edge : to table s k ≡ Some t
     pub first : (r l : ℕ) → to table r l ≡ Some t → (s < r) ⊎ ((s ≡ r) × (k ≤ l))
 
-  -- The first edges into 1, 2, 3 and so on come in this order, each from a lower number.
+  -- The first edges into the states 1, 2, 3 and so on come in this order, each from a state with a
+  -- lower number.
   pub record IsInOrder : Type 0 where
     pub entered : (t : ℕ) → 0 < t → t < size table → (s k : ℕ) × (s < t) × IsFirstEdge t s k
     pub rises : (t u s k r l : ℕ) → 0 < t → t < u → IsFirstEdge t s k → IsFirstEdge u r l →

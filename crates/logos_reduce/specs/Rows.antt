@@ -18,11 +18,11 @@ rows_at slots distinct = map (λ slot. slice_index_or distinct slot []) slots
 abbrev pub target_in : List (List ℕ) → ℕ → ℕ → Option ℕ
 target_in rows s k = target_by (slice_index_or rows s []) k
 
--- From an index on, up to another, all entries of a row equal this one.
+-- All entries of a row from one index up to another are equal to `entry`.
 abbrev pub HasOnly : List ℕ → ℕ → ℕ → ℕ → Type 0
 HasOnly row from to entry = (k : ℕ) → from ≤ k → k < to → slice_index row k ≡ entry
 
--- From an index on, up to another, two rows have equal entries.
+-- Two rows have equal entries from one index up to another.
 abbrev pub AreSame : List ℕ → List ℕ → ℕ → ℕ → Type 0
 AreSame row other from to = (k : ℕ) → from ≤ k → k < to → slice_index row k ≡ slice_index other k
 

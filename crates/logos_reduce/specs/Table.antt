@@ -22,6 +22,7 @@ to table = target_in (rows_of table.rows)
 abbrev pub mark : Table → ℕ → StateMarks
 mark table = mark_in table.marks.items
 
+-- The type of a state with this mark.
 abbrev pub type_of : StateMarks → StateType
 type_of m = record { accept = m.accept; early = m.early }
 

@@ -1,4 +1,4 @@
-//! For each state or block, a list of states. Merging and pruning use them.
+//! Vectors of lists of states, with one list for each state or block. Merging and pruning use them.
 
 ghost use Rattle.std.specs.Prelude.{true, ◌≡◌, ◌≢◌, ℕ, ◌+◌, ◌-◌, ◌<◌, ◌≤◌, ◌⊎◌, Some, OnOk, IfOk, IsTrue, IsFalse, length, slice_get, vec_len, slice_index};
 ghost use Rattle.logos_reduce.specs.Views.{has, has_in, Rises, AreRising, ArePredecessors, target_by, size, to};
@@ -8,6 +8,10 @@ use crate::table::Table;
 use std::alloc::{AllocError, Global};
 
 /// Returns `len` empty lists.
+///
+/// # Errors
+///
+/// Returns `AllocError` if memory runs out.
 pub fn empty_lists(alloc: Global, len: usize) -> Result<Vec<Vec<usize>>, AllocError>
     ensures len { IfOk result (λ v. vec_len v ≡ len) }
     ensures empty { IfOk result (λ v. (b s : ℕ) → has_in v.items b s ≡ true → ⊥) }
@@ -32,6 +36,10 @@ fn ends_with(list: &Vec<usize>, s: usize) -> bool
 }
 
 /// Appends a number to a list, unless it is already the last one.
+///
+/// # Errors
+///
+/// Returns `AllocError` if memory runs out. The list is then unchanged.
 pub fn add(list: &mut Vec<usize>, s: usize) -> Result<(), AllocError>
     ensures has { OnOk result (has list.new.items s ≡ true) }
     ensures stays { (t : ℕ) → has list.old.items t ≡ true → has list.new.items t ≡ true }
@@ -44,7 +52,11 @@ pub fn add(list: &mut Vec<usize>, s: usize) -> Result<(), AllocError>
     Ok(())
 }
 
-/// Appends a state to the list at an index, unless it is already the last one.
+/// Appends the state `s` to the list at the index `b`, unless it is already the last one.
+///
+/// # Errors
+///
+/// Returns `AllocError` if memory runs out. The lists are then unchanged.
 pub fn file(lists: &mut Vec<Vec<usize>>, b: usize, s: usize) -> Result<(), AllocError>
     requires { b < vec_len lists.old }
     ensures len { vec_len lists.new ≡ vec_len lists.old }
@@ -59,7 +71,7 @@ pub fn file(lists: &mut Vec<Vec<usize>>, b: usize, s: usize) -> Result<(), Alloc
     Ok(())
 }
 
-/// Appends a state to the list of a target, if there is one.
+/// Appends the state `s` to the list of a target, if there is a target.
 fn file_target(
     lists: &mut Vec<Vec<usize>>,
     target: Option<usize>,
@@ -109,6 +121,10 @@ fn file_row(
 
 /// Returns for each state the states that lead to it on one of the first `width` symbols, ascending
 /// and without duplicates.
+///
+/// # Errors
+///
+/// Returns `AllocError` if memory runs out.
 pub fn predecessors(
     alloc: Global,
     table: &Table,
@@ -127,7 +143,11 @@ pub fn predecessors(
     Ok(lists)
 }
 
-/// Returns the entries of the table at these numbers.
+/// Returns the entry of `table` at each index in `numbers`.
+///
+/// # Errors
+///
+/// Returns `AllocError` if memory runs out.
 pub fn looked_up(
     alloc: Global,
     table: &Vec<usize>,

@@ -18,7 +18,8 @@ use crate::rows::{Row, WIDTH, same_until, target_at};
 use crate::table::Table;
 use std::alloc::{AllocError, Global};
 
-/// Returns the first symbol on which two rows lead to different blocks.
+/// Returns the first symbol on which two rows lead to different blocks, or `None` if there is no
+/// such symbol.
 fn first_difference(row: &Row, other: &Row, blocks: &Vec<usize>) -> Option<usize>
     requires row { (k t : ℕ) → target_by row.now k ≡ Some t → t < vec_len blocks.now }
     requires other { (k t : ℕ) → target_by other.now k ≡ Some t → t < vec_len blocks.now }
@@ -78,7 +79,7 @@ fn find_difference(table: &Table, blocks: &Vec<usize>, leaders: &Vec<usize>) -> 
     None
 }
 
-/// A cut of a block: its states that lead to one block on a symbol, or to none, go into a new
+/// A cut of a block: its states that lead to one block on a symbol, or to none, move to a new
 /// block.
 #[derive(Clone, Copy, Drop)]
 struct Cut {
@@ -178,6 +179,10 @@ pub struct Partition {
 
 /// Returns the blocks of the states that no word distinguishes. If many states have equal marks and
 /// equal rows, these are first grouped into classes.
+///
+/// # Errors
+///
+/// Returns `AllocError` if memory runs out.
 pub fn merge(alloc: Global, table: &Table) -> Result<Partition, AllocError>
     ensures len { IfOk result (λ m. vec_len m.blocks.of ≡ size table.now) }
     ensures leaders_len { IfOk result (λ m. vec_len m.leaders ≡ vec_len m.blocks.splits) }

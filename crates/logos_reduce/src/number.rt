@@ -10,7 +10,7 @@ use crate::rows::{Row, Rows, WIDTH, fill_run, run_end, target_at};
 use crate::table::{StateMarks, Table};
 use std::alloc::{AllocError, Global};
 
-/// Appends a block to the order, if there is one and it is not in the order yet.
+/// Appends the block `target` to the order, if it is not `None` and not in the order yet.
 fn meet_target(order: &mut Order, target: Option<usize>) -> Result<(), AllocError>
     requires { (b : ℕ) → target ≡ Some b → b < vec_len order.old.numbers }
     ensures len { vec_len order.new.numbers ≡ vec_len order.old.numbers }
@@ -98,7 +98,7 @@ fn breadth_first(
     Ok(order)
 }
 
-/// Returns the row with the numbers of blocks as its targets.
+/// Returns the row with each target replaced by the number of its block.
 fn numbered_row(row: &Row, blocks: &Vec<usize>, numbers: &Vec<usize>) -> Row
     requires inside { (k t : ℕ) → target_by row.now k ≡ Some t → t < vec_len blocks.now }
     requires within { (s : ℕ) → s < vec_len blocks.now →
@@ -206,6 +206,10 @@ pub struct Numbering {
 
 /// Returns the blocks as the states of a table, in the order of first visits from the block of the
 /// root.
+///
+/// # Errors
+///
+/// Returns `AllocError` if memory runs out.
 pub fn number(
     alloc: Global,
     table: &Table,

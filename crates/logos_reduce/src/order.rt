@@ -18,6 +18,10 @@ pub struct Order {
 
 impl Order {
     /// Returns an empty order for `len` states.
+    ///
+    /// # Errors
+    ///
+    /// Returns `AllocError` if memory runs out.
     pub fn new(alloc: Global, len: usize) -> Result<Order, AllocError>
         ensures len { IfOk result (λ o. vec_len o.numbers ≡ len) }
         ensures empty { IfOk result (λ o. o.states.items ≡ []) }
@@ -41,6 +45,10 @@ impl Order {
     }
 
     /// Appends a state to the order, if it is not in the order yet.
+    ///
+    /// # Errors
+    ///
+    /// Returns `AllocError` if memory runs out. The order is then unchanged.
     pub fn meet(&mut self, s: usize) -> Result<(), AllocError>
         requires { s < vec_len self.old.numbers }
         ensures len { vec_len self.new.numbers ≡ vec_len self.old.numbers }
@@ -61,6 +69,10 @@ impl Order {
     }
 
     /// Appends a state to the order, if `wanted` is `true` and the state is not in the order yet.
+    ///
+    /// # Errors
+    ///
+    /// Returns `AllocError` if memory runs out. The order is then unchanged.
     pub fn meet_if(&mut self, s: usize, wanted: bool) -> Result<(), AllocError>
         requires { s < vec_len self.old.numbers }
         ensures len { vec_len self.new.numbers ≡ vec_len self.old.numbers }

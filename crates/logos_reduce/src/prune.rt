@@ -46,7 +46,7 @@ fn seeds(alloc: Global, table: &Table) -> Result<Order, AllocError>
     Ok(order)
 }
 
-/// Visits all states of a list.
+/// Appends the states of a list that are not in the order yet.
 fn meet_all(order: &mut Order, list: &Vec<usize>) -> Result<(), AllocError>
     requires { (s : ℕ) → has list.now.items s ≡ true → s < vec_len order.old.numbers }
     ensures len { vec_len order.new.numbers ≡ vec_len order.old.numbers }
@@ -131,6 +131,10 @@ fn pruned_rows(rows: Rows, order: &Order) -> Rows
 }
 
 /// Returns the table without the edges to states that have no mark and do not lead to one.
+///
+/// # Errors
+///
+/// Returns `AllocError` if memory runs out.
 pub fn prune(alloc: Global, table: Table) -> Result<Table, AllocError>
     ensures { IfOk result (IsPrunedTable table) }
 {

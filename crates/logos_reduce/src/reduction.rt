@@ -18,7 +18,7 @@ pub struct Reduction {
     pub table: Table,
     /// For each state, its block.
     pub blocks: Vec<usize>,
-    /// For each block, how it was separated from one with a lower number.
+    /// For each block, the split that separated it from a block with a lower number.
     pub splits: Vec<Split>,
 }
 

@@ -1,4 +1,4 @@
-//! A hash of a row of targets, with which equal rows are found. No proof about rows depends on it.
+//! A hash of a row of targets. `rows` finds equal rows by it. No proof about rows depends on it.
 //!
 //! Each entry is mixed with its own key, and the results are summed. The entries of a row are
 //! therefore independent of each other, and several are mixed at once.

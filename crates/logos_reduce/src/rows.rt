@@ -149,7 +149,7 @@ impl Rows {
     }
 }
 
-/// Returns the target of a row on the symbol `k`.
+/// Returns the target of a row on the symbol `k`, or `None` if there is none.
 pub fn target_at(row: &Row, k: usize) -> Option<usize>
     requires { k < WIDTH }
     ensures { result ≡ target_by row.now k }
@@ -205,7 +205,7 @@ pub(crate) fn run_end(row: &Row, start: usize) -> usize
     end
 }
 
-/// Sets the entries from an index on, up to another one.
+/// Sets the entries from the index `from` up to but not including `to`.
 pub(crate) fn fill_run(row: &mut Row, from: usize, to: usize, entry: u32)
     requires { (from ≤ to) × (to ≤ WIDTH) }
     ensures len { length row.new ≡ WIDTH }
@@ -218,7 +218,7 @@ pub(crate) fn fill_run(row: &mut Row, from: usize, to: usize, entry: u32)
     }
 }
 
-/// Sets the entries of a run of equal entries, if they change.
+/// Sets the entries of the run from `from` up to but not including `to`, if they change.
 pub(crate) fn set_run(row: &mut Row, from: usize, to: usize, entry: u32)
     requires within { (from < to) × (to ≤ WIDTH) }
     requires run { HasOnly row.old from to (slice_index row.old from) }

@@ -8,7 +8,7 @@ use crate::rows::{END, Row, WIDTH, run_end, target_at};
 use crate::table::{StateMarks, Table};
 use std::alloc::{AllocError, Global};
 
-/// Returns the leaf that is accepted by the target of a row on the symbol `k`.
+/// Returns the leaf that is accepted by the target of a row on the symbol `k`, if there is one.
 fn accepted_by(table: &Table, row: &Row, k: usize) -> Option<usize>
     requires { k < WIDTH }
     ensures { result ≡ accepted_in table.now row.now k }
@@ -30,7 +30,7 @@ fn common_leaf(table: &Table, row: &Row) -> Option<usize>
     Some(leaf)
 }
 
-/// Returns for each distinct row the leaf that is accepted by all its targets.
+/// Returns for each distinct row the leaf that is accepted by all its targets, if there is one.
 fn common_leaves(alloc: Global, table: &Table) -> Result<Vec<Option<usize>>, AllocError>
     ensures len { IfOk result (λ v. vec_len v ≡ length table.now.rows.distinct.keys.items) }
     ensures leaves { IfOk result (λ v.
@@ -44,7 +44,7 @@ fn common_leaves(alloc: Global, table: &Table) -> Result<Vec<Option<usize>>, All
     Ok(leaves)
 }
 
-/// Returns the early mark of each state.
+/// Returns the early mark of each state, or `None` for a state that has none.
 fn early_marks(alloc: Global, table: &Table) -> Result<Vec<Option<usize>>, AllocError>
     ensures len { IfOk result (λ v. vec_len v ≡ size table.now) }
     ensures marks { IfOk result (λ v. AreCommon table.now (size table.now) v.items) }
@@ -57,7 +57,8 @@ fn early_marks(alloc: Global, table: &Table) -> Result<Vec<Option<usize>>, Alloc
     Ok(early)
 }
 
-/// Sets the flag of the target `t`, if its late mark is needed after this early mark.
+/// Sets the flag of the target `t` if its late mark differs from `early`, the early mark of a state
+/// that leads to it, and so is needed.
 fn note_target(table: &Table, t: usize, early: Option<usize>, needed: &mut Vec<bool>)
     requires inside { t < size table.now }
     requires len { vec_len needed.old ≡ size table.now }
@@ -72,8 +73,8 @@ fn note_target(table: &Table, t: usize, early: Option<usize>, needed: &mut Vec<b
     }
 }
 
-/// Sets the flag of the target of an edge, if there is one and its late mark is needed after this
-/// early mark.
+/// Sets the flag of the target of an edge, if there is one and its late mark is needed beside
+/// `early`, the early mark of the state that the edge leaves.
 fn note_edge(table: &Table, target: Option<usize>, early: Option<usize>, needed: &mut Vec<bool>)
     requires inside { (t : ℕ) → target ≡ Some t → t < size table.now }
     requires len { vec_len needed.old ≡ size table.now }
@@ -89,7 +90,8 @@ fn note_edge(table: &Table, target: Option<usize>, early: Option<usize>, needed:
     }
 }
 
-/// Sets the flags of those targets of a state whose late marks are needed after this early mark.
+/// Sets the flags of the targets of a state whose late marks are needed beside `early`, the state's
+/// early mark.
 fn note_targets(table: &Table, s: usize, early: Option<usize>, needed: &mut Vec<bool>)
     requires state { s < size table.now }
     requires len { vec_len needed.old ≡ size table.now }
@@ -158,6 +160,10 @@ fn settled_marks(
 }
 
 /// Returns the table with its early marks, and without the late marks that they make redundant.
+///
+/// # Errors
+///
+/// Returns `AllocError` if memory runs out.
 pub fn settle(alloc: Global, table: Table) -> Result<Table, AllocError>
     ensures { IfOk result (IsSettled table) }
 {

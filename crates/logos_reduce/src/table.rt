@@ -79,7 +79,7 @@ impl Table {
         self.rows.get(s)
     }
 
-    /// Returns the state to which a state leads on the symbol `k`.
+    /// Returns the state to which a state leads on the symbol `k`, or `None` if it leads to none.
     pub fn target(&self, s: usize, k: usize) -> Option<usize>
         requires state { s < size self.now }
         requires symbol { k < WIDTH }

@@ -1,4 +1,4 @@
--- Whether an enum derives `Logos`, judged by the entries of `derive` that stripping removes.
+-- The enums that derive `Logos`, determined by the entries of `derive` that stripping removes.
 use Rattle.std.specs.Prelude.{◌==◌, ◌&&◌, ◌||◌, Bool, true, false, codes}
 use Rattle.logos_lexeme.specs.declared.lexeme.Delimiter.TheVariants.{Parenthesis, Bracket}
 use Rattle.logos_token.specs.Tokens.{TokenList, punctuation, doc, group, none, also}

@@ -6,14 +6,14 @@ use Rattle.logos_rust_file.specs.declared.finder.FoundEnum.{FoundEnum}
 use Rattle.logos_rust_file.specs.Derives.{derives}
 use Rattle.logos_rust_file.specs.Fronts.{kind_of, ends, is_enum, is_module, is_other, name_of}
 
--- This is an enum with these tokens.
+-- `found` is the enum with these tokens.
 pub record Describes (item : TokenList) (found : FoundEnum) : Type 0 where
   pub span : found.span ≡ run_span item
   pub name : found.name ≡ name_of item
   pub derives : found.derives ≡ derives item
 
--- These are the enums among the items of a run, in order, and inside its modules that have a body.
--- An enum includes the attributes and the visibility before its `enum`, and other tokens are
+-- `found` are the enums among the items of a run, in order, and inside its modules that have a
+-- body. An enum includes the attributes and the visibility before its `enum`, and other tokens are
 -- skipped, groups as a whole.
 pub data Finds : TokenList → List FoundEnum → Type 0 where
   done : {run : TokenList} → kind_of run ≡ ends → Finds run []
@@ -23,7 +23,7 @@ pub data Finds : TokenList → List FoundEnum → Type 0 where
       kind_of run ≡ is_module inside rest → Finds inside within → Finds rest more → Finds run (within ++ more)
   passes : {run rest : TokenList} {more : List FoundEnum} → kind_of run ≡ is_other rest → Finds rest more → Finds run more
 
--- These are the enums of a text.
+-- `found` are the enums of a text.
 pub record AreEnumsOf (text : List ℕ) (found : List FoundEnum) : Type 0 where
   pub tokens : TokenList
   pub spelled : Spells text tokens

@@ -12,7 +12,7 @@ use Rattle.logos_enum.specs.Marks.{hash, is_outer}
 use Rattle.logos_rust_file.specs.declared.fronts.ItemKind.{ItemKind}
 use Rattle.logos_rust_file.specs.declared.fronts.ItemKind.TheVariants.{End, Enum, Module, Other}
 
--- `;`
+-- The character `;`.
 abbrev pub semicolon : ℕ
 semicolon = 59
 
@@ -62,12 +62,12 @@ abbrev pub after_head : TokenList → TokenList
 after_head (also (identifier text span) rest) = after_generics rest
 after_head run = run
 
--- A module, if braces follow its name.
+-- The kind of a module from the tokens after its name, if they begin with braces.
 abbrev pub braced_in : TokenList → TokenList → KindValue
 braced_in run (also (group Brace span inside) rest) = is_module inside rest
 braced_in run after = is_other run
 
--- A module, if a name and braces come first.
+-- The kind of a module from the tokens after its `mod`, if they begin with a name and braces.
 abbrev pub module_in : TokenList → KindValue
 module_in (also (identifier text span) rest) = braced_in (also (identifier text span) rest) rest
 module_in run = is_other run

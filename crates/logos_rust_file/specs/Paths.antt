@@ -3,13 +3,14 @@ use Rattle.std.specs.Prelude.{◌≡◌, ◌++◌, IsCharBoundary, ℕ, List, []
 use Rattle.logos_lexeme.specs.declared.lexeme.Span.{Span}
 use Rattle.logos_rust_file.specs.declared.finder.FoundEnum.{FoundEnum}
 
--- This is the name of an enum in a text: the text at its span, if that begins and ends between
--- characters; empty if it has none.
+-- `name` is the name of an enum in a text: the text at its span, if that begins and ends between
+-- characters. It is empty if the enum has none.
 abbrev pub IsNameAt : List ℕ → Option Span → List ℕ → Type 0
 IsNameAt text None name = name ≡ []
 IsNameAt text (Some span) name = IsCharBoundary text span.to → IsCharBoundary (take span.to text) span.from → name ≡ drop span.from (take span.to text)
 
--- This is a path of an enum in a text: names of modules, which are left open here, and its name.
+-- `path` is a path of an enum in a text: the names of modules, which are not determined here, and
+-- the name of the enum.
 pub record IsPathOf (text : List ℕ) (found : FoundEnum) (path : List ℕ) : Type 0 where
   pub modules : List ℕ
   pub name : List ℕ

@@ -4,7 +4,7 @@ use Rattle.logos_lexeme.specs.declared.lexeme.Span.{Span}
 use Rattle.logos_rust_file.specs.declared.finder.FoundEnum.{FoundEnum}
 use Rattle.logos_rust_file.specs.declared.replacement.Replacement.{Replacement}
 
--- These spans are nonempty and lie between two offsets, in order and without overlap.
+-- The spans are nonempty and lie between two offsets, in order and without overlap.
 abbrev pub AreInOrder : ℕ → List Span → ℕ → Type 0
 AreInOrder from [] to = from ≤ to
 AreInOrder from (span ∷ rest) to = (from ≤ span.from) × (span.from < span.to) × AreInOrder span.to rest to

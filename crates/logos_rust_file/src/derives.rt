@@ -1,4 +1,4 @@
-//! Whether an enum derives `Logos`. Used by `finder`.
+//! Determines whether an enum derives `Logos`. `finder` calls it for each enum.
 
 ghost use Rattle.std.specs.Prelude.{◌≡◌, ◌<◌, ◌||◌, false, true, MatchOption};
 ghost use Rattle.logos_rust_file.specs.Imports.{count_of, tokens_of, begins_list, derives, derives_after, derives_in, lists_macro};
@@ -22,8 +22,8 @@ pub(crate) fn derives(tokens: Tokens<'_, '_>) -> bool
     false
 }
 
-/// Returns whether the first attribute derives `Logos`, and the tokens after it; `None` if the run
-/// does not begin with an attribute.
+/// Returns whether the first attribute derives `Logos`, and the tokens after it. Returns `None` if
+/// the run does not begin with an attribute.
 fn first_attribute<'t, 's>(tokens: Tokens<'t, 's>) -> Option<(bool, Tokens<'t, 's>)>
     ensures { MatchOption result (derives (tokens_of tokens.entry) ≡ false)
         (λ read. (derives (tokens_of tokens.entry) ≡ (read.0 || derives (tokens_of read.1)))
@@ -37,7 +37,7 @@ fn first_attribute<'t, 's>(tokens: Tokens<'t, 's>) -> Option<(bool, Tokens<'t, '
 }
 
 /// Returns whether the brackets after the `#` of an attribute derive `Logos`, and the tokens after
-/// them; `None` if the run does not begin with brackets.
+/// them. Returns `None` if the run does not begin with brackets.
 fn bracketed<'t, 's>(tokens: Tokens<'t, 's>) -> Option<(bool, Tokens<'t, 's>)>
     ensures { MatchOption result (derives_after (tokens_of tokens.entry) ≡ false)
         (λ read. (derives_after (tokens_of tokens.entry)
@@ -74,7 +74,7 @@ fn begins_list(tokens: Tokens<'_, '_>) -> bool
     }
 }
 
-/// Returns whether one of these entries is `Logos`.
+/// Returns whether one of the entries of a `derive` is `Logos`, with or without a path.
 fn lists_macro(tokens: Tokens<'_, '_>) -> bool
     ensures { result ≡ lists_macro true (tokens_of tokens.entry) }
 {

@@ -1,5 +1,5 @@
-//! The enums of a file. `logos_cli` and `logos_show` call `read_file` or `enums_in` once for each
-//! file.
+//! Finds the enums of a file. `logos_expand` and `logos_show` call `read_file` or `enums_in` once
+//! for each file.
 
 ghost use Rattle.std.specs.Prelude.{◌≡◌, ◌∷◌, [], All, IfOk, IfErr, OnOk, length, map};
 ghost use Rattle.logos_rust_file.specs.Views.{Fault, Spells, stream_tokens, tokens_of, EndsReading, Refuses, AreEnumsOf, Describes, Finds, AreInOrder, IsFoundCut, found_span, AddsItem, AddsRun};
@@ -16,12 +16,14 @@ use std::alloc::Global;
 /// An enum of a file.
 #[derive(Clone, Copy, Debug)]
 pub struct FoundEnum {
-    /// Its span in the file, in bytes: from its first attribute, its visibility or `enum` to the
-    /// end of its braces.
+    /// The span of the enum in the file, in bytes: from its first attribute, its visibility or
+    /// `enum` to the end of its braces.
     pub span: Span,
-    /// The span of its name in the file, in bytes: of the identifier after `enum`, if there is one.
+    /// The byte span of the enum's name, which is the identifier after `enum`. `None` if there is
+    /// no such identifier.
     pub name: Option<Span>,
-    /// Whether one of its `derive` attributes lists `Logos`, `logos::Logos` or `::logos::Logos`.
+    /// Whether one of the enum's `derive` attributes lists `Logos`, `logos::Logos` or
+    /// `::logos::Logos`.
     pub derives: bool,
     /// Whether one of these entries is `Logos` without a path, which the file then imports.
     pub by_name: bool,
@@ -30,9 +32,9 @@ pub struct FoundEnum {
 /// A Rust file that was read.
 #[derive(Drop)]
 pub struct ReadFile<'s> {
-    /// Its tokens.
+    /// The tokens of the file.
     pub stream: TokenStream<'s>,
-    /// Its enums, in order.
+    /// The enums of the file, in order.
     pub found: Vec<FoundEnum>,
 }
 
@@ -61,7 +63,7 @@ pub fn enums_in(alloc: Global, text: &str) -> Result<Vec<FoundEnum>, Refusal>
 ///
 /// # Errors
 ///
-/// Returns the same errors.
+/// Returns the errors of `enums_in`.
 pub fn read_file<'s>(alloc: Global, text: &'s str) -> Result<ReadFile<'s>, Refusal>
     ensures spelled { IfOk result (λ file. Spells text.now (stream_tokens file.stream)) }
     ensures found { IfOk result (λ file. AreEnumsOf text.now file.found.items) }
@@ -80,7 +82,7 @@ pub fn read_file<'s>(alloc: Global, text: &'s str) -> Result<ReadFile<'s>, Refus
     }
 }
 
-/// Returns the enums of all these items.
+/// Returns the enums of the items in `tokens`.
 fn enums_of(alloc: Global, tokens: Tokens<'_, '_>) -> Result<Vec<FoundEnum>, Memory>
     ensures { IfOk result (λ found. Finds (tokens_of tokens.entry) found.items) }
 {
@@ -89,7 +91,7 @@ fn enums_of(alloc: Global, tokens: Tokens<'_, '_>) -> Result<Vec<FoundEnum>, Mem
     Ok(found)
 }
 
-/// Appends the enums of all these items.
+/// Appends the enums of the items in `run`.
 #[cycle(find)]
 fn add_all(run: Tokens<'_, '_>, found: &mut Vec<FoundEnum>) -> Result<(), Memory>
     ensures { OnOk result (AddsRun (tokens_of run.entry) found.old.items found.new.items) }

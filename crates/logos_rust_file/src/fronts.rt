@@ -1,5 +1,5 @@
-//! The attributes and the visibility before an item, the kind of an item, and the name of an enum.
-//! Used by `finder`.
+//! Reads the beginnings of items: their attributes, their visibility, their kind, and the name of
+//! an enum. `finder` calls it for each item.
 
 ghost use Rattle.std.specs.Prelude.{◌≡◌, ◌<◌, MatchOption};
 ghost use Rattle.logos_rust_file.specs.Views.{Token, also, count_of, tokens_of, tree_of, after_attributes, after_body, after_hash, after_head, braced_in, ends_body, kind_at, kind_of, kind_value, module_in, name_at, name_of};

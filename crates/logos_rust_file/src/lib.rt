@@ -1,5 +1,5 @@
-//! The enums of a whole Rust file, and replacing parts of a file. Called by `logos_cli` and
-//! `logos_show`.
+//! Finds the enums of a Rust file, and replaces parts of a file. `logos_expand` and `logos_show`
+//! call it.
 
 #![tactic(auto)]
 

@@ -1,4 +1,5 @@
-//! Whether an enum derives `Logos` by its name alone, and thus through an import. Used by `finder`.
+//! Determines whether an enum derives `Logos` without a path, and thus through an import. `finder`
+//! calls it for each enum.
 
 use logos_strip::helpers::{is_comma, is_macro_entry};
 use logos_token::token::{Delimiter, TokenTree, Tokens};
@@ -16,8 +17,8 @@ pub(crate) fn derives_by_name(item: Tokens<'_, '_>) -> bool {
     false
 }
 
-/// Returns whether the run begins with brackets that contain a `derive` which lists `Logos` without
-/// a path.
+/// Returns whether the run begins with brackets that contain a `derive` with the entry `Logos`,
+/// without a path.
 fn begins_list(tokens: Tokens<'_, '_>) -> bool {
     match tokens.first() {
         Some(TokenTree::Group(group)) if group.delimiter == Delimiter::Bracket => {
@@ -39,7 +40,7 @@ fn lists_name(inside: Tokens<'_, '_>) -> bool {
     }
 }
 
-/// Returns whether one of these entries is `Logos` without a path.
+/// Returns whether one of the entries of a `derive` is `Logos` without a path.
 fn has_name(entries: Tokens<'_, '_>) -> bool {
     let mut begins = true;
     let mut rest = entries;

@@ -1,4 +1,5 @@
-//! The paths of enums in a file. `logos_show` requests them for an enum that is given by its name.
+//! The paths of enums in a file. `logos_show` compares them with the name of the enum that it
+//! shows.
 
 ghost use Rattle.std.specs.Prelude.{◌↔◌, IfOk, IsTrue, string_bytes};
 ghost use Rattle.logos_rust_file.specs.Views.{EndsWithPath, IsNameAt, IsPathOf};
@@ -106,7 +107,8 @@ fn first_word<'t>(text: &'t str) -> Option<Word<'t>> {
     Some(Word { kind, text, rest })
 }
 
-/// Returns the last two lexemes after one more. Gaps and documentation do not count.
+/// Returns the last two lexemes once `word` is read, where `words` are the last two before it. Gaps
+/// and documentation do not count.
 fn words_after<'t>(words: (&'t str, &'t str), word: Word<'t>) -> (&'t str, &'t str) {
     match word.kind {
         LexemeKind::Gap | LexemeKind::Doc => words,

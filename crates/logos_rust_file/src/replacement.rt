@@ -1,4 +1,4 @@
-//! Replacing parts of a text. `logos_cli` inserts the expansions into a file with it.
+//! Replaces parts of a text. `logos_expand` inserts the expansions into a file with it.
 
 ghost use Rattle.std.specs.Prelude.{◌≡◌, ◌≤◌, IfOk, length, map, slice_range};
 ghost use Rattle.logos_rust_file.specs.Views.{AreInOrder, part_span, replaced};
@@ -11,7 +11,7 @@ use std::alloc::{AllocError, Global};
 pub struct Replacement {
     /// The part, in bytes.
     pub span: Span,
-    /// Its replacement.
+    /// The text that replaces the part.
     pub text: String,
 }
 

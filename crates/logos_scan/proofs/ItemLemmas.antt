@@ -30,7 +30,7 @@ module _ {C : Type 0} (callback : Callback) (old : LexerValue C) where
     passed = λ item end r. r;
   }
 
-  -- how many states a match attempt entered does not matter
+  -- the number of states that a match attempt entered does not matter
   same_span : (from to n : ℕ) (item : Item) → HasSpan (moved old from to n) item → HasSpan (moved old from to 0) item
   same_span from to n (token leaf a b slice) h = h
   same_span from to n (error leaf a b slice) h = h

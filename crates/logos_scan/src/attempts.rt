@@ -1,4 +1,5 @@
-//! Single match attempts. The scan falls back to it where an entry does not determine the match.
+//! Makes single match attempts. The scan falls back to it where an entry does not determine the
+//! match.
 
 ghost use Rattle.std.specs.Prelude.{◌≤◌, length};
 ghost use Rattle.logos_scan.specs.Views.{IsTaken};

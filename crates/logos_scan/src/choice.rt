@@ -1,5 +1,5 @@
-//! Estimates whether a scan by chunks takes less time than a lexer. Called once for each input by
-//! `items` and by the programs.
+//! Estimates whether a scan by chunks takes less time than a lexer. `logos_items` and
+//! `logos_commands` call it once for each input.
 
 ghost use Rattle.std.specs.Prelude.{◌≡◌, IfOk, IfSome};
 
@@ -16,8 +16,8 @@ const SHORTEST: usize = 16_384;
 const WORTH: usize = 4_096;
 
 /// Returns the folded rows of a code if a scan by chunks likely takes less time on the input than a
-/// lexer, and the code does not have too many states for them. Any result is correct, since both
-/// find the same items.
+/// lexer. Returns `None` otherwise, or if the code has too many states for folded rows. Any result
+/// is correct, since a scan and a lexer find the same items.
 ///
 /// # Errors
 ///

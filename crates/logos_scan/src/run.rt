@@ -1,5 +1,5 @@
-//! The match attempts of an input, one after another, from the entries of a chunk. `items` and the
-//! programs call it.
+//! Yields the match attempts of an input, one after another, from the entries of its chunks.
+//! `items`, `logos_items` and `logos_commands` call it.
 
 ghost use Rattle.std.specs.Prelude.{◌≡◌, ◌+◌, ◌<◌, ◌≤◌, length, MatchOption};
 ghost use Rattle.logos_scan.specs.Views.{IsBytes, IsRowStart, ComesTo, answers_of, item_of, EndsItems, YieldsItem, IsChunk, IsFlagged, IsHeld, IsLoaded, IsMarked, IsOver, IsReading, IsReady, IsRun, IsTaken, TakesMatches, start_of, with_chunk};

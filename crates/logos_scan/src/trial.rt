@@ -16,26 +16,30 @@ const SPREAD: usize = 64 * CHUNK;
 /// The greatest number of chunks that are walked over.
 const MOST: usize = 8;
 
-/// The costs of a scan: of each byte, of each byte before which a match ends, of each byte that is
-/// stepped over again, and of each attempt that is repeated. They are fitted on measured texts, in
-/// hundredths of a nanosecond, and only their ratios matter.
+/// The cost of each byte, for a scan. All costs are fitted on measured texts, in hundredths of a
+/// nanosecond, and only their ratios matter.
 const STEP: usize = 90;
 
+/// The cost of each byte before which a match ends, for a scan.
 const END: usize = 193;
 
+/// The cost of each byte that is stepped over again, for a scan.
 const AGAIN: usize = 204;
 
+/// The cost of each attempt that is repeated, for a scan.
 const REPEAT: usize = 5_180;
 
-/// The costs of a lexer: of each byte, of each match, and of each state that is entered.
+/// The cost of each byte, for a lexer.
 const BYTE: usize = 20;
 
+/// The cost of each match, for a lexer.
 const MATCH: usize = 400;
 
+/// The cost of each state that is entered, for a lexer.
 const ENTRY: usize = 325;
 
-/// If more than three of these many bytes end a match, a lexer is faster: processors foresee these
-/// matches then.
+/// If matches end before more than three in this number of bytes, a lexer is faster, since
+/// processors predict such matches.
 const ALMOST_ALL: usize = 4;
 
 /// The counts of walks over chunks.
@@ -63,7 +67,7 @@ const NOTHING: TrialCounts = TrialCounts {
     again: 0,
 };
 
-/// Returns the counts of walks over chunks from all over an input, each from the root on.
+/// Returns the counts of walks over chunks at regular distances in an input, each from the root on.
 pub fn trial_counts(reading: &Reading) -> TrialCounts
     requires { IsReading reading.now }
 {
@@ -133,7 +137,8 @@ fn trace_counts(trace: &[u32]) -> TrialCounts {
     counts
 }
 
-/// Returns how many bytes of a chunk were stepped over again, given the entries of its walk.
+/// Returns the number of bytes of a chunk that were stepped over again, given the entries of its
+/// walk.
 fn steps_again(rows: &[u32], text: &[u8], root: usize, trace: &[u32]) -> usize
     requires closed { IsClosed rows.now }
     requires root { IsRowStart rows.now root }
@@ -148,8 +153,8 @@ fn steps_again(rows: &[u32], text: &[u8], root: usize, trace: &[u32]) -> usize
     again
 }
 
-/// Returns how many bytes of the block that begins at `from` lead from a guessed row to others than
-/// those of the walk.
+/// Returns the number of bytes of the block that begins at `from` that lead from a guessed row to
+/// other rows than those of the walk.
 fn block_steps(rows: &[u32], text: &[u8], guess: usize, trace: &[u32], from: usize) -> usize
     requires closed { IsClosed rows.now }
     requires guess { IsRowStart rows.now guess }

@@ -1,5 +1,6 @@
 //! Walks over folded rows: a chunk of bytes at once, in six parallel blocks and without a branch
-//! for each byte, and the bit masks of the entries at which attempts end.
+//! for each byte, and the bit masks of the entries at which attempts end. `run` and `trial` call
+//! it.
 //!
 //! Folded rows are rows of 256 entries. A row is identified by its row offset, the index of its
 //! first entry. The lowest twenty bits of the entry of a byte are the offset of the next row. Its
@@ -15,13 +16,13 @@ pub mod guess;
 pub mod masks;
 pub mod repair;
 
-/// The bits of an entry that name the next row, by its offset.
+/// The bits of an entry that contain the offset of the next row.
 pub const OFFSET_MASK: u32 = 0xF_FFFF;
 
 /// The flag of an entry where a match ends before the byte.
 pub const ENDED: u32 = 1 << 31;
 
-/// The flag of an entry at whose byte there is something to do.
+/// The flag of a pending entry, which the scan must process.
 pub const TOKEN: u32 = 1 << 30;
 
 /// Returns the entry of a byte in a row. The byte is added first: the offset of the row, which
@@ -35,7 +36,7 @@ pub(crate) fn entry_of(rows: &[u32], byte: u8, row_start: usize) -> u32
     column[row_start]
 }
 
-/// Steps over the byte at `at`: writes its entry, and returns the row that it names.
+/// Steps over the byte at `at`: writes its entry, and returns the row to which the entry leads.
 #[inline(always)]
 pub fn step(rows: &[u32], text: &[u8], row_start: usize, trace: &mut [u32], at: usize) -> usize
     requires closed { IsClosed rows.now }

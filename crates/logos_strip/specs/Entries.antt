@@ -1,4 +1,4 @@
--- Whether stripping removes an entry of a `derive`.
+-- The tokens from which stripping removes an entry of a `derive`.
 use Rattle.std.specs.Prelude.{◌||◌, Bool, true, false, if◌then◌else◌, Option, Some}
 use Rattle.logos_token.specs.Tokens.{Token, group, TokenList, none, also}
 use Rattle.logos_strip.specs.declared.spots.Scope.{Scope}

@@ -7,7 +7,7 @@ use Rattle.logos_token.specs.Tokens.{Token, identifier, punctuation, group, Toke
 use Rattle.logos_token.specs.First.{colon, begins_with, after_word, after_path_mark}
 use Rattle.logos_enum.specs.Marks.{comma, hash}
 
--- A token is a comma, of either spacing.
+-- A token is a comma, joint or alone.
 abbrev pub is_comma : Token → Bool
 is_comma (punctuation character spacing span) = character == comma
 is_comma token = false
@@ -31,7 +31,7 @@ abbrev pub begins_helper : TokenList → Bool
 begins_helper (also (punctuation character spacing span) rest) = (character == hash) && holds_helper rest
 begins_helper run = false
 
--- There are tokens, and the test holds of them.
+-- There are tokens, and the test holds for them.
 abbrev pub holds_after : (TokenList → Bool) → Option TokenList → Bool
 holds_after test None = false
 holds_after test (Some rest) = test rest

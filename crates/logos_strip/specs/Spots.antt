@@ -1,5 +1,5 @@
--- Which tokens are removed from an enum, determined by their spots. A run is read from the left.
--- The spot of a token determines which part can begin there: after attributes comes their part,
+-- The tokens that are removed from an enum, determined by their spots. A run is read from the left.
+-- The spot of a token determines the part that can begin there: attributes can come before a part,
 -- and after a comma attributes can begin again.
 use Rattle.std.specs.Prelude.{◌==◌, if◌then◌else◌, Bool, true, false, Option, Some, None, codes}
 use Rattle.std.specs.Str.{bytes_eq}
@@ -13,7 +13,7 @@ use Rattle.logos_strip.specs.declared.spots.TokenSpot.{TokenSpot}
 use Rattle.logos_strip.specs.declared.spots.TokenSpot.TheVariants.{Open, Hash, Gone, Named, Within}
 use Rattle.logos_strip.specs.Helpers.{is_comma, begins_helper, is_macro_entry}
 
--- A part that is removed begins at the start of the run, where an attribute or an entry can begin.
+-- A part that is removed begins at the start of the run. An attribute or an entry can begin there.
 abbrev pub begins_gone : Scope → TokenList → Bool
 begins_gone Enum run = begins_helper run
 begins_gone Attribute run = false
@@ -29,7 +29,7 @@ goes scope Gone run = true
 goes scope Named run = false
 goes scope Within run = false
 
--- The spot after a token of a part, where commas of either spacing separate parts. A comma between
+-- The spot after a token of a part. Parts are separated by commas, joint or alone. A comma between
 -- the angle brackets of a type also counts. No attribute can begin after it, so nothing is removed
 -- there.
 abbrev pub after_part : TokenSpot → Token → TokenSpot
@@ -87,7 +87,8 @@ scope_of Attribute Named Parenthesis last = Some Derives
 scope_of Variants Named delimiter last = Some Fields
 scope_of scope spot delimiter last = None
 
--- The part of an enum that a token before these tokens contains, if a token in it can be removed.
+-- The part of an enum that a token contains, given the tokens after it, if a token in it can be
+-- removed.
 abbrev pub scope_inside : Scope → TokenSpot → Token → TokenList → Option Scope
 scope_inside scope spot (group delimiter span inside) rest = scope_of scope spot delimiter (is_none rest)
 scope_inside scope spot token rest = None

@@ -13,7 +13,7 @@ abbrev pub alone : Token → Token
 alone (punctuation character spacing span) = punctuation character Alone span
 alone token = token
 
--- A token that remains, before these. Punctuation directly before a removed token is alone.
+-- A token that remains, before these pieces. Punctuation directly before a removed token is alone.
 abbrev pub in_front : List (Option Token) → Token → Token
 in_front (None ∷ rest) token = alone token
 in_front rest token = token

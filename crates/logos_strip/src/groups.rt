@@ -10,7 +10,7 @@ use logos_token::token::{Group, TokenStream, TokenTree, Tokens};
 use std::alloc::Global;
 
 /// Adds a group, with the tokens inside it stripped. `scope` is the part of the enum that these
-/// tokens are.
+/// tokens form.
 #[cycle(walk)]
 fn keep_group<'s>(
     alloc: Global,
@@ -49,7 +49,7 @@ fn keep<'s>(
     }
 }
 
-/// Returns the tokens of a run that remain. `scope` is the part of the enum that the run is.
+/// Returns the tokens of a run that remain. `scope` is the part of the enum that the run forms.
 ///
 /// # Errors
 ///

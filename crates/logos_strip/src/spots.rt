@@ -7,7 +7,7 @@ ghost use Rattle.logos_strip.specs.Views.{tokens_of, tree_of, is_none, begins_go
 use crate::helpers::{begins_helper, is_comma, is_macro_entry};
 use logos_token::token::{Delimiter, TokenTree, Tokens};
 
-/// The part of an enum that a run of tokens is.
+/// The parts of an enum whose tokens are stripped as one run.
 #[derive(Clone, Copy)]
 pub enum Scope {
     /// The whole enum.
@@ -37,8 +37,8 @@ pub enum TokenSpot {
     Within,
 }
 
-/// Returns whether a part that is removed begins at the start of the run, where an attribute or an
-/// entry can begin.
+/// Returns whether a part that is removed begins at the start of the run. An attribute or an entry
+/// can begin there.
 fn begins_gone(scope: Scope, tokens: Tokens<'_, '_>) -> bool
     ensures { result ≡ begins_gone scope (tokens_of tokens.entry) }
 {
@@ -60,7 +60,7 @@ pub(crate) fn goes(scope: Scope, spot: TokenSpot, tokens: Tokens<'_, '_>) -> boo
     }
 }
 
-/// Returns the spot after a token of a part, where commas of either spacing separate parts. After a
+/// Returns the spot after a token of a part. Parts are separated by commas, joint or alone: after a
 /// comma the next part begins.
 fn after_part(other: TokenSpot, tree: TokenTree<'_, '_>) -> TokenSpot
     ensures { result ≡ after_part other (tree_of tree.entry) }

@@ -28,7 +28,7 @@ impl<'s> Writer<'s> {
         }
     }
 
-    /// Returns all trees.
+    /// Returns all tokens that have been written.
     pub(crate) fn finish(self) -> Result<TokenStream<'s>, Memory>
         ensures { IfOk result (λ stream. stream_tokens stream ≡ completed self.entry []) }
     {

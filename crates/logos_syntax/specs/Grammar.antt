@@ -20,7 +20,7 @@ use Rattle.logos_syntax.specs.Written.{Branches, first, next, Items, nothing, pi
 
 -- ---- atoms.
 
--- One character, or one byte, of the set.
+-- The tree that matches one character, or one byte, of the set.
 abbrev pub one_of : Flags → Set → Tree
 one_of flags set = if flags.unicode then one_char_of set else one_byte_of set
 
@@ -34,7 +34,7 @@ abbrev pub character_tree : Flags → ℕ → Tree
 character_tree flags c =
     if flags.ignore_case && (flags.unicode || nat_lt c 128) then one_of flags (same_as flags c) else literal (encode_utf8 c)
 
--- A byte, or the character with this number.
+-- The tree of a byte, or of the character with its number if the pattern matches characters.
 abbrev pub byte_tree : Flags → ℕ → Tree
 byte_tree flags b =
     if flags.unicode then character_tree flags b
@@ -45,12 +45,15 @@ byte_tree flags b =
 abbrev pub dot_set : Flags → Set
 dot_set flags = only_chars (λ c. flags.dot_all || not ((c == 10) || (flags.crlf && (c == 13))))
 
+-- The look-around assertion of `^`.
 abbrev pub start_look : Flags → Look
 start_look flags = if flags.multi_line then (if flags.crlf then StartCRLF else StartLF) else Start
 
+-- The look-around assertion of `$`.
 abbrev pub end_look : Flags → Look
 end_look flags = if flags.multi_line then (if flags.crlf then EndCRLF else EndLF) else End
 
+-- The tree of an atom.
 abbrev pub atom_tree : Flags → Atom → Tree
 atom_tree flags (Character c) = character_tree flags c
 atom_tree flags (Byte b) = byte_tree flags b
@@ -63,7 +66,8 @@ atom_tree flags (Boundary negated) = look (if negated then WordAsciiNegate else 
 atom_tree flags (Perl kind negated) = one_of flags (set_or_complement flags negated (case_closure flags (only_chars (perl_set kind flags.unicode))))
 atom_tree flags (Property set negated) = one_of flags (set_or_complement flags negated (case_closure flags (only_chars (in_set set))))
 
--- A word boundary is allowed if the pattern matches bytes, and a property if it matches characters.
+-- Whether the flags allow the atom. A word boundary is allowed if the pattern matches bytes, and a
+-- property if it matches characters.
 abbrev pub atom_fits : Flags → Atom → Bool
 atom_fits flags (Character c) = true
 atom_fits flags (Byte b) = true
@@ -76,12 +80,13 @@ atom_fits flags (Boundary negated) = not flags.unicode
 atom_fits flags (Perl kind negated) = true
 atom_fits flags (Property set negated) = flags.unicode
 
--- These flags allow the token.
+-- The flags allow the token.
 abbrev pub TokenFits : Flags → Token → Type 0
 TokenFits flags (atom a) = atom_fits flags a ≡ true
 TokenFits flags (bracketed b) = BracketFits flags b
 TokenFits flags _ = Unit {0}
 
+-- The tree of a bracket.
 abbrev pub class_tree : Flags → Bracket → Tree
 class_tree flags b = one_of flags (bracket_set flags b)
 
@@ -93,10 +98,11 @@ captures capturing = true
 captures (named name) = true
 captures (plain change) = false
 
+-- The tree of a group, which is a capture if `captured` holds.
 abbrev pub group_tree : Bool → Tree → Tree
 group_tree captured tree = if captured then capture tree else tree
 
--- An operator with `?` is lazy; with the flag `U`, an operator without it is.
+-- Whether an operator is greedy: one without `?`, or, with the flag `U`, one with `?`.
 abbrev pub is_greedy : Flags → Operator → Bool
 is_greedy flags op = if flags.swap_greed then op.lazy else not op.lazy
 
@@ -117,6 +123,7 @@ abbrev mutual
   piece_tree flags (group opening bs) = group_tree (captures opening) (alternation_of (branch_list (inner_flags opening flags) bs))
   piece_tree flags (repeated p op) = repetition_of op.least op.most (is_greedy flags op) (piece_tree flags p)
 
+-- The tree of the inside of a group.
 abbrev pub written_tree : Flags → Branches → Tree
 written_tree flags bs = alternation_of (branch_list flags bs)
 

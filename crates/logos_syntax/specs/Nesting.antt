@@ -25,6 +25,7 @@ abbrev pub groups_open : Around → ℕ
 groups_open outermost = 0
 groups_open (within around inside opening) = suc (groups_open around)
 
+-- The tokens of the open groups, from the left.
 abbrev pub around_tokens : Around → List Token
 around_tokens outermost = []
 around_tokens (within around inside opening) =

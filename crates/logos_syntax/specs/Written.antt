@@ -18,7 +18,7 @@ mutual
     first : Items → Branches
     next : Branches → Items → Branches
 
-  -- One branch.
+  -- One branch: parts and flag settings.
   pub data Items : Type 0 where
     nothing : Items
     piece : Items → Piece → Items
@@ -55,7 +55,7 @@ pub data Starts : Token → Text → Text → Type 0 where
   taken : (t : Token) (text rest : Text) → Takes t text rest → Starts t text rest
   enclosed : (b : Bracket) (text rest : Text) → Encloses b text rest → Starts (bracketed b) (91 ∷ text) rest
 
--- The text is these tokens followed by the rest.
+-- The text consists of these tokens, followed by the rest.
 abbrev pub Cuts : Text → List Token → Text → Type 0
 Cuts text [] rest = text ≡ rest
 Cuts text (token ∷ tokens) rest = (after : Text) × Starts token text after × Cuts after tokens rest
@@ -67,6 +67,7 @@ abbrev pub IsNew : List Text → Token → Type 0
 IsNew seen (opens (named name)) = list_any (bytes_eq name) seen ≡ false
 IsNew seen _ = Unit {0}
 
+-- The names of groups after a token.
 abbrev pub with_name : List Text → Token → List Text
 with_name seen (opens (named name)) = name ∷ seen
 with_name seen _ = seen
@@ -84,6 +85,7 @@ items_flags flags nothing = flags
 items_flags flags (piece its p) = items_flags flags its
 items_flags flags (setting its change) = flags_after change (items_flags flags its)
 
+-- The flags after the inside of a group.
 abbrev pub branches_flags : Flags → Branches → Flags
 branches_flags flags (first its) = items_flags flags its
 branches_flags flags (next bs its) = items_flags (branches_flags flags bs) its

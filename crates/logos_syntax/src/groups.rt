@@ -156,7 +156,7 @@ impl OpenedGroup {
         Ok(())
     }
 
-    /// Ends a branch.
+    /// Ends the branch that is being read, and begins another one.
     fn next_branch(&mut self) -> Result<(), AllocError>
         ensures { OnOk result (group_view self.new ≡ next_branch (group_view self.old)) }
     {
@@ -176,8 +176,8 @@ impl OpenedGroup {
         group_tree(alloc, captured, simplifier::either(self.branches))
     }
 
-    /// Repeats the last part. `left` is the number of characters from the operator to the end of
-    /// the text.
+    /// Repeats the part that was added last. `left` is the number of characters from the operator
+    /// to the end of the text.
     ///
     /// # Errors
     ///
@@ -220,7 +220,7 @@ impl Groups {
         }
     }
 
-    /// Returns the flags that are on at this position.
+    /// Returns the flags that are on at the end of the text read so far.
     pub(crate) fn flags(&self) -> Flags
         ensures { result ≡ (state_view self.now).top.flags }
     {
@@ -241,7 +241,7 @@ impl Groups {
     }
 
     /// Returns the number of characters from the start of the part that an operator would repeat to
-    /// the end of the text.
+    /// the end of the text. Returns `None` if there is no such part.
     pub(crate) fn repeated(&self) -> Option<usize> {
         match &self.top.last {
             Some(part) => Some(part.left),
@@ -352,7 +352,7 @@ impl Groups {
         self.top.repeat(alloc, op, left)
     }
 
-    /// Reads the next token. `left` is the number of characters from the token to the end of the
+    /// Adds the next token. `left` is the number of characters from the token to the end of the
     /// text.
     ///
     /// # Errors

@@ -1,4 +1,4 @@
-//! The names of groups, which must be distinct. The parser calls it at each named group.
+//! Stores the names of groups, which must be distinct. The parser adds the name of each group.
 
 ghost use Rattle.std.specs.Prelude.{◌≡◌, ◌∷◌, [], List, not, bytes_eq, IfOk};
 ghost use Rattle.logos_syntax.specs.Views.{list_any, Text, token_view, HasNames, Admits};

@@ -45,9 +45,9 @@ impl PatternParser {
         }
     }
 
-    /// Returns the stop for a fault of counts. It is at the start of the part that the counts would
-    /// repeat. A brace that is not closed, and counts with nothing to repeat, are faults at the
-    /// brace.
+    /// Returns the stop for a fault of counts. The fault is at the start of the part that the
+    /// counts would repeat, but at the brace if the brace is not closed or if there is nothing to
+    /// repeat.
     fn count_stop(&self, kind: Kind, left: usize) -> Stop
         ensures { IsStopOf (Fault.Syntax kind) result }
     {

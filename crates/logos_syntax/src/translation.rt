@@ -11,7 +11,7 @@ use logos_hir::sets::RangeSet;
 use logos_pattern_tokens::token::{Atom, Flags};
 use std::alloc::{AllocError, Global};
 
-/// Returns the tree of one character, or of one byte, of the set.
+/// Returns the tree that matches one character, or one byte, of the set.
 pub(crate) fn one_of(alloc: Global, flags: Flags, set: RangeSet) -> Result<Hir, AllocError>
     ensures { IfOk result (λ hir. tree_of hir ≡ one_of flags (set_of set)) }
 {
@@ -111,7 +111,7 @@ fn boundary(negated: bool) -> Look
     }
 }
 
-/// Returns the tree of one member of a class, or of its complement.
+/// Returns the tree that matches one member of a class, or one member of its complement.
 fn class(alloc: Global, flags: Flags, negated: bool, set: RangeSet) -> Result<Hir, AllocError>
     ensures { IfOk result (λ hir. tree_of hir ≡
         one_of flags (set_or_complement flags negated (case_closure flags (set_of set)))) }

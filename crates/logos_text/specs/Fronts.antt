@@ -50,19 +50,21 @@ error_type_text None run = type_text run
 abbrev pub head_text : List ℕ → List ℕ → List ℕ
 head_text logos this = codes "impl < 's > " ++ logos ++ codes ":: Logos < 's > for " ++ this ++ codes " { "
 
--- Its associated types.
+-- The associated type of sources.
 abbrev pub source_text : List ℕ → List ℕ
 source_text source = codes "; type Source = " ++ source ++ codes "; "
 
+-- The associated types of the implementation.
 abbrev pub types_text : AroundValue → List ℕ
 types_text around =
     codes "type Error = " ++ error_type_text around.error_type around.error ++ codes "; type Extras = " ++ type_text around.extras ++ source_text around.source
 
--- The path of Rust's `core`, with the gap after it, as a text of code has it, and as one of tables:
--- there a module of this name beside the enum is another one.
+-- The path of Rust's `core`, with the gap after it, in a text of code.
 abbrev pub short_core : List ℕ
 short_core = codes "core "
 
+-- The whole path of Rust's `core`, with the gap after it, in a text of tables. No module beside the
+-- enum changes it.
 abbrev pub whole_core : List ℕ
 whole_core = codes ":: core "
 
@@ -70,31 +72,37 @@ whole_core = codes ":: core "
 abbrev pub tables_lead : List ℕ
 tables_lead = codes "# [ inline ] "
 
--- The signature of the function that lexes, with this text before it and this path of `core`.
+-- The type of the lexer and the result type in the signature of the function that lexes, up to the
+-- path of the library.
 abbrev pub answer_text : List ℕ → List ℕ
 answer_text core =
     codes ":: Lexer < 's , Self > ) -> " ++ core ++ codes ":: option :: Option < " ++ core
     ++ codes ":: result :: Result < Self , < Self as "
 
+-- The signature of the function that lexes, with the text `lead` before it and this path of `core`.
 abbrev pub signature_text : List ℕ → List ℕ → List ℕ → List ℕ
 signature_text lead core logos = lead ++ codes "fn lex ( lex : & mut " ++ logos ++ answer_text core ++ logos ++ codes ":: Logos < 's >> :: Error >> { "
 
--- The imports of that function: of items of the library that only it uses, of types of `core`, and
--- of `Logos`, with the type of the lexer.
+-- The import of the items of the library that only the function that lexes uses.
 abbrev pub internals_text : List ℕ → List ℕ
 internals_text logos =
     codes "use " ++ logos ++ codes ":: internal :: { LexerInternal , CallbackRetVal , CallbackResult , SkipRetVal , SkipResult , } ; "
 
+-- The imports of types of `core`.
 abbrev pub core_text : List ℕ → List ℕ
 core_text core = codes "use " ++ core ++ codes ":: result :: Result as _Result ; use " ++ core ++ codes ":: option :: Option as _Option ; "
 
+-- The rest of the type of the lexer, after the path of the library.
 abbrev pub lexer_end_text : List ℕ → List ℕ
 lexer_end_text this = codes ":: Lexer < 's , " ++ this ++ codes " > ; "
 
+-- The import of `Logos`, and the type of the lexer.
 abbrev pub lexer_text : List ℕ → List ℕ → List ℕ
 lexer_text logos this =
     codes "use " ++ logos ++ codes ":: Logos ; type _Lexer < 's > = " ++ logos ++ lexer_end_text this
 
+-- All imports of the function that lexes: of items of the library, of types of `core`, and of
+-- `Logos`, with the type of the lexer.
 abbrev pub uses_text : List ℕ → List ℕ → List ℕ → List ℕ
 uses_text core logos this = internals_text logos ++ core_text core ++ lexer_text logos this
 
@@ -112,7 +120,7 @@ tables_use_text logos = codes "use " ++ logos ++ codes ":: internal :: { _Data ,
 abbrev pub last_arm_text : List ℕ
 last_arm_text = codes "_ => _Option :: None } } "
 
--- The text begins with this one.
+-- The text begins with `front`.
 pub record BeginsWith (front text : List ℕ) : Type 0 where
   pub rest : List ℕ
   pub is : text ≡ front ++ rest

@@ -1,4 +1,4 @@
--- Where tokens of a source are printed in a text.
+-- The locations at which tokens of a source are printed in a text.
 use Rattle.std.specs.Prelude.{◌≡◌, ℕ, ◌+◌, List, [], ◌∷◌, ◌++◌, length, string_bytes}
 use Rattle.logos_lexeme.specs.declared.lexeme.Span.{Span}
 use Rattle.logos_text.specs.declared.sink.Piece.{Piece}
@@ -11,8 +11,8 @@ use Rattle.logos_token.specs.Tokens.{TokenList, run_span}
 abbrev pub piece_at : ℕ → TokenList → Piece
 piece_at from run = record { from = from; to = from + length (printed run); span = run_span run }
 
--- These runs are printed in a text that begins at an offset: each once, in order and without
--- overlap. These are their pieces, and there are no others.
+-- The runs are printed in a text that begins at an offset: each once, in order and without overlap.
+-- `pieces` are their pieces, and there are no others.
 abbrev pub ArePrinted : List TokenList → ℕ → List Piece → List ℕ → Type 0
 ArePrinted [] offset pieces text = pieces ≡ []
 ArePrinted (run ∷ runs) offset pieces text =
@@ -24,25 +24,25 @@ pub record IsEmptySink (sink : Sink) : Type 0 where
   pub text : string_bytes sink.text ≡ []
   pub pieces : sink.pieces.items ≡ []
 
--- A sink was given this text, in which these runs are printed.
+-- The text was appended to a sink, and the runs are printed in it.
 pub record Prints (text : List ℕ) (runs : List TokenList) (old new : Sink) : Type 0 where
   pub pieces : List Piece
   pub is_text : string_bytes new.text ≡ string_bytes old.text ++ text
   pub are_pieces : new.pieces.items ≡ old.pieces.items ++ pieces
   pub printed : ArePrinted runs (length (string_bytes old.text)) pieces text
 
--- A sink was given the printed text of tokens with this span.
+-- The printed text of tokens with this span was appended to a sink.
 pub record PrintsPiece (text : List ℕ) (span : Span) (old new : Sink) : Type 0 where
   pub is_text : string_bytes new.text ≡ string_bytes old.text ++ text
   pub are_pieces : new.pieces.items
       ≡ old.pieces.items ++ record { from = length (string_bytes old.text); to = length (string_bytes old.text) + length text; span = span } ∷ []
 
--- A sink was given some text, in which these runs are printed.
+-- Some text was appended to a sink, and the runs are printed in it.
 pub record Notes (runs : List TokenList) (old new : Sink) : Type 0 where
   pub text : List ℕ
   pub prints : Prints text runs old new
 
--- A sink was given some text, which ends so, and in which these runs are printed.
+-- Some text that ends with `last` was appended to a sink, and the runs are printed in it.
 pub record NotesLast (last : List ℕ) (runs : List TokenList) (old new : Sink) : Type 0 where
   pub front : List ℕ
   pub prints : Prints (front ++ last) runs old new

@@ -7,10 +7,11 @@ use Rattle.logos_pattern.specs.declared.leaf.Callback.{Callback}
 use Rattle.logos_token.specs.declared.token.Ident.{Ident}
 use Rattle.logos_token.specs.Tokens.{TokenList, identifier, none, also}
 
--- A name.
+-- The run of a name.
 abbrev pub name_run : Ident → TokenList
 name_run name = also (identifier name.text.now name.span) none
 
+-- The run of a name, as a list.
 abbrev pub name_runs : Ident → List TokenList
 name_runs name = name_run name ∷ []
 
@@ -19,6 +20,7 @@ abbrev pub noted_runs : TokenList → List TokenList
 noted_runs none = []
 noted_runs (also token rest) = also token rest ∷ []
 
+-- A run, if there is one and it is not empty.
 abbrev pub option_runs : Option TokenList → List TokenList
 option_runs None = []
 option_runs (Some run) = noted_runs run
@@ -32,15 +34,16 @@ abbrev pub callback_runs : CallbackValue → List TokenList
 callback_runs (named tokens) = noted_runs tokens
 callback_runs (written arg body span) = inline_runs arg body
 
+-- The runs of a callback, if there is one.
 abbrev pub called_runs : Option CallbackValue → List TokenList
 called_runs None = []
 called_runs (Some callback) = callback_runs callback
 
--- The name of an enum, and that of one of its variants.
+-- The runs of the name of an enum and of the name of one of its variants.
 abbrev pub variant_runs : Ident → Ident → List TokenList
 variant_runs name variant = name_run name ∷ name_run variant ∷ []
 
--- The variant of a leaf of this kind.
+-- The runs that name the variant of a leaf of this kind.
 abbrev pub kind_runs : Ident → KindValue → List TokenList
 kind_runs name (plain variant) = variant_runs name variant
 kind_runs name (holding variant type) = variant_runs name variant
@@ -64,7 +67,7 @@ is_called leaf = is_some leaf.callback || is_value (kind_value leaf.kind)
 abbrev pub called_leaf_runs : Ident → CodeLeaf → List TokenList
 called_leaf_runs name leaf = if is_called leaf then leaf_runs name leaf else []
 
--- The variant of a leaf, if it has no callback and no value.
+-- The runs that name the variant of a leaf, if it has no callback and no value.
 abbrev pub plain_leaf_runs : Ident → CodeLeaf → List TokenList
 plain_leaf_runs name leaf = if is_called leaf then [] else kind_runs name (kind_value leaf.kind)
 
@@ -72,7 +75,7 @@ plain_leaf_runs name leaf = if is_called leaf then [] else kind_runs name (kind_
 abbrev pub action_runs : Ident → Option Callback → List CodeLeaf → List TokenList
 action_runs name callback leaves = called_runs (option_map callback_value callback) ++ flat_map (leaf_runs name) leaves
 
--- The runs that those of a text of tables repeat.
+-- The runs that the functions for errors, matches and tokens of a text of tables repeat.
 abbrev pub table_runs : Ident → Option Callback → List CodeLeaf → List TokenList
 table_runs name callback leaves =
     called_runs (option_map callback_value callback) ++ (flat_map (called_leaf_runs name) leaves ++ flat_map (plain_leaf_runs name) leaves)

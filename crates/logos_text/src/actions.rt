@@ -69,7 +69,7 @@ fn push_action_arms(
     Ok(())
 }
 
-/// Appends the match arm of leaf number n, if it has a callback or a value.
+/// Appends the match arm of leaf `n`, if it has a callback or a value.
 fn push_action_arm(
     alloc: Global,
     sink: &mut Sink,
@@ -86,7 +86,7 @@ fn push_action_arm(
     Ok(())
 }
 
-/// Appends the match arm of leaf number n, which has a callback or a value.
+/// Appends the match arm of leaf `n`, which has a callback or a value.
 fn push_called_arm(
     alloc: Global,
     sink: &mut Sink,
@@ -134,7 +134,7 @@ fn push_token_arms(sink: &mut Sink, leaves: &[CodeLeaf<'_>], name: Ident<'_>) ->
     Ok(())
 }
 
-/// Appends the match arm of leaf number n, if it has no callback and no value.
+/// Appends the match arm of leaf `n`, if it has no callback and no value.
 fn push_token(sink: &mut Sink, n: usize, leaf: &CodeLeaf<'_>, name: Ident<'_>) -> Result<(), Memory>
     ensures { OnOk result (Notes (plain_leaf_runs name.entry leaf.now) sink.old sink.new) }
 {
@@ -146,7 +146,7 @@ fn push_token(sink: &mut Sink, n: usize, leaf: &CodeLeaf<'_>, name: Ident<'_>) -
     }
 }
 
-/// Appends the match arm of leaf number n, which has this variant.
+/// Appends the match arm of leaf `n`, which has this variant.
 fn push_token_arm(
     sink: &mut Sink,
     n: usize,

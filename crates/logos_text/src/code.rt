@@ -1,4 +1,4 @@
-//! Prints a whole code. Called by `logos_codegen`.
+//! Prints a whole code. `logos_codegen` calls it.
 
 ghost use Rattle.std.specs.Prelude.{[], IfOk, OnOk, map, string_bytes};
 ghost use Rattle.logos_text.specs.Views.{Adds, ArePrinted, BeginsWith, Grows, IsFront, Notes, OccurInOrder, action_runs, around_value, code_of, flat_map, front_runs, opening_text, printed_type, short_core, state_of, state_texts, text_runs, texts_in, texts_of, type_tree};
@@ -22,8 +22,8 @@ use std::alloc::Global;
 const SHORT_CORE: &str = "core ";
 /// The path of `core` in a text of tables: the whole path, which no module beside the enum changes.
 const WHOLE_CORE: &str = ":: core ";
-/// Precedes the function that lexes by tables. It is short, and a caller that inlines it keeps the
-/// lexer in registers.
+/// The text before the function that lexes by tables. The function is short, and a caller that
+/// inlines it keeps the lexer in registers.
 const TABLES_LEAD: &str = "# [ inline ] ";
 
 /// Returns the Rust text of a code, as the body of a function: its tokens, with the gaps that

@@ -1,5 +1,5 @@
-//! Prints conditions. Called by `forks` for each branch, and by `states` for fast loops and for the
-//! end of the input.
+//! Prints conditions. `forks` calls it for each branch, and `states` for fast loops and for the end
+//! of the input.
 
 ghost use Rattle.std.specs.Prelude.{◌≡◌, ◌++◌, ◌∷◌, [], ◌==◌, ◌<◌, OnOk, map, codes, string_bytes};
 ghost use Rattle.logos_text.specs.Imports.{flat_map, join_by, comparison_of, condition_of, is_quoted, end_text, exception_text, single_text, between_text, comparison_text, bit_text, test_text, transition_text, condition_text};
@@ -47,7 +47,7 @@ fn push_quoted(text: &mut String, character: char) -> Result<(), Memory>
     Ok(())
 }
 
-/// Appends that the byte is not this one.
+/// Appends the condition that the byte is not `byte`.
 fn push_exception(text: &mut String, byte: u8) -> Result<(), Memory>
     ensures { OnOk result (string_bytes text.new ≡ string_bytes text.old ++ exception_text byte) }
 {
@@ -55,7 +55,7 @@ fn push_exception(text: &mut String, byte: u8) -> Result<(), Memory>
     Ok(())
 }
 
-/// Appends that the byte is none of these.
+/// Appends the conditions that the byte is none of `bytes`.
 fn push_exceptions(text: &mut String, bytes: &[u8]) -> Result<(), Memory>
     ensures { OnOk result (string_bytes text.new
         ≡ string_bytes text.old ++ flat_map exception_text bytes.now) }
@@ -79,7 +79,7 @@ fn push_comparison(text: &mut String, comparison: &Comparisons) -> Result<(), Me
     push_between(text, first, last, &comparison.except)
 }
 
-/// Appends that the byte is this one.
+/// Appends the condition that the byte is `byte`.
 fn push_single(text: &mut String, byte: u8) -> Result<(), Memory>
     ensures { OnOk result (string_bytes text.new ≡ string_bytes text.old ++ single_text byte) }
 {
@@ -89,7 +89,7 @@ fn push_single(text: &mut String, byte: u8) -> Result<(), Memory>
     Ok(())
 }
 
-/// Appends that the byte is from `first` to `last`, and is not an exception.
+/// Appends the condition that the byte is from `first` to `last` and is not an exception.
 fn push_between(text: &mut String, first: u8, last: u8, except: &[u8]) -> Result<(), Memory>
     ensures { OnOk result (string_bytes text.new
         ≡ string_bytes text.old ++ between_text first last except.now) }
@@ -158,7 +158,7 @@ fn push_test(text: &mut String, test: &Condition) -> Result<(), Memory>
     Ok(())
 }
 
-/// Appends that the bit of the test with this number is set.
+/// Appends the condition that the bit of the test with this number is set.
 fn push_bit_test(text: &mut String, test: usize) -> Result<(), Memory>
     ensures { OnOk result (string_bytes text.new
         ≡ string_bytes text.old ++ bit_text test ++ codes " != 0") }

@@ -30,7 +30,7 @@ pub(crate) fn push_make_error(
     Ok(())
 }
 
-/// Appends the body of that function: the default error, or the call of the error callback.
+/// Appends the body of `_make_error`: the default error, or the call of the error callback.
 fn push_error_body(
     alloc: Global,
     sink: &mut Sink,

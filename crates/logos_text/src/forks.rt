@@ -1,4 +1,4 @@
-//! Prints forks. Called by `states` for each state.
+//! Prints forks. `states` calls it for each state.
 
 ghost use Rattle.std.specs.Prelude.{◌∷◌, [], OnOk, map, string_bytes};
 ghost use Rattle.logos_text.specs.Imports.{branch_of, fork_of, Adds, Grows, branch_text, fork_texts};

@@ -20,7 +20,8 @@ pub struct Around<'t, 's> {
     pub logos: Option<Tokens<'t, 's>>,
     /// The type of errors. Without tokens it is `()`.
     pub error: Option<Tokens<'t, 's>>,
-    /// The type of errors as it was read from these tokens, if it was: then this is printed.
+    /// The type of errors as it was read from the tokens of `error`, if it was read. It is printed
+    /// in place of the tokens.
     pub error_type: Option<&'t TypeExpr<'s>>,
     /// The type of extras. Without tokens it is `()`.
     pub extras: Option<Tokens<'t, 's>>,
@@ -137,8 +138,8 @@ fn push_error(alloc: Global, sink: &mut Sink, around: Around<'_, '_>) -> Result<
     }
 }
 
-/// Appends a type that was read from tokens, and the gap after these. Where it is printed as they
-/// are, they are a piece.
+/// Appends a type that was read from tokens, and the gap after the tokens. If the tokens are
+/// printed as the type is, they become a piece.
 fn push_read_type(
     alloc: Global,
     sink: &mut Sink,
@@ -161,7 +162,7 @@ fn push_read_type(
     }
 }
 
-/// Appends the printed form of a type that was read from tokens, and the gap after these.
+/// Appends the printed form of a type that was read from tokens, and the gap after the tokens.
 fn push_typed_run(
     alloc: Global,
     sink: &mut Sink,

@@ -88,7 +88,7 @@ fn push_no_arm(sink: &mut Sink) -> Result<(), Memory>
     sink.push("Some ( _ ) => unreachable ! ( \"There are no matchable tokens\" ) , ")
 }
 
-/// Appends the match arm of leaf number n.
+/// Appends the match arm of leaf `n`.
 fn push_arm(
     alloc: Global,
     sink: &mut Sink,

@@ -1,4 +1,4 @@
-//! Prints a code value as generated code. Called by `logos_codegen` and `logos_tables`.
+//! Prints a code value as generated code. `logos_codegen` calls it.
 
 #![tactic(auto)]
 

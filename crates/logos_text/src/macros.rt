@@ -1,4 +1,4 @@
-//! Prints the macros of a lexer. Called by `code` before the states.
+//! Prints the macros of a lexer. `code` calls it before it prints the states.
 
 ghost use Rattle.std.specs.Prelude.{OnOk, string_bytes};
 ghost use Rattle.logos_text.specs.Imports.{Grows};

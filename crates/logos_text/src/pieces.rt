@@ -1,11 +1,11 @@
-//! Appends to a text. Called by all printers.
+//! Appends parts to a text. All printers call it.
 
 ghost use Rattle.std.specs.Prelude.{◌≡◌, ◌==◌, ◌++◌, OnOk, codes, if◌then◌else◌, string_bytes};
 ghost use Rattle.logos_text.specs.Imports.{Grows};
 
 use logos_token::error::Memory;
 
-/// Appends a part.
+/// Appends `part` to the text.
 pub(crate) fn push_str(text: &mut String, part: &str) -> Result<(), Memory>
     ensures { OnOk result (string_bytes text.new ≡ string_bytes text.old ++ part.now) }
 {
@@ -13,7 +13,7 @@ pub(crate) fn push_str(text: &mut String, part: &str) -> Result<(), Memory>
     Ok(())
 }
 
-/// Appends a part that is neither a condition nor a table.
+/// Appends `part`, which is neither a condition nor a table, to the text.
 pub(crate) fn push(text: &mut String, part: &str) -> Result<(), Memory>
     ensures { OnOk result (Grows (string_bytes text.old) (string_bytes text.new)) }
 {

@@ -16,16 +16,16 @@ use std::alloc::Global;
 pub struct Piece {
     pub from: usize,
     pub to: usize,
-    /// In bytes of the source.
+    /// The span of the tokens in the source, in bytes.
     pub span: Span,
 }
 
 /// A statement of a text that calls a callback.
 #[derive(Clone, Copy, Debug, PartialEq, Eq)]
 pub struct Call {
-    /// Where the statement begins in the text, in bytes.
+    /// The byte offset at which the statement begins in the text.
     pub offset: usize,
-    /// Where the callback begins in the source, in bytes.
+    /// The byte offset at which the callback begins in the source.
     pub from: usize,
 }
 
@@ -52,7 +52,7 @@ impl Sink {
         }
     }
 
-    /// Appends a text that is not the user's.
+    /// Appends a text that is not part of the source.
     pub(crate) fn push(&mut self, part: &str) -> Result<(), Memory>
         ensures { OnOk result (Prints part.now [] self.old self.new) }
     {
@@ -102,7 +102,7 @@ impl Sink {
         Ok(())
     }
 
-    /// Notes that a statement with a callback comes next.
+    /// Records that a statement that calls a callback comes next.
     pub(crate) fn note_call(&mut self, callback: &Callback<'_>) -> Result<(), Memory>
         ensures { OnOk result (Prints [] [] self.old self.new) }
     {

@@ -1,4 +1,4 @@
-//! Prints states. Called by `code`, for a loop over a state variable or a function for each state.
+//! Prints states, for a loop over a state variable or a function for each state. `code` calls it.
 
 ghost use Rattle.std.specs.Prelude.{OnOk, map, string_bytes};
 ghost use Rattle.logos_text.specs.Imports.{flat_map, state_of, Adds, Grows, state_texts};
@@ -29,7 +29,7 @@ fn distance(late: bool) -> &'static str {
     if late { " - 1" } else { "" }
 }
 
-/// Appends that a match ends here, if the state has a mark.
+/// Appends the statements that record a match which ends here, if the state has a mark.
 fn push_mark(text: &mut String, mark: Option<Mark>) -> Result<(), Memory>
     ensures { OnOk result (Grows (string_bytes text.old) (string_bytes text.new)) }
 {
@@ -67,7 +67,7 @@ fn push_at_end(text: &mut String, at_end: Option<usize>, shape: Config) -> Resul
     push(text, " ")
 }
 
-/// Appends the start of state number s: a match arm, or the signature of a function.
+/// Appends the start of state `s`: a match arm, or the signature of a function.
 fn push_head(text: &mut String, s: usize, names: Names<'_>) -> Result<(), Memory>
     ensures { OnOk result (Grows (string_bytes text.old) (string_bytes text.new)) }
 {
@@ -119,7 +119,7 @@ fn push_after(
     )
 }
 
-/// Appends state number s.
+/// Appends state `s`.
 fn push_state(
     alloc: Global,
     text: &mut String,

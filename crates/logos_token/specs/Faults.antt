@@ -1,4 +1,4 @@
--- A fault.
+-- The faults of a source.
 use Rattle.std.specs.Prelude.{ℕ, List, Option}
 use Rattle.logos_lexeme.specs.declared.lexeme.Span.{Span}
 use Rattle.logos_token.specs.declared.error.fault_code.FaultCode.{FaultCode}

@@ -5,16 +5,16 @@ use Rattle.logos_lexeme.specs.declared.lexeme.Spacing.{Spacing}
 use Rattle.logos_lexeme.specs.declared.lexeme.Spacing.TheVariants.{Alone, Joint}
 use Rattle.logos_token.specs.Tokens.{TokenList, identifier, punctuation, also}
 
--- `:`
+-- The character `:`.
 abbrev pub colon : ℕ
 colon = 58
 
--- Whether the run begins with this punctuation, of either spacing.
+-- Whether the run begins with this punctuation, joint or alone.
 abbrev pub begins_with : ℕ → TokenList → Bool
 begins_with mark (also (punctuation character spacing span) rest) = character == mark
 begins_with mark run = false
 
--- The tokens after this word, if the run begins with the word.
+-- The tokens after a word, if the run begins with the word.
 abbrev pub after_word : List ℕ → TokenList → Option TokenList
 after_word word (also (identifier text span) rest) = if bytes_eq text word then Some rest else None
 after_word word run = None

@@ -16,6 +16,7 @@ pub data EntryValue : Type 0 where
   doc_entry : (text : List ℕ) (span : Span) → EntryValue
   group_entry : (delimiter : Delimiter) (span : Span) (size : ℕ) → EntryValue
 
+-- The value that an entry of a buffer represents.
 abbrev pub value_of : Entry → EntryValue
 value_of (Ident i) = identifier_entry i.text.now i.span
 value_of (Punct p) = punctuation_entry p.character p.spacing p.span
@@ -23,7 +24,7 @@ value_of (Literal l) = literal_entry l.text.now l.span
 value_of (Doc d) = doc_entry d.text.now d.span
 value_of (Group delimiter span size) = group_entry delimiter span size
 
--- The number of the next entries that belong to an entry.
+-- The number of entries inside an entry, which follow it.
 abbrev pub size_of : Entry → ℕ
 size_of (Ident i) = 0
 size_of (Punct p) = 0
@@ -45,7 +46,7 @@ abbrev mutual
   flat none = []
   flat (also token rest) = flat_token token ++ flat rest
 
--- The tokens of at most `n` entries.
+-- The tokens of a list of entries, if it has at most `n` entries.
 abbrev pub trees_of : ℕ → List EntryValue → TokenList
 trees_of zero entries = none
 trees_of (suc n) [] = none

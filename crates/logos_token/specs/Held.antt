@@ -24,11 +24,11 @@ held_from escapes content closes bytes (suc most) at =
     if closes at then Some []
     else option_and_then (λ piece. option_map (λ rest. piece.0 ++ rest) (held_from escapes content closes bytes most piece.1)) (piece_at escapes content bytes at)
 
--- Whether a quote is here.
+-- Whether a quote is at a byte offset.
 abbrev pub is_quote : List ℕ → ℕ → Bool
 is_quote bytes at = slice_index bytes at == 34
 
--- Whether a quote followed by `count` `#` is here.
+-- Whether a quote followed by `count` `#` is at a byte offset.
 abbrev pub is_raw_quote : ℕ → List ℕ → ℕ → Bool
 is_raw_quote count bytes at = (slice_index bytes at == 34) && nat_le count (hashes bytes (at + 1))
 

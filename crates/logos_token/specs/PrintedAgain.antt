@@ -30,8 +30,8 @@ pub record SpellsAgain (bytes : List ℕ) (tokens : TokenList) : Type 0 where
   pub spelled : Spells bytes again
   pub same : bare again ≡ bare tokens
 
--- The run consists of neighboring tokens of these, or of tokens inside one of their groups, at any
--- depth.
+-- The run consists of neighboring tokens of another run, or of tokens inside one of its groups, at
+-- any depth.
 pub data IsRunOf (run : TokenList) : TokenList → Type 0 where
   here : {tokens : TokenList} (front back : TokenList) → tokens ≡ append front (append run back) → IsRunOf run tokens
   within : {tokens : TokenList} (front : TokenList) (delimiter : Delimiter) (span : Span) (inside back : TokenList) → tokens ≡ append front (also (group delimiter span inside) back) → IsRunOf run inside → IsRunOf run tokens

@@ -36,6 +36,7 @@ is_line_comment [] = false
 is_line_comment (first ∷ []) = false
 is_line_comment (first ∷ second ∷ rest) = second == 47
 
+-- A lexeme with this text, and a space after it.
 abbrev pub spaced : List ℕ → Part
 spaced text = record { text = text; gap = codes " " }
 

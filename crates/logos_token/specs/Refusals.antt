@@ -12,8 +12,8 @@ IsRefusal bytes LimitSource = 16777216 < length bytes
 IsRefusal bytes (LimitTokenNesting span) = IsTooDeep bytes span
 IsRefusal bytes Memory = Unit {0}
 
--- A source with a lexical fault spells no tokens, and one that is nested too deeply spells only
--- tokens that are nested too deeply.
+-- If a source is refused for a lexical fault, it spells no tokens. If it is refused because too
+-- many delimiters are open, all tokens that it spells are nested too deeply.
 abbrev pub SpellsNothing : List ℕ → TokenError → Type 0
 SpellsNothing bytes (Lexical kind span) = (tokens : TokenList) → Spells bytes tokens → ⊥
 SpellsNothing bytes LimitSource = Unit {0}

@@ -1,5 +1,5 @@
--- The rendered text of faults: a function that does not compile and whose compiler errors are their
--- messages.
+-- The rendered text of faults: a function that does not compile and whose compile errors are the
+-- messages of the faults.
 use Rattle.std.specs.Prelude.{ℕ, List, [], ◌∷◌, ◌++◌, codes, Option, Some, None}
 use Rattle.std.specs.List.{flat_map}
 use Rattle.logos_token.specs.EscapedTexts.{escaped}

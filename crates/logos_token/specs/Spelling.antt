@@ -1,5 +1,5 @@
--- The tokens that a source spells: the source is a sequence of pieces, and these are the lexemes of
--- the tokens.
+-- The tokens that a source spells: the source is a sequence of pieces, and the lexemes of the
+-- pieces are those of the tokens.
 use Rattle.std.specs.Prelude.{◌≡◌, ℕ, ◌+◌, ◌-◌, ◌<◌, ◌≤◌, max, Bool, true, false, List, [], ◌∷◌, ◌++◌, length, slice_index, slice_range, Option, Some, None, if◌then◌else◌}
 use Rattle.logos_lexeme.specs.declared.lexeme.Span.{Span}
 use Rattle.logos_lexeme.specs.declared.lexeme.Delimiter.{Delimiter}
@@ -64,7 +64,7 @@ pub record Spells (bytes : List ℕ) (tokens : TokenList) : Type 0 where
   pub nested : lexemes tokens ≡ seen bytes pieces
 
 abbrev mutual
-  -- A token is at or after this byte offset. It is not empty, its text is the source at its span,
+  -- A token occurs at or after a byte offset: it is not empty, its text is the source at its span,
   -- and the tokens inside a group are between its delimiters.
   pub TokenOccurs : List ℕ → ℕ → Token → Type 0
   TokenOccurs bytes from (identifier text span) = (from ≤ span.from) × (span.from < span.to) × (text ≡ slice_range bytes span.from span.to)

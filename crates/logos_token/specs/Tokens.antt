@@ -61,7 +61,7 @@ abbrev mutual
   count_of none = 0
   count_of (also token rest) = token_count token + count_of rest
 
--- One run after another.
+-- The tokens of a run, and after them those of another.
 abbrev pub append : TokenList → TokenList → TokenList
 append none more = more
 append (also token rest) more = also token (append rest more)
@@ -72,7 +72,7 @@ pub record IsRestOf (run rest : TokenList) : Type 0 where
   pub is : run ≡ append front rest
 
 abbrev mutual
-  -- The number of groups nested inside one another in a token, which counts itself.
+  -- The depth of the groups that are nested in a token, with the token itself if it is a group.
   pub token_depth : Token → ℕ
   token_depth (identifier text span) = 0
   token_depth (punctuation character spacing span) = 0
@@ -80,7 +80,7 @@ abbrev mutual
   token_depth (doc text span) = 0
   token_depth (group delimiter span inside) = 1 + depth_of inside
 
-  -- The number of groups nested inside one another in a run.
+  -- The depth of the groups that are nested in a run.
   pub depth_of : TokenList → ℕ
   depth_of none = 0
   depth_of (also token rest) = max (token_depth token) (depth_of rest)

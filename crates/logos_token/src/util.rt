@@ -62,7 +62,7 @@ impl<'a> ToIdent<'a> for &'a str {
     }
 }
 
-/// Tokens, or none. Without tokens it is printed as `()`.
+/// Tokens, or `Void` if there are none, which is printed as `()`.
 #[derive(Drop)]
 pub enum MaybeVoid<'s> {
     Some(TokenStream<'s>),

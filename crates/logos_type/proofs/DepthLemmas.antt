@@ -1,4 +1,4 @@
--- Where the levels are passed.
+-- Types that exceed the levels.
 use Rattle.std.proofs.Common.{◌≡◌, ℕ, ◌+◌, ◌-◌, ◌<◌, ◌≤◌, ◌==◌, ◌||◌, ◌⊎◌, ◌≢◌, inl, inr, max, Bool, true, false, refl, sym, ◌∙◌, arith}
 use Rattle.std.proofs.lemmas.Bool.Decides.{eqb_tells}
 use Rattle.logos_type.specs.Parts.{Tree, sign, name, whole, still, Trees, none, also}

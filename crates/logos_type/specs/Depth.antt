@@ -15,7 +15,7 @@ abbrev mutual
   depth_of (also part parts) = max (depth part) (depth_of parts)
 
 abbrev mutual
-  -- Whether a type is deeper than this number of levels.
+  -- Whether a type is deeper than `levels`.
   pub exceeds : ℕ → Tree → Bool
   exceeds levels (sign s) = false
   exceeds levels (name text) = levels == 0

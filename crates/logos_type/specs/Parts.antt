@@ -48,6 +48,7 @@ abbrev pub trees : List Tree → Trees
 trees [] = none
 trees (t ∷ rest) = also t (trees rest)
 
+-- The token that a value of type `TypeToken` represents.
 abbrev pub sign_of : TypeToken → Sign
 sign_of (Word text) = word text.now
 sign_of (Mark character) = mark character
@@ -63,13 +64,13 @@ sign_of (OtherLifetime text) = other_lifetime text.now
 sign_of (Punct character spacing) = spaced_mark character spacing
 sign_of (Doc text) = comment text.now
 
--- One part, with the trees of the parts inside it.
+-- The tree of a part, made from the trees of the parts inside it.
 abbrev pub node_tree : TypePart-F Tree → Tree
 node_tree (TypePart-F.Leaf leaf) = sign (sign_of leaf)
 node_tree (TypePart-F.Name text) = name text.now
 node_tree (TypePart-F.Whole parts) = whole (trees parts.items)
 node_tree (TypePart-F.Still parts) = still (trees parts.items)
 
--- The tree that a part holds.
+-- The tree that a part represents.
 abbrev pub tree_of : TypePart → Tree
 tree_of = fold-TypePart Tree node_tree

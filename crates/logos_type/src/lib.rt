@@ -1,5 +1,5 @@
-//! Rust types in an enum's fields and in attributes: their parts, and how they are printed, copied
-//! and compared. `logos_type_reader` makes them.
+//! Rust types in an enum's fields and in attributes: their parts, and their printing, copying and
+//! comparison. `logos_type_reader` makes them.
 
 #![tactic(auto)]
 

@@ -39,7 +39,7 @@ eq_sym a b = go (bytes_eq a b) (bytes_eq b a) refl refl
     go true false e f = absurd (other_text b a f (sym (same_text a b e)))
     go false true e f = absurd (other_text a b e (sym (same_text b a f)))
 
--- whether a text is among others is a question about them alone
+-- whether a text is among others depends only on them
 pub any_texts : (t : Text) (keys : List (Bor Text)) → list_any (λ (k : Bor Text). bytes_eq t k.now) keys ≡ list_any (bytes_eq t) (texts keys)
 any_texts t [] = refl
 any_texts t (k ∷ keys) = ap (λ b. bytes_eq t k.now || b) (any_texts t keys)

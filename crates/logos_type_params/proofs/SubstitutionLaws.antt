@@ -1,4 +1,4 @@
--- A type becomes one type at most, and where the limit is passed it becomes a deeper one.
+-- A type becomes at most one type, and a deeper one if the limit is exceeded.
 use Rattle.std.proofs.Common.{◌≡◌, ℕ, ◌-◌, ◌<◌, List, true, false, refl, sym, ap, ◌∙◌, arith}
 use Rattle.logos_type.specs.Parts.{Tree, name, whole, Trees, also}
 use Rattle.logos_type.specs.Depth.{some_exceed}

@@ -28,10 +28,11 @@ pub data Leads (params : List ParamValue) : List ℕ → List ℕ → Type 0 whe
   one : {from to : List ℕ} → holds params from to ≡ true → Leads params from to
   on : {from over to : List ℕ} → holds params from over ≡ true → Leads params over to → Leads params from to
 
--- The list has this text.
+-- The list contains the text.
 abbrev pub Has : List (List ℕ) → List ℕ → Type 0
 Has [] text = ⊥
 Has (t ∷ ts) text = (t ≡ text) ⊎ Has ts text
 
+-- The texts to which references point.
 abbrev pub texts : List (Bor (List ℕ)) → List (List ℕ)
 texts = map (λ b. b.now)

@@ -7,7 +7,7 @@ use Rattle.logos_type_params.specs.declared.substitution.TypeParam.{TypeParam}
 use Rattle.logos_type.specs.Parts.{Sign, reference, lifetime, Tree, sign, name, whole, still, Trees, none, also, tree_of}
 use Rattle.logos_type.specs.Depth.{some_exceed}
 
--- `s`
+-- The lifetime `'s`, without the `'`.
 abbrev pub source_lifetime : List ℕ
 source_lifetime = codes "s"
 
@@ -23,7 +23,7 @@ pub record ParamValue : Type 0 where
   pub name : List ℕ
   pub type : Tree
 
--- A name and the type that is given to it.
+-- A name and the type given to it, as a value.
 abbrev pub param_value : Bor (List ℕ) × TypeParam → ParamValue
 param_value entry = record { name = entry.0.now; type = tree_of entry.1.part }
 
@@ -38,13 +38,14 @@ pub data Given : Type 0 where
   a_name : (text : List ℕ) → Given
   a_type : (parts : Trees) → Given
 
+-- The replacement of a parameter with this type.
 abbrev pub given_type : Tree → Given
 given_type (sign s) = nothing
 given_type (name text) = a_name text
 given_type (whole parts) = a_type parts
 given_type (still parts) = nothing
 
--- The first type given to this name.
+-- The replacement of a name by the first type given to it, if there is one.
 abbrev pub given_first : List ParamValue → List ℕ → Given
 given_first [] text = nothing
 given_first (p ∷ ps) text = if bytes_eq p.name text then given_type p.type else given_first ps text
@@ -54,7 +55,7 @@ abbrev pub is_among : List (List ℕ) → List ℕ → Bool
 is_among [] text = false
 is_among (t ∷ ts) text = if bytes_eq t text then true else is_among ts text
 
--- The replacement of a name. A name that contains itself is not replaced.
+-- The replacement of a name. A parameter that contains itself is not replaced.
 abbrev pub given : Params → List ℕ → Given
 given params text = if is_among params.held text then nothing else given_first params.types text
 

@@ -2,7 +2,7 @@
 use Rattle.logos_type_reader.specs.declared.reader.TypeFault.{TypeFault}
 use Rattle.logos_type_reader.specs.declared.reader.TypeFault.TheVariants as faults
 
--- This holds if the limit on nesting was exceeded; otherwise memory ran out.
+-- The limit on nesting was exceeded, and `Holds` holds; or memory ran out.
 abbrev pub IfDeep : Type 0 → TypeFault → Type 0
 IfDeep Holds faults.LimitNesting = Holds
 IfDeep Holds faults.Memory = Unit {0}

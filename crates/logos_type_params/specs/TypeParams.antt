@@ -23,6 +23,7 @@ pub record Given : Type 0 where
   pub type : Tree
   pub at : Span
 
+-- The type given to a name, as a value.
 abbrev pub given_of : Bor (List ℕ) × TypeParam → Given
 given_of entry = record { name = record { text = entry.0.now; at = entry.1.at }; type = tree_of entry.1.part; at = entry.1.span }
 
@@ -57,6 +58,7 @@ own_lifetime (name text) = name text
 own_lifetime (whole parts) = whole parts
 own_lifetime (still parts) = still parts
 
+-- The parts, each with its lifetime set if it is a token.
 abbrev pub own_lifetimes : Trees → Trees
 own_lifetimes no_part = no_part
 own_lifetimes (and_part part parts) = and_part (own_lifetime part) (own_lifetimes parts)
@@ -133,12 +135,13 @@ abbrev pub given_more : Given → List Given → List Given
 given_more type [] = type ∷ []
 given_more type (g ∷ types) = if bytes_eq type.name.text g.name.text then type ∷ types else g ∷ given_more type types
 
+-- The faults of a second type for a name, if the name already has a type.
 abbrev pub given_faults : Option Span → Named → List Fault
 given_faults None named = []
 given_faults (Some span) named = type_twice named ∷ previous span ∷ []
 
--- A value is given to a name. Either the value is not a type, or the name is not declared, or the
--- name has this type afterwards.
+-- The result of assigning a value to a name: the value is not a type, or the name is not declared,
+-- or the name has this type afterwards.
 pub data IsSet (old : Value) (named : Named) (run : TokenList) (before : List Fault) (new : Value) (after : List Fault) : Type 0 where
   no_value : ReadsValue run (run_span run) before after None → new ≡ old → IsSet old named run before new after
   undeclared : {tree : Tree} → ReadsValue run (run_span run) before before (Some tree) → is_declared old.names named.text ≡ false → new ≡ old → after ≡ before ++ not_type_parameter named ∷ [] → IsSet old named run before new after

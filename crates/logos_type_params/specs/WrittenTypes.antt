@@ -27,7 +27,7 @@ pub data IsNeeded (params : List ParamValue) (text : List ℕ) (held held' : Lis
       IsNeeded params text held held'
   is_free : (Leads params text text → ⊥) → held' ≡ held → IsNeeded params text held held'
 
--- Exactly the names that have a type and are on a chain that leads back to them.
+-- `held` consists of the names that have a type and from which a chain leads back to them.
 pub record AreHeld (params : List ParamValue) (held : List (List ℕ)) : Type 0 where
   pub have_types : (text : List ℕ) → Has held text → Has (given_names params) text
   pub lead_back : (text : List ℕ) → Has held text → Leads params text text

@@ -1,4 +1,4 @@
-//! The declared type parameters of an enum, the types given to them, and the replacement of
+//! Stores the declared type parameters of an enum and the types given to them, and replaces
 //! parameters and lifetimes in types. `logos_definition` calls it.
 
 #![tactic(auto)]

@@ -1,5 +1,5 @@
-//! Sets the lifetimes of types to `'s`. Each type that is given to a parameter or written in a
-//! field passes through it.
+//! Sets the lifetimes of types to `'s`. `type_params` calls it for each type that is given to a
+//! parameter, and users of the library call it for other types.
 
 ghost use Rattle.std.specs.Prelude.{◌≡◌, map, IfOk};
 ghost use Rattle.logos_type_params.specs.Views.{whole, trees, tree_of, type_tree, with_lifetimes, with_lifetime, own_lifetime};

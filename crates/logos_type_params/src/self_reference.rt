@@ -108,7 +108,7 @@ impl<'p, 's> Chains<'p, 's> {
 ///
 /// # Errors
 ///
-/// Returns `Memory` if memory runs out.
+/// Returns `AllocError` if memory runs out.
 pub fn holds_itself<'s>(
     alloc: Global,
     params: &GivenTypes<'s>,

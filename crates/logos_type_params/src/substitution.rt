@@ -36,7 +36,8 @@ enum GivenType<'p, 's> {
     Parts(&'p [TypePart<'s>]),
 }
 
-/// Returns the token, with its lifetime replaced by `'s` if it is one of those that are set.
+/// Returns the token with its lifetime set to `'s`, if it is a reference or a lifetime among the
+/// angle arguments of a path that is a type. Any other token is unchanged.
 pub(crate) fn set_lifetime(leaf: TypeToken<'_>) -> TypeToken<'_>
     ensures { sign_of result ≡ set_sign (sign_of leaf.entry) }
 {
@@ -116,6 +117,8 @@ fn still_after<'s>(levels: u32, part: &TypePart<'s>) -> Result<TypePart<'s>, Typ
     Ok(part.clone()?)
 }
 
+/// Returns the replacement of a name, or the name itself if it has none. The parts of a type that
+/// replaces it are replaced in turn.
 #[cycle(after)]
 fn name_after<'s>(
     alloc: Global,
@@ -140,6 +143,7 @@ fn name_after<'s>(
     }
 }
 
+/// Returns the type of these parts, with the parameters in them replaced.
 #[cycle(after)]
 fn whole_after<'s>(
     alloc: Global,
@@ -159,6 +163,7 @@ fn whole_after<'s>(
     Ok(TypePart::Whole(after))
 }
 
+/// Returns the parts, with the parameters in each of them replaced.
 #[cycle(after)]
 fn parts_after<'s>(
     alloc: Global,

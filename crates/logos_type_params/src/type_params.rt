@@ -59,7 +59,7 @@ fn report_no_type(
 }
 
 /// Returns the type if no tokens are left after it. Otherwise reports at the span `at` that the run
-/// is not a type.
+/// is not a type, and returns `None`.
 fn whole_type<'s>(
     type_expr: TypeExpr<'s>,
     rest: Tokens<'_, 's>,
@@ -224,7 +224,7 @@ impl<'s> TypeParams<'s> {
     }
 
     /// Records that a lifetime parameter is declared. Reports a second one as `ManyLifetimes` at
-    /// this span.
+    /// `span`.
     ///
     /// # Errors
     ///
@@ -262,9 +262,9 @@ impl<'s> TypeParams<'s> {
         Ok(())
     }
 
-    /// Assigns the type that `value` spells to the parameter `name`. Reports a value that is
-    /// not a type, as `TypeSyntax` or `LimitTypeNesting`, and a name that is not declared, as
-    /// `NotTypeParameter`; in these cases no type is given. Reports a second type as `TypeTwice`,
+    /// Assigns the type that `value` spells to the parameter `name`. If `value` is not a type,
+    /// reports `TypeSyntax` or `LimitTypeNesting`; if `name` is not declared, reports
+    /// `NotTypeParameter`. In both cases no type is assigned. Reports a second type as `TypeTwice`,
     /// with the span of the first one, and assigns the second one.
     ///
     /// # Errors

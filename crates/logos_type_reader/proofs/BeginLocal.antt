@@ -1,4 +1,4 @@
--- How a type begins hangs on the tokens that it takes and the next sign alone.
+-- The beginning of a type depends only on the tokens that it takes and on the next sign.
 use Rattle.std.proofs.Common.{◌≡◌, ℕ, ◌==◌, List, Bool, true, false, bytes_eq, codes, if◌then◌else◌, Some, None, refl, subst}
 use Rattle.logos_lexeme.specs.declared.lexeme.Span.{Span}
 use Rattle.logos_lexeme.specs.declared.lexeme.Spacing.{Spacing}
@@ -15,14 +15,14 @@ use Rattle.logos_type_reader.specs.Table.{Spot, First, starts, refused, Fault, u
 use Rattle.logos_type_reader.specs.FaultStages.{start, past, SameSign, EndsWith, OccursAt, fault_at}
 use Rattle.logos_type_reader.proofs.SameSigns.{ForSame, ForSeen, for_same, colons_after, mark_same, continues_same, begins_name, in_front}
 
--- how a type begins: over tokens, or with a group
+-- the beginning of a type: tokens, or a group
 pub data Begun (plus : Bool) (run : TokenList) (barred : Bool) (s : Sign) (spot : Spot) : Type 0 where
   by_tokens : (t : Token) (front : TokenList) → run ≡ also t (append front spot.run) → spot.outside ≡ None →
       ((rest : TokenList) → SameSign spot.run rest → begin plus (also t (append front rest)) ≡ starts barred s (to spot.stage rest None)) → Begun plus run barred s spot
   by_group : (d : Delimiter) (g : Span) (rest : TokenList) → run ≡ also (group d g spot.run) rest → spot.outside ≡ Some rest →
       ((t : Span) (inside other : TokenList) → begin plus (also (group d t inside) other) ≡ starts barred s (to spot.stage inside (Some other))) → Begun plus run barred s spot
 
--- why none begins: at the first token, which is no name, or after some tokens
+-- the reason why none begins: the first token, which is no name, or a token after others
 pub data Refuses (plus : Bool) (run : TokenList) (fault : Fault) : Type 0 where
   at_once : begins_name run ≡ false → fault ≡ mismatch (first_span run) → ((l : TokenList) → SameSign run l → begin plus l ≡ refused (mismatch (first_span l))) → Refuses plus run fault
   after_some : (t : Token) (front left : TokenList) → run ≡ also t (append front left) → OccursAt fault (past t (in_front front start)) left →

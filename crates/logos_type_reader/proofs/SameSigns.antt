@@ -61,7 +61,7 @@ same_at {front = start} at_start at_start h = h
 same_at (past_token {token = t} a) (past_token b) h = same_after t (same_at a b h)
 same_at (in_group a) (in_group b) h = same_group
 
--- is the first token a name
+-- whether the first token is a name
 abbrev pub begins_name : TokenList → Bool
 begins_name (also (identifier text s) rest) = true
 begins_name run = false

@@ -1,4 +1,4 @@
--- Each move of the table hangs on the tokens that it takes and the next sign alone.
+-- Each move of the table depends only on the tokens that it takes and on the next sign.
 use Rattle.std.proofs.Common.{◌≡◌, ℕ, ◌==◌, ◌&&◌, ◌||◌, Bool, true, false, bytes_eq, codes, if◌then◌else◌, Option, Some, None, refl, ◌∙◌}
 use Rattle.logos_lexeme.specs.declared.lexeme.Span.{Span}
 use Rattle.logos_lexeme.specs.declared.lexeme.Spacing.{Spacing}
@@ -26,8 +26,8 @@ SameOpen None None = Unit {0}
 SameOpen (Some a) (Some b) = Unit {0}
 SameOpen a b = ⊥
 
--- How a spot is reached from a run: over tokens, into a group, or out of one. The property then
--- holds for all runs with these tokens in front.
+-- The path from a run to a spot: over tokens, into a group, or out of one. The property then holds
+-- for all runs with these tokens in front.
 pub data Passes (Q : TokenList → Option TokenList → Spot → Type 0) (run : TokenList) (b : Option TokenList) (spot : Spot) : Type 0 where
   over : (front : TokenList) → run ≡ append front spot.run → b ≡ spot.outside →
       ((rest : TokenList) (c : Option TokenList) → SameOpen b c → SameSign spot.run rest → Q (append front rest) c (to spot.stage rest c)) → Passes Q run b spot

@@ -22,7 +22,7 @@ abbrev pub with_outer : Stage → TokenList → Option TokenList → TokenList �
 with_outer p run None x = to p x None
 with_outer p run (Some rest) x = to p run (Some x)
 
--- a type hangs on its tokens and the next sign alone
+-- a type depends only on its tokens and on the next sign
 pub record TypeLocal (n : ℕ) (plus : Bool) (run : TokenList) (t : Tree) (rest : TokenList) : Type 0 where
   pub first : Token
   pub front : TokenList

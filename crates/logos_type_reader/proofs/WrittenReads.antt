@@ -157,7 +157,7 @@ referent_needs none n x = elim x [ ]
 referent_needs (also (literal text s) rest) n x = elim x [ ]
 referent_needs (also (doc text s) rest) n x = elim x [ ]
 
--- a reference begins so, if no lifetime comes
+-- the beginning of a reference without a lifetime
 reference_begins : (plus : Bool) (p : Spacing) (s : Span) (run : TokenList) → Begins run → begin plus (also (punctuation 38 p s) run) ≡ starts false (reference None) (at stage.Referent run None)
 unfolding begin
 reference_begins plus p s (also (identifier text t) rest) with_word = refl
@@ -697,7 +697,7 @@ bound_at : (plus : Bool) (b : Option TokenList) → TraitAt (stage.Bound plus) (
 unfolding next_at
 bound_at plus b = record { for_at = λ s run. refl; name_at = λ text s run n. rw n refl; root_at = λ s t o run. refl }
 
--- bounds begin so
+-- the beginnings of bounds
 any_path_bound : {levels : ℕ} {kind : PathKind} {run rest : TokenList} {parts : List Tree} {e : Ending} → AnyPath levels kind run parts rest e → begins_bound run ≡ true
 any_path_bound (from_name last) = refl
 any_path_bound (from_name (longer l)) = refl

@@ -70,8 +70,8 @@ fault_at (mismatch span) left = mismatch (first_span left)
 fault_at (unsupported span) left = unsupported span
 fault_at too_deep left = too_deep
 
--- A spot of the run at which the fault is, such that the front and the sign at the spot determine
--- the fault: each run that has both has this fault, regardless of the tokens after them.
+-- A spot of the run at which the fault occurs. The front and the sign at the spot determine the
+-- fault: each run that has both has this fault, regardless of the tokens after them.
 pub record FaultStage (levels : ℕ) (plus : Bool) (run : TokenList) (fault : Fault) : Type 0 where
   pub front : Front
   pub left : TokenList

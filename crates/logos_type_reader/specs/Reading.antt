@@ -1,5 +1,5 @@
--- The runs that begin with a type, and the positions at which the other runs cease to. `levels` is
--- the number of types that can be nested, where the outermost one counts.
+-- The runs that begin with a type, and the first fault of each other run. `levels` is the number of
+-- types that can be nested, where the outermost one counts.
 use Rattle.std.specs.Prelude.{◌≡◌, ℕ, ◌-◌, ◌<◌, ◌||◌, List, [], ◌∷◌, ◌++◌, Bool, true, false, Some, None}
 use Rattle.logos_token.specs.Tokens.{TokenList, rest_of, append, run_span}
 use Rattle.logos_type.specs.Parts.{Sign, Tree, sign, name, whole, still, trees, none, also}

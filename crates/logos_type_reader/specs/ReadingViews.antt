@@ -1,4 +1,4 @@
--- The contracts of the functions that read types.
+-- Properties of the results of the functions that read types.
 use Rattle.std.specs.Prelude.{◌≡◌, ℕ, ◌+◌, ◌*◌, ◌++◌, List, Bool, Option, Some, None, Result, Ok, Err}
 use Rattle.logos_token.specs.Tokens.{TokenList, count_of}
 use Rattle.logos_token.specs.declared.token.views.Tokens.{Tokens}
@@ -15,10 +15,12 @@ use Rattle.logos_type_reader.specs.declared.reader.TypeFault.TheVariants as faul
 use Rattle.logos_type_reader.specs.Reading.{next_of, IsMove, NoMove, AreParts, NoParts}
 use Rattle.logos_type_reader.specs.Table.{Spot, Move, ends, takes, bars, needs, keeps_type, keeps, nests, stops, First, starts, refused, Fault, unsupported, mismatch, too_deep}
 
+-- The tokens after the open group, if a group is open.
 abbrev pub outside_of : Option Tokens → Option TokenList
 outside_of (Some tokens) = Some (tokens_of tokens)
 outside_of None = None
 
+-- The spot that a value of the reader represents.
 abbrev pub spot_of : SpotView → Spot
 spot_of spot = record { stage = spot.stage; run = tokens_of spot.run; outside = outside_of spot.outside }
 
@@ -27,7 +29,7 @@ abbrev pub left : TokenList → Option TokenList → ℕ
 left run None = 2 * count_of run
 left run (Some rest) = 2 * (count_of run + count_of rest) + 1
 
--- The result is this next step.
+-- The result represents the next step `next`.
 abbrev pub IsStep : Result TypeStep StepFault → Move → Type 0
 IsStep (Ok End) next = next ≡ ends
 IsStep (Ok (Take leaf spot)) next = next ≡ takes (sign_of leaf) (spot_of spot)
@@ -39,7 +41,7 @@ IsStep (Ok (Nest leaf spot stage)) next = next ≡ nests (sign_of leaf) (spot_of
 IsStep (Err (Unsupported span)) next = next ≡ stops (unsupported span)
 IsStep (Err (Mismatch span)) next = next ≡ stops (mismatch span)
 
--- The result is this first token.
+-- The result represents the first token `first`.
 abbrev pub IsFirst : Result Beginning StepFault → First → Type 0
 IsFirst (Ok read) first = first ≡ starts read.barred (sign_of read.leaf) (spot_of read.spot)
 IsFirst (Err (Unsupported span)) first = first ≡ refused (unsupported span)
@@ -52,10 +54,12 @@ IfFault Holds (faults.Mismatch span) = Holds (mismatch span)
 IfFault Holds faults.LimitNesting = Holds too_deep
 IfFault Holds faults.Memory = Unit {0}
 
+-- The fault of a type for the fault of one of its steps.
 abbrev pub fault_of : StepFault → TypeFault
 fault_of (Unsupported span) = faults.Unsupported span
 fault_of (Mismatch span) = faults.Mismatch span
 
+-- The termination measure of the tokens that are left at a spot.
 abbrev pub spot_left : Spot → ℕ
 spot_left spot = left spot.run spot.outside
 

@@ -12,7 +12,7 @@ abbrev mutual
   still_token (doc text span) = sign (comment text) ∷ []
   still_token (group delimiter span inside) = sign (opening delimiter) ∷ (still_run inside ++ sign (closing delimiter) ∷ [])
 
-  -- The tokens of such a run, as parts, including those inside groups.
+  -- The tokens of an array's length or of braces, as parts, including the tokens inside groups.
   pub still_run : TokenList → List Tree
   still_run none = []
   still_run (also token rest) = still_token token ++ still_run rest

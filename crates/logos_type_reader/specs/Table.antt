@@ -68,6 +68,7 @@ pub data First : Type 0 where
   starts : (barred : Bool) → Sign → Spot → First
   refused : Fault → First
 
+-- No step fits, since the first token does not fit.
 abbrev pub mismatches : TokenList → Move
 mismatches run = stops (mismatch (first_span run))
 
@@ -128,7 +129,7 @@ abbrev pub opens : Delimiter → Span → Stage → TokenList → TokenList → 
 opens delimiter span next inside rest None = takes (opening delimiter) (to next inside (Some rest))
 opens delimiter span next inside rest (Some other) = stops (mismatch span)
 
--- A path that has had arguments is not the name of a macro.
+-- The kind of a path after its arguments: it is no longer the name of a macro.
 abbrev pub argued : PathKind → PathKind
 argued Plain = OfType
 argued OfType = OfType
@@ -140,11 +141,11 @@ abbrev pub name_end : PathKind → TokenList → Option TokenList → Move
 name_end Plain (also (punctuation c spacing span) rest) outside = if c == 33 then bars (mark 33) (to stage.Macro rest outside) else ends
 name_end kind run outside = ends
 
--- After the arguments of a path.
+-- After the arguments of a path: `::`, or the end of the path.
 abbrev pub segments_move : PathKind → TokenList → Option TokenList → Move
 segments_move kind run outside = if begins_colons run then takes colons (to (stage.Colons kind false) (after_two run) outside) else ends
 
--- After a name of a path.
+-- After a name of a path: `<`, parentheses, `::`, or the end of the path.
 abbrev pub named_move : PathKind → TokenList → Option TokenList → Move
 named_move kind (also (punctuation c spacing span) rest) outside =
     if c == 60 then takes (mark 60) (to (stage.Arguments (argued kind)) rest outside)
@@ -167,11 +168,12 @@ abbrev pub closes : Delimiter → Stage → Option TokenList → Move
 closes delimiter next (Some rest) = takes (closing delimiter) (to next rest None)
 closes delimiter next None = ends
 
--- Among arguments in parentheses.
+-- In the parentheses of a path: a type, or the end of the parentheses.
 abbrev pub inputs_move : TokenList → Option TokenList → Move
 inputs_move none outside = closes Parenthesis stage.Output outside
 inputs_move run outside = needs true stage.InputEnd
 
+-- After a type in the parentheses of a path: `,` or the end.
 abbrev pub input_end_move : TokenList → Option TokenList → Move
 input_end_move none outside = closes Parenthesis stage.Output outside
 input_end_move (also (punctuation c spacing span) rest) outside = if c == 44 then takes (mark 44) (to stage.Inputs rest outside) else stops (mismatch span)
@@ -189,7 +191,7 @@ abbrev pub argument_lifetime : PathKind → List ℕ → Sign
 argument_lifetime OfBound text = other_lifetime text
 argument_lifetime kind text = lifetime text
 
--- After `'`.
+-- After a `'` among arguments: the name of the lifetime.
 abbrev pub lifetime_move : PathKind → TokenList → Option TokenList → Move
 lifetime_move kind (also (identifier text span) rest) outside = takes (argument_lifetime kind text) (to (stage.ArgumentEnd kind) rest outside)
 lifetime_move kind run outside = mismatches run
@@ -218,7 +220,7 @@ abbrev pub braced_move : PathKind → TokenList → Option TokenList → Move
 braced_move kind none outside = closes Brace (stage.ArgumentEnd kind) outside
 braced_move kind run outside = keeps run (to (stage.Braced kind) none outside)
 
--- After a name before `=`.
+-- After a name before `=`: the `=`.
 abbrev pub equals_move : PathKind → TokenList → Option TokenList → Move
 equals_move kind (also (punctuation c spacing span) rest) outside = if c == 61 then takes (mark 61) (to (stage.Value kind) rest outside) else stops (mismatch span)
 equals_move kind run outside = mismatches run
@@ -251,6 +253,7 @@ abbrev pub list_move : TokenList → Option TokenList → Move
 list_move none outside = closes Parenthesis stage.End outside
 list_move run outside = needs true stage.ListEnd
 
+-- After a type in parentheses: `,` or the end.
 abbrev pub list_end_move : TokenList → Option TokenList → Move
 list_end_move none outside = closes Parenthesis stage.End outside
 list_end_move (also (punctuation c spacing span) rest) outside = if c == 44 then takes (mark 44) (to stage.List rest outside) else stops (mismatch span)
@@ -273,7 +276,7 @@ self_end_move (also (identifier text span) rest) outside = if bytes_eq text (cod
 self_end_move (also (punctuation c spacing span) rest) outside = if c == 62 then takes (mark 62) (to stage.SelfClosed rest outside) else stops (mismatch span)
 self_end_move run outside = mismatches run
 
--- Where a path begins, and the spot after it.
+-- Where a path begins: a name or `::`. `next` is the stage after the path.
 abbrev pub path_move : PathKind → Stage → TokenList → Move
 path_move kind next (also (identifier text span) rest) = nests (word text) (to (stage.Named kind) rest None) next
 path_move kind next (also (punctuation c spacing span) rest) =
@@ -343,6 +346,7 @@ abbrev pub for_move : Binder → TokenList → Option TokenList → Move
 for_move binder (also (punctuation c spacing span) rest) outside = if c == 60 then takes (mark 60) (to (stage.ForList binder) rest outside) else stops (mismatch span)
 for_move binder run outside = mismatches run
 
+-- At `'` in `for<..>`: a lifetime.
 abbrev pub for_lifetime_move : Binder → TokenList → Option TokenList → Move
 for_lifetime_move binder (also (identifier text span) rest) outside = takes (other_lifetime text) (to (stage.ForEnd binder) rest outside)
 for_lifetime_move binder run outside = mismatches run
@@ -398,11 +402,12 @@ taken_move none outside = closes Parenthesis stage.Output outside
 taken_move (also (identifier text span) rest) outside = if typing rest then takes (word text) (to stage.Typed rest outside) else needs true stage.OneTaken
 taken_move run outside = taken_value run outside
 
--- Between a name and `:`.
+-- Between the name of a parameter and `:`: the `:`.
 abbrev pub typed_move : TokenList → Option TokenList → Move
 typed_move (also (punctuation c spacing span) rest) outside = if c == 58 then takes (mark 58) (to stage.TypedValue rest outside) else stops (mismatch span)
 typed_move run outside = mismatches run
 
+-- After one parameter of a function: `,` or the end.
 abbrev pub one_taken_move : TokenList → Option TokenList → Move
 one_taken_move none outside = closes Parenthesis stage.Output outside
 one_taken_move (also (punctuation c spacing span) rest) outside = if c == 44 then takes (mark 44) (to stage.Taken rest outside) else stops (mismatch span)
@@ -414,6 +419,7 @@ variadic_move none outside = closes Parenthesis stage.Output outside
 variadic_move (also (punctuation c spacing span) rest) outside = if c == 44 then takes (mark 44) (to stage.VariadicEnd rest outside) else stops (mismatch span)
 variadic_move run outside = mismatches run
 
+-- After the `,` that follows `...`: the end.
 abbrev pub variadic_end_move : TokenList → Option TokenList → Move
 variadic_end_move none outside = closes Parenthesis stage.Output outside
 variadic_end_move run outside = mismatches run
@@ -470,18 +476,18 @@ next_at stage.OneTaken run outside = one_taken_move run outside
 next_at stage.Variadic run outside = variadic_move run outside
 next_at stage.VariadicEnd run outside = variadic_end_move run outside
 
--- After `&'`.
+-- After `&'` at the start of a type: the name of the lifetime.
 abbrev pub reference_lifetime_first : TokenList → First
 reference_lifetime_first (also (identifier text span) rest) = starts false (reference (Some text)) (to stage.Referent rest None)
 reference_lifetime_first run = refused (mismatch (first_span run))
 
--- After `&`: optionally a lifetime.
+-- After `&` at the start of a type: optionally a lifetime.
 abbrev pub reference_first : TokenList → First
 reference_first (also (punctuation c spacing span) rest) =
     if c == 39 then reference_lifetime_first rest else starts false (reference None) (to stage.Referent (also (punctuation c spacing span) rest) None)
 reference_first run = starts false (reference None) (to stage.Referent run None)
 
--- A group.
+-- The beginning of a type at a group.
 abbrev pub group_first : Delimiter → Span → TokenList → TokenList → First
 group_first Parenthesis span inside rest = starts false (opening Parenthesis) (to stage.List inside (Some rest))
 group_first Bracket span inside rest = starts false (opening Bracket) (to stage.Element inside (Some rest))
@@ -497,13 +503,13 @@ word_stage plus text =
     else (if bytes_eq text (codes "for") then stage.For OfFunction
     else stage.Named Plain))))
 
--- A word.
+-- The beginning of a type at a word.
 abbrev pub word_first : Bool → List ℕ → Span → TokenList → First
 word_first plus text span rest =
     if bytes_eq text (codes "_") then refused (unsupported span)
     else starts (bytes_eq text (codes "impl")) (word text) (to (word_stage plus text) rest None)
 
--- Punctuation.
+-- The beginning of a type at punctuation.
 abbrev pub mark_first : ℕ → Span → TokenList → TokenList → First
 mark_first c span run rest =
     if c == 38 then reference_first rest

@@ -134,7 +134,7 @@ mutual
     -- `fn(T, name: T) -> T`, `extern "C" fn(T)`, `unsafe fn(T)`.
     function : {levels : ℕ} {plus : Bool} {run rest : TokenList} {parts : List Tree} {e : Ending} → Function levels run parts rest e → Form levels plus run parts rest e
 
-  -- After `&` and its lifetime.
+  -- The referent of a reference, after `&` and its lifetime: optionally `mut`, then a type.
   pub data Referent : ℕ → TokenList → List Tree → TokenList → Ending → Type 0 where
     shared : {levels : ℕ} {run rest : TokenList} {t : Tree} {e : Ending} → begins_mut run ≡ false → Written levels false run t rest e →
         Referent levels run (t ∷ []) rest e
@@ -279,7 +279,7 @@ mutual
     unlinked : {levels : ℕ} {t : Span} {run rest : TokenList} {parts : List Tree} {e : Ending} → Taking levels run parts rest e →
         Linked levels (also (identifier (codes "fn") t) run) (sign (word (codes "fn")) ∷ parts) rest e
 
-  -- After `fn`.
+  -- The parameters of a function and its return type, after `fn`.
   pub data Taking : ℕ → TokenList → List Tree → TokenList → Ending → Type 0 where
     takes_only : {levels : ℕ} {s : Span} {inside rest : TokenList} {parts : List Tree} → Parameters levels inside parts →
         Taking levels (also (group Parenthesis s inside) rest) (sign (opening Parenthesis) ∷ (parts ++ (sign (closing Parenthesis) ∷ []))) rest taking

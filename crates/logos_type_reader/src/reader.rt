@@ -117,7 +117,7 @@ fn after_all<'t, 's>(spot: Spot<'t, 's>) -> Tokens<'t, 's>
     }
 }
 
-/// Returns the spot at `stage` after a type or a path before `run` was read.
+/// Returns the spot at `stage` once a type or a path has been read up to `run`.
 fn after_type<'t, 's>(spot: Spot<'t, 's>, stage: Stage, run: Tokens<'t, 's>) -> Spot<'t, 's>
     ensures { spot_of result ≡ after_type (spot_of spot.entry) stage (tokens_of run.entry) }
 {

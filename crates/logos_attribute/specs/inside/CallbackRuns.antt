@@ -10,11 +10,12 @@ use Rattle.logos_attribute.specs.declared.callback.CallbackFault.TheVariants.{Cl
 use Rattle.logos_attribute.specs.Slices.{ident_slice}
 use Rattle.logos_attribute.specs.Callbacks.{CallbackView, label, inline, callback_closure, callback_body}
 
--- The callback that the views represent, with the span of the whole.
+-- The callback that the views represent. `span` is its span.
 abbrev pub run_view : Span → CallbackRun → CallbackView
 run_view span (Label run) = label (tokens_of run)
 run_view span (Inline arg body) = inline (ident_slice arg) (tokens_of body) span
 
+-- The fault of a run that is not a callback.
 abbrev pub callback_fault : Span → CallbackFault → Fault
 callback_fault span Closure = callback_closure span
 callback_fault span Body = callback_body span

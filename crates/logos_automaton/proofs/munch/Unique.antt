@@ -1,4 +1,4 @@
--- Maximal munch finds one thing at a position.
+-- Maximal munch has one result at a position.
 use Rattle.std.proofs.Common.{◌≡◌, ℕ, zero, suc, ◌≤◌, ◌<◌, Bool, List, [], ◌∷◌, length, refl, sym, arith}
 use Rattle.logos_automaton.specs.Munch.{Rule, RuleMatches, priority_of, IsBest, Found, ended, matched, failed, Finds}
 use Rattle.logos_hir.proofs.tree.Bounds.{matches_within}

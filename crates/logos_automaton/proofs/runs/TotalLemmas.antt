@@ -112,7 +112,7 @@ module _ (ts : List Core) (looks : Bool) (ks : List Key) (rows : List (List ℕ)
       let same = dead_by_end ts looks s none later n.1 n.4 in
       n.2 ∙ ap Some (distinct.distinct n.0 dead_is.0 dead_state (subst (IsAt ks n.0) same n.3) dead_is.2)
 
-  -- where the end leads
+  -- the target of the end
   ended : (s t : ℕ) → slice_get ends s ≡ Some t → (n : State) × IsAt ks t n × (n.positions ≡ []) × (is_start n.kind ≡ false)
   ended s t e =
       let l = got_within ends s t e in

@@ -20,6 +20,7 @@ pub record StepView : Type 0 where
   pub positions : List ℕ
   pub left : Bool
 
+-- The step that a value of type `TreeStep` represents.
 abbrev pub view_of : TreeStep → StepView
 view_of step = record { positions = step.positions.items; left = step.left }
 
@@ -48,6 +49,7 @@ pub record TreeView : Type 0 where
   pub positions : List ℕ
   pub kind : ByteKind
 
+-- The state of a tree that a value of type `TreeState` represents.
 abbrev pub tree_view : TreeState → TreeView
 tree_view state = record { tree = state.tree; positions = state.positions.items; kind = state.kind }
 

@@ -22,11 +22,11 @@ module _ (rules : List Rule) where
     pub several : 2 ≤ length set
     pub top : set ≡ top_of listed
 
-  -- The set is such a set of one of the lists.
+  -- The set is the top set of one of the lists.
   abbrev pub IsTopIn : List (List ℕ) → List ℕ → Type 0
   IsTopIn lists set = (s : ℕ) × (listed : List ℕ) × (slice_get lists s ≡ Some listed) × IsTopSet listed set
 
-  -- All such sets of these lists, in ascending order.
+  -- All top sets of the lists, in ascending order.
   pub record AreTopSets (lists sets : List (List ℕ)) : Type 0 where
     pub ascending : Ascends sets
     pub exactly : (set : List ℕ) → Contains sets set ↔ IsTopIn lists set

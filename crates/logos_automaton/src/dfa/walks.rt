@@ -11,21 +11,21 @@ use logos_hir::leaf::LeafId;
 #[derive(Clone, Copy, Debug, PartialEq, Eq)]
 pub struct StateId(pub(crate) usize);
 
-/// The leaves that a state lists, ascending.
+/// An iterator over the leaves that a state lists, ascending.
 #[derive(Clone, Copy)]
 pub struct Matches<'d> {
     leaves: &'d [usize],
 }
 
-/// The targets of a state: for each byte from 0 to 255, and then for the end. Equal targets occur
-/// more than once.
+/// An iterator over the targets of a state: for each byte from 0 to 255, and then for the end.
+/// Equal targets occur more than once.
 #[derive(Clone, Copy)]
 pub struct Children<'d> {
     row: &'d [u16],
     end: Option<u32>,
 }
 
-/// States of an automaton, ascending.
+/// An iterator over the states of an automaton, ascending.
 #[derive(Clone, Copy)]
 pub struct DfaStates {
     next: usize,

@@ -1,4 +1,4 @@
--- The conditions that are checked of last marks.
+-- The conditions that are checked for last marks.
 use Rattle.std.specs.Prelude.{◌≡◌, ℕ, ◌+◌, ◌<◌, List, length, Option, Some, None, IfSome, if◌then◌else◌}
 use Rattle.logos_code.specs.Code.{CodeValue, Mark, Fork}
 use Rattle.logos_code.specs.CodeView.{state_at}
@@ -37,11 +37,11 @@ BeginsUnmarked Never = Unit {0}
 BeginsUnmarked (Back leaf bytes) = ⊥
 
 module _ (code : CodeValue) (marks : List LastMark) where
-  -- The last mark in the state, if the state has none of its own, follows.
+  -- If the state has no mark of its own, its last mark follows from `from`.
   abbrev pub FollowsAt : LastMark → ℕ → Type 0
   FollowsAt from s = (state_at code s).mark ≡ None → Follows (last_mark_at marks s) from (state_at code s).fast_loop
 
-  -- The last marks in all states to which the fork leads follow.
+  -- The last marks in all states to which the fork leads follow from `from`.
   abbrev pub ForkAgrees : LastMark → Fork → Type 0
   ForkAgrees from fork = (b t : ℕ) → target code fork b ≡ Some t → FollowsAt from t
 

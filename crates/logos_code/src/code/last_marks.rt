@@ -34,7 +34,7 @@ struct Search {
     open: Vec<usize>,
 }
 
-/// Returns the last marks of all states, or no list if the check fails.
+/// Returns the last marks of all states, or an empty list if the check fails.
 ///
 /// # Errors
 ///
@@ -141,7 +141,7 @@ impl Search {
     }
 }
 
-/// Returns the last mark if both are possible.
+/// Returns the last mark of a state for which both `one` and `other` were found.
 fn either(one: LastMark, other: LastMark) -> LastMark {
     if one == LastMark::Unseen || one == other {
         other

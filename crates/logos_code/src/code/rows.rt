@@ -1,5 +1,5 @@
 //! Rows: the step for each byte in each state, as one number. `construction` computes them, and
-//! `logos_machine` and `logos_fold` read them.
+//! `logos_machine` and `logos_scan` read them.
 //!
 //! The rows of all states are in one table, one after another, with `WIDTH` entries each: the step
 //! for byte `b` in state `s` is entry `WIDTH * s + b`. The row offset of a state is the index of
@@ -45,8 +45,8 @@ pub const WIDTH: usize = 272;
 /// The number of states that entries can represent.
 const STATES: usize = 986_896;
 
-/// Added to an entry of a match that ends before the byte, where the byte leads to a state that
-/// marks the match late.
+/// The number that is added to the entry of a match that ends before the byte, if the byte leads to
+/// a state that marks the match late.
 pub const LATE: u32 = 1 << 27;
 
 /// The first entry of a test: the byte does not change the state, whose fast loop has this test. A
@@ -77,32 +77,32 @@ pub const STUCK: u32 = 8 * NAMED;
 /// The first entry that does not describe the step for its byte.
 pub const UNDESCRIBED: u32 = 9 * NAMED;
 
-/// How the matches of a leaf are used, as far as entries describe it.
+/// The use of the matches of a leaf, as far as entries describe it.
 #[derive(Clone, Copy)]
 pub enum MatchUse {
-    /// They are tokens, without a callback.
+    /// The matches are tokens, without a callback.
     Emits,
-    /// They are skipped, without a callback.
+    /// The matches are skipped, without a callback.
     Skips,
-    /// A callback may decide how they are used.
+    /// A callback may determine the use of the matches.
     CallsBack,
 }
 
 /// The step for a byte in a state.
 #[derive(Clone, Copy)]
 pub enum Step {
-    /// It leads to this state.
+    /// The byte leads to this state.
     Leads(usize),
-    /// It does not change the state, whose fast loop has this test.
+    /// The byte does not change the state, whose fast loop has this test.
     Stays(usize),
-    /// It leads nowhere, and a match of this leaf ends before it.
+    /// The byte leads nowhere, and a match of this leaf ends before it.
     Halts(LeafId, MatchUse),
-    /// It leads to a state that marks a match of this leaf late, which ends before the byte, and
-    /// has no other step.
+    /// The byte leads to a state that marks a match of this leaf late, which ends before the byte.
+    /// The state has no other step.
     Looks(LeafId, MatchUse),
-    /// It leads to a state that marks a match of this leaf, and has no other step.
+    /// The byte leads to a state that marks a match of this leaf and has no other step.
     Closes(LeafId, MatchUse),
-    /// It leads nowhere.
+    /// The byte leads nowhere.
     Stuck,
     /// The step cannot be described by an entry.
     Undescribed,
@@ -201,7 +201,8 @@ fn entry_at(parts: &CodeParts, state: &CodeState, byte: u8) -> u32
 }
 
 /// Returns the row for the first byte of an attempt, given the rows of all states and the state in
-/// which match attempts begin. An entry of it leads to a state, ends a match, or is `UNDESCRIBED`.
+/// which match attempts begin. Each of its entries leads to a state, ends a match, or is
+/// `UNDESCRIBED`.
 pub(super) fn first_row(rows: &[u32], root: usize) -> [u32; 256]
     requires { WIDTH * root + 256 ≤ length rows.now }
     ensures { IsFirstOf rows.now root result }
@@ -213,7 +214,8 @@ pub(super) fn first_row(rows: &[u32], root: usize) -> [u32; 256]
     first
 }
 
-/// Returns the entry in the row for first bytes.
+/// Returns the entry in the row for first bytes, given the entry in the row of the state in which
+/// match attempts begin.
 fn first_entry(entry: u32) -> u32
     ensures { IsFirstEntry entry result }
 {
@@ -238,7 +240,7 @@ fn closing_mark(state: &CodeState) -> Option<Mark>
     state.mark
 }
 
-/// Returns the leaf of a mark that is not late.
+/// Returns the leaf of a mark that is not late, or `None` for any other mark and for no mark.
 pub(super) fn early_leaf(mark: Option<Mark>) -> Option<LeafId>
     ensures { IfSome result (λ leaf. option_map mark_of mark
         ≡ Some (record { leaf = leaf.0; late = false })) }
@@ -305,7 +307,7 @@ impl CodeParts<'_> {
         }
     }
 
-    /// Returns how the matches of the leaf are used.
+    /// Returns the use of the matches of the leaf.
     fn match_use(&self, leaf: LeafId) -> MatchUse
         ensures { IsUse (code_of self.now) leaf.0 result }
     {
@@ -328,7 +330,8 @@ impl CodeParts<'_> {
         }
     }
 
-    /// Returns the target of the first of the branches whose condition holds.
+    /// Returns the target of the first branch whose condition holds, or `None` if no condition
+    /// holds.
     fn first_target(&self, branches: &[(Condition, usize)], byte: u8) -> Option<usize>
         requires { NamesFork (code_of self.now) (by_conditions (map branch_of branches.now)) }
         ensures { result ≡ target (code_of self.now)
@@ -362,7 +365,7 @@ impl CodeParts<'_> {
     }
 }
 
-/// Returns how the matches of a leaf without a callback are used.
+/// Returns the use of the matches of a leaf without a callback.
 fn plain_use(leaf: &CodeLeaf) -> MatchUse
     requires { leaf.now.callback ≡ None }
     ensures { IsPlainUse (use_of leaf.now) result }
@@ -373,7 +376,7 @@ fn plain_use(leaf: &CodeLeaf) -> MatchUse
     }
 }
 
-/// Returns the target of the jump table for the byte.
+/// Returns the target of the jump table for the byte, or `None` if the byte leads nowhere.
 fn jump(table: &[u32; 256], byte: u8) -> Option<usize>
     ensures { result ≡ slice_index_or (jumps_of table.now) byte None }
 {

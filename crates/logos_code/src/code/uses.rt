@@ -1,5 +1,5 @@
-//! Uses: how the matches of a leaf are used, read with one load. `construction` computes them, and
-//! a lexer reads them at the end of a match.
+//! The uses of the matches of leaves, each read with one load. `construction` computes them, and a
+//! lexer reads them at the end of a match.
 
 ghost use Rattle.std.specs.Prelude.{◌≡◌, IfOk, map};
 ghost use Rattle.logos_code.specs.Views.{use_of, use_by};
@@ -8,8 +8,8 @@ use super::{CodeLeaf, CodeParts};
 use logos_pattern::leaf::VariantKind;
 use std::alloc::{AllocError, Global};
 
-/// How the matches of a leaf are used, in two bytes. A lexer reads these instead of the leaves,
-/// which are far larger.
+/// The use of the matches of a leaf, in two bytes. A lexer reads these instead of the leaves, which
+/// are far larger.
 #[derive(Clone, Copy)]
 pub(crate) struct LeafUse {
     /// Whether the matches are skipped.

@@ -80,8 +80,7 @@ impl<'s> Parser<'s> {
         unless_failed!(self, self.definition_in(attribute))
     }
 
-    /// Reads the definition as `parse_definition_attr` does, without checking whether the parser
-    /// has failed.
+    /// Does the same as `parse_definition_attr`, without checking whether the parser has failed.
     fn definition_in(
         &mut self,
         attribute: Attribute<'_, 's>,

@@ -89,8 +89,8 @@ impl<'s> Parser<'s> {
 
     /// Returns a written type with its declared parameters replaced by the types given to them,
     /// except for parameters whose types contain them, and with its lifetimes set to `'s`. If too
-    /// many types are nested in the result, reports that at this span and returns the type as
-    /// written. Each call searches for the parameters whose types contain them.
+    /// many types are nested in the result, reports that at `span` and returns the type as written.
+    /// Each call searches for the parameters whose types contain them.
     ///
     /// # Errors
     ///

@@ -29,7 +29,7 @@ pub(super) fn maybe_impl_fast_loop(
     }
 }
 
-/// Returns the bytes of the first edge that leads back to the state.
+/// Returns the bytes of the first edge that leads back to the state, or `None` if no edge does.
 fn edge_back<'e>(edges: &'e [(ByteClass, State)], state: usize) -> Option<&'e ByteClass>
     ensures { option_map (λ class. ranges_of class.now) result
         ≡ option_map (λ edge. edge.0) (find (λ edge. edge.1 == state) (map edge_of edges.now)) }

@@ -1,4 +1,4 @@
-//! Makes the nodes of a code one by one. Only callers of `Generator` use it; `generate` does not.
+//! Makes the nodes of a code one by one. Users of the library call it; `generate` does not.
 
 ghost use Rattle.std.specs.Prelude.{◌≡◌, ◌≤◌, ◌<◌, OnOk, OnErr, IfOk, length};
 ghost use Rattle.logos_generator.specs.Views.{ranges_of, graph_state_of, state_number, code_leaf_value, leaf_value, left_out, bit_tables_of, IsCodable, Continues, MakesFork, MakesLoop, MakesLoopOver};
@@ -14,7 +14,7 @@ use logos_pattern::leaf::Leaf;
 use logos_token::error::Memory;
 use std::alloc::Global;
 
-/// A fast loop with the test of this number.
+/// A fast loop, by the number of its test.
 #[derive(Clone, Copy, Debug, PartialEq, Eq)]
 pub struct FastLoop {
     pub test: usize,

@@ -142,7 +142,8 @@ fn number_of(state: Option<State>) -> Option<usize>
     }
 }
 
-/// Returns the mark of a state. An early mark takes precedence over a late one.
+/// Returns the mark of a state, or `None` if it has none. An early mark takes precedence over a
+/// late one.
 fn mark_made(state_type: &StateType) -> Option<Mark>
     ensures { option_map mark_of result ≡ mark_made (state_type_of state_type.now) }
 {

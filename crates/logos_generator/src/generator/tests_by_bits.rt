@@ -49,7 +49,7 @@ pub(super) fn tables_of(alloc: Global, tests: &[[bool; 256]]) -> Result<Vec<[u8;
     Ok(tables)
 }
 
-/// Returns table j.
+/// Returns the bit table with the number `j`.
 fn table_at(tests: &[[bool; 256]], j: usize) -> [u8; 256]
     requires { 8 * j < length tests.now }
     ensures { result ≡ bit_table tests.now j }
@@ -61,7 +61,7 @@ fn table_at(tests: &[[bool; 256]], j: usize) -> [u8; 256]
     table
 }
 
-/// Returns the entry of table j for the byte `b`: bit `i` is test `8 * j + i`.
+/// Returns the entry of table `j` for the byte `b`: bit `i` is test `8 * j + i`.
 fn entry_of(tests: &[[bool; 256]], j: usize, b: usize) -> u8
     requires table { 8 * j < length tests.now }
     requires byte { b < 256 }

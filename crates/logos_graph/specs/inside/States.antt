@@ -43,13 +43,13 @@ pub record AreEdgesOf (leads : ℕ → Option ℕ) (n : ℕ) (edges : List Edge)
   pub done : (b : ℕ) → b < n → edge_leads edges b ≡ leads b
   pub rest : (b : ℕ) → n ≤ b → edge_leads edges b ≡ None
 
--- A state of the table.
+-- The state represents state `s` of the table.
 pub record IsStateOf (table : Table) (s : ℕ) (state : GraphState) : Type 0 where
   pub type : state.state_type ≡ type_of (mark table s)
   pub edges : AreEdgesOf (to table s) 256 state.normal
   pub end : state.eoi ≡ to table s 256
 
--- All states of the table, in order.
+-- The graph has the states of the table, in order.
 abbrev pub AreStatesOf : Table → List GraphState → Type 0
 AreStatesOf table graph = (s : ℕ) (state : GraphState) → slice_get graph s ≡ Some state → IsStateOf table s state
 

@@ -1,4 +1,4 @@
-//! Builds the graph of leaves. `Graph::new` is in this module.
+//! Builds the graph of leaves. `logos_codegen` calls `Graph::new` once for each source.
 
 ghost use Rattle.std.specs.Prelude.{◌≡◌, ◌^◌, ◌<◌, ◌≤◌, [], IfOk, IfErr, length, map};
 ghost use Rattle.logos_graph.specs.Imports.{dfa_of, AreFaults, AllStart, fault_of, IsGraphOf, AreFindings, Refuses, size_of, rules_of, IsTotal, ReadsOneByteLate, Memory, LimitSize};

@@ -9,7 +9,11 @@ use std::alloc::Global;
 use std::fmt;
 
 impl State {
-    /// Returns `State` and the number. Fails with `Memory` if memory runs out.
+    /// Returns `State` followed by the number of the state.
+    ///
+    /// # Errors
+    ///
+    /// Returns `Memory` if memory runs out.
     pub fn pascal_case(self, alloc: Global) -> Result<String, Memory>
         ensures { IfOk result (λ text. string_bytes text ≡ codes "State" ++ decimal self.0) }
     {
@@ -17,7 +21,11 @@ impl State {
         Ok(format!(in alloc; "State{number}")?)
     }
 
-    /// Returns `state` and the number. Fails with `Memory` if memory runs out.
+    /// Returns `state` followed by the number of the state.
+    ///
+    /// # Errors
+    ///
+    /// Returns `Memory` if memory runs out.
     pub fn snake_case(self, alloc: Global) -> Result<String, Memory>
         ensures { IfOk result (λ text. string_bytes text ≡ codes "state" ++ decimal self.0) }
     {

@@ -133,7 +133,7 @@ fn edges_of(alloc: Global, row: &Row) -> Result<Vec<Edge>, AllocError>
     Ok(edges)
 }
 
-/// Returns the leaf with this number.
+/// Returns the leaf with this number, if there is a number.
 fn leaf(number: Option<usize>) -> Option<LeafId>
     ensures { option_map leaf_number result ≡ number }
 {
@@ -150,7 +150,7 @@ fn type_of_mark(mark: StateMarks) -> StateType
     }
 }
 
-/// Returns the state with this number.
+/// Returns the state with this number, if there is a number.
 fn state(number: Option<usize>) -> Option<State>
     ensures { option_map state_number result ≡ number }
 {

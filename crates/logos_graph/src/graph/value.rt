@@ -1,4 +1,5 @@
-//! Graphs, and the calls on them.
+//! The graph of a lexer, and its methods. `construction` makes graphs, and the generator of codes
+//! and users of the library read them.
 
 ghost use Rattle.std.specs.Prelude.{◌≡◌, ◌≢◌, ℕ, ◌-◌, ◌<◌, ◌↔◌, [], IsTrue, IfOk, Some, length, map, slice_get, string_bytes};
 ghost use Rattle.logos_graph.specs.Views.{range_with_len, dfa_of, fault_of, IsFit, IsFinished, mermaid_of, Shows, YieldsEvidence, YieldsFirstBy, item_count, AreBackward, graph_state_of, state_number, states_left};
@@ -26,7 +27,7 @@ pub struct Graph<'s> {
     reduced: Option<Reduction>,
 }
 
-/// The states of a graph, ascending.
+/// An iterator over the states of a graph, ascending.
 #[derive(Clone, Copy)]
 pub struct States {
     next: usize,
@@ -188,7 +189,11 @@ impl Graph<'_> {
     }
 
     /// Returns the state diagram of the graph in Mermaid's language: a flow chart with a node for
-    /// each state and for each edge. Fails only with `Memory`.
+    /// each state and for each edge.
+    ///
+    /// # Errors
+    ///
+    /// Returns `Memory` if memory runs out.
     pub fn get_mermaid(&self, alloc: Global) -> Result<String, Memory>
         ensures { IfOk result (λ text. string_bytes text ≡ mermaid_of self.now.states) }
     {

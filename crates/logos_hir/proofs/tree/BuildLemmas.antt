@@ -44,7 +44,7 @@ pub list_of-trees : (ts : List Tree) → list_of (trees ts) ≡ ts
 list_of-trees [] = refl
 list_of-trees (t ∷ ts) = ap (λ (rest : List Tree). t ∷ rest) (list_of-trees ts)
 
--- how a part joins with others: as a literal, or not at all
+-- the joining of a part with others: as a literal, or not at all
 pub data Part (t : Tree) : Type 0 where
   is_text : (a : List ℕ) → t ≡ literal a → Part t
   is_other : ((rest : List Tree) → join t rest ≡ t ∷ rest) → ((parts : List Tree) → add_part parts t ≡ parts ++ t ∷ []) →

@@ -1,4 +1,4 @@
--- Laws of looks, and of trees that match an empty span.
+-- Laws of look-around assertions, and of trees that match an empty span.
 use Rattle.std.proofs.Common.{◌≡◌, ◌≢◌, ℕ, zero, suc, ◌+◌, ◌≤◌, ◌<◌, ◌⊎◌, inl, inr, Bool, true, false, ◌&&◌, ◌||◌, List, [], ◌∷◌, ◌++◌, ◌-◌, length, slice_get, if◌then◌else◌, ◌==◌, Option, None, Some, IsTrue, refl, sym, ap, subst, ◌∙◌, arith, encode_utf8}
 use Rattle.std.proofs.lemmas.Bool.Decides.{nat_tests}
 use Rattle.std.proofs.lemmas.List.{length-append}

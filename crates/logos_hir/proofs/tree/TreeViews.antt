@@ -34,7 +34,7 @@ pub tree-Alternation : (branches : Vec Hir Global) → tree_of (Alternation bran
 tree-Alternation branches =
     ap tree_of (sym (rolls-Alternation branches)) ∙ fold-roll-Hir Tree node_tree (Hir-F.Alternation branches)
 
--- which form a `Hir` has
+-- the form of a `Hir`
 pub data Kind (h : Hir) : Type 0 where
   is_empty : h ≡ Empty → Kind h
   is_literal : (bytes : Vec ℕ Global) → h ≡ Literal bytes → Kind h

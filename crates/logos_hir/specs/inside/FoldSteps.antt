@@ -11,6 +11,6 @@ in_values table c = list_any (λ p. p.1 == c) table
 abbrev pub in_image : List (ℕ × ℕ) → Set → Set
 in_image table set c = list_any (λ p. set p.0 && (p.1 == c)) table
 
--- The members from the first to the last one, moved so that the first becomes another.
+-- The members from `first` to `last`, moved so that `first` becomes `to`.
 abbrev pub shift : ℕ → ℕ → ℕ → Set → Set
 shift first last to set c = (nat_le to c && nat_le c (to + (last - first))) && set (c - to + first)

@@ -8,16 +8,16 @@ use Rattle.logos_hir.specs.Sets.{Set, next, is_range, in_ranges}
 abbrev pub IsLimit : ℕ → Type 0
 IsLimit c = (scalar c || (c == 0x11_0000)) ≡ true
 
--- Each is a range of characters, in any order.
+-- Ranges of characters, in any order.
 abbrev pub AreRanges : List (ℕ × ℕ) → Type 0
 AreRanges ranges = list_all is_range ranges ≡ true
 
--- The least number that a further range may start at, after ranges that start at n or after it.
+-- The least number at which another range may start, after ranges that start at or after `n`.
 abbrev pub free_from : ℕ → List (ℕ × ℕ) → ℕ
 free_from n [] = n
 free_from n (r ∷ rest) = free_from (next r.1 + 1) rest
 
--- The numbers from the first one up to but not including the end, and not after the last one.
+-- The numbers from `first` up to but not including `end`, and not after `last`.
 abbrev pub in_gap : ℕ → ℕ → ℕ → Set
 in_gap first end last c = nat_le first c && (nat_lt c end && nat_le c last)
 

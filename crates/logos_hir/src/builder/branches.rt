@@ -150,8 +150,8 @@ fn chars_or(alloc: Global, branches: Vec<Hir>) -> Result<Hir, AllocError>
     }
 }
 
-/// Makes an alternation of branches that are not alternations themselves. One branch is itself, and
-/// branches that fit a class become that class.
+/// Makes an alternation of branches that are not alternations themselves. A single branch is
+/// returned unchanged, and branches that fit a class become that class.
 pub(crate) fn choice(mut branches: Vec<Hir>) -> Result<Hir, AllocError>
     ensures { IfOk result (λ hir. tree_of hir ≡ choice_of (map tree_of branches.items)) }
 {
@@ -165,8 +165,9 @@ pub(crate) fn choice(mut branches: Vec<Hir>) -> Result<Hir, AllocError>
     }
 }
 
-/// Makes an alternation in its simplest form. Branches of inner alternations become its own, one
-/// branch is itself, only characters become a class of characters, and only bytes a class of bytes.
+/// Makes an alternation in its simplest form. Branches of inner alternations become its own, a
+/// single branch is returned unchanged, only characters become a class of characters, and only
+/// bytes a class of bytes.
 ///
 /// # Errors
 ///

@@ -19,6 +19,10 @@ pub enum SetOperator {
 }
 
 /// Combines two sets with the operator `op` between them.
+///
+/// # Errors
+///
+/// Returns `AllocError` if memory runs out.
 pub fn combination(op: SetOperator, a: &RangeSet, b: &RangeSet) -> Result<RangeSet, AllocError>
     ensures { IfOk result (λ set. set_of set ≡ combination op (set_of a.now) (set_of b.now)) }
 {
@@ -99,7 +103,7 @@ impl Effect {
         }
     }
 
-    /// Returns the effect of these operands followed by others.
+    /// Returns the effect of these operands followed by those of `other`.
     fn then(&self, other: &Effect) -> Result<Effect, AllocError>
         ensures outside { IfOk result (λ effect. set_of effect.outside ≡
             selection (set_of self.now.outside) (set_of other.now.inside)
@@ -152,8 +156,11 @@ impl OperandRuns {
         }
     }
 
-    /// Adds an operand and the operator before it; the first operand has none. After an error some
-    /// operands may be lost.
+    /// Adds an operand and the operator before it. The first operand has no operator.
+    ///
+    /// # Errors
+    ///
+    /// Returns `AllocError` if memory runs out. Some operands may then be lost.
     pub fn push(
         &mut self,
         alloc: Global,
@@ -170,6 +177,10 @@ impl OperandRuns {
     }
 
     /// Returns the set that the operands make, combined from the left.
+    ///
+    /// # Errors
+    ///
+    /// Returns `AllocError` if memory runs out.
     pub fn set(&self, alloc: Global) -> Result<RangeSet, AllocError>
         ensures { IfOk result (λ set. set_of set ≡ made_by self.now) }
     {

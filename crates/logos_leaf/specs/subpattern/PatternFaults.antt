@@ -1,4 +1,4 @@
--- Reading texts as patterns, and the faults of that.
+-- The readings of texts as patterns, and their faults.
 use Rattle.std.specs.Prelude.{◌≡◌, ℕ, ◌<◌, Bool, List, [], ◌++◌, codes, Option, Some, None, chars, drop, slice_get, unwrap_or}
 use Rattle.std.specs.Fmt.{decimal}
 use Rattle.logos_lexeme.specs.declared.lexeme.Span.{Span}
@@ -21,7 +21,7 @@ use Rattle.logos_attribute.specs.Reports.{fault, fault_with, only}
 pub data Reading : Type 0 where
   -- The text spells this tree.
   spelled : (tree : Tree) → Reading
-  -- The text spells no tree. The definition leaves open which fault is reported, and where it is.
+  -- The text spells no tree. The definition leaves open the kind and the location of the fault.
   broken : (kind : Kind) (detail : PatternDetail) → Reading
   -- The text spells no tree within the limit, and a prefix of it is nested more deeply.
   too_deep : Reading

@@ -46,6 +46,7 @@ abbrev pub twice_faults : Slice → Option Stored → List Fault
 twice_faults name None = []
 twice_faults name (Some former) = subpattern_twice name ∷ previous former.span ∷ []
 
+-- The message for a subpattern that can match invalid UTF-8.
 abbrev pub utf8_text : NamedLiteral → List ℕ
 utf8_text sub =
     codes "UTF-8 mode is requested, but the subpattern " ++ sub.name.text ++ codes " = " ++ sub.literal.token.text

@@ -12,12 +12,12 @@ use Rattle.logos_attribute.specs.Reports.{Report, with_faults, without_faults, a
 abbrev pub is_word : ℕ → Bool
 is_word c = ((nat_lt 47 c && nat_lt c 58) || (nat_lt 64 c && nat_lt c 91)) || ((nat_lt 96 c && nat_lt c 123) || (c == 95))
 
--- The longest prefix of a text that consists of such characters.
+-- The longest prefix of a text that consists of digits, ASCII letters and `_`.
 abbrev pub word_front : List ℕ → List ℕ
 word_front [] = []
 word_front (c ∷ rest) = if is_word c then c ∷ word_front rest else []
 
--- The rest of the text after that prefix.
+-- The rest of a text after its longest prefix of digits, ASCII letters and `_`.
 abbrev pub word_rest : List ℕ → List ℕ
 word_rest [] = []
 word_rest (c ∷ rest) = if is_word c then word_rest rest else c ∷ rest
@@ -68,21 +68,24 @@ pub record Substituted : Type 0 where
   pub text : List ℕ
   pub complete : Bool
 
+-- The text so far, with one more part.
 abbrev pub put : Substituted → List ℕ → Substituted
 put s text = record { text = s.text ++ text; complete = s.complete }
 
 abbrev pub subpattern_missing : Span → List ℕ → Fault
 subpattern_missing span name = fault SubpatternMissing ((codes "Subpattern `" ++ name) ++ codes "` not found") span
 
--- The report of adding the text that is stored for a name, if there is one.
+-- The report of adding the text that is stored for a name, if one is.
 abbrev pub name_report : Span → List ℕ → Substituted → Option (List ℕ) → Report Substituted
 name_report span name s (Some text) = without_faults (put s text)
 name_report span name s None = with_faults (record s { complete = false }) (only (subpattern_missing span name))
 
+-- The report of one more part of the text.
 abbrev pub part_report : List Stored → Span → Part → Substituted → Report Substituted
 part_report names span (itself c) s = without_faults (put s (encode_utf8 c))
 part_report names span (used name) s = name_report span (encoded name) s (text_of names (encoded name))
 
+-- The report of more parts of the text, from the left.
 abbrev pub parts_report : List Stored → Span → List Part → Substituted → Report Substituted
 parts_report names span [] s = without_faults s
 parts_report names span (part ∷ rest) s = and_then (part_report names span part s) (parts_report names span rest)
@@ -91,6 +94,7 @@ parts_report names span (part ∷ rest) s = and_then (part_report names span par
 abbrev pub whole_text : Substituted → Option (List ℕ)
 whole_text s = if s.complete then Some s.text else None
 
+-- The text before its first part.
 abbrev pub nothing_yet : Substituted
 nothing_yet = record { text = []; complete = true }
 

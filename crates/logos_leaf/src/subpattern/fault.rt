@@ -98,7 +98,7 @@ fn front_in(text: &[u8]) -> PatternFront
     }
 }
 
-/// Returns the bytes of a text from `at` on, or no bytes if `at` is past its end.
+/// Returns the bytes of a text from `at` on, which are none if `at` is past its end.
 fn rest_from(text: &[u8], at: usize) -> &[u8]
     ensures { result.now ≡ drop at text.now }
 {

@@ -1,5 +1,5 @@
-//! Finds where the bytes of a pattern's text are written: in its own literal, or in a subpattern
-//! that was substituted. `fault` looks up the byte of each fault here.
+//! Finds the locations at which the bytes of a pattern's text are written: in its own literal, or
+//! in a subpattern that was substituted. `fault` looks up the byte of each fault here.
 
 use crate::subpattern::substitution::{TextPart, characters, encoded, part_at};
 use crate::subpattern::{Subpatterns, flags_of, pattern_text, wrapped};
@@ -8,7 +8,7 @@ use logos_token::error::{ByteOrigin, Memory};
 use logos_token::token::Span;
 use std::alloc::Global;
 
-/// The literal of a pattern, and how the text of the pattern was made from it.
+/// The literal of a pattern, and the way in which the text of the pattern was made from it.
 #[derive(Clone, Copy)]
 pub struct WrittenPattern<'l, 'p, 's> {
     pub literal: &'l Literal<'s>,
@@ -18,11 +18,12 @@ pub struct WrittenPattern<'l, 'p, 's> {
 /// The ways in which the text of a pattern is made from its literal.
 #[derive(Clone, Copy)]
 pub enum Making<'p, 's> {
-    /// As the text of a pattern that matches exactly the value of the literal.
+    /// The text is escaped, so that the pattern matches exactly the value of the literal.
     Escaped,
-    /// By substituting subpatterns in the text that the literal spells.
+    /// Subpatterns are substituted in the text that the literal spells.
     PutIn(&'p Subpatterns<'s>),
-    /// By substituting subpatterns in that text, in a group that sets its flags.
+    /// Subpatterns are substituted in the text that the literal spells, which is in a group that
+    /// sets its flags.
     Grouped(&'p Subpatterns<'s>),
 }
 

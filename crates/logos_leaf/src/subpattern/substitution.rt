@@ -29,7 +29,7 @@ struct Lookup<'p, 's> {
 #[derive(Drop)]
 struct Text {
     text: String,
-    /// Whether each name that was read was found.
+    /// Whether each name so far has a subpattern.
     complete: bool,
 }
 
@@ -52,7 +52,7 @@ fn word_in(text: &[char]) -> (&[char], &[char])
     (&text[..end], &text[end..])
 }
 
-/// Returns the rest of the text after `(?&`, if the text begins with it.
+/// Returns the rest of the text after `(?&`, or `None` if the text does not begin with it.
 fn after_opening(text: &[char]) -> Option<&[char]>
     ensures { MatchOption result
         (reference text.now ≡ None)
@@ -64,7 +64,7 @@ fn after_opening(text: &[char]) -> Option<&[char]>
     }
 }
 
-/// Returns the rest of the text after `)`, if the text begins with it.
+/// Returns the rest of the text after `)`, or `None` if the text does not begin with it.
 fn after_closing(text: &[char]) -> Option<&[char]>
     ensures { MatchOption result
         ((name : List ℕ) → closed name text.now ≡ None)
@@ -74,8 +74,8 @@ fn after_closing(text: &[char]) -> Option<&[char]>
     if *first == ')' { Some(rest) } else { None }
 }
 
-/// Returns the name in `(?&name)` and the rest of the text after it, if the text begins with that
-/// form.
+/// Returns the name in `(?&name)` and the rest of the text after it. Returns `None` if the text
+/// does not begin with that form.
 fn reference_at(text: &[char]) -> Option<(&[char], &[char])>
     ensures { MatchOption result
         (reference text.now ≡ None)
@@ -93,7 +93,7 @@ fn reference_at(text: &[char]) -> Option<(&[char], &[char])>
     Some((name, rest))
 }
 
-/// Returns the first part of a text, and the rest.
+/// Returns the first part of a text, and the rest. Returns `None` if the text is empty.
 pub(crate) fn part_at(text: &[char]) -> Option<(TextPart<'_>, &[char])>
     ensures { MatchOption result
         (parts 0 text.now ≡ [])

@@ -18,7 +18,7 @@ fn fields_text(alloc: Global, count: usize) -> Result<String, AllocError>
     Ok(text)
 }
 
-/// Reports a variant with `count` fields in the parentheses with this span.
+/// Reports a variant with `count` fields in the parentheses at `span`.
 pub(super) fn report_variant_fields(
     count: usize,
     span: Span,
@@ -30,8 +30,7 @@ pub(super) fn report_variant_fields(
     errors.err(FaultCode::VariantFields, text.as_str(), span)
 }
 
-/// Reports a variant with `count` fields in the parentheses with this span, unless it has one
-/// field.
+/// Reports a variant with `count` fields in the parentheses at `span`, unless it has one field.
 pub(super) fn report_count(count: usize, span: Span, errors: &mut Errors) -> Result<(), Memory>
     ensures { OnOk result (errors.new ≡ errors.old ++ count_faults count span) }
 {

@@ -8,9 +8,10 @@ use crate::lexeme::characters::byte_at;
 use crate::lexeme::ends::prefix_of;
 use crate::lexeme::openings::{Content, Opening};
 
-/// The letters of the escapes `\xNN` and `\u{..}`.
+/// The letter of the escape `\xNN`.
 const LETTER_X: u8 = b'x';
 
+/// The letter of the escape `\u{..}`.
 const LETTER_U: u8 = b'u';
 
 /// The value of one piece of a string.
@@ -99,7 +100,7 @@ fn hex_escape(source: &str, content: Content, at: usize) -> Option<u8>
     Some(value as u8)
 }
 
-/// Returns whether `byte` can be one of the digits of `\u{..}`, or `_`.
+/// Returns whether `byte` is a hexadecimal digit or `_`.
 fn is_digit_or_line(byte: u8) -> bool
     ensures { result ≡ (is_hex byte || (byte == 95)) }
 {
@@ -124,7 +125,7 @@ fn digits_end(source: &str, from: usize) -> usize
     end
 }
 
-/// The digits that have been read: their number and the number that they spell.
+/// The digits of `\u{..}` that have been read: their number and the number that they spell.
 #[derive(Clone, Copy)]
 struct Digits {
     count: u32,
@@ -132,8 +133,8 @@ struct Digits {
 }
 
 impl Digits {
-    /// Returns the digits with one byte added. A `_` changes nothing. Returns `None` if the byte is
-    /// a seventh digit.
+    /// Returns the digits after one more byte is read. A `_` changes nothing. Returns `None` if
+    /// `byte` is a seventh digit.
     fn with(self, byte: u8) -> Option<Digits>
         requires few { self.count ≤ 6 }
         requires small { self.value < 16 ^ self.count }
@@ -170,7 +171,7 @@ fn number_between(source: &str, from: usize, to: usize) -> Option<u32>
 }
 
 /// Returns the character that `\u{..}` at the byte offset `at` denotes, and the byte offset of its
-/// closing brace.
+/// closing brace. Returns `None` if the escape is malformed.
 fn unicode_escape(source: &str, at: usize) -> Option<(char, usize)>
     requires within { at ≤ length source.now }
     requires backslash { slice_index source.now at ≡ 92 }
@@ -193,7 +194,8 @@ fn unicode_escape(source: &str, at: usize) -> Option<(char, usize)>
     Some((character, brace))
 }
 
-/// Returns the value of the escape at the byte offset `at`, and the byte offset after it.
+/// Returns the value of the escape at the byte offset `at`, and the byte offset after it. Returns
+/// `None` if no well-formed escape begins there.
 fn escape_at(source: &str, content: Content, at: usize) -> Option<(Piece, usize)>
     requires { at ≤ length source.now }
     ensures { MatchOption result
@@ -258,8 +260,9 @@ fn is_allowed(content: Content, byte: u8) -> bool
     }
 }
 
-/// Returns the value of the byte at `at` that represents itself, or of the line break CR LF, and
-/// the byte offset after it.
+/// Returns the value of the unescaped piece at `at`, and the byte offset after it. The piece is a
+/// byte that represents itself, or CR LF, which denotes LF. Returns `None` if there is no such
+/// piece.
 fn plain_at(source: &str, content: Content, at: usize) -> Option<(Piece, usize)>
     requires { at ≤ length source.now }
     ensures { MatchOption result
@@ -311,7 +314,8 @@ fn is_body(source: &str, escapes: bool, content: Content, from: usize, to: usize
     at == to
 }
 
-/// Returns the byte offset after the one character or escape at the byte offset `at`.
+/// Returns the byte offset after the one character or escape at the byte offset `at`. Returns
+/// `None` if neither is there.
 fn character_piece_end(source: &str, content: Content, at: usize) -> Option<usize>
     requires { at ≤ length source.now }
     ensures { MatchOption result
@@ -340,8 +344,8 @@ fn is_character(source: &str, content: Content, from: usize, to: usize) -> bool
     }
 }
 
-/// Returns whether the literal that opens at `from` and ends at `end`, without its suffix, is
-/// well-formed inside. Returns `true` for anything that is not a literal.
+/// Returns whether the literal that opens at `from` and ends at `end`, without its suffix, has
+/// well-formed contents. Returns `true` for anything that is not a literal.
 pub(crate) fn is_sound(source: &str, from: usize, opens: Opening, end: usize) -> bool
     requires inside { from < length source.now }
     requires ends { Ends source.now from opens end }

@@ -110,8 +110,8 @@ fn line_end(source: &str, from: usize) -> usize
     end
 }
 
-/// Takes one step inside block comments. Returns the number of comments that are open after it, and
-/// the byte offset. Returns `None` at the end of the source.
+/// Takes one step inside block comments. Returns the number of comments that are open after the
+/// step, and the byte offset after it. Returns `None` at the end of the source.
 fn block_step(source: &str, depth: usize, at: usize) -> Option<(usize, usize)>
     requires open { 0 < depth }
     requires shallow { depth ≤ at + 1 }
@@ -160,7 +160,8 @@ fn width_of(byte: u8) -> usize
     if byte == b'\\' { 2 } else { 1 }
 }
 
-/// Returns the byte offset of the next quote that is not escaped.
+/// Returns the byte offset of the first quote from `from` on that is not escaped. Returns `None` if
+/// there is none.
 fn quote_at(source: &str, quote: u8, from: usize) -> Option<usize>
     requires visible { 0 < quote }
     requires no_backslash { quote ≢ 92 }
@@ -179,7 +180,8 @@ fn quote_at(source: &str, quote: u8, from: usize) -> Option<usize>
     None
 }
 
-/// Returns the byte offset after the next quote that is not escaped.
+/// Returns the byte offset after the first quote from `body` on that is not escaped. Returns `None`
+/// if there is none.
 fn quote_end(source: &str, quote: u8, body: usize) -> Option<usize>
     requires visible { 0 < quote }
     requires no_backslash { quote ≢ 92 }
@@ -191,7 +193,7 @@ fn quote_end(source: &str, quote: u8, body: usize) -> Option<usize>
     Some(at + 1)
 }
 
-/// Returns whether a quote followed by `count` `#` is at the byte offset `at`.
+/// Returns whether there is a quote at the byte offset `at`, followed by `count` `#`.
 fn is_raw_end(source: &str, count: u8, at: usize) -> bool
     requires { at < length source.now }
     ensures { IsTrue result ↔ IsRawEnd count source.now at }

@@ -7,7 +7,7 @@ ghost use Rattle.logos_lexeme.specs.Views.{is_ascii_digit, IsCharBoundary, hashe
 use crate::lexeme::characters::{byte_at, char_at, is_mark, is_space, is_start, past};
 use crate::lexeme::{Delimiter, LexemeKind, Spacing};
 
-/// The contents that a literal can have.
+/// The kinds of contents of a literal.
 #[derive(Clone, Copy)]
 pub enum Content {
     /// Characters.
@@ -57,7 +57,8 @@ fn count_hashes(source: &str, from: usize) -> usize
     count
 }
 
-/// Returns the raw string that opens after an `r`.
+/// Returns the raw string that opens at `at`, the byte offset after its `r`. Returns `None` if none
+/// opens there.
 #[tactic(auto, unfolding(crate::specs::LexemeOpenings::raw_opening))]
 fn raw_opening(content: Content, source: &str, at: usize) -> Option<Opening>
     requires { at ≤ length source.now + 2 }
@@ -73,7 +74,8 @@ fn raw_opening(content: Content, source: &str, at: usize) -> Option<Opening>
     Some(Opening::Raw(content, count as u8))
 }
 
-/// Returns the string that opens after a `b` or `c`, or directly at `at`.
+/// Returns the string that opens at `at`, the byte offset after its `b` or `c` if it has one.
+/// Returns `None` if none opens there.
 #[tactic(auto, unfolding(crate::specs::LexemeOpenings::string_opening))]
 fn string_opening(content: Content, source: &str, at: usize) -> Option<Opening>
     requires { at ≤ length source.now + 1 }
@@ -89,7 +91,8 @@ fn string_opening(content: Content, source: &str, at: usize) -> Option<Opening>
     None
 }
 
-/// Returns the character literal that opens after a `'`.
+/// Returns the character literal whose contents begin at `at`, after a `'`. Returns `None` if there
+/// is none.
 #[tactic(auto, unfolding(crate::specs::LexemeOpenings::character_opening))]
 fn character_opening(source: &str, at: usize) -> Option<Opening>
     requires { IsCharBoundary source.now at }
@@ -105,7 +108,8 @@ fn character_opening(source: &str, at: usize) -> Option<Opening>
     None
 }
 
-/// Returns the byte or byte string literal that opens after a `b`.
+/// Returns the byte or byte string literal that opens at `at`, the byte offset after its `b`.
+/// Returns `None` if none opens there.
 #[tactic(auto, unfolding(crate::specs::LexemeOpenings::bytes_opening))]
 fn bytes_opening(source: &str, at: usize) -> Option<Opening>
     requires { at ≤ length source.now }
@@ -117,7 +121,7 @@ fn bytes_opening(source: &str, at: usize) -> Option<Opening>
     string_opening(Content::Bytes, source, at)
 }
 
-/// Returns the literal that opens at a byte offset.
+/// Returns the literal that opens at a byte offset, or `None` if none opens there.
 #[tactic(auto, unfolding(crate::specs::LexemeOpenings::literal_opening))]
 fn literal_opening(source: &str, at: usize) -> Option<Opening>
     requires inside { at < length source.now }
@@ -140,7 +144,8 @@ fn literal_opening(source: &str, at: usize) -> Option<Opening>
     string_opening(Content::Text, source, at)
 }
 
-/// Returns whether a line comment is documentation, given the offset after its `//`.
+/// Returns the kind of a line comment: documentation or a gap. `at` is the byte offset after its
+/// `//`.
 #[tactic(auto, unfolding(crate::specs::LexemeOpenings::line_kind))]
 fn line_kind(source: &str, at: usize) -> LexemeKind
     requires { at ≤ length source.now + 2 }
@@ -155,7 +160,8 @@ fn line_kind(source: &str, at: usize) -> LexemeKind
     }
 }
 
-/// Returns whether a block comment is documentation, given the offset after its `/*`.
+/// Returns the kind of a block comment: documentation or a gap. `at` is the byte offset after its
+/// `/*`.
 #[tactic(auto, unfolding(crate::specs::LexemeOpenings::block_kind))]
 fn block_kind(source: &str, at: usize) -> LexemeKind
     requires { at ≤ length source.now + 2 }
@@ -170,7 +176,7 @@ fn block_kind(source: &str, at: usize) -> LexemeKind
     }
 }
 
-/// Returns the comment that opens at a byte offset.
+/// Returns the comment that opens at a byte offset, or `None` if none opens there.
 #[tactic(auto, unfolding(crate::specs::LexemeOpenings::comment_opening))]
 fn comment_opening(source: &str, at: usize) -> Option<Opening>
     requires { at ≤ length source.now }
@@ -208,7 +214,7 @@ pub(crate) fn name_at(source: &str, at: usize) -> Option<usize>
     None
 }
 
-/// Returns whether punctuation that ends at `at` is joint.
+/// Returns the spacing of the punctuation that ends at `at`.
 #[tactic(auto, unfolding(crate::specs::LexemeOpenings::spacing))]
 fn spacing(source: &str, at: usize) -> Spacing
     requires { IsCharBoundary source.now at }
@@ -224,7 +230,7 @@ fn spacing(source: &str, at: usize) -> Spacing
     Spacing::Joint
 }
 
-/// Returns the kind of delimiter that a character is. Returns `None` if it is not a delimiter.
+/// Returns the kind of delimiter that a character is, or `None` if it is not a delimiter.
 #[tactic(auto, unfolding(crate::specs::LexemeOpenings::delimiter_kind))]
 fn delimiter_kind(c: char) -> Option<LexemeKind>
     ensures { result ≡ delimiter_kind c }
@@ -314,8 +320,8 @@ fn is_lifetime_name(source: &str, at: usize) -> bool
     is_start(char_at(source, at))
 }
 
-/// Returns the literal that opens at a byte offset. No literal opens where the name of a lifetime
-/// begins.
+/// Returns the literal that opens at a byte offset, or `None` if none opens there. No literal opens
+/// where the name of a lifetime begins.
 #[tactic(auto, unfolding(crate::specs::LexemeOpenings::literal_at))]
 fn literal_at(source: &str, at: usize) -> Option<Opening>
     requires inside { at < length source.now }
@@ -345,7 +351,7 @@ pub fn opening_at(source: &str, at: usize) -> Opening
     other_opening(source, at)
 }
 
-/// Returns the kind of a lexeme or gap that opens as `opens`.
+/// Returns the kind of a lexeme or gap with the opening `opens`.
 pub(crate) fn kind_of(opens: Opening) -> LexemeKind
     ensures { result ≡ kind_of opens }
 {

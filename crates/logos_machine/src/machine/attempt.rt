@@ -1,6 +1,5 @@
 //! The slow path of an attempt: state by state, recording the last mark passed. `walk` takes it if
-//! entries do not determine which mark was passed last, and `part` for inputs whose rest is not
-//! known.
+//! entries do not determine the last mark passed, and `part` for inputs whose rest is not known.
 
 ghost use Rattle.std.specs.Prelude.{◌≡◌, ◌+◌, ◌-◌, ◌<◌, ◌≤◌, ℕ, max, length, slice_get, drop, option_map, IfSome, IsTrue, IsCharBoundary, ◌^◌, ◌↔◌};
 ghost use Rattle.logos_machine.specs.Views.{state_at, mark_by, Does, Attempts, EndsError, target, looped, marked, IsStatus, StaysWithin, context_of, status_of, turn_of, found_of};
@@ -10,9 +9,10 @@ use logos_code::code::Code;
 use logos_code::code::signs::Sign;
 use logos_hir::leaf::LeafId;
 
-/// The bytes from the first constant on, and below the second, are UTF-8 continuation bytes.
+/// The first UTF-8 continuation byte.
 const CONTINUES: u8 = 128;
 
+/// The byte after the last UTF-8 continuation byte.
 const LEADS: u8 = 192;
 
 /// The status of an attempt as it enters a state.
@@ -119,7 +119,8 @@ fn loop_end(code: &Code, input: &[u8], state: usize, offset: usize) -> usize
     }
 }
 
-/// Returns the context after a mark.
+/// Returns the last mark passed once a state with this sign is entered. `context` is the last mark
+/// passed before.
 #[inline]
 pub(super) fn marked(
     sign: Sign,

@@ -1,5 +1,5 @@
-//! Fast loops: find the end of the bytes that pass a test. Both paths of an attempt call it in a
-//! state that has a fast loop.
+//! Finds the end of a fast loop: of the bytes that pass its test. Both paths of an attempt call it
+//! in a state that has a fast loop.
 
 ghost use Rattle.std.specs.Prelude.{◌≡◌, ◌+◌, ◌/◌, ◌%◌, ◌<◌, ◌≤◌, length, map, not, slice_index};
 ghost use Rattle.logos_machine.specs.Views.{mask_l, passes_test, NamesTest, StopsAt};
@@ -63,7 +63,7 @@ fn by_high(bits: [u8; 16], bytes: u8x16) -> u8x16
     u8x16::from_array(bits).swizzle_dyn_within::<16>(bytes >> u8x16::splat(4))
 }
 
-/// Acts as `stop`, for long runs of bytes.
+/// Does the same as `stop`, for long runs of bytes.
 #[cold]
 #[inline(never)]
 fn stop_far(code: &Code, test: usize, input: &[u8], from: usize) -> usize
@@ -82,7 +82,7 @@ fn stop_far(code: &Code, test: usize, input: &[u8], from: usize) -> usize
     stop_late(code, test, input, at)
 }
 
-/// Acts as `stop`, byte by byte, for fewer than sixteen remaining bytes.
+/// Does the same as `stop`, byte by byte, for fewer than sixteen remaining bytes.
 #[cold]
 #[inline(never)]
 fn stop_late(code: &Code, test: usize, input: &[u8], from: usize) -> usize

@@ -1,5 +1,5 @@
-//! Lexing of a part of an input, whose rest is not known. `logos_stream` calls it for each item,
-//! and `logos_relex` for the items of a chunk.
+//! Lexes a part of an input, whose rest is not known. `logos_stream` calls it for each item, and
+//! `logos_relex` for the items of a chunk.
 
 ghost use Rattle.std.specs.Prelude.{◌≡◌, ◌<◌, ◌≤◌, ◌+◌, drop, length, false, List, ℕ, MatchBool};
 ghost use Rattle.logos_machine.specs.Views.{IsStatus, answers_of, fork_of, looped, status_of, state_at, DoesWithin, HasBranches, IsClosed, IsOpen, IsSettled, KeepsGiven, Moves, NoBranches, TakesMatches};
@@ -45,7 +45,7 @@ impl<'c, 's, 'i, C: Fn(LeafId, &[u8]) -> Action> Lexer<'c, 's, 'i, C> {
         }
     }
 
-    /// Returns the next item, if it is the same regardless of the bytes after the part.
+    /// Returns the next item, if no byte after the part can change it.
     fn next_in_part(&mut self) -> Within<'i>
         requires { TakesMatches C.Fn self.old.code self.old.callback }
         ensures keeps { KeepsGiven self.old self.new }

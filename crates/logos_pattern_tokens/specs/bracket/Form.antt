@@ -14,7 +14,7 @@ mutual
     lone : Members → Operands
     joined : Operands → SetOperator → Members → Operands
 
-  -- One operand.
+  -- One operand: its elements and the nested brackets in it.
   pub data Members : Type 0 where
     nobody : Members
     member : Members → BracketItem → Members

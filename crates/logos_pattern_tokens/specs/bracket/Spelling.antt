@@ -46,7 +46,7 @@ pub data Symbols : Symbol → Text → Text → Type 0 where
   escaped : (c : ℕ) (text rest : Text) → Escapes (atoms.Character c) text rest → Symbols (Character c) (92 ∷ text) rest
   escaped_byte : (b : ℕ) (text rest : Text) → Escapes (atoms.Byte b) text rest → Symbols (Byte b) (92 ∷ text) rest
 
--- `&&`, `--`, `~~`.
+-- The character that is written twice as the operator: `&&`, `--` or `~~`.
 abbrev pub operator_letter : SetOperator → ℕ
 operator_letter Intersection = 38
 operator_letter Difference = 45
@@ -57,12 +57,12 @@ abbrev pub begins_operator : ℕ → Text → Bool
 begins_operator c [] = false
 begins_operator c (d ∷ rest) = (c == d) && ((c == 38) || ((c == 45) || (c == 126)))
 
--- The text does not begin with an operator, `[` or `]`, so that an element can begin here.
+-- The text does not begin with an operator, `[` or `]`, so that it begins with an element.
 abbrev pub begins_item : Text → Bool
 begins_item [] = false
 begins_item (c ∷ rest) = not ((c == 91) || ((c == 93) || begins_operator c rest))
 
--- A range continues here: with a `-` that is followed by neither `]` nor another `-`.
+-- The text continues a range: with a `-` that is followed by neither `]` nor another `-`.
 abbrev pub begins_range : Text → Bool
 begins_range [] = false
 begins_range (c ∷ []) = false
@@ -78,7 +78,7 @@ class_text name negated = 58 ∷ (if negated then 94 ∷ [] else []) ++ name ++ 
 abbrev pub IsClass : Text → AsciiKind → Type 0
 IsClass name kind = Lacks 58 name × (ascii_named name ≡ Some kind)
 
--- The text, which comes after `[`, does not begin with such a class.
+-- The text, which comes after `[`, does not begin with a class of ASCII characters.
 abbrev pub NoClass : Text → Type 0
 NoClass text = (name : Text) (kind : AsciiKind) (negated : Bool) (rest : Text) → IsClass name kind → text ≢ class_text name negated ++ rest
 

@@ -23,8 +23,8 @@ pub fn code_of(symbol: Symbol) -> u32
     }
 }
 
-/// Returns whether a range continues here: with a `-` that is followed by neither `]` nor another
-/// `-`.
+/// Returns whether the text continues a range: with a `-` that is followed by neither `]` nor
+/// another `-`.
 fn begins_range(text: &[char]) -> bool
     ensures { result ≡ begins_range text.now }
 {
@@ -126,7 +126,8 @@ fn range_at(alloc: Global, first: Symbol, rest: &[char]) -> Result<(BracketToken
 ///
 /// # Errors
 ///
-/// Returns `ClassRange` if a range continues here, since a class cannot be the start of a range.
+/// Returns `ClassRange` if the text continues a range, since a class cannot be the start of a
+/// range.
 #[tactic(auto, unfolding(crate::specs::bracket::Reader::lone_at))]
 fn lone_at(item: BracketItem, rest: &[char]) -> Result<(BracketToken, &[char]), Fault>
     ensures { Yields (λ x. (x.0, x.1.now)) result (lone_at item rest.now) }
@@ -295,7 +296,7 @@ fn inner_at(text: &[char]) -> (BracketToken, &[char])
     }
 }
 
-/// Returns the operator that is written as this character twice.
+/// Returns the operator that is written as the character `c` twice.
 fn operator_of(c: char) -> SetOperator
     ensures { result ≡ operator_of c }
 {

@@ -301,7 +301,7 @@ chars_are_read c proper bs = (
     all bs [] e = append-nil bs
     all bs (x ∷ rest) e = absurd (omega arith)
 
--- how many bytes are left is a function of those that are read
+-- the number of bytes that are left is a function of the bytes that are read
 pub left_known : (left : ℕ) (has : ℕ → Bool) (bs : List ℕ) → After IsBegun left has bs →
     (k : ℕ) × (0 < k) × After (IsOpenWith k) left has bs
 left_known left has [] h = (left, h.0, (refl, h.1))

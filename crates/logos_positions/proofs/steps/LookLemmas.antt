@@ -1,4 +1,4 @@
--- The kind of the byte before decides the looks.
+-- The kind of the byte before a point determines the look-around assertions that hold there.
 use Rattle.std.proofs.Common.{◌≡◌, ℕ, Bool, true, false, not, ◌||◌, ◌&&◌, ap₂, ◌==◌, List, Option, Some, None, is_none, refl, sym, ap, ◌∙◌, eqb-true, if◌then◌else◌}
 use Rattle.std.proofs.Math.Path.{fun_ext}
 use Rattle.logos_hir.specs.Text.{byte_before, byte_after}

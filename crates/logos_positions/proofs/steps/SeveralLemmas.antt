@@ -208,7 +208,7 @@ module _ (nodes : List Node) (i : ℕ) (node : Node) (lt : i < length nodes) (is
       go (n ∷ nodes) zero lt is h = subst (λ n. IsTrue (is_measured n)) (sym is) h.0
       go (n ∷ nodes) (suc i) lt is h = go nodes i (omega (arith, lt)) is h.1
 
--- where the positions of the trees begin
+-- the first positions of the trees
 pub no_starts : (nodes : List Node) → AreFirstStarts nodes [] 0
 no_starts nodes = record { count = refl; begins = λ i lt. absurd (omega (arith, lt)) }
 

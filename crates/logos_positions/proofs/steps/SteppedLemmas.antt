@@ -1,4 +1,4 @@
--- How the steps of the parts of a pattern join.
+-- The joining of the steps of the parts of a pattern.
 use Rattle.std.proofs.Common.{◌≡◌, ℕ, zero, suc, ◌+◌, ◌-◌, ◌*◌, ◌<◌, ◌≤◌, ◌↔◌, ◌⊎◌, ◌||◌, Bool, true, false, IsTrue, List, [], ◌∷◌, ◌++◌, refl, sym, ap, ◌∙◌, subst, inl, inr, ⊎_elim, true≢false, arith}
 use Rattle.std.proofs.lemmas.Bool.{or_cases, or_left, or_right}
 use Rattle.logos_positions.specs.Core.{Core, void, character, empty, byte_in, look, cat, alt, plus, width, Exits, Steps}

@@ -1,4 +1,4 @@
--- The steps of one tree, and how they are added to those of the trees before it.
+-- The steps of one tree, and their addition to those of the trees before it.
 use Rattle.std.proofs.Common.{◌≡◌, ℕ, ◌+◌, ◌-◌, ◌<◌, ◌≤◌, ◌↔◌, ◌⊎◌, Bool, false, IsTrue, List, [], ◌++◌, length, drop, slice_index, slice_range, length-append, refl, sym, ap, ◌∙◌, inl, inr, ⊎_elim, arith}
 use Rattle.std.proofs.lemmas.List.{get_or_append_left, get_or-take, get_or-drop, length-take, length-drop}
 use Rattle.std.proofs.Math.Seq.{get_or-append_right}
@@ -104,7 +104,7 @@ Stepped-append t test x marks old added base left set s = record {
   leaves = s.leaves;
 }
 
--- a step hangs on the marks among the tree's own positions
+-- a step depends on the marks among the tree's own positions
 pub step_by_own : (t : Core) (test : Look → Bool) (x : ℕ) (own marks positions : List ℕ) (base : ℕ) (left : Bool) →
     ((q : ℕ) → base ≤ q → q < base + width t → Has own q ↔ Has marks q) → IsStepOf t test x own base positions left → IsStepOf t test x marks base positions left
 step_by_own t test x own marks positions base left same s =

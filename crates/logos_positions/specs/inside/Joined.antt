@@ -5,7 +5,7 @@ use Rattle.logos_hir.specs.declared.hir.Range.{Range}
 use Rattle.logos_positions.specs.Core.{Core, void, empty, byte_in, cat, alt}
 use Rattle.logos_positions.specs.IsCore.{IsCoreOf}
 
--- One pattern after the other, or one of the two.
+-- One pattern after the other if the flag is `true`, and the choice of the two otherwise.
 abbrev pub pair_up : Bool → Core → Core → Core
 pair_up true = cat
 pair_up false = alt

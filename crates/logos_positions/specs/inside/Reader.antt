@@ -11,7 +11,7 @@ use Rattle.logos_positions.specs.inside.Characters.{size, Lead, lead, after_lead
 abbrev pub is_char_in : List (ℕ × ℕ) → ℕ → Bool
 is_char_in ranges c = scalar c && is_in ranges c
 
--- These bytes are at `i` to `j`.
+-- The bytes of a list are at `i` to `j`.
 abbrev pub Spells : List ℕ → List ℕ → ℕ → ℕ → Type 0
 Spells bytes [] i j = j ≡ i
 Spells bytes (b ∷ bs) i j = (slice_get bytes i ≡ Some b) × Spells bytes bs (suc i) j
@@ -44,6 +44,7 @@ pub record IsRest (r : Remainder) (n : ℕ) (f : ℕ → Bool) : Type 0 where
   pub same : Same n r.has f
   pub some : IsOpen n f
 
+-- No offset remains.
 abbrev pub IsShut : ℕ → (ℕ → Bool) → Type 0
 IsShut n f = (o : ℕ) → o < size n → f o ≡ false
 

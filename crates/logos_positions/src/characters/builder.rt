@@ -49,7 +49,7 @@ fn number_of(rests: &mut IndexSet<CharacterRest>, rest: CharacterRest) -> Result
     Ok(i)
 }
 
-/// Returns the row for these offsets, or `None` if there are no offsets.
+/// Returns the number of the row for these offsets, or `None` if there are no offsets.
 ///
 /// # Errors
 ///
@@ -79,8 +79,8 @@ fn position(
     Ok(Some(i))
 }
 
-/// Returns the row for the characters of the ranges that begin with a given first byte, or `None`
-/// if there are none.
+/// Returns the number of the row for the characters of the ranges that begin with a given first
+/// byte, or `None` if there are none.
 ///
 /// # Errors
 ///
@@ -155,7 +155,8 @@ fn block_of(byte: u8) -> Option<Block>
     None
 }
 
-/// Returns the row after a first byte, or `None` if no character of the ranges begins with it.
+/// Returns the number of the row after a first byte, or `None` if no character of the ranges begins
+/// with it.
 ///
 /// # Errors
 ///
@@ -207,7 +208,8 @@ fn after(
     clip(alloc, &rest.offsets, window)
 }
 
-/// Returns the row after `row` and the continuation byte with the number `part`, if there is one.
+/// Returns the number of the row after `row` and the continuation byte with the number `part`, or
+/// `None` if there is no such row.
 ///
 /// # Errors
 ///
@@ -241,7 +243,7 @@ fn next_for(
     position(rests, left, offsets)
 }
 
-/// Returns the number of numbers that `left` continuation bytes distinguish.
+/// Returns the size of the block of numbers that `left` continuation bytes distinguish.
 fn block_size(left: u8) -> u32
     requires { left ≤ 3 }
     ensures size { result ≡ size left }
@@ -255,7 +257,7 @@ fn block_size(left: u8) -> u32
     }
 }
 
-/// Returns the rows after all first bytes.
+/// Returns, for each first byte, the number of the row after it, or `None` if there is no such row.
 ///
 /// # Errors
 ///
@@ -282,7 +284,7 @@ fn first_cells(
     Ok(cells)
 }
 
-/// Adds the rows after `row` and each continuation byte.
+/// Appends, for each continuation byte, the number of the row after `row` and that byte.
 ///
 /// # Errors
 ///
@@ -314,8 +316,8 @@ fn follow_row(
     Ok(())
 }
 
-/// Returns the rows after each row and each continuation byte, and adds the rows to which these
-/// lead.
+/// Returns the rows after each row and each continuation byte, or `None` where there is no such
+/// row, and adds the rows to which these lead.
 ///
 /// # Errors
 ///

@@ -22,7 +22,7 @@ pub struct BlockPart {
 }
 
 /// Returns the offsets, in the block of a window, of the numbers that are in the range and in the
-/// window.
+/// window. Returns `None` if there are none.
 fn clip_range(range: CharRange, window: BlockPart) -> Option<CharRange>
     requires fits { window.start + window.size < 2 ^ 32 }
     requires some { 0 < window.size }

@@ -32,8 +32,8 @@ pub(crate) fn exits(node: &Node, marks: &[usize], spot: TreeSpot, at: Context) -
     exits_node(node, marks, spot, at)
 }
 
-/// Returns whether a tree can be left that is not entered and has these positions of the set.
-/// Branches without one of them are skipped.
+/// Returns whether a tree that is not entered can be left, where `own` are its positions in the
+/// set. Branches without a position are skipped.
 #[cycle(exits)]
 fn exits_marked(node: &Node, marks: &[usize], own: OwnPositions, at: Context) -> bool
     requires fits { own.base + core.width (core_of node.now) < 2 ^ 64 }
@@ -116,8 +116,8 @@ fn exits_literal(text: &[u8], marks: &[usize], spot: TreeSpot) -> bool
     has_mark(marks, spot.base + text.len() - 1)
 }
 
-/// Returns whether a repetition can be left, given at least these copies of its body, and at most
-/// `most` if it is not `None`.
+/// Returns whether a repetition of at least `copies.count` copies of its body, and of at most
+/// `most` if that is not `None`, can be left.
 #[cycle(exits)]
 fn exits_repeat(
     body: &Node,
@@ -173,9 +173,9 @@ fn exits_at_least(body: &Node, copies: Copies, marks: &[usize], at: Context) -> 
     exits(body, marks, copies.at(fronts.count, front), at)
 }
 
-/// Returns the number of copies after the first one that have the same positions as it and are also
-/// entered or also not entered, so that they can be left if and only if it can. `left` is whether
-/// the first copy can be left.
+/// Returns the number of copies after the first one that are in the same state as it: they have the
+/// same positions, and are entered exactly if it is. These copies can be left exactly if the first
+/// one can. `left` is whether the first copy can be left.
 fn alike_exits(marks: &[usize], rest: Copies, left: bool) -> usize
     requires rising { IsRising marks.now }
     requires fits { rest.base + rest.each * rest.count < 2 ^ 64 }

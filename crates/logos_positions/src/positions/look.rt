@@ -1,5 +1,5 @@
-//! Evaluates look-around assertions by the kind of the byte before a point and by the byte after
-//! it. Steps and exits call it for each assertion of a tree.
+//! Evaluates look-around assertions from the kind of the byte before a point and the byte after it.
+//! Steps and exits call it for each assertion of a tree.
 
 ghost use Rattle.std.specs.Prelude.{◌≡◌, Some, is_none};
 ghost use Rattle.logos_positions.specs.Views.{is_byte, side_before, kind_of_byte, test_at, is_word_byte};
@@ -7,7 +7,8 @@ ghost use Rattle.logos_hir.specs.Looks as looks;
 
 use logos_hir::hir::Look;
 
-/// The kind of the byte before a point: all that look-around assertions after it can depend on.
+/// The kind of the byte before a point. Look-around assertions at the point depend on no other
+/// property of that byte.
 #[derive(Clone, Copy, PartialEq, Eq, Hash)]
 pub enum ByteKind {
     /// There is no byte: the point is the start of the input.
@@ -83,7 +84,7 @@ fn is_word_before(before: ByteKind) -> bool
     matches!(before, ByteKind::Word)
 }
 
-/// Returns whether there is a byte and it is this one.
+/// Returns whether there is a byte and it is `byte`.
 fn is_this(side: Option<u8>, byte: u8) -> bool
     ensures { result ≡ is_byte byte side }
 {

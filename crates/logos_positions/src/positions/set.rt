@@ -6,8 +6,8 @@ ghost use Rattle.logos_positions.specs.Marks.{IsRising, IsSet, Has, HasBetween, 
 use crate::node::Copies;
 use std::alloc::AllocError;
 
-/// Returns the index of the first position from `position` on, which is between `low` and `high`,
-/// inclusive.
+/// Returns the index of the first mark that is at least `position`. The index is between `low` and
+/// `high`, inclusive.
 fn first_between(marks: &[usize], low: usize, high: usize, position: usize) -> usize
     requires rising { IsRising marks.now }
     requires order { low ≤ high }
@@ -29,7 +29,8 @@ fn first_between(marks: &[usize], low: usize, high: usize, position: usize) -> u
     low
 }
 
-/// Returns the index of the first position from `from` on.
+/// Returns the index of the first mark that is at least `from`, or the number of marks if there is
+/// none.
 pub fn first_from(marks: &[usize], from: usize) -> usize
     requires { IsRising marks.now }
     ensures { IsFirstFrom marks.now from result }
@@ -197,8 +198,8 @@ fn is_marked_alike(
     copies.base + shift + copies.each <= marks[at + i]
 }
 
-/// Returns the number of copies after the first one that have the same positions as it, up to the
-/// next copy that does not.
+/// Returns the number of consecutive copies after the first one that have the same positions as the
+/// first.
 pub fn alike_copies(marks: &[usize], copies: Copies) -> usize
     requires rising { IsRising marks.now }
     requires fits { copies.base + copies.each * copies.count < 2 ^ 64 }

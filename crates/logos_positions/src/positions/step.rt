@@ -156,7 +156,7 @@ fn push_after(
     Ok(())
 }
 
-/// Steps on a literal that is not entered and has these positions of the set.
+/// Steps on a literal that is not entered, where `own` are its positions in the set.
 ///
 /// # Errors
 ///
@@ -284,8 +284,8 @@ pub(crate) fn step(
     step_node(node, by, spot, next)
 }
 
-/// Steps on a tree that is not entered and has these positions of the set. Branches without one of
-/// them are skipped.
+/// Steps on a tree that is not entered, where `own` are its positions in the set. Branches without
+/// a position are skipped.
 ///
 /// # Errors
 ///
@@ -380,8 +380,8 @@ fn step_node(
     }
 }
 
-/// Steps on a repetition: at least these copies of its body, and at most `most` if it is not
-/// `None`.
+/// Steps on a repetition of at least `copies.count` copies of its body, and of at most `most` if
+/// that is not `None`.
 ///
 /// # Errors
 ///
@@ -454,9 +454,9 @@ fn step_at_least(
     step_plus(body, by, copies.at(fronts.count, front), next)
 }
 
-/// Steps on the copies after the first one that have the same positions as it and are also entered
-/// or also not entered, and returns their number. The step on the first copy has been made, and
-/// `left` is whether the first copy can be left.
+/// Steps on the copies after the first one that are in the same state as it, and returns their
+/// number. They have the same positions as the first copy, and are entered exactly if it is. The
+/// step on the first copy has been made, and `left` is whether the first copy can be left.
 ///
 /// # Errors
 ///

@@ -9,7 +9,7 @@ use crate::node::{Node, TreeSpot};
 use crate::positions::step::{ReadByte, step};
 use std::alloc::{AllocError, Global};
 
-/// The step of one tree by a byte.
+/// The step of one tree on a byte.
 #[derive(PartialEq, Eq, Drop)]
 pub struct TreeStep {
     /// The positions of the tree that read the byte, ascending.

@@ -20,7 +20,7 @@ pub struct Forest<'n> {
     pub starts: &'n [usize],
 }
 
-/// The step of several trees by a byte.
+/// The step of several trees on a byte.
 #[derive(Drop)]
 pub struct JointStep {
     /// The positions that read the byte, ascending.
@@ -94,7 +94,7 @@ fn note(numbers: &mut Vec<usize>, number: usize, is_one: bool) -> Result<(), All
     Ok(())
 }
 
-/// Makes the step of each tree by a byte, where all trees are entered or none are.
+/// Makes the step of each tree on a byte, where all trees are entered or none are.
 ///
 /// # Errors
 ///
@@ -133,7 +133,7 @@ pub fn step_all(
     Ok(JointStep { positions, left })
 }
 
-/// Returns the numbers of the trees that can be left at this point, ascending.
+/// Returns the numbers of the trees that can be left at the point `at`, ascending.
 ///
 /// # Errors
 ///

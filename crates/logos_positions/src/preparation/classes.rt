@@ -1,4 +1,4 @@
-//! Classes of bytes as ranges, and the union of two classes. `prepare` calls it where it makes the
+//! Adds ranges to classes of bytes, and unites two classes. `prepare` calls it where it makes the
 //! choice of two trees.
 
 ghost use Rattle.std.specs.Prelude.{◌≡◌, ◌+◌, ◌<◌, ◌≤◌, ◌||◌, ℕ, IsTrue, IfOk, IfSome, OnOk, length, max, min, slice_get};
@@ -26,8 +26,8 @@ fn hull(one: Range, other: Range) -> Range
     }
 }
 
-/// Returns the index of the first of the ranges that is near this one, or the number of ranges if
-/// none is.
+/// Returns the index of the first of `ranges` that is near `range`, or the number of ranges if none
+/// is.
 fn near_range(ranges: &[Range], range: Range) -> usize
     ensures within { result ≤ length ranges.now }
     ensures near { IfSome (slice_get ranges.now result) (λ found. AreNear found range) }

@@ -179,7 +179,7 @@ turn_past edge numbers states i k e more same h = record {
     up r l (inl x) = inl x
     up r l (inr x) = inr (x.0, let n = x.1 in omega arith)
 
--- where the symbols of a run lead
+-- the targets of the symbols of a run
 pub run_goes : (table : Table) (block : ℕ → ℕ) (s leader k e : ℕ) (row : List ℕ) → ((l : ℕ) → target_by row l ≡ to table s l) → s ≡ leader →
     HasOnly row k e (slice_index row k) → (l : ℕ) → k ≤ l → l < e → target_block table block leader l ≡ target_block table block leader k
 run_goes table block s leader k e row goes at same l p m = ap (option_map block) (sym (here l) ∙ ap target_of (same l p m) ∙ here k)

@@ -1,4 +1,4 @@
--- Where the edges of a table are.
+-- The ends of the edges of a table.
 use Rattle.std.proofs.Common.{◌≡◌, ℕ, ◌<◌, ◌≤◌, Option, None, Some, option_map, refl, arith}
 use Rattle.std.proofs.lemmas.List.{get_or_past}
 use Rattle.logos_reduce.specs.Merge.{target_block}

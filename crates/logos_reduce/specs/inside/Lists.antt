@@ -7,11 +7,12 @@ use Rattle.logos_reduce.specs.Lists.{has, has_in}
 abbrev pub AreFiled : ℕ → (ℕ → ℕ) → List (Vec ℕ Global) → Type 0
 AreFiled n block lists = (s : ℕ) → s < n → has_in lists (block s) s ≡ true
 
--- The block to which the hit states of a block go.
+-- The block to which the hit states of the block `c` last moved, if it is a new one, and otherwise
+-- `c`.
 abbrev pub twin_of : List ℕ → ℕ → ℕ → ℕ
 twin_of twins fresh c = if nat_le fresh (slice_index twins c) then slice_index twins c else c
 
--- The block to which a hit state of this block moves, which may be a new one.
+-- The block to which a hit state of the block `b` moves, which may be a new one.
 abbrev pub landing : List ℕ → ℕ → ℕ → ℕ
 landing twins fresh b = if nat_lt b fresh then twin_of twins fresh b else b
 

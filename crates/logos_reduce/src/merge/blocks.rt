@@ -9,7 +9,8 @@ use crate::table::{StateMarks, Table};
 use indexmap::IndexSet;
 use std::alloc::{AllocError, Global};
 
-/// How a block was made: it was separated from another one, by a symbol or by the marks of states.
+/// A split, which made a block: the block was separated from another one, by a symbol or by the
+/// marks of states.
 #[derive(Clone, Copy, Drop)]
 pub struct Split {
     /// The number of the other block, which is lower.
@@ -19,12 +20,12 @@ pub struct Split {
     pub symbol: Option<usize>,
 }
 
-/// The block of each state, and how each block was made.
+/// The block of each state, and the splits that made the blocks.
 #[derive(Drop)]
 pub struct Blocks {
     /// For each state, its block.
     pub of: Vec<usize>,
-    /// For each block but 0, how it was separated from one with a lower number.
+    /// For each block but 0, the split that separated it from a block with a lower number.
     pub splits: Vec<Split>,
     ghost within: { (s : ℕ) → s < vec_len of → slice_index of.items s < vec_len splits },
 }
@@ -63,6 +64,10 @@ fn parted_by_marks(alloc: Global, count: usize) -> Result<Vec<Split>, AllocError
 }
 
 /// Returns the blocks of states with equal marks.
+///
+/// # Errors
+///
+/// Returns `AllocError` if memory runs out.
 pub fn by_marks(alloc: Global, table: &Table) -> Result<Blocks, AllocError>
     ensures len { IfOk result (λ b. vec_len b.of ≡ size table.now) }
     ensures sound { IfOk result (λ b. IsSound table.now b.splits.items (slice_index b.of.items)) }
@@ -78,6 +83,10 @@ pub fn by_marks(alloc: Global, table: &Table) -> Result<Blocks, AllocError>
 }
 
 /// Returns for each block one of its states.
+///
+/// # Errors
+///
+/// Returns `AllocError` if memory runs out.
 pub fn leaders_of(alloc: Global, of: &Vec<usize>, count: usize) -> Result<Vec<usize>, AllocError>
     requires { (s : ℕ) → s < vec_len of.now → slice_index of.now.items s < count }
     ensures len { IfOk result (λ v. vec_len v ≡ count) }

@@ -35,6 +35,10 @@ fn class_key(table: &Table, s: usize) -> [usize; 5]
 }
 
 /// Returns the classes of the states of a table.
+///
+/// # Errors
+///
+/// Returns `AllocError` if memory runs out.
 pub fn classes_of(alloc: Global, table: &Table) -> Result<Classes, AllocError>
     ensures len { IfOk result (λ c. vec_len c.of ≡ size table.now) }
     ensures classes { IfOk result (λ c. AreClasses table.now (slice_index c.of.items)) }
@@ -123,6 +127,10 @@ fn class_marks(
 }
 
 /// Returns the table with the classes as its states.
+///
+/// # Errors
+///
+/// Returns `AllocError` if memory runs out.
 pub fn class_table(alloc: Global, table: &Table, classes: &Classes) -> Result<Table, AllocError>
     requires len { vec_len classes.now.of ≡ size table.now }
     requires classes { AreClasses table.now (slice_index classes.now.of.items) }

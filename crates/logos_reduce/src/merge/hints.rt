@@ -1,5 +1,5 @@
-//! Chooses the part of a block that becomes the new block, and the next blocks to process. No proof
-//! about blocks depends on it.
+//! Chooses the part of a block that becomes the new block, and the next blocks to process. `refine`
+//! and `twins` call it for each block. No proof about blocks depends on it.
 
 ghost use Rattle.std.specs.Prelude.{◌≡◌, ℕ, ◌+◌, ◌<◌, ◌≤◌, OnSome, IfOk, vec_len, slice_index};
 
@@ -27,7 +27,12 @@ pub struct Hints {
 }
 
 impl Hints {
-    /// Returns hints by which each of the first `count` blocks is still to be processed.
+    /// Returns hints in which each of the first `count` blocks is still to be processed. `room` is
+    /// the greatest number of blocks that there can be.
+    ///
+    /// # Errors
+    ///
+    /// Returns `AllocError` if memory runs out.
     pub fn new(
         alloc: Global,
         blocks: &Vec<usize>,
@@ -145,9 +150,9 @@ impl Hints {
         None
     }
 
-    /// Records which parts of a block are to be processed, once its hits are in the block `twin`:
-    /// the smaller part for all symbols, and the larger part for the symbols that are left for the
-    /// block.
+    /// Records the parts of a block that are to be processed, once its hits are in the block
+    /// `twin`: the smaller part for all symbols, and the larger part for the symbols that are left
+    /// for the block.
     ///
     /// # Errors
     ///
@@ -175,7 +180,7 @@ impl Hints {
         self.counts[block] = 0;
     }
 
-    /// Removes and returns the next block to process.
+    /// Removes and returns the next block to process, or returns `None` if no block is left.
     pub fn next(&mut self) -> Option<usize>
         ensures some { OnSome result (vec_len self.new.todo + 1 ≡ vec_len self.old.todo) }
         ensures sizes { vec_len self.new.sizes ≡ vec_len self.old.sizes }

@@ -14,7 +14,7 @@ use crate::rows::WIDTH;
 use crate::table::Table;
 use std::alloc::{AllocError, Global};
 
-/// Returns the block of a target.
+/// Returns the block of a target, or `None` if there is no target.
 pub fn block_of(target: Option<usize>, blocks: &Vec<usize>) -> Option<usize>
     requires { (t : ℕ) → target ≡ Some t → t < vec_len blocks.now }
     ensures { result ≡ option_map (slice_index blocks.now.items) target }
@@ -214,7 +214,7 @@ fn split_by_block(
 }
 
 impl Refinement {
-    /// Removes and returns the next block to process.
+    /// Removes and returns the next block to process, or returns `None` if no block is left.
     fn next(&mut self) -> Option<usize>
         ensures some { OnSome result (vec_len self.new.cuts.hints.todo + 1
             ≡ vec_len self.old.cuts.hints.todo) }
@@ -289,7 +289,7 @@ struct Edges {
     symbols: Vec<Symbols>,
 }
 
-/// Splits the blocks by the states that lead into a block, if there is such a block.
+/// Splits the blocks by the states that lead into the block `b`, if there is such a block.
 fn look_at(
     alloc: Global,
     table: &Table,
@@ -343,6 +343,10 @@ fn look_at_all(
 }
 
 /// Splits the blocks by the blocks to which their states lead, until no block is left to process.
+///
+/// # Errors
+///
+/// Returns `AllocError` if memory runs out.
 pub fn refine(alloc: Global, table: &Table, blocks: Blocks) -> Result<Blocks, AllocError>
     requires len { vec_len blocks.of ≡ size table.now }
     requires sound { IsSound table.now blocks.splits.items (slice_index blocks.of.items) }

@@ -1,4 +1,5 @@
-//! Sets of symbols for which a block is processed. No proof about blocks depends on them.
+//! Sets of symbols for which a block is processed. `refine` makes one for each state. No proof
+//! about blocks depends on them.
 
 ghost use Rattle.std.specs.Prelude.{◌<◌, ◌≤◌};
 
@@ -45,7 +46,7 @@ impl Symbols {
         self.words[k / 64] |= 1 << (k % 64);
     }
 
-    /// Adds the symbols from `from` on, up to `to`.
+    /// Adds the symbols from `from` up to but not including `to`.
     fn add_run(&mut self, from: usize, to: usize)
         requires { to ≤ WIDTH }
     {
@@ -62,7 +63,8 @@ impl Symbols {
     }
 }
 
-/// Adds the symbols from `from` on, up to `to`, to the set of a target, if there is a target.
+/// Adds the symbols from `from` up to but not including `to` to the set of a target, if there is a
+/// target.
 fn note_run(symbols: &mut Vec<Symbols>, target: Option<usize>, from: usize, to: usize)
     requires { to ≤ WIDTH }
 {
@@ -84,6 +86,10 @@ fn note_symbols(symbols: &mut Vec<Symbols>, row: &Row) {
 }
 
 /// Returns for each state the symbols on which some state leads to it.
+///
+/// # Errors
+///
+/// Returns `AllocError` if memory runs out.
 pub fn symbols_of(alloc: Global, table: &Table) -> Result<Vec<Symbols>, AllocError> {
     let mut symbols = vec![in alloc; Symbols::new(); table.len()]?;
     for s in 0..table.len() {

@@ -20,12 +20,12 @@ pub struct Filing {
     pub lists: Vec<Vec<usize>>,
 }
 
-/// How blocks are cut in two.
+/// The cuts of blocks, each of which divides a block in two.
 #[derive(Drop)]
 pub struct Cuts {
-    /// For each block, the block into which its hit states last went.
+    /// For each block, the block to which its hit states last moved.
     pub twins: Vec<usize>,
-    /// For each block, how it was separated from one with a lower number.
+    /// For each block, the split that separated it from a block with a lower number.
     pub splits: Vec<Split>,
     pub hints: Hints,
 }
@@ -202,7 +202,7 @@ fn move_hits(
     Ok(())
 }
 
-/// Blocks while they are cut: their states, and how they were made.
+/// Blocks while they are cut: their states, and the splits that made them.
 #[derive(Drop)]
 pub struct Refinement {
     pub filing: Filing,
@@ -218,6 +218,10 @@ pub struct Refinement {
 }
 
 /// Cuts the blocks by the hit states, which lead into one block on the symbol.
+///
+/// # Errors
+///
+/// Returns `AllocError` if memory runs out.
 pub fn split_on(
     alloc: Global,
     parts: Refinement,

@@ -6,13 +6,14 @@ use Rattle.logos_token.specs.Views.{tokens_of}
 use Rattle.logos_rust_file.specs.declared.finder.FoundEnum.{FoundEnum}
 use Rattle.logos_rust_file.specs.Files.{Finds}
 
--- All enums of a run were added.
+-- The enums of a run were added.
 pub record AddsRun (run : TokenList) (before after : List FoundEnum) : Type 0 where
   pub added : List FoundEnum
   pub finds : Finds run added
   pub are : after ≡ before ++ added
 
--- The enums of the first item were added, and with those of the rest they are those of the run.
+-- The enums of the first item were added. Together with the enums of the rest they are the enums of
+-- the run.
 pub record AddsFirst (run rest : TokenList) (before after : List FoundEnum) : Type 0 where
   pub added : List FoundEnum
   pub are : after ≡ before ++ added

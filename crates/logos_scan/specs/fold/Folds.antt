@@ -80,7 +80,7 @@ pub record IsFolded (code : CodeValue) (s b entry : ℕ) : Type 0 where
 abbrev pub IsWithin : CodeValue → ℕ → Type 0
 IsWithin code row_start = row_start + 255 < 272 * length code.states
 
--- An entry for each byte.
+-- The row has the folded entry of each byte.
 pub record IsFoldedRow (code : CodeValue) (s : ℕ) (row : List ℕ) : Type 0 where
   pub each : (b : ℕ) → b < 256 → IsFolded code s b (slice_index row b)
   pub within : (k : ℕ) → k < 272 → IsWithin code (row_start_of (slice_index row k))

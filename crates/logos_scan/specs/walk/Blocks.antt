@@ -11,6 +11,6 @@ AreRowStarts rows row_starts = (b : ℕ) → b < 6 → IsRowStart rows (slice_in
 abbrev pub IsWalked : List ℕ → List ℕ → List ℕ → List ℕ → ℕ → List ℕ → ℕ → Type 0
 IsWalked rows text from trace count to b = Walked rows text (slice_index from b) trace (768 * b) (count + 768 * b) (slice_index to b)
 
--- The trace holds such a walk over each block.
+-- The trace holds a walk over the first `count` bytes of each block.
 abbrev pub AreWalked : List ℕ → List ℕ → List ℕ → List ℕ → ℕ → List ℕ → Type 0
 AreWalked rows text from trace count to = (b : ℕ) → b < 6 → IsWalked rows text from trace count to b

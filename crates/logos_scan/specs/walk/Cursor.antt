@@ -38,7 +38,7 @@ pub record IsLastEnd (trace : List ℕ) (from at last : ℕ) : Type 0 where
 abbrev pub StartsAt : (base : ℕ) (trace : List ℕ) (from start at now : ℕ) → Type 0
 StartsAt base trace from start at now = ((now ≡ start) × NoEnd trace from at) ⊎ ((last : ℕ) × IsLastEnd trace from at last × (now ≡ base + last))
 
--- The offset of the end of the chunk fits 64 bits.
+-- The offset of the end of the chunk fits in 64 bits.
 abbrev pub HasRoom : ℕ → Type 0
 HasRoom base = base + 4608 < 2 ^ 64
 

@@ -1,4 +1,4 @@
-//! Entries of folded rows. `folded` computes them.
+//! Computes the entries of folded rows. `folded` calls it for each state.
 
 ghost use Rattle.std.specs.Prelude.{◌≡◌, ◌+◌, ◌<◌, false, length, IfSome};
 ghost use Rattle.logos_scan.specs.fold.Imports.{first_halting, flags_of, row_start_of, state_at, stays, Goes, IsEnded, IsFew, IsFolded, IsFoldedRow, IsSound, IsStepOf, IsWithin, LeadsToRowStart, Describes};
@@ -85,7 +85,7 @@ fn row_start_after(code: &Code, state: usize, byte: u8) -> Option<usize>
     }
 }
 
-/// Returns the row offset of the state to which the byte leads.
+/// Returns the row offset of the state to which the byte leads, or `None` if it leads nowhere.
 fn row_start_of_target(code: &Code, state: usize, byte: u8) -> Option<usize>
     requires few { IsFew code.now }
     requires sound { IsSound code.now }

@@ -1,4 +1,4 @@
-//! The folded rows of a code. `logos_scan` makes them if it scans an input.
+//! The folded rows of a code. `choice` makes them for each input that is long enough.
 
 ghost use Rattle.std.specs.Prelude.{◌≡◌, IfOk, IfSome, None, length};
 ghost use Rattle.logos_scan.specs.fold.Imports.{AreFolded, IsFew, IsMany};

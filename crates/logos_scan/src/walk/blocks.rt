@@ -1,5 +1,5 @@
-//! Steps over the blocks of a chunk in parallel. The scan of `logos_scan` calls `walk_chunk` for
-//! each chunk.
+//! Steps over the blocks of a chunk in parallel. `run` and `trial` call `walk_chunk` for each
+//! chunk.
 
 ghost use Rattle.std.specs.Prelude.{◌≡◌, ◌<◌, ◌+◌, List, ℕ, length, slice_index};
 ghost use Rattle.logos_scan.specs.walk.Views.{IsClosed, IsRowStart, IsSameBeside, Walked, AreRowStarts, AreWalked, HoldsStretch};

@@ -1,5 +1,4 @@
-//! The pending entries of a chunk, found by the flags of its entries. The scan of `logos_scan`
-//! iterates over them.
+//! The pending entries of a chunk, found by the flags of its entries. `run` iterates over them.
 
 ghost use Rattle.std.specs.Prelude.{◌≡◌, ◌<◌, ◌+◌, ◌*◌, MatchOption};
 ghost use Rattle.logos_scan.specs.walk.Views.{HasRoom, Finds, Finishes, IsInWord, IsMarked, Passes, IsAt, start_at, start_by, start_of};
@@ -115,8 +114,8 @@ impl ChunkCursor {
         cursor
     }
 
-    /// Returns the next pending entry, and passes it. If there is none, all entries are passed, and
-    /// the attempt that is active at the end began at `word_start`.
+    /// Returns the next pending entry, and passes it. If there is none, returns `None`: all entries
+    /// are passed, and the attempt that is active at the end began at `word_start`.
     #[inline(always)]
     pub fn next(&mut self, chunk: &ChunkEntries) -> Option<usize>
         requires marked { IsMarked chunk.now }

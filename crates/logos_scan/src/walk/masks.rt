@@ -1,4 +1,4 @@
-//! Bit masks of the flags of entries. The scan of `logos_scan` computes them for each chunk.
+//! Bit masks of the flags of entries. `run` computes them for each chunk.
 
 ghost use Rattle.std.specs.Prelude.{◌≡◌, ◌≤◌, ◌+◌, length, replicate};
 ghost use Rattle.logos_scan.specs.walk.Views.{HoldTops, MarksFrom, IsMarked, IsMarkedBeside};
@@ -18,9 +18,10 @@ pub struct ChunkEntries {
     pub tokens: [u64; 72],
 }
 
-/// The flags in the highest byte of an entry.
+/// The flag `ENDED` in the highest byte of an entry.
 const ENDED_TOP: u8 = (ENDED >> 24) as u8;
 
+/// The flag `TOKEN` in the highest byte of an entry.
 const TOKEN_TOP: u8 = (TOKEN >> 24) as u8;
 
 /// Returns the highest bytes of the 16 entries from `at` on. They are selected from all bytes,
@@ -99,7 +100,7 @@ impl ChunkEntries {
         }
     }
 
-    /// Writes the words of flags from `from` up to `to`.
+    /// Writes the words of flags from `from` up to but not including `to`.
     pub fn mark(&mut self, from: usize, to: usize)
         requires order { from ≤ to }
         requires within { to ≤ 72 }

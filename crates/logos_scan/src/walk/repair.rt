@@ -1,13 +1,12 @@
-//! Steps again over bytes where a walk began in another row. `blocks` and the scan of `logos_scan`
-//! call it.
+//! Steps again over bytes where a walk began in another row. `blocks` and `run` call it.
 
 ghost use Rattle.std.specs.Prelude.{◌≡◌, ◌<◌, ◌≤◌, length};
 ghost use Rattle.logos_scan.specs.walk.Views.{IsClosed, IsRowStart, IsSameBeside, Walked, HoldsStretch, IsRepaired};
 
 use crate::walk::{OFFSET_MASK, step};
 
-/// A walk that is stored in a trace: over the bytes from `from` up to `to`, from the row `begin` to
-/// the row `end`.
+/// A walk that is stored in a trace: over the bytes from `from` up to but not including `to`, from
+/// the row `begin` to the row `end`.
 #[derive(Clone, Copy, Drop)]
 pub struct Stretch {
     pub from: usize,

@@ -14,7 +14,7 @@ abbrev pub held : Option Punct → List (Option Token)
 held None = []
 held (Some p) = Some (punctuation p.character p.spacing p.span) ∷ []
 
--- All trees at the end, if these follow the trees written so far.
+-- The tokens of a writer after these pieces are written.
 abbrev pub completed : Writer → List (Option Token) → TokenList
 completed writer pieces = append (stream_tokens writer.stream) (left (held writer.held ++ pieces))
 

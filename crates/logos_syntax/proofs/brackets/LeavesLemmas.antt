@@ -1,4 +1,4 @@
--- A beginning of a bracket, and how many brackets it leaves open.
+-- A beginning of a bracket, and the number of brackets that it leaves open.
 use Rattle.std.proofs.Common.{◌≡◌, ℕ, suc, ◌≤◌, Bool, Err, List, [], ◌∷◌, ◌++◌, length, Some, refl, ap, subst, ◌∙◌, arith, option_and_then}
 use Rattle.logos_pattern_tokens.specs.declared.token.Flags.{Flags}
 use Rattle.logos_pattern_tokens.specs.declared.bracket.token.Lead.{Lead}
@@ -58,7 +58,7 @@ module _ (flags : Flags) (base : ℕ) (negated : Bool) (lead : Lead) (text here 
       let below : length s.below ≡ size r.slot.stack = ap (λ (x : Frames). length x.below) r.frames ∙ length-below_of flags base r.slot.stack in
       (_, opens_here n d after e, omega arith)
 
--- a fault is no limit
+-- a fault is not a stop at the limit
 pub shallow_inside : (flags : Flags) (base : ℕ) (text : Text) (fault : Fault) (stop : Stop) → IsStopOf fault stop → IfDeepInside flags base stop text
 shallow_inside flags base text (faults.Syntax kind) (stops.Syntax other left) h = tt
 shallow_inside flags base text (faults.Syntax kind) stops.LimitPatternNesting h = absurd h

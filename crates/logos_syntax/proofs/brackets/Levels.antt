@@ -230,7 +230,7 @@ advance_adds p (Operator op) q e =
     }) e
 advance_adds p Close q e = close_adds p.level p.stack q e
 
--- where a walk leads to
+-- the end of a walk
 pub record Walked (p : Slot) (ts : List BracketToken) (q : Slot) : Type 0 where
   pub tokens : tokens_at q.level q.stack ≡ tokens_at p.level p.stack ++ ts
   pub same : outermost q.level q.stack ≡ outermost p.level p.stack

@@ -1,5 +1,5 @@
--- Whole brackets: how a text is cut into their tokens, and the meaning of the parser's results for
--- it.
+-- Whole brackets: the cutting of a text into their tokens, and the meaning of the parser's results
+-- for the text.
 use Rattle.std.proofs.Common.{◌≡◌, ℕ, ◌+◌, ◌<◌, ◌≤◌, max, Bool, false, ◌⊎◌, inl, inr, List, [], ◌∷◌, ◌++◌, Option, Some, None, refl, sym, ap, subst, ◌∙◌, arith, append_assoc, append-nil, option_map, option_and_then, IfSome}
 use Rattle.logos_pattern_tokens.specs.declared.token.Flags.{Flags}
 use Rattle.logos_pattern_tokens.specs.declared.bracket.token.BracketItem.{BracketItem as ItemOf}
@@ -98,7 +98,7 @@ pub record HasWalked (negated : Bool) (lead : Lead) (text here : Text) (p : Slot
   pub cut : BracketCuts text tokens here
   pub walks : walk (starting negated lead bottom) tokens ≡ Some p
 
--- how a whole bracket continues there
+-- the continuation of a whole bracket there
 pub record Onward (inside : Operands) (here rest : Text) (ts : List BracketToken) : Type 0 where
   pub token : BracketToken
   pub after : Text

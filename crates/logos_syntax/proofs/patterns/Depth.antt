@@ -1,4 +1,4 @@
--- How deep the parser is.
+-- The depth of the parser.
 use Rattle.std.proofs.Common.{◌≡◌, ◌<◌, ◌≤◌, Option, Some, None, Result, Ok, Err, refl, ap, arith, option_map}
 use Rattle.logos_pattern_tokens.specs.declared.error.Stop.{Stop}
 use Rattle.logos_pattern_tokens.specs.declared.error.Stop.TheVariants as stops

@@ -113,7 +113,7 @@ deep_text flags text rest s names others stops.LimitPatternNesting r h = from re
     from rest r (token_deep text2 after new g deep) = deep_groups flags text after new others (reads_on flags text rest after s new names others r g) deep
     from rest r (bracket_deep following count b deep) = deep_brackets flags text following s names r count b deep
 
--- a fault is no limit
+-- a fault is not a stop at the limit
 pub shallow_token : (fault : Fault) (stop : Stop) (s : State) (seen : List Text) (text : Text) (names : GroupNames) → IsStopOf fault stop → IfDeepToken stop s seen text names
 shallow_token (faults.Syntax kind) (stops.Syntax other left) s seen text names h = tt
 shallow_token (faults.Syntax kind) stops.LimitPatternNesting s seen text names h = absurd h

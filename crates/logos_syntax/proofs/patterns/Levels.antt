@@ -18,8 +18,8 @@ pub record Level : Type 0 where
   pub before : Option Branches
   pub items : Items
 
--- the groups around a level, the innermost outside: its part that is read, and how the next one
--- opens
+-- the groups around a level, the innermost outside: the part of each that is read, and the opening
+-- of the next one
 pub data Stack : Type 0 where
   bottom : Stack
   over : Stack → Level → Opening → Stack

@@ -73,7 +73,7 @@ inside_fits flags (Some bs) its jts g f = (f.0, g f.1)
 piece_fits : (flags : Flags) (l : Level) (p : Piece) → PieceFits (level_flags flags l) p → BranchesFit flags (level_inside l) → BranchesFit flags (level_inside (with_piece l p))
 piece_fits flags l p g f = inside_fits flags l.before l.items (piece l.items p) (λ h. (h, g)) f
 
--- how a step continues with the text that is read
+-- the continuation of a step with the text that is read
 record Adds (flags : Flags) (p : Slot) (t : Token) (z : Slot) : Type 0 where
   tokens : tokens_of z ≡ tokens_of p ++ t ∷ []
   fits : SlotFits flags p → TokenFits (state_of flags p).top.flags t → SlotFits flags z
@@ -226,7 +226,7 @@ mutual
       runs_on (at_level flags k (at b its)) (at_level flags k (at b (piece its p))) (at_level flags k (at b (piece its (repeated p op)))) (piece_tokens p) (repeats op ∷ [])
       (piece_run p b its flags k f) (go flags k (at b (piece its p)) (repeats op) (record { level = at b (piece its (repeated p op)); stack = k }) tt refl)
 
--- where the parser is after a whole pattern
+-- the state of the parser after a whole pattern
 pub whole_runs : (flags : Flags) (bs : Branches) → BranchesFit flags bs → Runs (start flags) (branches_tokens bs) (at_level flags bottom (level_of bs))
 whole_runs flags bs f = branches_run bs flags bottom f
 

@@ -1,4 +1,4 @@
--- A whole text: how it is cut into tokens, and the meaning of the parser's results for it.
+-- A whole text: its cutting into tokens, and the meaning of the parser's results for it.
 use Rattle.std.proofs.Common.{◌≡◌, ◌≢◌, ℕ, ◌+◌, ◌<◌, ◌≤◌, true, false, List, [], ◌∷◌, ◌++◌, length, Option, Some, None, Result, Ok, Err, IfOk, IfErr, refl, sym, ap, subst, ◌∙◌, arith, append-nil}
 use lib.ListN.{get_or}
 use Rattle.logos_pattern_tokens.specs.declared.error.Stop.{Stop}

@@ -21,11 +21,11 @@ use Rattle.logos_pattern_tokens.specs.bracket.Spelling.{code_of, bracket_tokens}
 abbrev pub last_of : Flags → ℕ
 last_of flags = if flags.unicode then 0x10FFFF else 255
 
--- The set. If `i` is on, also all other cases of its members.
+-- The set, with the other cases of all members if `i` is on.
 abbrev pub case_closure : Flags → Set → Set
 case_closure flags set = if flags.ignore_case then (if flags.unicode then fold_case set else fold_ascii set) else set
 
--- The set, or its complement.
+-- The set, or its complement if `negated` holds.
 abbrev pub set_or_complement : Flags → Bool → Set → Set
 set_or_complement flags negated set = if negated then complement (last_of flags) set else set
 
@@ -37,6 +37,7 @@ item_test flags (items.Perl kind negated) = perl_set kind flags.unicode
 item_test flags (items.Property set negated) = in_set set
 item_test flags (items.Ascii kind negated) = ascii_set kind
 
+-- The element is negated.
 abbrev pub is_negated : BracketItem → Bool
 is_negated (items.One s) = false
 is_negated (items.Range a b) = false
@@ -44,10 +45,11 @@ is_negated (items.Perl kind negated) = negated
 is_negated (items.Property set negated) = negated
 is_negated (items.Ascii kind negated) = negated
 
+-- The set of an element.
 abbrev pub item_set : Flags → BracketItem → Set
 item_set flags item = set_or_complement flags (is_negated item) (case_closure flags (only_chars (item_test flags item)))
 
--- The literals at the front, which have no other case.
+-- The set of the literals at the front of a bracket, which have no other case.
 abbrev pub lead_set : Lead → Set
 lead_set (Dashes n) = λ c. nat_lt 0 n && (c == 45)
 lead_set LoneBracket = λ c. c == 93
@@ -56,12 +58,12 @@ abbrev mutual
   pub bracket_set : Flags → Bracket → Set
   bracket_set flags (bracket negated lead inside) = set_or_complement flags negated (operands_set flags lead inside)
 
-  -- Operators are applied from the left.
+  -- The set of operands with operators between them, which are applied from the left.
   pub operands_set : Flags → Lead → Operands → Set
   operands_set flags lead (lone ms) = members_set flags (lead_set lead) ms
   operands_set flags lead (joined os op ms) = combination op (operands_set flags lead os) (members_set flags (λ c. false) ms)
 
-  -- The members together with those before them.
+  -- The set of the elements of an operand, together with the set before them.
   pub members_set : Flags → Set → Members → Set
   members_set flags before nobody = before
   members_set flags before (member ms item) = union (members_set flags before ms) (item_set flags item)
@@ -69,12 +71,13 @@ abbrev mutual
 
 -- ---- the elements that the flags allow.
 
--- If the pattern matches bytes, a character must be ASCII.
+-- Whether the flags allow the symbol. If the pattern matches bytes, a character must be ASCII.
 abbrev pub symbol_fits : Flags → Symbol → Bool
 symbol_fits flags (Character c) = flags.unicode || nat_lt c 128
 symbol_fits flags (Byte b) = true
 
--- If the pattern matches bytes, an element must be ASCII and not a property.
+-- Whether the flags allow the element. If the pattern matches bytes, its characters must be ASCII,
+-- and it must not be a property.
 abbrev pub item_fits : Flags → BracketItem → Bool
 item_fits flags (items.One s) = symbol_fits flags s
 item_fits flags (items.Range a b) = symbol_fits flags a && symbol_fits flags b
@@ -82,6 +85,7 @@ item_fits flags (items.Perl kind negated) = true
 item_fits flags (items.Property set negated) = flags.unicode
 item_fits flags (items.Ascii kind negated) = true
 
+-- The flags allow each of the tokens.
 abbrev pub TokensFit : Flags → List BracketToken → Type 0
 TokensFit flags [] = Unit {0}
 TokensFit flags (tokens.Item item ∷ others) = (item_fits flags item ≡ true) × TokensFit flags others
@@ -89,6 +93,7 @@ TokensFit flags (tokens.Open negated lead ∷ others) = TokensFit flags others
 TokensFit flags (tokens.Operator op ∷ others) = TokensFit flags others
 TokensFit flags (tokens.Close ∷ others) = TokensFit flags others
 
+-- The flags allow the bracket.
 abbrev pub BracketFits : Flags → Bracket → Type 0
 BracketFits flags b = TokensFit flags (bracket_tokens b)
 

@@ -19,14 +19,17 @@ pub record BracketFrame : Type 0 where
   -- The depth of the bracket's innermost point in the whole pattern.
   pub inner : ℕ
 
+-- The brackets that are open.
 pub record Frames : Type 0 where
   pub top : BracketFrame
   -- The brackets around the innermost one, the innermost first.
   pub below : List BracketFrame
 
+-- The inside of a bracket of which only the opening has been read.
 abbrev pub fresh_frame : Bool → Lead → ℕ → BracketFrame
 fresh_frame negated lead level = record { negated = negated; before = None; here = lead_set lead; inner = level }
 
+-- The set combined with the operands before it, if there are any.
 abbrev pub with_before : Option (Set × SetOperator) → Set → Set
 with_before None set = set
 with_before (Some before) set = combination before.1 before.0 set
@@ -39,6 +42,7 @@ value f = with_before f.before f.here
 abbrev pub whole : Flags → BracketFrame → Set
 whole flags f = set_or_complement flags f.negated (value f)
 
+-- The brackets that are open after the innermost one is closed, unless it is the only one.
 abbrev pub close : Flags → BracketFrame → List BracketFrame → Option Frames
 close flags f [] = None
 close flags f (g ∷ gs) = Some (record { top = record g { here = union g.here (whole flags f); inner = max g.inner f.inner }; below = gs })

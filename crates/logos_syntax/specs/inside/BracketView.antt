@@ -24,6 +24,7 @@ use Rattle.logos_syntax.specs.bracket.Meaning.{bracket_set, item_fits, BracketFi
 use Rattle.logos_syntax.specs.Nesting.{InsideFront, BracketFront}
 use Rattle.logos_syntax.specs.inside.BracketStack.{BracketFrame, Frames, bracket_step}
 
+-- The inside of an open bracket that a value represents.
 abbrev pub frame_view : FrameValue → BracketFrame
 frame_view f = record {
   negated = f.negated;
@@ -32,6 +33,7 @@ frame_view f = record {
   inner = f.inner;
 }
 
+-- The open brackets that a value represents.
 abbrev pub frames_view : FramesValue → Frames
 frames_view m = record { top = frame_view m.top; below = reverse (map frame_view m.below.items) }
 
@@ -53,6 +55,7 @@ abbrev pub MayOccur : Flags → BracketToken → Type 0
 MayOccur flags (Item item) = item_fits flags item ≡ true
 MayOccur flags _ = Unit {0}
 
+-- The contract of the step of a token.
 abbrev pub BracketSteps : Flags → ℕ → Frames → BracketToken → Result (Unit {0}) Stop → Frames → Type 0
 BracketSteps flags base old token (Ok _) new = MayOccur flags token × (bracket_step flags base old token ≡ Some new)
 BracketSteps flags base old token (Err (stops.Syntax kind left)) new = NoStep flags old token
@@ -80,11 +83,13 @@ IfDeepInside flags base (stops.Syntax kind left) text = Unit {0}
 IfDeepInside flags base stops.LimitPatternNesting text = (count : ℕ) × InsideFront flags text count × (250 < base + count)
 IfDeepInside flags base stops.Memory text = Unit {0}
 
+-- If the reader of a bracket stops at the limit, some prefix is nested too deeply.
 abbrev pub IfDeepBracket : Flags → ℕ → Stop → Text → Type 0
 IfDeepBracket flags base (stops.Syntax kind left) text = Unit {0}
 IfDeepBracket flags base stops.LimitPatternNesting text = (count : ℕ) × BracketFront flags text count × (250 < base + count)
 IfDeepBracket flags base stops.Memory text = Unit {0}
 
+-- The contract of reading the inside of a bracket.
 abbrev pub ReadsInside : Flags → ℕ → Bool → Lead → Text → Result (BracketValue × Bor Text) Stop → Type 0
 ReadsInside flags base negated lead text (Ok x) = IsInside flags base negated lead text x.0 x.1.now
 ReadsInside flags base negated lead text (Err e) =
@@ -100,13 +105,14 @@ pub record IsBracketValue (flags : Flags) (base : ℕ) (text : Text) (found : Br
   pub is_depth : found.depth ≡ base + bracket_depth written
   pub shallow : found.depth ≤ 250
 
+-- The contract of reading a bracket.
 abbrev pub ReadsBracket : Flags → ℕ → Text → Result (BracketValue × Bor Text) Stop → Type 0
 ReadsBracket flags base text (Ok x) = IsBracketValue flags base text x.0 x.1.now
 ReadsBracket flags base text (Err e) =
     ((b : Bracket) (rest : Text) → Encloses b text rest → Denies flags base e b)
     × IfDeepBracket flags base e text
 
--- A fault as a stop.
+-- The stop is the one for this fault.
 abbrev pub IsStopOf : Fault → Stop → Type 0
 IsStopOf (faults.Syntax kind) (stops.Syntax other left) = Unit {0}
 IsStopOf (faults.Syntax kind) _ = ⊥

@@ -6,7 +6,7 @@ use Rattle.logos_syntax.specs.declared.names.GroupNames.{GroupNames}
 use Rattle.logos_pattern_tokens.specs.Token.{Text, Token}
 use Rattle.logos_syntax.specs.Written.{IsNew, with_name}
 
--- The set consists of these names.
+-- The set `names` consists of the names in `seen`.
 abbrev pub HasNames : GroupNames → List Text → Type 0
 HasNames names seen = (name : Text) → list_any (λ k. bytes_eq name k.items) names.seen.keys ≡ list_any (bytes_eq name) seen
 

@@ -25,46 +25,59 @@ pub record Group : Type 0 where
   pub last : Option GroupPart
   pub inner : ℕ
 
+-- The groups that are open.
 pub record State : Type 0 where
   pub top : Group
   -- The groups around the innermost one, the innermost first.
   pub below : List Group
 
+-- The inside of a group of which only the opening has been read.
 abbrev pub fresh : Flags → Bool → ℕ → Group
 fresh flags captured level = record { flags = flags; captured = captured; branches = []; parts = []; last = None; inner = level }
 
+-- The state at the start of a pattern.
 abbrev pub start : Flags → State
 start flags = record { top = fresh flags false 0; below = [] }
 
+-- The parts, with the last one after them if there is one.
 abbrev pub with_last : List Tree → Option GroupPart → List Tree
 with_last parts None = parts
 with_last parts (Some part) = parts ++ part.0 ∷ []
 
+-- All parts of the last branch.
 abbrev pub all_parts : Group → List Tree
 all_parts g = with_last g.parts g.last
 
+-- The group with one more part, which an operator can repeat.
 abbrev pub put : Group → GroupPart → Group
 put g part = record g { parts = all_parts g; last = Some part; inner = max g.inner part.1 }
 
+-- The group with other flags for the rest of it.
 abbrev pub set : Group → Flags → Group
 set g flags = record g { flags = flags; parts = all_parts g; last = None }
 
+-- All branches of the group, as if it ended here.
 abbrev pub all_branches : Group → List Tree
 all_branches g = g.branches ++ concat_of (all_parts g) ∷ []
 
+-- The group at the start of its next branch.
 abbrev pub next_branch : Group → Group
 next_branch g = record g { branches = all_branches g; parts = []; last = None }
 
+-- The tree of the group, as if it ended here.
 abbrev pub whole_tree : Group → Tree
 whole_tree g = group_tree g.captured (alternation_of (all_branches g))
 
+-- The repetition of a part.
 abbrev pub repetition_part : Flags → Operator → GroupPart → GroupPart
 repetition_part flags op part = (repetition_of op.least op.most (is_greedy flags op) part.0, part.1 + 1)
 
+-- The state after the innermost group is closed, unless no group is open.
 abbrev pub close : Group → List Group → Option State
 close top [] = None
 close top (g ∷ gs) = Some (record { top = put g (whole_tree top, top.inner); below = gs })
 
+-- The group with its last part repeated, if it has one.
 abbrev pub repeat : Group → Operator → Option GroupPart → Option Group
 repeat g op None = None
 repeat g op (Some part) = Some (record g { last = Some (repetition_part g.flags op part); inner = max g.inner (part.1 + 1) })
@@ -89,5 +102,6 @@ abbrev pub deepest_below : List Group → ℕ
 deepest_below [] = 0
 deepest_below (g ∷ gs) = max g.inner (deepest_below gs)
 
+-- The greatest depth of a point that has been read.
 abbrev pub deepest : State → ℕ
 deepest s = max s.top.inner (deepest_below s.below)

@@ -13,9 +13,11 @@ use Rattle.logos_pattern_tokens.specs.Token.{Token}
 use Rattle.logos_syntax.specs.Grammar.{TokenFits}
 use Rattle.logos_syntax.specs.inside.Groups.{GroupPart, Group, State, step, whole_tree, deepest}
 
+-- The tree and the depth that a value represents.
 abbrev pub part_view : PartValue → GroupPart
 part_view p = (simplest_tree p.tree, p.depth)
 
+-- The inside of an open group that a value represents.
 abbrev pub group_view : OpenedGroup → Group
 group_view l = record {
   flags = l.flags;
@@ -26,6 +28,7 @@ group_view l = record {
   inner = l.inner;
 }
 
+-- The state that the groups of a parser represent.
 abbrev pub state_view : Groups → State
 state_view m = record { top = group_view m.top; below = reverse (map group_view m.below.items) }
 
@@ -38,6 +41,7 @@ Steps old token (Err stops.LimitPatternNesting) new =
     TokenFits old.top.flags token × ((s : State) × (step old token ≡ Some s) × (250 < deepest s))
 Steps old token (Err stops.Memory) new = Unit {0}
 
+-- The contract of repeating the last part of a group.
 abbrev pub Repeats : Result (Unit {0}) Stop → Option Group → Group → Type 0
 Repeats (Ok _) read new = read ≡ Some new
 Repeats (Err (stops.Syntax kind left)) read new = read ≡ None

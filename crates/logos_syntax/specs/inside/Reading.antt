@@ -36,12 +36,13 @@ pub data IsDeepAt (old : State) (seen : List Text) (names : GroupNames) : Text �
   token_deep : (text rest : Text) (new : State) → Continues old seen text new names rest → 250 < deepest new → IsDeepAt old seen names text
   bracket_deep : (following : Text) (count : ℕ) → BracketFront old.top.flags following count → 250 < length old.below + count → IsDeepAt old seen names (91 ∷ following)
 
--- If the parser stops at the limit, it is at such a position.
+-- If the parser stops at the limit, it exceeds the limit at the front of the text.
 abbrev pub IfDeepToken : Stop → State → List Text → Text → GroupNames → Type 0
 IfDeepToken (stops.Syntax kind left) old seen text names = Unit {0}
 IfDeepToken stops.LimitPatternNesting old seen text names = IsDeepAt old seen names text
 IfDeepToken stops.Memory old seen text names = Unit {0}
 
+-- The contract of reading one token or bracket.
 abbrev pub ReadsToken : State → List Text → Text → Result (Bor Text) Stop → State → GroupNames → Type 0
 ReadsToken old seen text (Ok rest) new names = Continues old seen text new names rest.now
 ReadsToken old seen text (Err stop) new names =
@@ -57,12 +58,12 @@ ReadsSimple old seen text (Err stop) new names =
 
 -- ---- the whole text.
 
--- The names after these tokens.
+-- The names that have been read after more tokens.
 abbrev pub names_after : List Text → List Token → List Text
 names_after seen [] = seen
 names_after seen (token ∷ tokens) = names_after (with_name seen token) tokens
 
--- These tokens of the text are read, up to the rest.
+-- Tokens of the text have been read, up to `rest`.
 pub record HasRead (flags : Flags) (text rest : Text) (s : State) (names : GroupNames) : Type 0 where
   pub tokens : List Token
   pub cut : Cuts text tokens rest

@@ -101,8 +101,8 @@ impl Frames {
     ghost use Rattle.std.specs.Prelude.{not, ◌==◌};
     ghost use Rattle.logos_syntax.specs.Views.{pattern_nesting, set_of, fresh_frame, whole, frame_view, frames_view, BracketSteps};
 
-    /// Returns a stack with this one bracket. `level` is the number of groups and brackets around
-    /// its inside.
+    /// Returns a stack with one bracket. `level` is the number of groups and brackets around its
+    /// inside.
     pub(crate) fn new(
         alloc: Global,
         opening: BracketOpening,
@@ -246,7 +246,7 @@ impl Frames {
         Ok(())
     }
 
-    /// Reads the next token. `left` is the number of characters from the token to the end of the
+    /// Adds the next token. `left` is the number of characters from the token to the end of the
     /// text, and `base` the number of groups around the outermost bracket.
     ///
     /// # Errors

@@ -21,7 +21,7 @@ fn last_of(flags: Flags) -> char
     if flags.unicode { char::MAX } else { '\u{FF}' }
 }
 
-/// Returns the set. If `i` is on, it also contains the other cases of all members.
+/// Returns the set, with the other cases of all members if `i` is on.
 pub(crate) fn case_closure(
     alloc: Global,
     flags: Flags,
@@ -59,7 +59,7 @@ fn range_set(alloc: Global, first: u32, last: u32) -> Result<RangeSet, AllocErro
     RangeSet::from_ranges(alloc, &[Range { first, last }])
 }
 
-/// Returns the set of this one number.
+/// Returns the set that contains only the number `code`.
 pub(crate) fn number_set(alloc: Global, code: u32) -> Result<RangeSet, AllocError>
     ensures { IfOk result (λ set. set_of set ≡ only_chars (λ c. c == code)) }
 {
@@ -109,7 +109,7 @@ fn item_set(alloc: Global, flags: Flags, item: BracketItem) -> Result<RangeSet, 
 }
 
 /// Returns the ends of an element whose set is one range and needs no case folding: a character, a
-/// byte or a range while `i` is off.
+/// byte or a range while `i` is off. Returns `None` for any other element.
 fn plain_ends(flags: Flags, item: BracketItem) -> Option<(u32, u32)>
     ensures { IfSome result (λ ends. item_set flags item ≡ members (ends ∷ [])) }
 {

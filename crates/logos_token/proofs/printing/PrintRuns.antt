@@ -32,7 +32,7 @@ joint_lexeme (leaf token) = joint_token token
 joint_lexeme (opens delimiter from) = false
 joint_lexeme (closes delimiter to) = false
 
--- whether the last lexeme is joint punctuation; where there is none, this
+-- whether the last lexeme is joint punctuation, or the given value if there is no lexeme
 abbrev joint_last : Bool → List Lexeme → Bool
 joint_last t [] = t
 joint_last t (l ∷ ls) = joint_last (joint_lexeme l) ls
@@ -131,7 +131,7 @@ module _ (a : List ℕ) where
         record { front = piece ∷ r.front; back = r.back; is = ap (λ ps. piece ∷ ps) r.is; before = ap (λ ls. ls ++ seen a r.front) f.1 ∙ ap (λ x. x ∷ seen a r.front) same ∙ ap (λ ls. l ∷ ls) r.before; afterward = r.afterward }
   ]
 
-  -- where the first of two parts of the pieces ends
+  -- the end of the first of two parts of the pieces
   record Divided (from : ℕ) (front back : List Piece) (to : ℕ) : Type 0 where
     at : ℕ
     first : Pieces a from front at

@@ -19,7 +19,7 @@ count_of-rest tokens token rest is = let positive = token_count-positive token i
 pub count_of-inside : (tokens : TokenList) (delimiter : Delimiter) (span : Span) (inside rest : TokenList) → tokens ≡ also (group delimiter span inside) rest → count_of inside < count_of tokens
 count_of-inside tokens delimiter span inside rest is = rw is (omega arith)
 
--- where a run ends, of which a part that ends here is left out
+-- the end of a run, of which a part that ends here is left out
 abbrev pub run_end : ℕ → TokenList → ℕ
 run_end end none = end
 run_end end (also token rest) = run_end (span_of token).to rest

@@ -1,4 +1,4 @@
--- How many entries a run of tokens has.
+-- The number of entries of a run of tokens.
 use Rattle.std.proofs.Common.{◌≡◌, List, length, arith, refl, sym, ◌∙◌, ap, length-append}
 use Rattle.std.proofs.lemmas.List.{length-map}
 use Rattle.logos_token.specs.declared.token.entry.Entry.{Entry}

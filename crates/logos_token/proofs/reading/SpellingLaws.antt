@@ -1,4 +1,4 @@
--- A source spells one list of tokens at most, and none where it is unreadable.
+-- A source spells at most one list of tokens, and none if it is unreadable.
 use Rattle.std.proofs.Common.{◌≡◌, ℕ, ◌+◌, ◌<◌, max, Bool, true, false, cond, List, [], ◌∷◌, ◌++◌, length, Some, None, arith, sym, ◌∙◌, ap, refl}
 use Rattle.std.proofs.lemmas.List.{append-nil}
 use Rattle.logos_lexeme.specs.declared.lexeme.Span.{Span}

@@ -26,7 +26,7 @@ use Rattle.logos_lexeme.proofs.BodyLaws.{Represents-moves}
 use Rattle.logos_token.proofs.values.ValueLaws.{Holds-le}
 use Rattle.logos_lexeme.proofs.PieceLaws.{Characterizes, piece-characterizes, piece-all}
 
--- how a kind of string closes
+-- the closing of a kind of string
 record Closing (escapes : Bool) (content : Content) (bytes : List ℕ) (closes : ℕ → Bool) (Close : ℕ → ℕ → Type 0) : Type 0 where
   pub at_once : (at : ℕ) → closes at ≡ true → Close at at
   pub one : (at to : ℕ) → closes at ≡ true → Close at to → at ≡ to

@@ -7,7 +7,8 @@ use Rattle.logos_token.specs.Tokens.{Token, group, TokenList, count_of}
 use Rattle.logos_token.specs.Views.{tokens_of, inside_of}
 use Rattle.logos_token.specs.Printing.{Part, opening_text, closing_text, spaced, token_parts, run_parts, Printed, print_part}
 
--- The lexemes after the groups that are open. The innermost group is last in the list.
+-- The lexemes to print after the open groups: their closing delimiters, and the tokens after them.
+-- The innermost group is last in the list.
 abbrev pub outer_parts : List Outer → List Part
 outer_parts [] = []
 outer_parts (o ∷ inner) = outer_parts inner ++ spaced (closing_text o.delimiter) ∷ run_parts (tokens_of o.rest)

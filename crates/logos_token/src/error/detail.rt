@@ -1,5 +1,5 @@
-//! Details of a fault, recorded where it is found by the crates that read a source. Reports, helps
-//! and messages match on them, so that none of them parses the text of a fault.
+//! Details of a fault, which the crates that read a source record where they find the fault.
+//! Reports, helps and messages match on them, so that none of them parses the text of a fault.
 
 use crate::token::Span;
 use logos_lexeme::lexeme::LexicalKind;
@@ -9,9 +9,9 @@ use logos_lexeme::lexeme::LexicalKind;
 pub enum Detail {
     /// No detail.
     Plain,
-    /// Why a source cannot be cut into tokens.
+    /// The reason why a source cannot be cut into tokens.
     Lexical(LexicalKind),
-    /// Why a text is not a pattern, and where.
+    /// The fault of a text that is not a pattern, and its location.
     Pattern(PatternDetail),
     /// The unknown argument belongs to the option `error`, not to a pattern.
     ErrorArgument,

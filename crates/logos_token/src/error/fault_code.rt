@@ -18,17 +18,17 @@ pub enum FaultCode {
     TypeUnsupported,
     /// Tokens that are not a type.
     TypeSyntax,
-    /// The source is longer than the limit, in bytes.
+    /// The source is longer than the limit.
     LimitSource,
-    /// More delimiters are open than the limit.
+    /// More delimiters are open than the limit allows.
     LimitTokenNesting,
     /// More types are nested inside one another than the limit allows.
     LimitTypeNesting,
     /// More groups, brackets and repetitions are nested than the limit allows.
     LimitPatternNesting,
-    /// All trees together are larger than the limit.
+    /// All trees together are larger than the limit allows.
     LimitSize,
-    /// The automaton has more states than the limit.
+    /// The automaton has more states than the limit allows.
     LimitStates,
     /// A second lifetime parameter.
     ManyLifetimes,

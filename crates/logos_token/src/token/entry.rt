@@ -3,7 +3,7 @@
 
 use crate::token::{Delimiter, Doc, Ident, Literal, Punct, Span};
 
-/// One token. The tokens inside a group are the entries after it.
+/// One token. A group is followed by the entries of the tokens inside it.
 #[derive(Clone, Copy)]
 pub enum Entry<'s> {
     Ident(Ident<'s>),
@@ -22,7 +22,7 @@ impl Entry<'_> {
     ghost use Rattle.std.specs.Prelude.{◌≡◌};
     ghost use Rattle.logos_token.specs.ViewImports.{size_of};
 
-    /// Returns the number of the next entries that belong to this one.
+    /// Returns the number of entries inside this one, which follow it.
     pub fn size(&self) -> usize
         ensures { result ≡ size_of self.now }
     {

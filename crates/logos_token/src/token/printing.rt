@@ -7,7 +7,7 @@ use crate::error::Memory;
 use crate::token::{Delimiter, Group, Spacing, TokenTree, Tokens};
 use std::alloc::Global;
 
-/// Prints lexemes one by one, each with the gap after it.
+/// A printer of lexemes, each with the gap after it.
 #[derive(Drop)]
 pub struct Printer {
     /// The lexemes printed so far.
@@ -86,8 +86,11 @@ impl Printer {
         self.text
     }
 
-    /// Prints a lexeme, and the gap before it. `gap` is the gap after it. After an error a part of
-    /// the lexeme may have been printed.
+    /// Prints a lexeme after the gap before it. `gap` is printed before the next lexeme.
+    ///
+    /// # Errors
+    ///
+    /// Returns `Memory` if memory runs out. A part of the lexeme may then have been printed.
     pub fn add(&mut self, text: &str, gap: &'static str) -> Result<(), Memory>
         ensures { OnOk result (printed_of self.new ≡
             print_part (printed_of self.old) (record { text = text.now; gap = gap.now })) }
@@ -98,7 +101,12 @@ impl Printer {
         Ok(())
     }
 
-    /// Prints a lexeme of one character, and the gap before it. `gap` is the gap after it.
+    /// Prints a lexeme of one character after the gap before it. `gap` is printed before the next
+    /// lexeme.
+    ///
+    /// # Errors
+    ///
+    /// Returns `Memory` if memory runs out. The gap may then have been printed.
     pub fn add_character(&mut self, character: char, gap: &'static str) -> Result<(), Memory>
         ensures { OnOk result (printed_of self.new ≡ print_part
             (printed_of self.old) (record { text = encode_utf8 character; gap = gap.now })) }
@@ -109,8 +117,8 @@ impl Printer {
         Ok(())
     }
 
-    /// Prints a token, or the opening delimiter of a group. Returns the group, whose contents come
-    /// next.
+    /// Prints a token, or the opening delimiter of a group, whose contents are printed next.
+    /// Returns the group, or `None` for a token.
     fn add_tree<'t, 's>(&mut self, tree: TokenTree<'t, 's>) -> Result<Option<Group<'t, 's>>, Memory>
         ensures { IfOk result (λ inner.
             PrintsTree (printed_of self.old) (tree_of tree.entry) (printed_of self.new) inner) }
@@ -149,7 +157,7 @@ fn leave<'t, 's>(
 }
 
 /// Prints the first tree of `rest`, or closes a group if `rest` is empty. Returns the trees to
-/// print next.
+/// print next, or `None` if everything is printed.
 fn step<'t, 's>(
     printer: &mut Printer,
     outer: &mut Vec<Outer<'t, 's>>,

@@ -1,4 +1,4 @@
-//! Reads a source text into tokens. Each reading of a source first calls `tokenize`.
+//! Reads a source text into tokens. Every crate that reads a source calls `tokenize` first.
 
 ghost use Rattle.std.specs.Prelude.{◌≡◌, ℕ, ◌<◌, ◌≤◌, ◌↔◌, List, [], ◌∷◌, ◌++◌, map, length, IfOk, IfErr, OnOk, MatchResult, IsTrue};
 ghost use Rattle.logos_token.specs.ViewImports.{source_limit, delimiter_limit, IsCharBoundary, IsNext, TokenList, depth_of, Spells, RunOccurs, Memory, value_of, stream_tokens, IsRead, ReadsOn, RefusesAt, SpellsAtEnd, RefusesAtEnd, IsRefusal, SpellsNothing, IsErrOf};
@@ -125,7 +125,7 @@ fn end_group(
     Ok(())
 }
 
-/// Adds a token that is not a group.
+/// Appends an entry for a token that is not a group.
 fn push<'s>(entries: &mut Vec<Entry<'s>>, entry: Entry<'s>) -> Result<(), TokenError>
     ensures ok { OnOk result (entries.new.items ≡ entries.old.items ++ entry.entry ∷ []) }
     ensures err { IfErr result (λ error. error ≡ TokenError.Memory) }
@@ -134,7 +134,7 @@ fn push<'s>(entries: &mut Vec<Entry<'s>>, entry: Entry<'s>) -> Result<(), TokenE
     Ok(())
 }
 
-/// Adds the lexeme with this kind and span. A gap adds nothing.
+/// Adds the lexeme of this kind and span to the entries. A gap adds nothing.
 fn add<'s>(
     entries: &mut Vec<Entry<'s>>,
     open_groups: &mut Vec<OpenGroup>,

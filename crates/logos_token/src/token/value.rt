@@ -21,14 +21,14 @@ pub enum LiteralValue {
     Bytes(Vec<u8>),
 }
 
-/// Returns whether `byte` in the contents of a string does not represent itself.
+/// Returns whether `byte` in the contents of a string begins a piece that is not the byte itself.
 fn is_special(escapes: bool, byte: u8) -> bool
     ensures { result ≡ ((byte == 13) || (escapes && (byte == 92))) }
 {
     (byte == b'\r') | (escapes & (byte == b'\\'))
 }
 
-/// Returns the byte offset, at most `to`, after a run of bytes that represent themselves.
+/// Returns the byte offset, at most `to`, after the bytes from `from` on that represent themselves.
 fn plain_end(source: &str, escapes: bool, from: usize, to: usize) -> usize
     requires inside { from ≤ to }
     requires within { to ≤ length source.now }

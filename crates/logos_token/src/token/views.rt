@@ -1,4 +1,5 @@
-//! Holds the tokens of a source in one flat buffer, and provides views of the runs in it.
+//! Holds the tokens of a source in one flat buffer, and provides views of runs of them. All crates
+//! that read tokens use it.
 
 ghost use Rattle.logos_token.specs.Imports.{props};
 ghost use Rattle.logos_token.specs.Flat.{IsFlat};
@@ -61,7 +62,7 @@ impl<'s> TokenStream<'s> {
         TokenStream { entries }
     }
 
-    /// Returns a buffer with exactly this identifier.
+    /// Returns a buffer that holds one identifier.
     ///
     /// # Errors
     ///
@@ -153,7 +154,7 @@ impl<'t, 's> Tokens<'t, 's> {
         }
     }
 
-    /// Returns the trees before `rest`, which must be the rest of this run after some of its trees.
+    /// Returns the trees before `rest`. `rest` must be this run without some of its first trees.
     pub fn before(self, rest: Tokens<'t, 's>) -> Tokens<'t, 's>
         requires { IsRestOf (tokens_of self) (tokens_of rest) }
         ensures { (split : IsRestOf (tokens_of self.entry) (tokens_of rest.entry)) →

@@ -1,4 +1,4 @@
-//! Escapes texts for string literals. Faults that show tokens escape them with it.
+//! Escapes texts for string literals. `Errors::render` and `logos_attribute` call it.
 
 ghost use Rattle.std.specs.Prelude.{◌≡◌, ◌++◌, OnOk, string_bytes};
 ghost use Rattle.logos_token.specs.Imports.{escaped_character, escaped};

@@ -6,7 +6,7 @@ ghost use Rattle.logos_token.specs.ViewImports.{begins_with, after_word, is_path
 
 use crate::token::{Punct, Spacing, TokenTree, Tokens};
 
-/// Returns whether a run begins with this punctuation, of either spacing.
+/// Returns whether a run begins with this punctuation, joint or alone.
 pub fn begins_with(mark: char, tokens: Tokens<'_, '_>) -> bool
     ensures { result ≡ begins_with mark (tokens_of tokens.entry) }
 {
@@ -16,7 +16,7 @@ pub fn begins_with(mark: char, tokens: Tokens<'_, '_>) -> bool
     }
 }
 
-/// Returns the tokens after `word`, if the run begins with it.
+/// Returns the tokens after `word`, or `None` if the run does not begin with it.
 pub fn after_word<'t, 's>(word: &str, tokens: Tokens<'t, 's>) -> Option<Tokens<'t, 's>>
     ensures { MatchOption result (after_word word.now (tokens_of tokens.entry) ≡ None)
         (λ rest. after_word word.now (tokens_of tokens.entry) ≡ Some (tokens_of rest)) }
@@ -37,7 +37,7 @@ pub fn is_path_mark(punct: Punct) -> bool
     }
 }
 
-/// Returns the tokens after `:`, if the run begins with it.
+/// Returns the tokens after `:`, or `None` if the run does not begin with it.
 fn after_colon<'t, 's>(tokens: Tokens<'t, 's>) -> Option<Tokens<'t, 's>>
     ensures { MatchOption result (after_colon (tokens_of tokens.entry) ≡ None)
         (λ rest. after_colon (tokens_of tokens.entry) ≡ Some (tokens_of rest)) }
@@ -48,7 +48,7 @@ fn after_colon<'t, 's>(tokens: Tokens<'t, 's>) -> Option<Tokens<'t, 's>>
     }
 }
 
-/// Returns the tokens after `::`, if the run begins with it.
+/// Returns the tokens after `::`, or `None` if the run does not begin with it.
 pub fn after_path_mark<'t, 's>(tokens: Tokens<'t, 's>) -> Option<Tokens<'t, 's>>
     ensures { MatchOption result (after_path_mark (tokens_of tokens.entry) ≡ None)
         (λ rest. after_path_mark (tokens_of tokens.entry) ≡ Some (tokens_of rest)) }

@@ -36,7 +36,7 @@ module _ (g : List (List ℕ)) (start : ℕ) where
     waits = λ n h. ⊎_elim (λ k. absurd (contains_none n k)) (λ k. k) (r.awaited n h);
   }
 
-  -- and then those of a node that waits
+  -- and then those of a waiting node
   pub walk_on : (from : ℕ) (f f' : List Bool) (w w1 w' : List ℕ) → w ≡ w1 ++ from ∷ [] → Walking g start f w → Reaches (targets_of g from) f w1 f' w' → Walking g start f' w'
   walk_on from f f' w w1 w' e k r = record {
     long = r.same_length ∙ k.long;
@@ -58,7 +58,7 @@ module _ (g : List (List ℕ)) (start : ℕ) where
       before : (n : ℕ) → IsFound f n → Contains w' n ⊎ IsDone g f' n
       before n h = ⊎_elim (λ j. waited n (subst (λ (x : List ℕ). Contains x n) e j)) (λ d. inr (wider n d)) (k.closed n h)
 
-  -- where none waits, all that the node leads to is found
+  -- if no node is waiting, all that the node leads to is found
   module _ (f : List Bool) (w : List ℕ) (end : w ≡ []) (k : Walking g start f w) where
     done : (node : ℕ) → IsFound f node → IsDone g f node
     done node h = ⊎_elim (λ j. absurd (contains_none node (subst (λ (x : List ℕ). Contains x node) end j))) (λ d. d) (k.closed node h)

@@ -1,7 +1,7 @@
 -- Paths in a directed graph.
 use Rattle.std.specs.Prelude.{ℕ, List, [], Contains, slice_index_or}
 
--- The nodes to which the edges of this node lead, or none if there is no such node.
+-- The nodes to which the edges of a node lead. There are none if there is no such node.
 abbrev pub targets_of : List (List ℕ) → ℕ → List ℕ
 targets_of lists from = slice_index_or lists from []
 

@@ -6,6 +6,6 @@ use denote.Ref.{Bor}
 use Rattle.logos_type_params.specs.SelfReference.{texts}
 use Rattle.logos_type_params.specs.NameLists.{Named, is_declared}
 
--- The texts are the texts of these names.
+-- `keys` consists of the texts of the names in `front`.
 abbrev pub AreInFront : List Named → List (Bor (List ℕ)) → Type 0
 AreInFront front keys = (text : List ℕ) → list_any (bytes_eq text) (texts keys) ≡ is_declared front text

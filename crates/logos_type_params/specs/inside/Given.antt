@@ -7,6 +7,7 @@ use Rattle.logos_type_params.specs.declared.substitution.Replacing.{Replacing}
 use Rattle.logos_type_params.specs.SelfReference.{texts}
 use Rattle.logos_type_params.specs.Substitution.{Given, nothing, a_name, a_type, Params, param_value}
 
+-- The replacement that a value represents.
 abbrev pub given_of : GivenView → Given
 given_of Nothing = nothing
 given_of (Name text) = a_name text.now

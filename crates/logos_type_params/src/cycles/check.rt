@@ -8,7 +8,7 @@ use crate::cycles::evidence::Membership;
 use std::alloc::{AllocError, Global};
 
 /// Returns the node to which an edge of `node` leads, where `edge` is the index of the edge in the
-/// list of `node`.
+/// list of `node`. Returns `None` if there is no such edge.
 fn target(lists: &[Vec<usize>], node: usize, edge: usize) -> Option<usize>
     ensures { IfSome result (λ to. Edge (graph lists.now) node to) }
 {
@@ -78,7 +78,7 @@ fn follows(memberships: &[Membership], membership: Membership, to: usize) -> boo
     membership.order < next.order || membership.order == next.order && membership.root == next.root
 }
 
-/// Returns whether each of these nodes is in the component of `membership` or in a later one.
+/// Returns whether each node in `targets` is in the component of `membership` or in a later one.
 fn follow_all(memberships: &[Membership], membership: Membership, targets: &[usize]) -> bool
     ensures { IsTrue result → FollowAll memberships.now membership targets.now }
 {
@@ -125,7 +125,7 @@ pub(crate) fn is_evidence(lists: &[Vec<usize>], memberships: &[Membership]) -> b
     true
 }
 
-/// Returns whether `node` has this root.
+/// Returns whether `node` has the root `root`.
 fn has_root(memberships: &[Membership], node: usize, root: usize) -> bool
     ensures { IsTrue result ↔ HasRoot memberships.now node root }
 {
@@ -135,7 +135,7 @@ fn has_root(memberships: &[Membership], node: usize, root: usize) -> bool
     membership.root == root
 }
 
-/// Returns whether one of these nodes has this root.
+/// Returns whether a node in `targets` has the root `root`.
 fn has_inner(memberships: &[Membership], root: usize, targets: &[usize]) -> bool
     ensures { IsTrue result ↔ HasInner memberships.now root targets.now }
 {

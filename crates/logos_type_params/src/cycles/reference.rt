@@ -31,7 +31,7 @@ fn add(traversal: &mut Traversal, to: usize) -> Result<(), AllocError>
     Ok(())
 }
 
-/// Adds these nodes.
+/// Adds the nodes in `targets`.
 fn add_all(traversal: &mut Traversal, targets: &[usize]) -> Result<(), AllocError>
     ensures { OnOk result (Reaches targets.now traversal.old.found.items traversal.old.waiting.items
         traversal.new.found.items traversal.new.waiting.items) }

@@ -14,7 +14,7 @@ use logos_type::TypeExpr;
 use logos_type_reader::{TYPE_NESTING, TypeFault};
 use std::collections::HashSet;
 
-/// Adds a name if its type contains it.
+/// Adds the name `text` to `held`, if a chain of types leads from the name back to it.
 fn add_held<'s>(
     chains: &Chains<'_, 's>,
     text: &'s str,
@@ -29,8 +29,8 @@ fn add_held<'s>(
     Ok(())
 }
 
-/// Copies the type as written, and reports at this span that its replacement exceeds the limit.
-/// After an error the faults are unchanged.
+/// Copies the type as written, and reports at `span` that its replacement exceeds the limit. After
+/// an error the faults are unchanged.
 fn leave_written<'s>(
     written: &TypeExpr<'s>,
     span: Span,
@@ -65,8 +65,7 @@ impl<'s> TypeParams<'s> {
 
     /// Returns a written type with its declared parameters replaced by the types given to them,
     /// except for the names in `held`, and with its lifetimes set to `'s`. If too many types are
-    /// nested in the result, reports `LimitTypeNesting` at this span and returns the type as
-    /// written.
+    /// nested in the result, reports `LimitTypeNesting` at `span` and returns the type as written.
     ///
     /// # Errors
     ///
@@ -89,7 +88,7 @@ impl<'s> TypeParams<'s> {
         match type_after(self.alloc, TYPE_NESTING, params, &written.part) {
             Ok(part) => Ok(TypeExpr { part }),
             Err(TypeFault::LimitNesting) => leave_written(written, span, errors),
-            // Only a lack of memory is left.
+            // The only other fault is that memory ran out.
             Err(_) => Err(Memory),
         }
     }

@@ -18,7 +18,7 @@ use Rattle.logos_type_reader.specs.declared.table.stage.StepFault.TheVariants as
 use Rattle.logos_type_reader.specs.Table.{Spot, Move, ends, takes, bars, needs, keeps_type, keeps, nests, stops, First, starts, refused, first_span, unsupported, mismatch, mismatches, to, opens, closes, after_two, after_three}
 use Rattle.logos_type.specs.Parts.{Sign, word, mark, colons, arrow, value, opening, reference, lifetime, other_lifetime}
 
--- A run begins with this token.
+-- A run begins with a token of this class.
 abbrev pub Looks : FrontToken → TokenList → Type 0
 Looks look.Nothing run = run ≡ none
 Looks look.Word run = (text : List ℕ) × (span : Span) × (rest : TokenList) × (run ≡ also (identifier text span) rest)
@@ -27,7 +27,7 @@ Looks look.Literal run = (text : List ℕ) × (span : Span) × (rest : TokenList
 Looks look.Doc run = (text : List ℕ) × (span : Span) × (rest : TokenList) × (run ≡ also (doc text span) rest)
 Looks (look.Group delimiter) run = (span : Span) × (inside : TokenList) × (rest : TokenList) × (run ≡ also (group delimiter span inside) rest)
 
--- Whether the run begins with this name.
+-- Whether a run begins with the identifier `wanted`.
 abbrev pub begins_word : List ℕ → TokenList → Bool
 begins_word wanted (also (identifier text span) rest) = bytes_eq text wanted
 begins_word wanted run = false

@@ -41,7 +41,7 @@ pub(super) fn first_span(run: Tokens<'_, '_>) -> Span
     }
 }
 
-/// Returns whether this name comes first.
+/// Returns whether the run begins with the identifier `word`.
 pub(super) fn begins_word(word: &str, run: Tokens<'_, '_>) -> bool
     ensures { result ≡ begins_word word.now (tokens_of run.entry) }
 {
@@ -51,7 +51,7 @@ pub(super) fn begins_word(word: &str, run: Tokens<'_, '_>) -> bool
     }
 }
 
-/// Returns whether this character comes first.
+/// Returns whether the run begins with the punctuation `mark`.
 pub(super) fn begins_mark(mark: char, run: Tokens<'_, '_>) -> bool
     ensures { result ≡ begins_mark mark (tokens_of run.entry) }
 {
@@ -61,7 +61,7 @@ pub(super) fn begins_mark(mark: char, run: Tokens<'_, '_>) -> bool
     }
 }
 
-/// Returns whether a group in parentheses comes first.
+/// Returns whether the run begins with a group in parentheses.
 fn begins_parenthesis(run: Tokens<'_, '_>) -> bool
     ensures { result ≡ begins_parenthesis (tokens_of run.entry) }
 {
@@ -71,7 +71,7 @@ fn begins_parenthesis(run: Tokens<'_, '_>) -> bool
     }
 }
 
-/// Returns whether `::` comes first.
+/// Returns whether the run begins with `::`.
 pub(super) fn begins_colons(run: Tokens<'_, '_>) -> bool
     ensures { result ≡ begins_colons (tokens_of run.entry) }
 {
@@ -84,7 +84,7 @@ pub(super) fn begins_colons(run: Tokens<'_, '_>) -> bool
     (first == ':') & (second == ':')
 }
 
-/// Returns whether `->` comes first.
+/// Returns whether the run begins with `->`.
 pub(super) fn begins_arrow(run: Tokens<'_, '_>) -> bool
     ensures { result ≡ begins_arrow (tokens_of run.entry) }
 {
@@ -97,7 +97,7 @@ pub(super) fn begins_arrow(run: Tokens<'_, '_>) -> bool
     (first == '-') & (second == '>')
 }
 
-/// Returns whether `...` comes first.
+/// Returns whether the run begins with `...`.
 pub(super) fn begins_dots(run: Tokens<'_, '_>) -> bool
     ensures { result ≡ begins_dots (tokens_of run.entry) }
 {
@@ -127,7 +127,7 @@ pub(super) fn continues(run: Tokens<'_, '_>) -> bool
     begins_mark('<', run) | begins_colons(run) | begins_parenthesis(run)
 }
 
-/// Returns whether a bound comes first.
+/// Returns whether the run begins with a bound.
 pub(super) fn begins_bound(run: Tokens<'_, '_>) -> bool
     ensures { result ≡ begins_bound (tokens_of run.entry) }
 {
@@ -137,14 +137,14 @@ pub(super) fn begins_bound(run: Tokens<'_, '_>) -> bool
     begins_mark('\'', run) | begins_mark('?', run) | begins_colons(run) | begins_parenthesis(run)
 }
 
-/// Returns the fault that the first token does not fit.
+/// Returns the fault that the first token at the spot does not fit.
 pub(super) fn mismatch(at: &Spot<'_, '_>) -> Next
     ensures { IsAction result (spot_of at.now) (mismatches (tokens_of at.now.run)) }
 {
     Err(StepFault::Mismatch(first_span(at.run)))
 }
 
-/// Returns the fault that the second token does not fit.
+/// Returns the fault that the second token at the spot does not fit.
 pub(super) fn mismatch_after(at: &Spot<'_, '_>) -> Next
     ensures { IsAction result (spot_of at.now) (mismatches (rest_of (tokens_of at.now.run))) }
 {

@@ -13,7 +13,7 @@ use Rattle.logos_leaf.specs.subpattern.PatternFaults.{IsDetail, too_deep, patter
 abbrev pub ReportsSyntax : Kind → List ℕ → Span → List Fault → List Fault → Type 0
 ReportsSyntax kind text span old new = (detail : PatternDetail) × IsDetail kind text detail × AddsFault (regex_fault kind detail span) old new
 
--- The faults after an error for a pattern with this text is reported.
+-- Reporting an error of reading this text as a pattern changes the faults from `old` to `new`.
 abbrev pub ReportsError : PatternError → List ℕ → Span → List Fault → List Fault → Type 0
 ReportsError (errors.Syntax kind at) text span old new = ReportsSyntax kind text span old new
 ReportsError errors.LimitPatternNesting text span old new = new ≡ old ++ pattern_faults span too_deep

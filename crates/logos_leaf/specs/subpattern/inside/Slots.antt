@@ -10,6 +10,6 @@ abbrev pub slot_in : List Stored → List ℕ → Option ℕ
 slot_in [] name = None
 slot_in (s ∷ rest) name = if bytes_eq name s.name then Some 0 else option_map suc (slot_in rest name)
 
--- These entries map each name to the index of its subpattern, and no other name.
+-- The entries map the name of each subpattern to its index, and contain no other name.
 abbrev pub FindSlots : List Stored → List (Bor (List ℕ) × ℕ) → Type 0
 FindSlots names entries = (name : List ℕ) → lookup (λ (k : Bor (List ℕ)). bytes_eq name k.now) entries ≡ slot_in names name

@@ -1,4 +1,5 @@
-//! Builds buffers tree by tree. Stripping, and copying types and callbacks, build buffers with it.
+//! Builds buffers tree by tree. Stripping, and copying of types and callbacks, build buffers with
+//! it.
 
 ghost use Rattle.std.specs.Prelude.{◌≡◌, ◌++◌, List, map, IfOk, OnOk};
 ghost use Rattle.logos_token.specs.ViewImports.{group, none, also, append, value_of, flat_token, stream_tokens, tree_of, inside_of};
@@ -9,7 +10,7 @@ use crate::token::views::{Group, TokenStream, TokenTree};
 use crate::token::{Delimiter, Span};
 use std::alloc::Global;
 
-/// Appends a tree: its entry, and after it the entries inside it.
+/// Appends the entry of a tree, and after it the entries inside the tree.
 fn push_tree<'s>(entries: &mut Vec<Entry<'s>>, tree: TokenTree<'_, 's>) -> Result<(), Memory>
     ensures { OnOk result (map value_of entries.new.items ≡
         map value_of entries.old.items ++ flat_token (tree_of tree.entry)) }

@@ -5,7 +5,7 @@ use Rattle.std.specs.declared.alloc.Global.{Global}
 use Rattle.logos_type_params.specs.cycles.Cycles.{targets_of}
 use Rattle.logos_type_params.specs.declared.cycles.evidence.Membership.{Membership}
 
--- The lists of an argument as a graph.
+-- The graph whose lists of targets these are.
 abbrev pub graph : List (Vec ℕ Global) → List (List ℕ)
 graph lists = map (λ list. list.items) lists
 
@@ -33,6 +33,7 @@ pub record StepsToward (graph : List (List ℕ)) (memberships : List Membership)
   pub root : next.root ≡ membership.root
   pub nearer : next.to_rank < membership.to_rank
 
+-- The node is its own root, or an edge leads from it nearer to its root.
 abbrev pub GoesToward : List (List ℕ) → List Membership → ℕ → Membership → Type 0
 GoesToward graph memberships node membership = (membership.root ≡ node) ⊎ StepsToward graph memberships node membership
 
@@ -46,6 +47,8 @@ pub record StepsFrom (graph : List (List ℕ)) (memberships : List Membership)
   pub root : before.root ≡ membership.root
   pub nearer : before.from_rank < membership.from_rank
 
+-- The node is its own root, or an edge comes to it from a node that the root reaches in fewer
+-- edges.
 abbrev pub ComesFrom : List (List ℕ) → List Membership → ℕ → Membership → Type 0
 ComesFrom graph memberships node membership = (membership.root ≡ node) ⊎ StepsFrom graph memberships node membership
 
@@ -69,7 +72,7 @@ pub record HasRoot (memberships : List Membership) (node root : ℕ) : Type 0 wh
   pub is : slice_get memberships node ≡ Some membership
   pub same : membership.root ≡ root
 
--- One of these nodes has this root.
+-- One of the nodes in `targets` has this root.
 pub record HasInner (memberships : List Membership) (root : ℕ) (targets : List ℕ) : Type 0 where
   pub to : ℕ
   pub target : Contains targets to

@@ -15,7 +15,7 @@ struct Arrow {
 /// The state of the traversals against the edges.
 #[derive(Drop)]
 pub(crate) struct Backward {
-    /// The memberships of the nodes. The nodes that were visited have their components.
+    /// The memberships of the nodes, with the component of each node that was visited.
     pub(crate) memberships: Vec<Membership>,
     /// The edges that lead to each node.
     arrows: Vec<Vec<Arrow>>,
@@ -99,12 +99,13 @@ impl Backward {
         }
     }
 
-    /// Returns one of the edges that lead to a node.
+    /// Returns the edge at the index `at` among those that lead to a node, or `None` if there is no
+    /// such edge.
     fn arrow(&self, node: usize, at: usize) -> Option<Arrow> {
         self.arrows.get(node)?.get(at).copied()
     }
 
-    /// Adds the nodes that lead to `node` to its component.
+    /// Adds the nodes that lead to `node` to the component of `root`.
     fn spread(&mut self, node: usize, root: usize, start: usize) -> Result<(), AllocError> {
         for at in 0..self.arrow_count(node) {
             if let Some(arrow) = self.arrow(node, at) {
@@ -114,8 +115,8 @@ impl Backward {
         Ok(())
     }
 
-    /// Visits the nodes at the index `start` and after it in the order, and adds those that lead to
-    /// them to the component.
+    /// Visits the nodes in `order` from the index `start` on, and adds the nodes that lead to them
+    /// to the component of `root`.
     fn finish(&mut self, root: usize, start: usize) -> Result<(), AllocError> {
         let mut at = start;
         while let Some(node) = self.order.get(at).copied() {
@@ -125,7 +126,7 @@ impl Backward {
         Ok(())
     }
 
-    /// Traverses the graph from each of these nodes, the last one first.
+    /// Traverses the graph from each node in `nodes`, the last one first.
     ///
     /// # Errors
     ///
