@@ -36,8 +36,8 @@ pub record IsAccepted (source : List ℕ) (rules : List Rule) (utf8 : Bool) : Ty
   pub same_rules : rules ≡ rules_of_views leaves
   pub same_mode : utf8 ≡ utf8_mode options
 
--- Why a source is refused: one fault that ends the reading; or, within the limits on length and
--- nesting, all faults of its enum, of which there are some.
+-- The reason that a source is refused: one fault that ends the reading; or, within the limits on
+-- length and nesting, all faults of its enum, of which there is at least one.
 pub data IsRefused (source : List ℕ) (faults : List SourceFault) : Type 0 where
   unread : {fault : SourceFault} → EndsReading source fault → faults ≡ fault ∷ [] → IsRefused source faults
   faulty : {enum : EnumValue} {item : Span} {leaves : List LeafView} → length source ≤ 16777216 → IsShallow source →

@@ -136,7 +136,8 @@ impl Language {
     /// Returns `Memory` if memory runs out. `Refused` is never returned.
     pub fn new(alloc: Global) -> Result<Language, ExprError>
         ensures ok { IfOk result IsLanguage }
-        // It is refused only if the enum is refused, and no input is at fault.
+        // An error means that the enum is refused or that memory ran out; it never depends on an
+        // input.
         ensures err { IfErr result IsRefusalOf }
     {
         let made = generate(alloc, SOURCE, Config::STATE_MACHINE)?;
@@ -191,7 +192,7 @@ impl Language {
         }
     }
 
-    /// Returns the kind of the tokens of a leaf.
+    /// Returns the kind of the tokens of a leaf, or `Close` if the leaf does not exist.
     fn kind_at(&self, leaf: LeafId) -> ExprKind
         ensures { result ≡ kind_at self.now.kinds leaf.0 }
     {
@@ -234,7 +235,7 @@ fn kind_given(kind: &VariantKind<'_>) -> ExprKind
     }
 }
 
-/// Returns the kind with this name.
+/// Returns the kind with this name, or `Close` if no other kind has it.
 fn kind_named(name: &str) -> ExprKind
     ensures { result ≡ kind_named name.now }
 {

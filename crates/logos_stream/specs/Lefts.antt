@@ -26,7 +26,7 @@ abbrev pub MayRead : {R : Type 0} → (R → Option (List ℕ)) → WindowValue 
 MayRead remaining old new = ReadsOn remaining old new ⊎ StaysUnread remaining old new
 
 module _ {R : Type 0} (remaining : R → Option (List ℕ)) (code : CodeValue) (callback : Callback) where
-  -- A stream continues: it reads, passes bytes, and returns these items.
+  -- A stream continues: it reads, passes bytes, and returns the items `found`.
   pub record Continues (old new : WindowValue R) (found : List Item) : Type 0 where
     pub added : List ℕ
     pub consumed : Consumes (remaining old.reader) (remaining new.reader) added

@@ -32,7 +32,7 @@ pub record IsPutOff (unread wanted : ℕ) : Type 0 where
   pub twice : wanted ≤ 2 * unread
 
 -- The window waits after the first `to` bytes. The next match attempt is delayed no longer than
--- before, or by how many bytes are left.
+-- before, or as the number of remaining bytes requires.
 pub record WaitsAt {R : Type 0} (old new : WindowValue R) (to : ℕ) : Type 0 where
   pub past : GoesPast to old new
   pub wanted : (new.wanted ≡ old.wanted) ⊎ IsPutOff (unread_length new) new.wanted

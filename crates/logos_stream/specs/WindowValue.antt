@@ -19,14 +19,14 @@ pub record WindowValue (R : Type 0) : Type 0 where
   pub is_last : Bool
   -- Whether the reader reached its end.
   pub is_over : Bool
-  -- How many bytes of the stream are before `lexed`, saturating at the greatest number.
+  -- The number of bytes of the stream before `lexed`, saturating at the greatest number.
   pub offset : ℕ
-  -- How many bytes may be in memory.
+  -- The greatest number of bytes in memory.
   pub bound : ℕ
-  -- How many bytes the next match attempt needs.
+  -- The number of bytes that the next match attempt needs.
   pub wanted : ℕ
 
--- How many bytes were read after the last item.
+-- The number of bytes that were read after the last move.
 abbrev pub unread_length : {R : Type 0} → WindowValue R → ℕ
 unread_length window = length window.lexed + length window.after
 

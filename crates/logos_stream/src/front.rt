@@ -20,7 +20,8 @@ pub(crate) enum Front {
     Ends,
 }
 
-/// Returns the first event in `bytes`. Unless they are the last ones, more may follow.
+/// Returns the first event in `bytes`. If `is_last` is set, they are the last bytes of the input;
+/// otherwise more may follow.
 pub(crate) fn front_of<C: Fn(LeafId, &[u8]) -> Action + Copy>(
     code: &Code<'_>,
     bytes: &[u8],

@@ -62,7 +62,7 @@ pub record AreRows (code : CodeValue) (rows : List (List ℕ)) : Type 0 where
 abbrev pub HaveSameSteps : List (List ℕ) → ℕ → ℕ → Type 0
 HaveSameSteps rows one other = (i : ℕ) → i < length rows → slice_index (slice_index_or rows i []) one ≡ slice_index (slice_index_or rows i []) other
 
--- The class exists, and its symbol has the same steps as the one that is in the class.
+-- The class `number` exists, and its symbol has the same steps as `symbol`.
 abbrev pub IsClassOf : List (List ℕ) → List ℕ → ℕ → ℕ → Type 0
 IsClassOf rows symbols symbol number = (number < length symbols) × HaveSameSteps rows (slice_index symbols number) symbol
 

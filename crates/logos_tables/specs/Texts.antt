@@ -97,8 +97,8 @@ end_text =
     ++ codes "fn error(lex: &mut _Lexer<'s>) -> <Self as Logos<'s>>::Error { _make_error(lex) }\n"
     ++ codes "}\n_Tables::run(lex)\n} }\n"
 
--- The numbers of entries and masks that the runtime computes from the tables. When the text is
--- compiled, it rejects wrong numbers.
+-- The numbers of entries and masks that the runtime computes from the tables. The compiler of the
+-- generated code rejects wrong numbers.
 pub record Sizes : Type 0 where
   pub entries : ℕ
   pub masks : ℕ
@@ -117,7 +117,7 @@ made_texts code tables sizes =
     ++ ((marks_text code ∷ skips_text code ∷ [])
     ++ numbers_texts (length tables.slots) (length tables.runs) sizes))
 
--- Texts, one right after another.
+-- The concatenation of texts.
 abbrev pub joined : List (List ℕ) → List ℕ
 joined texts = flat_map (λ text. text) texts
 

@@ -74,7 +74,7 @@ fn have_same_steps(rows: &[Steps], one: usize, other: usize) -> bool
     true
 }
 
-/// Returns the step of a symbol.
+/// Returns the step of a symbol, or 0 if the symbol does not exist.
 pub(crate) fn step_at(row: &Steps, symbol: usize) -> usize
     ensures { result ≡ slice_index row.now symbol }
 {

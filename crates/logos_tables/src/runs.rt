@@ -48,7 +48,7 @@ pub(crate) fn row_runs(
     Ok(runs)
 }
 
-/// Appends the steps of a row.
+/// Appends the steps of a row, one for each class.
 fn push_row(runs: &mut Vec<Run>, row: &Steps, symbols: &[usize]) -> Result<(), AllocError>
     ensures { OnOk result (spread runs.new.items
         ≡ spread runs.old.items ++ by_classes symbols.now row.now) }
@@ -59,7 +59,7 @@ fn push_row(runs: &mut Vec<Run>, row: &Steps, symbols: &[usize]) -> Result<(), A
     Ok(())
 }
 
-/// Appends a step.
+/// Appends a step: extends the last run by it, or begins a new run.
 fn push_step(runs: &mut Vec<Run>, step: usize) -> Result<(), AllocError>
     ensures { OnOk result (spread runs.new.items ≡ spread runs.old.items ++ step ∷ []) }
 {
