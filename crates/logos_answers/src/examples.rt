@@ -124,7 +124,7 @@ fn push_evidence(page: &mut Page, leaves: &[Leaf<'_>], leaf: usize, evidence: &E
     page.push("\n");
 }
 
-/// Appends the input that a leaf finds, or that it finds none.
+/// Appends the input that a leaf finds, or `finds nothing`.
 fn push_found(page: &mut Page, found: &Option<Vec<u8>>)
     ensures { Gains (shown.found_text (option_map (λ input. input.items) found.now))
         page.old page.new }

@@ -97,7 +97,7 @@ pub fn longest_of(
     Ok(longest)
 }
 
-/// Replaces an earlier match of the same leaf.
+/// Sets the match of the leaf of `found`, in place of an earlier one.
 fn set_longest(longest: &mut Vec<Option<Match>>, found: Match)
     ensures count { length longest.new.items ≡ length longest.old.items }
     ensures each { (leaf : ℕ) → leaf < length longest.old.items →
@@ -195,7 +195,7 @@ pub fn bytes_between(input: &[u8], from: usize, to: usize) -> &[u8]
     }
 }
 
-/// Appends the line with the match that a lexer takes among these.
+/// Appends the line with the match that a lexer takes, or the line that no leaf matches.
 fn push_verdict(page: &mut Page, leaves: &[Leaf<'_>], matches: &[Match])
     ensures { (text : List ℕ) × shown.IsVerdict leaves.now matches.now text
         × Gains text page.old page.new }

@@ -91,7 +91,7 @@ fn widths_of(rows: &[LeafRow<'_>]) -> Widths {
     widths
 }
 
-/// Returns the widths for one more row.
+/// Returns the widths of the columns with one more row.
 fn widened(widths: Widths, row: LeafRow<'_>) -> Widths {
     Widths {
         variant: max(widths.variant, width_of(variant_cell(row))),
@@ -146,7 +146,7 @@ fn push_heads(page: &mut Page, widths: Widths) {
     page.push("line\n");
 }
 
-/// Appends a row.
+/// Appends the row of the leaf `number`.
 fn push_row(page: &mut Page, number: usize, row: LeafRow<'_>, widths: Widths) {
     push_right(page, number, 4);
     push_cell(page, variant_cell(row), widths.variant);

@@ -2,8 +2,8 @@
 use Rattle.std.specs.Prelude.{◌≢◌, ℕ, ◌≤◌, Bool, List, length}
 use Rattle.logos_automaton.specs.Munch.{Rule, IsInput, RuleMatches, Finds, matched}
 
--- An input with which the leaf matches from the beginning, and on which maximal munch finds a match
--- of another leaf first.
+-- An input that begins with a match of the leaf, and on which maximal munch finds a match of
+-- another leaf first.
 pub record IsLoss (rules : List Rule) (utf8 : Bool) (leaf : ℕ) (bytes : List ℕ) : Type 0 where
   pub input : IsInput utf8 bytes
   pub end : ℕ

@@ -123,7 +123,7 @@ fn text_at(text: &str, span: Span) -> &str
     }
 }
 
-/// Returns the line of the file at an offset relative to another one.
+/// Returns the line of the file at the offset `from`, which is relative to `offset`.
 fn line_at(lines: &LineIndex<'_>, offset: usize, from: usize) -> usize
     ensures { result ≡ (location_at lines.now (moved offset from)).line }
 {

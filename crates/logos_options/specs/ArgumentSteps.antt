@@ -75,7 +75,7 @@ with_pending progress None word = if progress.is_over then finds progress (path 
 abbrev pub step : ArgumentProgress → List ℕ → Option StepValue
 step progress word = with_pending progress progress.pending word
 
--- The values of the program's types.
+-- The views of an option with its value, and of the meaning of an argument.
 abbrev pub option_value : GivenOption → OptionValue
 option_value one = record { option = one.option; value = one.value.now }
 

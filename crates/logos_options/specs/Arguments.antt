@@ -23,7 +23,7 @@ pub record ArgumentsValue : Type 0 where
   pub text : Option OptionName
   pub progress : ArgumentProgress
 
--- An empty command line. The table has sixteen options.
+-- An empty command line: none of the seventeen options of the table is given.
 abbrev pub nothing_given : ArgumentsValue
 nothing_given = record { first = None; second = None; settings = replicate 17 None; question = None; text = None; progress = not_begun }
 
@@ -102,7 +102,7 @@ settled (Some arguments) = settled_by arguments arguments.text arguments.progres
 abbrev pub arguments_of : Program → List (List ℕ) → Option ArgumentsValue
 arguments_of program arguments = settled (with_arguments program (Some nothing_given) arguments)
 
--- The views of the program's types.
+-- The view of the settings.
 abbrev pub settings_value : Settings → List (Option (List ℕ))
 settings_value settings = map (option_map (λ text. text.now)) settings.values
 

@@ -57,7 +57,7 @@ impl<'w> Settings<'w> {
     }
 }
 
-/// Reads the arguments of a command line. After `--help` and `--version` no argument is read.
+/// Reads the arguments of a command line. Arguments after `--help` or `--version` are not read.
 ///
 /// # Errors
 ///
@@ -110,7 +110,7 @@ fn read_arguments(program: Program, arguments: &[String]) -> Result<Arguments<'_
     Ok(parsed)
 }
 
-/// Returns all arguments, unless an option lacks its value.
+/// Returns the arguments, or fails if the last option lacks its value and no text is requested.
 fn settled(arguments: Arguments<'_>) -> Result<Arguments<'_>, Failure<'_>>
     ensures read { IfOk result (λ all.
         settled (Some (arguments_value arguments.entry)) ≡ Some (arguments_value all)) }

@@ -31,7 +31,8 @@ module _ (graph : List GraphState) where
   abbrev pub step_to : ℕ → ℕ → ℕ
   step_to s b = unwrap_or (next_by graph s b) (length graph)
 
-  -- The last match from a state on, with `n` bytes read and these left: its leaf and its length.
+  -- The last match on the way from a state, after `n` bytes and with the remaining bytes: its leaf
+  -- and its length.
   abbrev pub last_from : ℕ → ℕ → List ℕ → Option (ℕ × ℕ)
   last_from s n [] = with_size n (mark_at_end s)
   last_from s n (b ∷ bytes) = option_or (last_from (step_to s b) (n + 1) bytes) (with_size n (mark_by s b))

@@ -1,4 +1,4 @@
--- Steps of an automaton from any number.
+-- Steps of an automaton, from numbers that need not be states.
 use Rattle.std.specs.Prelude.{ℕ, List, length, Option, None, Some, if◌then◌else◌, nat_lt, slice_get, option_and_then}
 use Rattle.logos_automaton.specs.Automaton.{Automaton, dfa_next}
 

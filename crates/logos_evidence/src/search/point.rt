@@ -24,7 +24,7 @@ pub trait Machine {
 
     ghost goal: { Self → At → Bool };
 
-    /// Returns the point to which a byte leads.
+    /// Returns the point to which a byte leads, if there is one.
     fn next(&self, at: Point, byte: u8) -> Option<Point>
         ensures { result ≡ leads self.now at byte };
 
