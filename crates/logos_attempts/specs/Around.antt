@@ -30,7 +30,8 @@ pub data LeadsTo (code : CodeValue) (input : List ℕ) : ℕ → Type 0 where
   begins : LeadsTo code input 0
   passes : (found : Surrounding) → LeadsTo code input found.from → Finds code input found → LeadsTo code input found.to
 
--- One of these match attempts finds this, which begins before the offset and ends after it.
+-- `found` begins before the offset and ends after it, and is the result of one of the match
+-- attempts from the beginning of the input.
 pub record IsAround (code : CodeValue) (input : List ℕ) (offset : ℕ) (found : Surrounding) : Type 0 where
   pub leads : LeadsTo code input found.from
   pub finds : Finds code input found

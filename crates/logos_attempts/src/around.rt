@@ -31,8 +31,8 @@ pub struct Surrounding {
 }
 
 /// Returns the match or the error that begins before an offset of an input and ends after it, if a
-/// lexer finds one from the beginning on. No callback is called. An input that the lexer refuses,
-/// since it is not UTF-8, has none.
+/// lexer that begins at the first byte finds one. No callback is called. An input that the lexer
+/// refuses, since it is not UTF-8, has none.
 pub fn match_around(code: &Code<'_>, input: &[u8], offset: usize) -> Option<Surrounding>
     requires { offset ≤ length input.now }
     ensures { IfSome result (IsAround code.now input.now offset) }
@@ -80,7 +80,7 @@ pub(crate) fn found_at(code: &Code<'_>, input: &[u8], from: usize) -> Surroundin
     }
 }
 
-/// Returns a match or an error with this span.
+/// Returns a match or an error of the kind `kind` with the span `from..to`.
 fn around_of(kind: SurroundingKind, from: usize, to: usize) -> Surrounding
     ensures { result ≡ record { kind = kind; from = from; to = to } }
 {

@@ -1,4 +1,5 @@
-//! Explains the faults of a refused source, and warns about a lexer.
+//! Explains the faults of a refused source, and warns about a lexer. Called by the programs and the
+//! derive macro.
 
 ghost use Rattle.std.specs.Prelude.{◌≡◌, ◌≢◌, ◌≤◌, [], IfOk, OnOk};
 ghost use Rattle.logos_causes.specs.Views.{AddsEach, AreOfLexer, IsOfLexer, YieldsEnum, HasSets, IsRefusal, LeavesHaveSets, Spells, delimiter_limit, depth_of, enum_value, run_span, set_sizes, sizes_of, tokens_of};
@@ -127,7 +128,7 @@ struct EnumText<'t, 's> {
     tokens: Tokens<'t, 's>,
 }
 
-/// Returns the clues about the enum that a source spells.
+/// Returns the clues about the faults of an enum, and its warnings.
 fn explain_item(
     alloc: Global,
     text: EnumText<'_, '_>,
@@ -270,7 +271,7 @@ fn add_of_lexer(
     Ok(())
 }
 
-/// The lexer that warnings are about.
+/// The lexer about which there may be warnings.
 #[derive(Clone, Copy)]
 pub struct Lexer<'g, 's> {
     /// Its graph, with its leaves.

@@ -14,7 +14,7 @@ use logos_pattern::leaf::Leaf;
 use logos_report::Meeting;
 use std::alloc::{AllocError, Global};
 
-/// The maximum number of sets for which a text is searched on which they meet.
+/// The maximum number of sets for which a text on which their leaves meet is searched.
 const SEARCHED: usize = 10;
 
 /// Returns the clue about each set of ambiguous leaves of a graph, in order.
@@ -29,7 +29,7 @@ pub(crate) fn meetings_of(alloc: Global, graph: &Graph<'_>) -> Result<Vec<Meetin
     Ok(meetings)
 }
 
-/// Adds the clue about a set of ambiguous leaves, if the fault is one.
+/// Adds the clue about a set of ambiguous leaves, if the fault is about one.
 fn add_fault(
     alloc: Global,
     graph: &Graph<'_>,
@@ -199,7 +199,7 @@ fn ascends(set: &[usize]) -> bool
 }
 
 /// Appends the text on which leaves meet, which is the prefix of an input up to `end`, and the
-/// bytes that follow it there, if some have to.
+/// bytes that follow it in the input, if there are any.
 fn push_found(page: &mut Page, input: &[u8], end: usize)
     requires { end ≤ length input.now }
 {
@@ -210,7 +210,8 @@ fn push_found(page: &mut Page, input: &[u8], end: usize)
     }
 }
 
-/// Returns the end of a match of exactly these leaves, or the greatest number.
+/// Returns the end of a match of exactly the leaves of a set, or the greatest number if there is
+/// none.
 fn end_of(matches: &[Match], set: &[usize]) -> usize {
     for one in matches {
         if is_first(*one, set) && is_met(matches, *one, set) {

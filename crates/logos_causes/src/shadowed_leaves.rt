@@ -35,7 +35,7 @@ pub(crate) fn add_hidden(
 }
 
 /// Adds the warning for a leaf if its flag is not set, which means that it is never found. Returns
-/// how many leaves have a warning, if `count` leaves before it do.
+/// the number of leaves with a warning, of which `count` come before this one.
 fn add_if_hidden(
     graph: &Graph<'_>,
     marked: &[bool],
@@ -114,7 +114,7 @@ fn warning_of(alloc: Global, leaf: &Leaf<'_>) -> Result<Warning, AllocError>
     Ok(plain_warning(message, leaf.span, None))
 }
 
-/// Adds to the warning for a leaf the leaf that is found instead, if there is one.
+/// Adds the leaf that is found instead of the leaf `number` to the warning, if there is one.
 fn explain(
     alloc: Global,
     graph: &Graph<'_>,

@@ -424,7 +424,7 @@ fn fault_lines(
 
 /// Returns the text of all faults of a file, in order, with their number, after its warnings. For
 /// each, the text has a line with the name of its code and the first line of its message, and one
-/// with its position in the file.
+/// with its location in the file.
 fn refusal_text(
     source: &Source<'_>,
     showing: Showing,

@@ -35,8 +35,7 @@ first_column first number = if number == first.line then first.column else 1
 abbrev pub last_column : Location → ℕ → List ℕ → ℕ
 last_column last number text = if number == last.line then last.column else min (length (chars text) + 1) (2 ^ 64 - 1)
 
--- A line of a file that a span has, by the first and the last location of the span, and the columns
--- of the span in it.
+-- A line of a span with these first and last locations, and the columns of the span in the line.
 pub record IsMarked (text : List ℕ) (first last : Location) (line : Marked) : Type 0 where
   pub number : ℕ
   pub is_line : IsLineOf text number line.text

@@ -7,7 +7,7 @@ use logos_json::JsonLines;
 use logos_lines::Location;
 use logos_report::Source;
 
-/// The maximum number of lines after its first one for which a span is shown with its lines.
+/// The maximum number of lines of a span, after its first one, with which its lines are shown.
 const LINES: usize = 8;
 
 /// The maximum length of a line that is shown, in bytes.

@@ -56,7 +56,7 @@ impl Clues {
 pub struct NextFaults<'c> {
     /// The clues about the sets that have faults left.
     meetings: &'c [Meeting],
-    /// The number of passed faults of the first of them.
+    /// The number of passed faults of the first of these sets.
     passed: usize,
     /// The patterns that can examine the bytes before their start.
     starts: &'c [Start],
@@ -68,7 +68,7 @@ pub struct NextFaults<'c> {
 #[derive(Clone, Copy)]
 pub struct Member<'c> {
     pub meeting: &'c Meeting,
-    /// The number of faults of the set before it.
+    /// The number of faults of the set before this one.
     pub number: usize,
 }
 
@@ -163,8 +163,8 @@ impl<'c> NextFaults<'c> {
         }
     }
 
-    /// Returns the patterns that explain a fault with this code: those that can examine the bytes
-    /// before their start.
+    /// Returns the patterns that explain a fault with this code: for `NoUniversalStart` those that
+    /// can examine the bytes before their start, otherwise none.
     pub fn starts(self, code: FaultCode) -> &'c [Start]
         ensures { result.now ≡ (if is_explained code then self.entry.starts.now else []) }
     {
@@ -176,7 +176,7 @@ impl<'c> NextFaults<'c> {
 }
 
 impl Member<'_> {
-    /// Returns the name of its leaf.
+    /// Returns the name of the leaf, or an empty text if the set does not have the fault.
     pub fn name(&self) -> &str {
         match self.meeting.names.get(self.number) {
             Some(name) => name.as_str(),
@@ -184,7 +184,7 @@ impl Member<'_> {
         }
     }
 
-    /// Returns whether it is the last fault of its set.
+    /// Returns whether the fault is the last one of its set.
     pub(crate) fn is_last(&self) -> bool {
         self.number >= self.meeting.names.len().saturating_sub(1)
     }

@@ -1,5 +1,5 @@
 //! The faults of sets of ambiguous leaves. Reports and messages of a fault name the other leaves of
-//! its set with the positions of their faults. Used by `faults` and `logos_messages`.
+//! its set with the locations of their faults. Used by `faults` and `logos_messages`.
 
 use logos_token::error::{Detail, SpannedError};
 

@@ -94,7 +94,8 @@ pub fn count_in(listing: FaultListing<'_>, code: FaultCode) -> usize
         .saturating_add(count_parts(listing.later, code))
 }
 
-/// Returns how many faults of these parts have this code, saturating at the greatest number.
+/// Returns the number of faults of these parts that have this code, saturating at the greatest
+/// number.
 fn count_parts(parts: &[Refused], code: FaultCode) -> usize
     ensures { result ≡ min (count_by (has_name (name_of code)) (all_faults parts.now)) (2 ^ 64 - 1) }
 {

@@ -1,4 +1,4 @@
-//! Files whose positions are shown.
+//! Files and their parts, with the locations of their offsets. Used by all reports.
 
 ghost use Rattle.std.specs.Prelude.{◌≡◌, ◌≤◌, ◌⊎◌, IfOk, MatchOption, length};
 ghost use Rattle.logos_report.specs.Views.{IsLineOf, IsLongLine, IsNoLine, location_at, in_file};
@@ -35,7 +35,8 @@ impl<'t> Part<'_, 't> {
         self.source.text().get(from..to).unwrap_or("")
     }
 
-    /// Returns the text of the file from an offset of the part on, or an empty one after its end.
+    /// Returns the text of the file from an offset of the part to the end of the file, or an empty
+    /// one past that end.
     pub fn text_from(self, offset: usize) -> &'t str {
         let from = offset.saturating_add(self.offset);
         self.source.text().get(from..).unwrap_or("")

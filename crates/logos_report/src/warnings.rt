@@ -19,16 +19,16 @@ pub struct Warning {
     pub message: String,
     /// The span of the mistake, in bytes of the part.
     pub span: Span,
-    /// A further explanation, on one line.
+    /// A further explanation on one line, if there is one.
     pub note: Option<String>,
-    /// The help.
+    /// The help, if there is one.
     pub help: Option<&'static str>,
-    /// A second span of the mistake.
+    /// A second span of the mistake, in bytes of the part, if there is one.
     pub also: Option<Span>,
 }
 
 /// Appends at most 50 warnings of a part of a file, in order, and the number of those that are left
-/// out. For each, the appended text has a line with its message and one with its position.
+/// out. For each, the appended text has a line with its message and one with its location.
 pub fn push_warnings(page: &mut Page, part: Part<'_, '_>, warnings: &[Warning])
     ensures { Shows (warnings_texts page.old.is_colored part.entry.source.now part.entry.offset
         warnings.now) page.old page.new }
@@ -78,7 +78,7 @@ fn push_left_out_line(page: &mut Page, count: usize)
     page.push(" more warnings are not shown\n");
 }
 
-/// Appends a warning.
+/// Appends a warning: its message, the lines of its span, and its notes.
 pub fn push_warning(page: &mut Page, part: Part<'_, '_>, warning: &Warning)
     ensures { Shows (warning_texts page.old.is_colored part.entry.source.now part.entry.offset
         warning.now) page.old page.new }
@@ -97,7 +97,7 @@ fn push_head(page: &mut Page, message: &str)
     page.push("\n");
 }
 
-/// Appends a message, and the separator between it and the word before it.
+/// Appends the separator after the word `warning`, and a message.
 fn push_message(page: &mut Page, message: &str)
     ensures { Gains (painted page.old.is_colored Style.Strong (codes ": " ++ shown_text message.now))
         page.old page.new }
@@ -145,7 +145,7 @@ fn push_line(page: &mut Page, width: usize, kind: &str, text: &str)
     page.push("\n");
 }
 
-/// Appends the position of a second span, if there is one.
+/// Appends the location of a second span, if there is one.
 fn push_other(page: &mut Page, part: Part<'_, '_>, width: usize, also: Option<Span>)
     ensures { Shows [] page.old page.new }
 {

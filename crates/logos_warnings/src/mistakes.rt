@@ -48,9 +48,9 @@ pub enum Mistake<'s> {
     },
 }
 
-/// Returns the mistakes in an enum: those of its own attributes and then those of its variants'
-/// attributes, in source order, and last that it does not derive `Logos` although it has helper
-/// attributes. An enum that does not derive `Logos` and has no helper attribute has none.
+/// Returns the mistakes in an enum: those in its own attributes and then those in its variants'
+/// attributes, in source order, and last `NoPattern` or `NoDerive`, if one applies. `derives` is
+/// whether the enum derives `Logos`. Without that and without helper attributes it has no mistakes.
 ///
 /// # Errors
 ///
