@@ -26,8 +26,8 @@ pub struct Derivation {
 }
 
 /// Returns the derivation of the enum that a source spells. An enum without faults is accepted: it
-/// has an implementation in this shape, and no errors. One with faults is refused, with at least
-/// one error, and the helps for it. Both may have warnings.
+/// has an implementation in this shape, and no errors. An enum with faults is refused, with at
+/// least one error, and with the helps for its faults. Both may have warnings.
 ///
 /// # Errors
 ///

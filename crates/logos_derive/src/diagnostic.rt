@@ -1,4 +1,5 @@
-//! Errors and warnings in the form in which the derive macro shows them.
+//! Errors and warnings in the form in which the derive macro shows them. Used by `errors` and
+//! `warnings`.
 
 use logos_token::error::{FaultCode, Memory};
 use logos_token::token::Span;
@@ -46,7 +47,7 @@ pub struct Note {
     pub text: String,
 }
 
-/// Adds a further span.
+/// Adds a further span with its label.
 pub(crate) fn add_label(span: Span, text: &str, labels: &mut Vec<Label>) -> Result<(), Memory> {
     let text = String::from_str(*labels.allocator(), text)?;
     labels.push(Label { span, text })?;

@@ -11,13 +11,14 @@ pub(crate) struct KnownError<'f, 'p, 't> {
     pub(crate) part: Part<'p, 't>,
     /// The fault with which it begins.
     pub(crate) fault: &'f SpannedError,
-    /// The position of the fault in a set of ambiguous leaves.
+    /// The fault as a member of its set of ambiguous leaves, if there is a clue about the set.
     pub(crate) member: Option<Member<'f>>,
     /// The patterns that explain it.
     pub(crate) starts: &'f [Start],
     /// The help for it, if there is one.
     pub(crate) help: Option<&'static str>,
-    /// How many faults with its code have no error, if it is the last error with this code.
+    /// The number of faults with its code that have no error, if it is the last error with this
+    /// code.
     pub(crate) left_out: usize,
 }
 

@@ -56,8 +56,8 @@ pub record IsGuarded (left : TokenList) (shown : List ℕ) : Type 0 where
   pub is_written : IsWrittenAs left written
   pub is : shown ≡ guard ++ written
 
--- This is an enum without the derive and its attributes, and after LF the generated code of its
--- lexer with attributes, laid out.
+-- The expansion of an enum: the enum without the derive and its attributes, and after LF the
+-- generated code of its lexer with attributes, laid out.
 pub record IsExpansion (shape : Shape) (source shown : List ℕ) : Type 0 where
   pub left : TokenList
   pub written : List ℕ

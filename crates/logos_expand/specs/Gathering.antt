@@ -60,7 +60,7 @@ errors_in [] = 0
 errors_in (part ∷ parts) = errors_of part + errors_in parts
 
 -- The texts of some warnings of a file, those of the faults of these parts of it, and the line with
--- the number of errors, which is at most the greatest one.
+-- the number of errors, saturating at the greatest number.
 abbrev pub report_texts : Bool → SourceValue → List Warning → List Refused → List (List ℕ)
 report_texts is_colored source warnings refused = warnings_texts is_colored source 0 warnings ++ (refused_texts is_colored source refused ++ summary_line is_colored (min (errors_in refused) (2 ^ 64 - 1)) ∷ [])
 

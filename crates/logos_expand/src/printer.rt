@@ -81,8 +81,8 @@ fn guarded(
     Ok(text)
 }
 
-/// Returns the line that excludes an enum from rustfmt, with the blanks before the enum; or nothing
-/// if rustfmt would not change it.
+/// Returns the line that excludes an enum from rustfmt, with the blanks before the enum, or an
+/// empty text if rustfmt would not change the enum.
 fn guard_of(alloc: Global, written: &str, site: Site<'_, '_>) -> Result<String, Memory>
     ensures { IfOk result (λ guard. IsGuard (string_bytes guard)) }
 {
@@ -160,7 +160,8 @@ fn are_blanks(bytes: &[u8]) -> bool
     true
 }
 
-/// Returns a text that ends with a lexer, laid out, with the line of the file at each callback.
+/// Returns a text that ends with a lexer, laid out, with a comment at each callback that names its
+/// line in the file.
 fn laid_out(alloc: Global, whole: &str, site: Site<'_, '_>, lexer: &Sink) -> Result<String, Memory>
     ensures { IfOk result (λ laid. IsLaidOut whole.now (string_bytes laid)) }
 {
@@ -174,8 +175,8 @@ fn laid_out(alloc: Global, whole: &str, site: Site<'_, '_>, lexer: &Sink) -> Res
     lay_out(alloc, whole, setting)
 }
 
-/// Returns the lines of the file that contain the callbacks of a lexer, whose text begins at an
-/// offset.
+/// Returns a comment for each callback of a lexer, which names the line of the callback in the
+/// file. The text of the lexer begins at the offset `start`.
 fn notes_of(
     alloc: Global,
     start: usize,

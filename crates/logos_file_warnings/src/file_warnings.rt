@@ -302,6 +302,10 @@ fn denied(report: String) -> Result<String, Memory>
 }
 
 /// Returns the text that these bytes spell.
+///
+/// # Errors
+///
+/// Returns `Memory` if the bytes are not UTF-8, which those of messages always are.
 pub fn text_of(bytes: Vec<u8>) -> Result<String, Memory>
     ensures { IfOk result (λ text. string_bytes text ≡ bytes.items) }
 {

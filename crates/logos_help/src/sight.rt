@@ -1,4 +1,4 @@
-//! The text of a source at the span of a fault.
+//! The text of a source at the span of a fault. Used by `codes`, `patterns` and `sights`.
 
 /// The text of a source at a span, and after it.
 #[derive(Clone, Copy, Debug)]

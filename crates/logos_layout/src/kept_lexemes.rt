@@ -18,7 +18,8 @@ pub(crate) struct Staying<'t, 's> {
     rest: Tokens<'t, 's>,
     /// The byte offset at which that group ends.
     to: usize,
-    /// The tokens after it, and the groups around it, from the outermost on.
+    /// For each open group, the outermost first, the tokens after it and the end of the group
+    /// around it.
     outer: Vec<Enclosing<'t, 's>>,
 }
 

@@ -15,7 +15,7 @@ use std::alloc::Global;
 struct Layout {
     lines: WordLines,
     state: LayoutState,
-    /// The content of the open delimiters except the innermost one, from the outermost on.
+    /// The content of the open delimiters except the innermost one, the outermost first.
     outer: Vec<Open>,
 }
 

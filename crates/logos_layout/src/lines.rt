@@ -122,7 +122,7 @@ impl WordLines {
         Ok(())
     }
 
-    /// Appends the blanks before each line.
+    /// Appends the blanks with which each line begins.
     fn put_margin(&mut self) -> Result<(), Memory> {
         self.text.push_str(self.margin.as_str())?;
         self.column = self.margin.len();
