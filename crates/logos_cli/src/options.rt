@@ -10,7 +10,7 @@ use logos_options::{
 };
 use logos_tables::Shape;
 
-/// A request.
+/// A request of `logos_cli`.
 #[derive(Clone, Copy)]
 pub(crate) enum Request<'w> {
     Help,
@@ -35,7 +35,7 @@ pub(crate) struct ExpandOrder<'w> {
     pub(crate) format: MessageFormat,
     /// Whether a file with warnings is refused.
     pub(crate) denies: bool,
-    /// When messages have colors.
+    /// The condition under which messages have colors.
     pub(crate) color: Color,
 }
 
@@ -44,7 +44,7 @@ pub(crate) struct ExpandOrder<'w> {
 pub(crate) struct Batch<'w> {
     /// The arguments of the command line, which contain the paths of the files.
     pub(crate) arguments: &'w [String],
-    /// The order for each of them, written for the first one.
+    /// The order for the first file, which the orders for the others repeat with other paths.
     pub(crate) order: ExpandOrder<'w>,
     /// The path of the folder, which ends in `/`.
     pub(crate) folder: &'w str,
@@ -67,7 +67,7 @@ pub(crate) fn request_of(arguments: &[String]) -> Result<Request<'_>, Failure<'_
     }
 }
 
-/// Returns the request of arguments.
+/// Returns the request of arguments that were read.
 fn request_given<'w>(
     arguments: &'w [String],
     parsed: Arguments<'w>,
@@ -86,7 +86,7 @@ fn request_given<'w>(
     }
 }
 
-/// Returns the files to expand.
+/// Returns the request to expand files.
 fn order_given<'w>(
     arguments: &'w [String],
     parsed: Arguments<'w>,
@@ -108,7 +108,7 @@ fn order_given<'w>(
     file_given(arguments, parsed, input, style)
 }
 
-/// Returns the files to expand, with messages in this style.
+/// Returns the request to expand files, with messages in this style.
 fn file_given<'w>(
     arguments: &'w [String],
     parsed: Arguments<'w>,
@@ -142,7 +142,7 @@ fn file_given<'w>(
     placed(arguments, order, parsed.second)
 }
 
-/// Returns the order for one file, or the batch of files to expand into a folder.
+/// Returns the request to expand one file, or several files into a folder.
 fn placed<'w>(
     arguments: &'w [String],
     order: ExpandOrder<'w>,

@@ -69,7 +69,7 @@ fn rest_name(class: &ByteClass) -> &'static str {
     }
 }
 
-/// Appends all characters but the ASCII characters that a set does not have.
+/// Appends the name of all characters except the ASCII characters that a set lacks.
 fn push_all_but(page: &mut Page, class: &ByteClass) {
     if size_of(class) == 128 {
         page.push("any character");

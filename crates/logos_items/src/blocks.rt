@@ -1,4 +1,4 @@
-//! Blocks of text, written when they are full.
+//! Blocks of text, written when they are full. Used by `inputs`, `lines`, `records` and `streams`.
 
 ghost use Rattle.std.specs.Prelude.{IfErr};
 ghost use Rattle.logos_items.specs.Imports.{IsNoMisuse};
