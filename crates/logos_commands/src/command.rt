@@ -117,7 +117,7 @@ fn strip_of(arguments: &[String]) -> Option<Command<'_>>
     }
 }
 
-/// Returns the code shape that the last arguments of a command select. The default is one loop with
+/// Returns the code shape that the last arguments of a command select. The default is one loop over
 /// a state.
 fn shape_of(arguments: &[String]) -> Option<Config>
     ensures { result ≡ shape_in (map string_bytes arguments.now) }

@@ -33,7 +33,7 @@ pub(super) fn diagram_path(
     Err(refused_export(alloc, refused_by(extension)))
 }
 
-/// Returns why a diagram's path must not have this extension, which is not `mmd`.
+/// Returns the reason that the path of a diagram must not have this extension, which is not `mmd`.
 fn refused_by(extension: &str) -> ExportRefusal
     ensures { result ≡ refusal_by extension.now }
 {

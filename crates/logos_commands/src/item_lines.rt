@@ -33,8 +33,8 @@ pub(super) struct LexRequest<'w> {
 
 /// Writes a line for each item of an input, found by the lexer of the enum in a file.
 ///
-/// The source and the input are validated before the first item is written. After it only writing
-/// can fail.
+/// The source and the input are validated before the first item is written. After that, only
+/// writing can fail.
 pub(super) fn lex<'w, F: Files, O: Write>(
     alloc: Global,
     request: LexRequest<'w>,

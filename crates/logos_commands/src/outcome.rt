@@ -105,7 +105,7 @@ fn of_lexer(
     }
 }
 
-/// Returns the generated code of a lexer, and LF.
+/// Returns the generated code of a lexer, followed by LF.
 fn text_of_lexer(alloc: Global, made: &Generated<'_>) -> Result<String, Failure<'static>>
     ensures text { IfOk result (λ text. EndsWithLine (OccurInOrder (texts_of made.now.code))
         (string_bytes text)) }
@@ -117,7 +117,7 @@ fn text_of_lexer(alloc: Global, made: &Generated<'_>) -> Result<String, Failure<
     Ok(text)
 }
 
-/// Returns the enum in a file without the attributes of the derive macro, and LF.
+/// Returns the enum in a file without the attributes of the derive macro, followed by LF.
 pub(super) fn stripped<'w, F: Files>(
     alloc: Global,
     file: &'w str,
@@ -138,7 +138,7 @@ pub(super) fn stripped<'w, F: Files>(
     }
 }
 
-/// Returns the enum of a source without the attributes of the derive macro, and LF.
+/// Returns the enum of a source without the attributes of the derive macro, followed by LF.
 fn stripped_source(alloc: Global, source: &str) -> Result<String, Failure<'static>>
     ensures done { IfOk result (λ text. IsLeft source.now (prints (string_bytes text))) }
     ensures denied { IfErr result (λ failure. status_of failure ≡ 1 →

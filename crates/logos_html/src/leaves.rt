@@ -7,7 +7,7 @@ use logos_inspect::LeafRow;
 use logos_page::Page;
 use std::alloc::{AllocError, Global};
 
-/// Appends the section of the leaves of a graph, whose rows are these.
+/// Appends the section of the leaves of a graph, with these rows.
 ///
 /// # Errors
 ///
@@ -129,7 +129,7 @@ fn push_line_cell(html: &mut Html, line: usize) {
     html.push_markup("</td>");
 }
 
-/// Appends the cell with a text that a leaf finds.
+/// Appends the cell with a text that a leaf finds, or that states that it finds none.
 fn push_example_cell(
     alloc: Global,
     html: &mut Html,

@@ -33,7 +33,8 @@ pub data AreCandidates (text : List ℕ) : List FoundEnum → List Candidate →
   added : {found : List FoundEnum} {candidate : Candidate} {candidates : List Candidate} →
       candidate.found.derives ≡ true → IsPathOf text candidate.found (path_in candidate) → AreCandidates text found candidates → AreCandidates text (candidate.found ∷ found) (candidate ∷ candidates)
 
--- One more enum was considered: with those of the other enums, these are the candidates of all.
+-- The enum `one` was considered: followed by the candidates of other enums, the added ones are the
+-- candidates of all.
 pub record AddsCandidate (text : List ℕ) (one : FoundEnum) (old new : List Candidate) : Type 0 where
   pub added : List Candidate
   pub is : new ≡ old ++ added

@@ -101,12 +101,12 @@ pub record IsSeveralText (source : SourceValue) (name : List ℕ) (one other : F
   pub of_second : IsPathOf source.text other second
   pub is : shown ≡ several_text source.path name ++ (name_text (Some first) ++ (other_text second ++ help_text first))
 
--- Something is refused with a text of which this holds, or memory ran out.
+-- Something is refused with a text that satisfies `Shown`, or a file, an output or memory failed.
 abbrev pub RefusesBy : (List ℕ → Type 0) → Failure → Type 0
 RefusesBy Shown (failures.Refused text) = Shown (string_bytes text)
 RefusesBy Shown failure = status_of failure ≡ 3
 
--- Something is refused, or memory ran out.
+-- Something is refused, or a file, an output or memory failed.
 abbrev pub IsRefusal : Failure → Type 0
 IsRefusal = RefusesBy (λ shown. Unit {0})
 

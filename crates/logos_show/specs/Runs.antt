@@ -1,5 +1,5 @@
--- The effects of a run of the program, determined by the content of its files. `yields` holds of
--- files, a path, the bytes that are read there, and the files after the read.
+-- The effects of a run of the program, determined by the content of its files. `yields` relates the
+-- files before a read, the path, the bytes that are read, and the files after it.
 use Rattle.std.specs.Prelude.{◌≡◌, ℕ, Bool, true, false, List, [], Option, Some, None}
 use Rattle.logos_code.specs.Code.{CodeValue}
 use Rattle.logos_code.specs.declared.code.Config.{Config}

@@ -1,4 +1,4 @@
-//! Selects the enum of a file by its name.
+//! Selects the enum of a file by its name. Used by the modules that need a lexer.
 
 ghost use Rattle.std.specs.Prelude.{◌≡◌, ◌↔◌, ℕ, List, IfErr, IfOk, IfSome, IsTrue, None, Some, option_map, string_bytes};
 ghost use Rattle.logos_show.specs.Views.{Fault, Gains, HasName, IsCause, IsChosen, IsChosenIn, IsLexerOf, IsNextChoice, IsNoMisuse, IsPathOf, IsSeveralText, IsUnreadable, Refuses, RefusesBy, chosen_first, first_deriving, help_text, name_requested, name_text, no_lexer_text, other_text, several_text};
@@ -26,17 +26,17 @@ struct Choice {
     second: Option<FoundEnum>,
 }
 
-/// The enum that is selected, by a name if one is given.
+/// The selection of an enum by its name, or of the first enum if no name is given.
 #[derive(Clone, Copy)]
 pub(crate) enum Chosen {
     Nothing,
     One(FoundEnum),
-    /// These two, which have different paths, and possibly others.
+    /// Several enums, of which these two have different paths.
     Several(FoundEnum, FoundEnum),
 }
 
-/// Returns the requested enum of a file, which is the first one if no name is given. If the file
-/// then has several, writes a note to standard error.
+/// Returns the requested enum of a file, which is the first one if no name is given. If no name is
+/// given and there are several enums, writes a note to standard error.
 pub(crate) fn lexer_in<'w, E: Write>(
     alloc: Global,
     task: Task<'w>,
@@ -102,7 +102,7 @@ fn first_text(
     Ok(page.finish()?)
 }
 
-/// Returns the requested enums of a file. There is at least one.
+/// Returns the selection of the requested enum of a file. At least one enum is selected.
 pub(crate) fn found_in<'w>(
     alloc: Global,
     task: Task<'w>,
@@ -214,7 +214,7 @@ fn several_text(
     Ok(page.finish()?)
 }
 
-/// Appends that several enums of a file have a name.
+/// Appends the beginning of the message that several enums of a file have a name.
 fn push_several(page: &mut Page, file: &str, name: &str)
     ensures { Gains (several_text file.now name.now) page.old page.new }
 {
@@ -254,8 +254,9 @@ fn push_name(page: &mut Page, name: Option<&str>)
     }
 }
 
-/// Returns the enum that derives `Logos` and that a name selects: the one with this path, or the
-/// only one whose path ends with it. Without a name each is a candidate.
+/// Returns the selection among the enums that derive `Logos`. A name selects the one with this
+/// path, or those whose path ends with it. Without a name, the first one is selected, and another
+/// one if there is one.
 fn enum_meant(
     alloc: Global,
     source: &Source<'_>,
@@ -271,7 +272,7 @@ fn enum_meant(
     }
 }
 
-/// Returns the first enum that derives `Logos`.
+/// Returns the first enum that derives `Logos`, and another one with another path if there is one.
 fn first_enum(alloc: Global, source: &Source<'_>, found: &[FoundEnum]) -> Result<Chosen, Memory>
     ensures { IfOk result (λ chosen. chosen_first chosen ≡ first_deriving found.now) }
 {
@@ -328,7 +329,8 @@ fn choice_with(
     })
 }
 
-/// Returns whether an enum has the name, if one is given: whether its path ends with it.
+/// Returns whether a name selects an enum: whether the path of the enum is the name or ends with
+/// it. Without a name, returns `true`.
 pub(crate) fn has_name(
     alloc: Global,
     source: &Source<'_>,

@@ -245,7 +245,7 @@ fn push_made(
     Ok(())
 }
 
-/// Returns the tokens of an enum that has a lexer: there are some.
+/// Returns the tokens of an enum that has a lexer. Such an enum can always be read into tokens.
 fn tokens_of<'s>(alloc: Global, text: &'s str) -> Result<TokenStream<'s>, Memory> {
     match tokenize(alloc, text) {
         Ok(stream) => Ok(stream),
