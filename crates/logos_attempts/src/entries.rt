@@ -1,4 +1,4 @@
-//! Counts how often match attempts enter the states of a graph. Called by `logos_html`.
+//! Counts the entries of the states of a graph by match attempts. Called by `logos_html`.
 
 ghost use Rattle.std.specs.Prelude.{◌≡◌, ◌≤◌, length};
 

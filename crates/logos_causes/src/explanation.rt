@@ -22,9 +22,9 @@ use std::mem;
 /// The clues about a refused source, and its warnings.
 #[derive(Debug, Drop)]
 pub struct Explained {
-    /// The clues about the faults of its graph.
+    /// The clues about the faults of the source's graph.
     pub clues: Clues,
-    /// Its warnings.
+    /// The warnings about the source.
     pub warnings: Vec<Warning>,
 }
 
@@ -274,8 +274,8 @@ fn add_of_lexer(
 /// The lexer about which there may be warnings.
 #[derive(Clone, Copy)]
 pub struct Lexer<'g, 's> {
-    /// Its graph, with its leaves.
+    /// The graph of the lexer, with its leaves.
     pub graph: &'g Graph<'s>,
-    /// Its callback for errors, if it has one.
+    /// The callback for errors, if there is one.
     pub error: Option<&'g Callback<'s>>,
 }

@@ -1,4 +1,4 @@
--- When a source is accepted, and why it is refused.
+-- The conditions under which a source is accepted, and the reasons that it is refused.
 use Rattle.std.specs.Prelude.{◌≡◌, ◌≢◌, ℕ, ◌≤◌, ◌^◌, Bool, List, [], ◌∷◌, ◌++◌, length, map}
 use Rattle.logos_lexeme.specs.declared.lexeme.Span.{Span}
 use Rattle.logos_token.specs.Faults.{Fault as SourceFault}
@@ -13,8 +13,7 @@ use Rattle.logos_automaton.specs.Measures.{size_of}
 use Rattle.logos_automaton.specs.ReadKeys.{HasMoreKeys}
 use Rattle.logos_codegen.specs.Rules.{named_of_view, rules_of_views, GraphReports}
 
--- These are all faults of an enum, in order: those of its parts, then those of the graph of its
--- leaves.
+-- All faults of an enum, in order: those of its parts, then those of the graph of its leaves.
 pub record AreReported (enum : EnumValue) (item : Span) (faults : List SourceFault) (leaves : List LeafView) : Type 0 where
   pub options : OptionsView
   pub enum_faults : List SourceFault

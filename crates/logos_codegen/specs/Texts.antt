@@ -14,13 +14,13 @@ use Rattle.logos_automaton.specs.Faults.{Fault, no_universal_start, empty_match,
 
 -- A leaf, in the form that messages use.
 pub record NamedLeaf : Type 0 where
-  -- Its pattern and its variant.
+  -- The pattern and the variant.
   pub text : List ℕ
-  -- Its literal.
+  -- The literal of the pattern.
   pub source : List ℕ
-  -- Its variant.
+  -- The variant.
   pub kind : List ℕ
-  -- The span of its literal.
+  -- The span of the literal.
   pub span : Span
   pub priority : ℕ
 

@@ -104,7 +104,8 @@ pub record Tokenizes (text : List ℕ) (outcome : Outcome) : Type 0 where
   pub read : AreRead rules utf8 text 0 items
   pub is : outcome ≡ outcome_of (kinds_of_views accepted.leaves) items
 
--- This is the outcome of the text, for each list of items that it has under the leaves of the enum.
+-- `outcome` is the outcome of the text, for each list of items that the text has under the leaves
+-- of the enum.
 abbrev pub IsOutcome : List ℕ → Outcome → Type 0
 IsOutcome text outcome =
     (rules : List Rule) (utf8 : Bool) (items : List Item) (accepted : IsAccepted SOURCE.now rules utf8) → Items rules emits utf8 text 0 items → outcome ≡ outcome_of (kinds_of_views accepted.leaves) items

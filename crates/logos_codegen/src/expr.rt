@@ -73,7 +73,7 @@ pub struct ExprToken<'i> {
 pub enum ExprError {
     /// The enum of the tokenizer is refused. This never happens: a test constructs the tokenizer.
     Refused,
-    /// No token begins at the start of the span, and this is the first such offset.
+    /// The start of the span is the first offset at which no token begins.
     Bad { span: Span },
     /// Memory ran out.
     Memory,
@@ -129,7 +129,7 @@ impl Model for Language {
 }
 
 impl Language {
-    /// Makes the tokenizer.
+    /// Creates the tokenizer, for which it generates the code of its enum.
     ///
     /// # Errors
     ///
@@ -161,7 +161,7 @@ impl Language {
     pub fn tokens<'i>(&self, alloc: Global, input: &'i str) -> Result<Vec<ExprToken<'i>>, ExprError>
         // The items of maximal munch from the start of the text determine the outcome.
         ensures reads { Answers (Tokenizes input.now) result }
-        // It is the outcome of all the items of the text, by the leaves of the enum.
+        // The result is the outcome of all items of the text under the leaves of the enum.
         ensures all { Answers (IsOutcome input.now) result }
     {
         let mut tokens = Vec::new(alloc);

@@ -63,7 +63,8 @@ impl Generated<'_> {
     pub fn text(&self, alloc: Global) -> Result<String, Memory>
         ensures occur { IfOk result (λ text.
             OccurInOrder (texts_of self.now.code) (string_bytes text)) }
-        // It begins with the head of the implementation, as the options of the source determine it.
+        // The text begins with the head of the implementation, as the options of the source
+        // determine it.
         ensures begins { IfOk result (λ text. BeginsImplementation self.now (string_bytes text)) }
     {
         Ok(self.printed(alloc)?.text)
@@ -268,7 +269,7 @@ fn callback_in<'p, 's>(parser: &'p Parser<'s>) -> Option<&'p Callback<'s>>
     }
 }
 
-/// Makes the code of a graph for the enum with this head. The code finds the longest matches.
+/// Generates the code of a graph for the enum with this head. The code finds the longest matches.
 fn code_of<'s>(
     alloc: Global,
     config: Config,

@@ -13,7 +13,7 @@ use logos_scan::items::items;
 use logos_token::error::Errors;
 use std::alloc::{AllocError, AllocFailed, Global};
 
-/// The reasons why an input cannot be lexed.
+/// The reason that an input cannot be lexed.
 #[derive(Debug, Drop)]
 pub enum LexSourceError {
     /// The faults of the source, among them the limits that it exceeds.

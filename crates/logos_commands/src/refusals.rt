@@ -58,8 +58,9 @@ fn export_line(why: ExportRefusal) -> &'static str
     }
 }
 
-/// Returns the lines of all faults. Makes room for them at once: the faults of thousands of equal
-/// leaves have hundreds of megabytes, and a text that grows by doubling takes up to twice as much.
+/// Returns the lines of all faults. Reserves memory for them in one step: the faults of thousands
+/// of equal leaves have hundreds of megabytes, and a text that grows by doubling takes up to twice
+/// as much.
 fn fault_lines(errors: &Errors) -> Result<String, Memory>
     ensures { IfOk result (λ text. string_bytes text ≡ fault_lines errors.now) }
 {

@@ -34,7 +34,7 @@ pub(crate) fn notes_of(alloc: Global, error: KnownError<'_, '_, '_>) -> Result<V
     Ok(notes)
 }
 
-/// Adds the substituted subpattern after which the byte of a fault is counted, if there is one.
+/// Adds the name of the subpattern whose substitution shifts the byte of a fault, if there is one.
 fn add_put_in(
     alloc: Global,
     error: KnownError<'_, '_, '_>,

@@ -11,7 +11,7 @@ use std::alloc::{AllocError, Global};
 /// The states that are drawn, in the order in which they are reached.
 #[derive(Drop)]
 pub(crate) struct Drawn {
-    /// For each state whether it is drawn.
+    /// Whether each state is drawn, by its number.
     pub(crate) seen: Vec<bool>,
     /// The drawn states.
     pub(crate) reached: Vec<usize>,

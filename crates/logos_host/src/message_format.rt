@@ -6,9 +6,9 @@ ghost use Rattle.logos_host.specs.Formats.{format_named};
 /// The format of messages.
 #[derive(Clone, Copy, Debug, PartialEq, Eq)]
 pub enum MessageFormat {
-    /// As a report.
+    /// A report.
     Human,
-    /// As lines of JSON.
+    /// Lines of JSON.
     Json,
 }
 

@@ -5,7 +5,7 @@ ghost use Rattle.logos_host.specs.Messages.{reason_text};
 
 use std::io::ErrorKind;
 
-/// The reasons why a file cannot be read or written.
+/// The reason that a file cannot be read or written.
 #[derive(Clone, Copy, Debug, PartialEq, Eq)]
 pub enum Reason {
     /// There is no such file.

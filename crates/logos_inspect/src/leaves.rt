@@ -13,18 +13,18 @@ use std::alloc::Global;
 /// The row of a leaf in a table.
 #[derive(Clone, Copy)]
 pub struct LeafRow<'l> {
-    /// The name of its variant, or `None` for a skip.
+    /// The name of the variant, or `None` for a skip.
     pub variant: Option<&'l str>,
-    /// Whether it is a `token`, not a `regex` or a `skip`.
+    /// Whether the leaf is a `token`, not a `regex` or a `skip`.
     pub is_token: bool,
-    /// Its literal as it is written, with the quotes.
+    /// The literal as it is written, with the quotes.
     pub pattern: &'l str,
-    /// The options of its definition.
+    /// The options of the definition.
     pub options: LeafOptions,
     pub priority: usize,
-    /// Whether its priority is the default one.
+    /// Whether the priority is the default one.
     pub is_default: bool,
-    /// Its callback as it is written, if it has one.
+    /// The callback as it is written, if there is one.
     pub callback: Option<&'l str>,
     /// The line of the file on which the literal begins, counted from 1.
     pub line: usize,

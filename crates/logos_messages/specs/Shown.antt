@@ -44,12 +44,12 @@ pub record IsMarked (text : List ℕ) (first last : Location) (line : Marked) : 
   pub from : line.from ≡ first_column first number
   pub to : line.to ≡ last_column last number line.text
 
--- These are lines of a span.
+-- Lines of a span.
 abbrev pub AreLinesOf : List ℕ → Location → Location → List Marked → Type 0
 AreLinesOf text first last [] = Unit {0}
 AreLinesOf text first last (line ∷ lines) = IsMarked text first last line × AreLinesOf text first last lines
 
--- These are lines of a span of the part of a file that begins at an offset.
+-- Lines of a span of the part of a file that begins at an offset.
 abbrev pub AreLinesAt : SourceValue → ℕ → Span → List Marked → Type 0
 AreLinesAt source begin span lines = AreLinesOf source.text (location_at source.text (in_file begin span.from)) (location_at source.text (in_file begin span.to)) lines
 

@@ -15,7 +15,7 @@ pub record IsWarningLine (source : SourceValue) (begin : ℕ) (warning : Warning
   pub may : IsShown source begin warning.span warning.also (warning_texts false source begin warning) shown
   pub is : tokens ≡ warning_tokens source begin warning shown
 
--- These are the lines of warnings, one for each, in order.
+-- The lines of warnings, one for each, in order.
 abbrev pub WarningLines : SourceValue → ℕ → List Warning → List (List Token) → Type 0
 WarningLines source begin [] lines = lines ≡ []
 WarningLines source begin (warning ∷ warnings) lines =

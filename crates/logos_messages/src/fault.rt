@@ -86,8 +86,8 @@ fn rendered(
     Ok(Some(report.finish()?))
 }
 
-/// Returns the text about the subpattern after whose substitution the byte of a fault is counted,
-/// or `None` if there is none.
+/// Returns the text about the subpattern whose substitution shifts the byte of a fault, or `None`
+/// if there is none.
 fn put_in_text(
     alloc: Global,
     message: FaultMessage<'_, '_, '_, '_>,

@@ -30,7 +30,7 @@ pub(crate) fn push_lines(lines: &mut JsonLines, source: &Source<'_>, reach: Reac
     lines.end_list();
 }
 
-/// Appends the lines of a span that are not long, if there are few.
+/// Appends the lines of a span that are not long, unless the span has many lines.
 fn push_each_line(lines: &mut JsonLines, source: &Source<'_>, reach: Reach)
     ensures { YieldsLines source.now.text reach.first reach.last lines.old lines.new }
 {

@@ -12,7 +12,7 @@ use logos_machine::machine::{Action, NotUtf8};
 use logos_token::token::Span;
 use std::alloc::{AllocError, AllocFailed, Global};
 
-/// The reasons why an input cannot be lexed.
+/// The reason that an input cannot be lexed.
 #[derive(Clone, Copy, Debug, PartialEq, Eq)]
 pub enum RelexError {
     /// The input is not UTF-8, and the code is in UTF-8 mode. `valid_up_to` is the length in bytes

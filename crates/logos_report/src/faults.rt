@@ -159,7 +159,7 @@ fn has_code(fault: &SpannedError, code: FaultCode) -> bool
 }
 
 /// Returns the number of error reports for these faults. `Previous`, an earlier definition to which
-/// an error refers, is no error, and a set of ambiguous leaves with a clue has one report.
+/// an error refers, is not an error, and a set of ambiguous leaves with a clue has one report.
 pub fn count_errors(errors: &Errors, clues: &Clues) -> usize
     ensures { result ≡ errors_after (first_faults (sizes_of clues.now)) errors.now }
 {

@@ -16,20 +16,20 @@ use logos_token::error::{Errors, FaultCode, SpannedError};
 pub struct Refused {
     /// The byte offset of the part in the file.
     pub offset: usize,
-    /// Its faults.
+    /// The faults of the part.
     pub errors: Errors,
-    /// The clues about the faults of its graph.
+    /// The clues about the faults of the part.
     pub clues: Clues,
 }
 
 /// The faults of a part of a file, and the parts around it.
 #[derive(Clone, Copy)]
 pub struct FaultListing<'f> {
-    /// The parts before it.
+    /// The parts before this one.
     pub earlier: &'f [Refused],
-    /// Its faults.
+    /// The faults of this part.
     pub faults: &'f [SpannedError],
-    /// The parts after it.
+    /// The parts after this one.
     pub later: &'f [Refused],
 }
 

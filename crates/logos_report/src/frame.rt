@@ -165,7 +165,7 @@ fn push_only_line(page: &mut Page, frame: Frame<'_, '_>)
     push_carets(page, frame, window, column, frame.last.location.column);
 }
 
-/// Appends the line at which a span begins that ends on a later one.
+/// Appends the first line of a span that ends on a later line.
 fn push_first_line(page: &mut Page, frame: Frame<'_, '_>)
     ensures { Shows [] page.old page.new }
 {

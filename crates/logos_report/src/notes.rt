@@ -31,8 +31,8 @@ pub(crate) fn push_notes(page: &mut Page, shown: ShownFault<'_, '_, '_>)
     page.push("\n");
 }
 
-/// Appends the name of the substituted subpattern, if the byte of a fault is counted after its
-/// substitution.
+/// Appends the name of the subpattern whose substitution shifts the byte of a fault, if there is
+/// one.
 fn push_put_in_note(page: &mut Page, shown: ShownFault<'_, '_, '_>)
     ensures { Shows [] page.old page.new }
 {

@@ -26,7 +26,7 @@ EndsWith name candidate = EndsWithPath (path_in candidate) name
 abbrev pub IsOther : List ℕ → List ℕ → Candidate → Type 0
 IsOther name path candidate = EndsWith name candidate × (path_in candidate ≢ path)
 
--- These are the enums of a text that derive `Logos`, in order, each with its path.
+-- The enums of a text that derive `Logos`, in order, each with its path.
 pub data AreCandidates (text : List ℕ) : List FoundEnum → List Candidate → Type 0 where
   no_enum : AreCandidates text [] []
   passed : {one : FoundEnum} {found : List FoundEnum} {candidates : List Candidate} → one.derives ≡ false → AreCandidates text found candidates → AreCandidates text (one ∷ found) candidates

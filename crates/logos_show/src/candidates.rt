@@ -12,7 +12,7 @@ use std::alloc::Global;
 #[derive(Drop)]
 struct Candidate {
     found: FoundEnum,
-    /// Its path in the file.
+    /// The path of the enum in the file.
     path: String,
 }
 

@@ -20,9 +20,9 @@ use std::io::Write;
 /// Two enums of a file that derive `Logos`.
 #[derive(Clone, Copy)]
 struct Choice {
-    /// The first one.
+    /// The first of the enums.
     first: Option<FoundEnum>,
-    /// The first one after it with another path.
+    /// The first enum after it with another path.
     second: Option<FoundEnum>,
 }
 

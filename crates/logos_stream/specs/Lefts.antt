@@ -42,8 +42,8 @@ module _ {R : Type 0} (remaining : R → Option (List ℕ)) (code : CodeValue) (
   Steps old new former items false = (found : List Item) × Continues old new found × (items ≡ former ++ map placed found)
   Steps old new former items true = FinishesNext code callback old new × (new.after ≡ []) × IsTrue new.is_over × (items ≡ former)
 
-  -- These are all remaining items: together with those returned before, they are the items of a run
-  -- of the code on all bytes up to the end.
+  -- All remaining items: together with those returned before, they are the items of a run of the
+  -- code on all bytes up to the end.
   pub record AreLeft (window : WindowValue R) (items : List StreamItem) : Type 0 where
     -- The bytes that were not read yet.
     pub unread : List ℕ

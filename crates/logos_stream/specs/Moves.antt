@@ -1,4 +1,4 @@
--- How the window of a stream moves.
+-- The moves of the window of a stream.
 use Rattle.std.specs.Prelude.{◌≡◌, ◌⊎◌, ℕ, ◌+◌, ◌*◌, ◌<◌, ◌≤◌, ◌^◌, Bool, List, [], length, IsTrue, IsCharBoundary}
 use Rattle.logos_machine.specs.Streams.{item_later}
 use Rattle.logos_stream.specs.Fronts.{end_of, item_in, item_with}

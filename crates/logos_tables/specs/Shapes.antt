@@ -50,7 +50,7 @@ pub record IsLexerOf (shape : Shape) (source : List ℕ) (around : AroundValue) 
   pub given : IsGiven source (config_of shape) graph code name export
   pub is_around : IsAroundOf source graph around
 
--- This is the text of a lexer of a source without faults, in this shape.
+-- The text of a lexer of a source without faults, in this shape.
 pub record IsLexerText (shape : Shape) (source shown : List ℕ) : Type 0 where
   pub around : AroundValue
   pub code : CodeValue

@@ -20,7 +20,7 @@ pub(crate) struct SymbolClasses {
 ///
 /// # Errors
 ///
-/// Returns an error if memory runs out.
+/// Returns `AllocError` if memory runs out.
 pub(crate) fn classes_of(alloc: Global, rows: &[Steps]) -> Result<SymbolClasses, AllocError>
     ensures { IfOk result (λ classes. AreClasses rows.now classes.numbers.items classes.symbols.items) }
 {

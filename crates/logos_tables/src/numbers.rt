@@ -18,8 +18,8 @@ const MOST_LEAVES: usize = 1023;
 /// The number of entries of folded tables before and after their rows.
 const BESIDE: usize = 1024;
 
-/// Returns the number of columns of a row. A row by classes has `more` columns beside those of the
-/// classes.
+/// Returns the number of columns of a row. A row by classes has `more` columns in addition to those
+/// of the classes.
 fn columns(tables: &PrintedTables, more: usize) -> usize {
     if tables.rows.slots.len() <= FEW {
         BYTES

@@ -53,7 +53,7 @@ fn state_count(code: &Code<'_>) -> usize
 ///
 /// # Errors
 ///
-/// Returns an error if memory runs out.
+/// Returns `AllocError` if memory runs out.
 pub(crate) fn rows_of(alloc: Global, code: &Code<'_>) -> Result<StepRows, AllocError>
     ensures { IfOk result (λ rows. AreRows code.now
         (rows_at rows.slots.items rows.distinct.keys)) }

@@ -18,7 +18,7 @@ pub(crate) type Run = (usize, usize);
 ///
 /// # Errors
 ///
-/// Returns an error if memory runs out.
+/// Returns `AllocError` if memory runs out.
 pub(crate) fn runs_of(alloc: Global, numbers: &[usize]) -> Result<Vec<Run>, AllocError>
     ensures { IfOk result (λ runs. spread runs.items ≡ numbers.now) }
 {
@@ -33,7 +33,7 @@ pub(crate) fn runs_of(alloc: Global, numbers: &[usize]) -> Result<Vec<Run>, Allo
 ///
 /// # Errors
 ///
-/// Returns an error if memory runs out.
+/// Returns `AllocError` if memory runs out.
 pub(crate) fn row_runs(
     alloc: Global,
     rows: &[Steps],
@@ -85,7 +85,7 @@ fn continues(run: Run, step: usize) -> bool
 ///
 /// # Errors
 ///
-/// Returns an error if memory runs out.
+/// Returns `AllocError` if memory runs out.
 pub(crate) fn lengths_of(alloc: Global, runs: &[Run]) -> Result<Vec<usize>, AllocError>
     ensures { IfOk result (λ lengths. lengths.items ≡ map (λ run. run.0) runs.now) }
 {
@@ -100,7 +100,7 @@ pub(crate) fn lengths_of(alloc: Global, runs: &[Run]) -> Result<Vec<usize>, Allo
 ///
 /// # Errors
 ///
-/// Returns an error if memory runs out.
+/// Returns `AllocError` if memory runs out.
 pub(crate) fn steps_in(alloc: Global, runs: &[Run]) -> Result<Vec<usize>, AllocError>
     ensures { IfOk result (λ steps. steps.items ≡ map (λ run. run.1) runs.now) }
 {

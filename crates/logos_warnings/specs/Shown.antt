@@ -105,8 +105,8 @@ pub record AddsEach (Holds : Warning → Type 0) (old new : List Warning) : Type
   pub is : new ≡ old ++ added
   pub each : All Holds added
 
--- These are the warnings for an enum, which may derive `Logos`: those about its mistakes, and then
--- those about attributes that its lexer ignores.
+-- The warnings for an enum, which may derive `Logos`: those about its mistakes, and then those
+-- about attributes that its lexer ignores.
 pub record AreOfEnum (item : EnumValue) (derives : Bool) (origin : Origin) (warnings : List Warning) : Type 0 where
   pub mistakes : List MistakeValue
   pub are : AreMistakes item derives mistakes
@@ -114,12 +114,12 @@ pub record AreOfEnum (item : EnumValue) (derives : Bool) (origin : Origin) (warn
   pub about : AreAbout item.name.text origin mistakes front
   pub ignored : AddsEach (IsIgnored item) front warnings
 
--- These are the warnings for the tokens of an enum. Tokens that do not spell one have none.
+-- The warnings for the tokens of an enum. Tokens that do not spell one have none.
 pub data AreOfTokens (tokens : TokenList) (derives : Bool) (origin : Origin) (warnings : List Warning) : Type 0 where
   of_enum : {item : EnumValue} → Reads tokens (Ok item) → AreOfEnum item derives origin warnings → AreOfTokens tokens derives origin warnings
   of_other : {error : ReadError} → Reads tokens (Err error) → warnings ≡ [] → AreOfTokens tokens derives origin warnings
 
--- These are the warnings for the text of an enum. A text without tokens has none.
+-- The warnings for the text of an enum. A text without tokens has none.
 pub data AreOfText (text : List ℕ) (derives : Bool) (origin : Origin) (warnings : List Warning) : Type 0 where
   of_tokens : {tokens : TokenList} → Spells text tokens → AreOfTokens tokens derives origin warnings → AreOfText text derives origin warnings
   of_unread : {error : TokenError} → IsRefusal text error → error ≢ Memory → warnings ≡ [] → AreOfText text derives origin warnings

@@ -41,7 +41,7 @@ pub record WarnsOne (shape : Shape) (text : List ℕ) (one : FoundEnum) (old new
   pub is : after ≡ warned ++ own
   pub completes : (rest : List FoundEnum) (worse : List Refused) (more : List Warning) → AreOfEnums shape text rest worse more → AreOfEnums shape text (one ∷ rest) (refused ++ worse) (own ++ more)
 
--- These are the faults of a refusal, unless memory ran out.
+-- The faults of a refusal, unless memory ran out.
 abbrev pub AreFaultsOf : Refusal → List Fault → Type 0
 AreFaultsOf (refusals.Errors faults) others = others ≡ faults
 AreFaultsOf refusals.Memory others = ⊥

@@ -115,7 +115,7 @@ abbrev pub has_comma : TokenList → Bool
 has_comma none = false
 has_comma (also token rest) = is_comma token || has_comma rest
 
--- The run is the number of a variant, with its `=`, or nothing.
+-- The run is empty, or it is the number of a variant, with its `=`.
 abbrev pub is_number : TokenList → Bool
 is_number none = true
 is_number (also token rest) = begins_with equals (also token rest) && not (has_comma rest)

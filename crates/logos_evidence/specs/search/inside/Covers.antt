@@ -14,7 +14,7 @@ use Rattle.logos_evidence.specs.declared.search.steps.InputStep.{InputStep}
 use Rattle.logos_evidence.specs.declared.search.visits.PendingPoint.{PendingPoint}
 use Rattle.logos_evidence.specs.declared.search.visits.Visit.{Visit}
 
--- These are all pending points to which inputs lead from a point.
+-- All pending points to which inputs lead from a point.
 pub record IsExplored (next : Point → ℕ → Option Point) (utf8 : Bool) (start : Point) (points : List PendingPoint) (ways : List Visit) : Type 0 where
   pub first : slice_get points 0 ≡ Some (pending_at start (more 0))
   pub tree : IsTree (pending_next next utf8) points ways
