@@ -152,7 +152,7 @@ fn is_same_name(one: Option<&str>, other: Option<&str>) -> bool
     }
 }
 
-/// Returns the name of the variant of a leaf; `None` for a skip, and if there is no such leaf.
+/// Returns the name of the variant of a leaf, or `None` for a skip and if there is no such leaf.
 pub fn code_name_at<'l>(leaves: &'l [CodeLeaf<'_>], number: usize) -> Option<&'l str>
     ensures { option_map (λ name. name.now) result ≡ code_variant leaves.now number }
 {

@@ -18,7 +18,7 @@ use std::alloc::{AllocError, Global};
 pub struct Evidence {
     /// A shortest input on which a lexer finds a match of the leaf first, if there is one.
     pub found: Option<Vec<u8>>,
-    /// A shortest input on which it matches and another leaf is found first, if there is one.
+    /// A shortest input on which the leaf matches and another leaf is found first, if there is one.
     pub loss: Option<Loss>,
 }
 

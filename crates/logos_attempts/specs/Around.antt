@@ -57,6 +57,6 @@ around_text leaves input found =
     codes "inside " ++ (kind_text leaves found.kind ++ (codes " from " ++ (location_text (location_in input found.from) ++ (codes " to " ++
     (location_text (location_in input found.to) ++ (codes "  " ++ (quoted (bytes_between input found.from found.to) ++ codes "\n")))))))
 
--- The line of the match or the error around an offset, or nothing.
+-- The line of the match or the error around an offset, or an empty text.
 abbrev pub IsAroundText : CodeValue → List Leaf → List ℕ → ℕ → List ℕ → Type 0
 IsAroundText code leaves input offset text = (text ≡ []) ⊎ ((found : Surrounding) × IsAround code input offset found × (text ≡ around_text leaves input found))

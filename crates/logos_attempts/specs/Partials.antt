@@ -36,7 +36,7 @@ module _ (leaves : List Leaf) (input : List ℕ) (from : ℕ) where
     begins : PartialLines 0 []
     adds : (count : ℕ) (text line : List ℕ) → PartialLines count text → IsPartialLine line → PartialLines (suc count) (text ++ line)
 
-  -- The line of a leaf was appended, or nothing.
+  -- The line of a leaf, or an empty text, was appended.
   abbrev pub AddsLine : PageValue → PageValue → Type 0
   AddsLine old new = (line : List ℕ) × ((line ≡ []) ⊎ IsPartialLine line) × Gains line old new
 

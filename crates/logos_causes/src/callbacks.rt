@@ -103,7 +103,8 @@ pub(crate) fn add_error_callback(
     )
 }
 
-/// Adds the warnings of a callback, if there is one. `run` begins with its closure, if it is one.
+/// Adds the warnings of a callback, if there is one. If the callback is a closure, `run` begins
+/// with it.
 fn add_callback(
     owner: CallbackOwner,
     callback: Option<&Callback<'_>>,

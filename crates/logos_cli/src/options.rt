@@ -25,7 +25,8 @@ pub(crate) enum Request<'w> {
 pub(crate) struct ExpandOrder<'w> {
     /// The path of the file.
     pub(crate) input: &'w str,
-    /// The path of the file for the result. Without one it is written to standard output.
+    /// The path of the file for the result. Without a path the result is written to standard
+    /// output.
     pub(crate) output: Option<&'w str>,
     /// Whether that file is only compared with the result.
     pub(crate) is_check: bool,

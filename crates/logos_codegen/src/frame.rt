@@ -10,7 +10,7 @@ use logos_token::token::{TokenStream, Tokens};
 use logos_token::util::MaybeVoid;
 use logos_type::TypeExpr;
 
-/// The options of a source that the texts around its code depend on.
+/// The options of a source on which the texts around its code depend.
 #[derive(Drop)]
 pub(crate) struct AroundOptions<'s> {
     /// The path of the library, if the source has one.
@@ -72,7 +72,7 @@ fn error_run<'t, 's>(error: Option<&'t ErrorType<'s>>) -> Option<Tokens<'t, 's>>
     }
 }
 
-/// Returns the type of errors as it was read, or `None` if there is none or it was not read.
+/// Returns the parsed type of errors, or `None` if there is none or it could not be parsed.
 fn read_type<'t, 's>(error: Option<&'t ErrorType<'s>>) -> Option<&'t TypeExpr<'s>>
     ensures { option_map type_tree (option_copied result)
         ≡ error_tree (option_map error_view (option_copied error.entry)) }

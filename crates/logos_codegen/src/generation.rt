@@ -371,7 +371,7 @@ pub fn generate<'s>(alloc: Global, src: &'s str, config: Config) -> Result<Gener
     // the enum's, and the path is that of `export_dir`.
     ensures given { IfOk result (λ made. IsGiven src.now config made.graph made.code
         (ident_slice made.name) (option_map string_bytes made.export_path)) }
-    // The text around the lexer is that of the options of the source.
+    // The text around the lexer is determined by the options of the source.
     ensures around { IfOk result (λ made. IsAroundOf src.now made.graph (around_made made)) }
     // The length of the source, its nesting and the size of its trees are within their limits.
     ensures within { IfOk result (λ made. IsWithinSizes src.now (rules_of made.graph.leaves)) }

@@ -1,4 +1,4 @@
--- The requests that the arguments of `logos` make.
+-- The requests in the arguments of `logos`.
 use Rattle.std.specs.Prelude.{◌∷◌, [], ℕ, List, Option, Some, None, true, if◌then◌else◌, option_map, bytes_eq, codes}
 use Rattle.logos_code.specs.declared.code.Config.{Config}
 use Rattle.logos_code.specs.Shapes.{shape_named}

@@ -194,7 +194,8 @@ abbrev pub IsLookedAt : {F : Type 0} → (F → F → Type 0) → F → F → Ty
 IsLookedAt {F} reads files after = (read : F) × reads files read × ((after ≡ read) ⊎ reads read after)
 
 module _ {F : Type 0} (yields : F → List ℕ → List ℕ → F → Type 0) (reads : F → F → Type 0) (writes : F → List ℕ → F → Type 0) where
-  -- A file was read, and then only the file was written that its source determines, if any.
+  -- A file was read, and then no file was written, except perhaps the one that its source
+  -- determines.
   abbrev pub IsTouched : List ℕ → F → F → (List ℕ → Effect → Type 0) → Type 0
   IsTouched file files after Yields =
       (read : F) × reads files read × ((after ≡ read) ⊎ ((source path text : List ℕ) × yields files file source read × Yields source (makes_file path text) × writes read path after))

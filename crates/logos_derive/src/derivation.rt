@@ -38,8 +38,8 @@ pub fn derive<H: Helps>(
     shape: Shape,
     helps: &H,
 ) -> Result<Derivation, Memory>
-    // The text is that of the lexer of the source, with the pieces in it, or the errors are those
-    // for the faults of the source.
+    // The implementation is that of the lexer of the source, with the tokens that it repeats as
+    // pieces; or the errors are those for the faults of the source.
     ensures { IfOk result (IsDerivation shape source.now) }
 {
     match generate(alloc, source, config_of(shape)) {

@@ -35,7 +35,7 @@ pub(crate) fn errors_of(
     Ok(errors)
 }
 
-/// Adds the error for the fault with this number, if it has its own.
+/// Adds the error for the fault with this number, if the fault has its own error.
 fn add_fault(
     part: Part<'_, '_>,
     faults: &[SpannedError],

@@ -79,7 +79,7 @@ fn refused_whole<'w>(source: &Source<'_>, showing: Showing, refusal: Refusal) ->
     }
 }
 
-/// Returns a file that was read with its enums expanded.
+/// Returns a file that was read into tokens, with its enums expanded.
 fn expand_enums<'w>(
     source: &Source<'_>,
     shape: Shape,

@@ -9,15 +9,15 @@ use Rattle.logos_report.specs.Reports.{InReport}
 use Rattle.logos_report.specs.Warnings.{shown_of, warnings_texts}
 use Rattle.logos_report.specs.declared.warnings.Warning.{Warning}
 
--- The line that no enum of a file derives `Logos`.
+-- The line which states that no enum of a file derives `Logos`.
 abbrev pub missing_line : SourceValue → List ℕ
 missing_line source = codes "warning: no enum in " ++ (shown_text source.path ++ codes " derives `Logos`\n")
 
--- The line that no enum of a file derives `Logos`, if none does.
+-- The line which states that no enum of a file derives `Logos`, if none does.
 abbrev pub missing_texts : SourceValue → Bool → List (List ℕ)
 missing_texts source is_missing = if is_missing then missing_line source ∷ [] else []
 
--- The line that warnings are denied.
+-- The line which states that warnings are denied.
 abbrev pub denied_line : List ℕ
 denied_line = codes "error: warnings are denied by `--deny-warnings`\n"
 

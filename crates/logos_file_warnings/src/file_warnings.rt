@@ -237,7 +237,7 @@ fn warning_report(
     page.finish()
 }
 
-/// Appends the line that no enum of a file derives `Logos`, if `is_missing` is set.
+/// Appends the line which states that no enum of a file derives `Logos`, if `is_missing` is set.
 fn push_missing(page: &mut Page, source: &Source<'_>, is_missing: bool)
     ensures { Shows (missing_texts source.now is_missing) page.old page.new }
 {
@@ -246,7 +246,7 @@ fn push_missing(page: &mut Page, source: &Source<'_>, is_missing: bool)
     }
 }
 
-/// Appends the line that no enum of a file derives `Logos`.
+/// Appends the line which states that no enum of a file derives `Logos`.
 fn push_missing_line(page: &mut Page, source: &Source<'_>)
     ensures { Gains (missing_line source.now) page.old page.new }
 {
@@ -292,7 +292,7 @@ pub fn denial_text(
     }
 }
 
-/// Returns a report of warnings with the line that they are denied.
+/// Returns a report of warnings, followed by a line which states that warnings are denied.
 fn denied(report: String) -> Result<String, Memory>
     ensures { IfOk result (λ text. string_bytes text ≡ string_bytes report ++ denied_line) }
 {

@@ -1,5 +1,5 @@
 //! Writes a file of the system entirely or not at all: writes a new file beside it, and then
-//! renames that to its name. Called by `Disk` and `SourceDisk`.
+//! renames the new file to its name. Called by `Disk` and `SourceDisk`.
 
 use crate::paths::file_name;
 use std::fs::Metadata;
@@ -98,7 +98,7 @@ fn create_file<R: Files + AllocGlobal + Clone + Drop>(
 }
 
 /// Writes a new file beside another one, and returns its path. Its name contains the process id.
-/// Files that ended processes left there are removed first.
+/// Files that processes which have ended left there are removed first.
 fn write_beside<R: Files + AllocGlobal + Clone + Drop>(
     rt: &R,
     path: &str,

@@ -35,7 +35,7 @@ pub(crate) enum Gap {
 /// The unit that ends with the last lexeme.
 #[derive(Clone, Copy, PartialEq, Eq)]
 pub(crate) enum LastEnd {
-    /// Nothing.
+    /// Neither a line nor braces.
     Nothing,
     /// A line.
     Line,

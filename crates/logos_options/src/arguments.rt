@@ -19,7 +19,7 @@ pub struct Arguments<'w> {
     pub second: Option<&'w str>,
     /// The settings that are given.
     pub settings: Settings<'w>,
-    /// The question, such as `--explain`, if there is one.
+    /// The question, such as `--examples`, if there is one.
     pub question: Option<GivenOption<'w>>,
     /// The option whose text is requested.
     pub text: Option<OptionName>,
@@ -38,8 +38,8 @@ impl<'w> Settings<'w> {
     ghost use Rattle.std.specs.Prelude.{◌≡◌, option_map};
     ghost use Rattle.logos_options.specs.Arguments.{is_set, setting, settings_value};
 
-    /// Returns the value of an option, if the option is given. It is empty for an option that takes
-    /// none.
+    /// Returns the value of an option, if the option is given. The value is empty for an option
+    /// that takes none.
     pub fn value(&self, option: OptionName) -> Option<&'w str>
         ensures { option_map (λ text. text.now) result ≡ setting option (settings_value self.now) }
     {

@@ -34,7 +34,7 @@ pub(crate) const OPTIONS: usize = 17;
 pub enum OptionRole {
     /// Sets something. It is given at most once.
     Setting,
-    /// Requests an answer about the input, such as `--explain`. At most one is given.
+    /// Requests an answer about the lexers, such as `--examples`. At most one is given.
     Question,
     /// Requests a text. No argument after it is read.
     Text,

@@ -64,7 +64,7 @@ pub enum Question<'w> {
     Examples,
     /// At most this many inputs that together take all edges of a lexer's graph.
     Inputs(usize),
-    /// Whether the lexer of the file at this path is equivalent.
+    /// Whether the lexer is equivalent to that of the file at this path.
     Comparison(&'w str),
     /// A page about a lexer, written to the file at the first path. It is also about the input at
     /// the second path, if there is one.

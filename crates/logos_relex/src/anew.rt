@@ -102,8 +102,8 @@ pub(crate) fn make_anew<C: Fn(LeafId, &[u8]) -> Action>(
     let mut rest = &edit.input[start.at..];
     let mut border = start;
     loop {
-        // The point of the former input after which as many bytes follow, or the end of the
-        // replaced span if that is later.
+        // The point of the former input that has as many bytes after it as `rest`, or the end of
+        // the replaced span if that is later.
         let left = rest.len();
         let target = former.length().saturating_sub(left).max(edit.replaced.to);
         border = border_from(former.chunks(), border, target);

@@ -15,7 +15,7 @@ use Rattle.logos_records.specs.Comparing.{finding_member, mode_member}
 use Rattle.logos_replies.specs.declared.replies.Agreement.{Agreement}
 use Rattle.logos_replies.specs.declared.replies.Agreement.TheVariants.{Different, Same}
 
--- The outcome of a comparison: only lexers that find the same everywhere agree.
+-- The outcome of a comparison: two lexers agree if they find equal matches and errors everywhere.
 abbrev pub agreement_of : Compared → Agreement
 agreement_of compared.Same = Same
 agreement_of (compared.Differ input) = Different

@@ -201,7 +201,7 @@ pub fn write_agreement<O: Write>(
     Ok(Agreement::Different)
 }
 
-/// Returns the refusal with a text, or `Memory` if memory ran out for it.
+/// Returns a refusal with a text, or `Memory` if memory ran out for the text.
 pub fn refusal_of<E: Drop>(text: Result<String, E>) -> Failure<'static>
     ensures { IsNoMisuse result }
 {

@@ -31,9 +31,9 @@ pub struct Meeting {
 /// A pattern that can examine the bytes before its start.
 #[derive(Debug, Drop)]
 pub struct Start {
-    /// The name of its leaf.
+    /// The name of the leaf.
     pub name: String,
-    /// The span of its literal.
+    /// The span of the literal.
     pub span: Span,
 }
 

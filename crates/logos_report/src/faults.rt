@@ -22,9 +22,9 @@ pub const MOST: usize = 50;
 #[derive(Clone, Copy)]
 pub struct KnownFault<'f> {
     pub fault: &'f SpannedError,
-    /// The faults of its set, if it is of an ambiguous leaf.
+    /// The faults of the set of the fault, if the fault is of an ambiguous leaf.
     pub set: FaultSet<'f>,
-    /// The help for it, if there is one.
+    /// The help for the fault, if there is one.
     pub help: Option<&'static str>,
 }
 

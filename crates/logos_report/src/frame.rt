@@ -191,7 +191,7 @@ fn lines_after(first: FileSpot, last: FileSpot) -> usize {
     last.location.line.saturating_sub(first.location.line)
 }
 
-/// Appends the line at which a span ends that began on an earlier one.
+/// Appends the last line of a span that begins on an earlier line.
 fn push_last_line(page: &mut Page, frame: Frame<'_, '_>)
     ensures { Shows [] page.old page.new }
 {

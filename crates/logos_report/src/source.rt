@@ -8,7 +8,7 @@ use logos_token::token::Span;
 use std::alloc::{AllocError, Global};
 use std::marker::Model;
 
-/// A part of a file. Its offsets are bytes from its beginning.
+/// A part of a file. Offsets in it are bytes from its beginning.
 #[derive(Clone, Copy)]
 pub struct Part<'p, 't> {
     /// The whole file.

@@ -1,4 +1,5 @@
-//! Warnings: probable mistakes that are not faults.
+//! Warnings: probable mistakes that are not faults. Used by `logos_file_warnings`, `logos_messages`
+//! and the crates that find warnings.
 
 ghost use Rattle.std.specs.Prelude.{◌≡◌, ◌++◌, ◌∷◌, [], codes, string_bytes};
 ghost use Rattle.logos_report.specs.Views.{IsInLine, shown_text, Gains, Shows, painted, location_line, all_texts, left_out_line, left_out_texts, shown_of, warning_head, warning_texts, warnings_texts};

@@ -99,7 +99,7 @@ fn ends_at(bytes: &[u8], at: usize) -> bool {
     }
 }
 
-/// Returns the first offset at or after this one at which a character begins or the text ends.
+/// Returns the first offset, at least `offset`, at which a character begins or the text ends.
 fn character_at(text: &str, offset: usize) -> usize {
     let mut at = offset;
     while at < text.len() {

@@ -28,7 +28,7 @@ struct ItemParts<'l> {
 /// The kinds of parts that have a color of their own.
 #[derive(Clone, Copy, Debug, PartialEq, Eq)]
 pub(crate) enum ItemPart {
-    /// The location: bold and blue, as the frame of a report.
+    /// The location: bold and blue, like the frame of a report.
     Location,
     /// The variant: bold.
     Variant,

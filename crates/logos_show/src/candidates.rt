@@ -16,7 +16,7 @@ struct Candidate {
     path: String,
 }
 
-/// Returns the enum of a file with this text that a name selects: the one with this path, or the
+/// Returns the enum that a name selects in a file with this text: the one with this path, or the
 /// only one whose path ends with it.
 pub(crate) fn named_enum(
     alloc: Global,

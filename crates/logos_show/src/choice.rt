@@ -22,7 +22,7 @@ use std::io::Write;
 struct Choice {
     /// The first of the enums.
     first: Option<FoundEnum>,
-    /// The first enum after it with another path.
+    /// The first enum after `first` that has another path.
     second: Option<FoundEnum>,
 }
 

@@ -12,7 +12,7 @@ use Rattle.logos_stream.specs.declared.item.Streamed.TheVariants.{Item as Given,
 abbrev pub IsInside : Bool → List ℕ → ℕ → Type 0
 IsInside utf8 bytes to = IsTrue utf8 × ¬ IsCharBoundary bytes to
 
--- In a text, the bytes after the lexable ones are not a character, or not a whole one.
+-- In a text, the bytes after the lexable ones begin no character, or are an incomplete one.
 pub record IsTorn {R : Type 0} (window : WindowValue R) : Type 0 where
   pub at_fault : Bool
   pub none : IsNoText at_fault window.after

@@ -30,7 +30,7 @@ pub record WindowValue (R : Type 0) : Type 0 where
 abbrev pub unread_length : {R : Type 0} → WindowValue R → ℕ
 unread_length window = length window.lexed + length window.after
 
--- A stream before its first byte.
+-- A window on a stream of which nothing was read.
 abbrev pub nothing_read : {R : Type 0} → Bool → R → ℕ → WindowValue R
 nothing_read utf8 reader bound = record {
   reader = reader;
@@ -86,7 +86,7 @@ pub record ReadsOn {R : Type 0} (remaining : R → Option (List ℕ)) (old new :
   pub added : List ℕ
   pub consumed : Consumes (remaining old.reader) (remaining new.reader) added
   pub bytes : new.lexed ++ new.after ≡ (old.lexed ++ old.after) ++ added
-  -- The lexable bytes grow by these.
+  -- The bytes by which the lexable bytes grow.
   pub grown : List ℕ
   pub lexed : new.lexed ≡ old.lexed ++ grown
   pub text : IsTrue new.utf8 → IsUtf8 grown

@@ -57,8 +57,9 @@ pub data AreAbout (name : List ℕ) (origin : Origin) : List MistakeValue → Li
   passed : {mistake : MistakeValue} {mistakes : List MistakeValue} {warnings : List Warning} →
       is_warning mistake origin ≡ false → AreAbout name origin mistakes warnings → AreAbout name origin (mistake ∷ mistakes) warnings
 
--- The warning about a mistake was added, if the mistake is a warning for this origin: followed by
--- the warnings about further mistakes, the added one is a warning about all of them in order.
+-- The warning about a mistake was added, if the mistake is a warning for this origin. The added
+-- warnings, followed by the warnings about any further mistakes, are the warnings about all of
+-- these mistakes in order.
 pub record AddsAbout (name : List ℕ) (origin : Origin) (mistake : MistakeValue) (old new : List Warning) : Type 0 where
   pub added : List Warning
   pub is : new ≡ old ++ added

@@ -11,7 +11,8 @@ use logos_enum::{Attribute, ItemEnum, Variant, split_attribute};
 use logos_token::token::{Span, Tokens};
 use std::alloc::{AllocError, Global};
 
-/// A probable mistake in an enum that is not a fault. Spans are byte offsets in its text.
+/// A probable mistake in an enum that is not a fault. Spans are byte offsets in the text of the
+/// enum.
 #[derive(Clone, Copy, Debug)]
 pub enum Mistake<'s> {
     /// The name of an attribute is near to the name of a helper attribute.

@@ -95,7 +95,7 @@ module _ (graph : List GraphState) where
 
 -- ---- Leaves that an automaton lists
 
--- Whether the leaf is listed.
+-- Whether the leaf is among the listed ones.
 abbrev pub lists : ℕ → Option (List ℕ) → Bool
 lists leaf None = false
 lists leaf (Some leaves) = list_any (λ other. other == leaf) leaves

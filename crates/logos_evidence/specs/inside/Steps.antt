@@ -7,7 +7,7 @@ module _ (dfa : Automaton) where
   abbrev pub step_by : ℕ → ℕ → Option ℕ
   step_by s b = if nat_lt s (length dfa.matches) then dfa_next dfa (Some s) b else None
 
-  -- The state to which the end of the input leads.
+  -- The state to which the end of the input leads, if the number is a state.
   abbrev pub step_at_end : ℕ → Option ℕ
   step_at_end s = if nat_lt s (length dfa.matches) then slice_get dfa.at_end s else None
 

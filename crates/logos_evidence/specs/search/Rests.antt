@@ -3,7 +3,7 @@ use Rattle.std.specs.Prelude.{ℕ, zero, suc, ◌-◌, Bool, ◌&&◌, List, [],
 use Rattle.simdutf8.specs.Steps.{least_after, most_after}
 use Rattle.logos_evidence.specs.declared.search.utf8.Rest.{Rest}
 
--- The rest of a character with `n` bytes to come.
+-- The rest of a character that `n` more bytes complete.
 abbrev pub more : ℕ → Rest
 more n = record { low = 0x80; high = 0xbf; count = n }
 

@@ -42,7 +42,7 @@ abbrev pub ComesAfter : Lexed → ℕ → After → Type 0
 ComesAfter former from (Former to) = (from ≤ to) × (to ≤ length former.chunks.items)
 ComesAfter former from (Last last) = from ≤ length former.chunks.items
 
--- The state after the new chunks were put in.
+-- The chunks and the last items after the new chunks were put in.
 abbrev pub EndsWith : Lexed → ℕ → After → List Chunk → Lexed → Type 0
 EndsWith former from (Former to) chunks new = (new.chunks.items ≡ take from former.chunks.items ++ chunks ++ drop to former.chunks.items) × (new.last ≡ former.last)
 EndsWith former from (Last last) chunks new = (new.chunks.items ≡ take from former.chunks.items ++ chunks) × (new.last ≡ last)
