@@ -13,11 +13,11 @@ use std::alloc::{AllocError, Global};
 /// The result of a comparison of two lexers.
 #[derive(Debug, Drop)]
 pub enum Compared {
-    /// From each offset of each input the two find the same variants and errors.
+    /// The two lexers find the same variants and errors from each offset of each input.
     Same,
-    /// At the beginning of this input they find different variants or errors.
+    /// The lexers find different variants or errors at the beginning of this input.
     Differ(Vec<u8>),
-    /// One reads UTF-8, and the other one reads any bytes.
+    /// One lexer reads UTF-8, and the other one reads any bytes.
     OtherMode,
 }
 

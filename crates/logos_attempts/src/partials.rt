@@ -31,7 +31,7 @@ struct Walk {
     ends: Vec<usize>,
     /// The states that are entered, and all states to which edges lead from them.
     reached: Vec<usize>,
-    /// The edges between them. Equal edges for consecutive bytes are stored once.
+    /// The edges between the reached states. Equal edges for consecutive bytes are stored once.
     edges: Vec<Edge>,
 }
 

@@ -17,7 +17,7 @@ use std::io::{IsTerminal, Write};
 struct BatchFile<'w> {
     /// The path of the file.
     input: &'w str,
-    /// The path of its result.
+    /// The path of the result.
     output: String,
 }
 

@@ -28,7 +28,7 @@ pub(crate) struct ExpandOrder<'w> {
     /// The path of the file for the result. Without a path the result is written to standard
     /// output.
     pub(crate) output: Option<&'w str>,
-    /// Whether that file is only compared with the result.
+    /// Whether the file for the result is only compared with it.
     pub(crate) is_check: bool,
     /// The shape of the lexers.
     pub(crate) shape: Shape,

@@ -110,7 +110,7 @@ impl From<Refusal> for ExprError {
 #[derive(Drop)]
 pub struct Language {
     code: Code<'static>,
-    /// The kind of the tokens of each leaf, by the name of its variant.
+    /// The kind of the tokens of each leaf, chosen by the name of the leaf's variant.
     kinds: Vec<ExprKind>,
 }
 
@@ -129,7 +129,7 @@ impl Model for Language {
 }
 
 impl Language {
-    /// Creates the tokenizer, for which it generates the code of its enum.
+    /// Generates the code of the tokenizer's enum, and returns the tokenizer.
     ///
     /// # Errors
     ///

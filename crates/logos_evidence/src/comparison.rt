@@ -13,9 +13,9 @@ use std::alloc::{AllocError, Global};
 /// The result of a comparison of two lexers.
 #[derive(Debug, Drop)]
 pub enum Comparison {
-    /// From each offset of each input the two find the same match or error.
+    /// The two lexers find the same match or error from each offset of each input.
     Same,
-    /// At the beginning of this input they find different matches or errors.
+    /// The lexers find different matches or errors at the beginning of this input.
     Differ(Vec<u8>),
 }
 

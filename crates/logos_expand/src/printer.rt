@@ -16,13 +16,13 @@ use std::alloc::Global;
 /// The location of an enum, and the shape of its lexer.
 #[derive(Clone, Copy)]
 pub(crate) struct Site<'f, 't> {
-    /// The shape of its lexer.
+    /// The shape of the lexer of the enum.
     pub(crate) shape: Shape,
     /// The file.
     pub(crate) file: &'f Source<'t>,
     /// The byte offset of the enum in the file.
     pub(crate) offset: usize,
-    /// Whether the file may have an import of `Logos`, and the enum derives it without a path.
+    /// Whether the file may have an import of `Logos`, and the enum derives `Logos` without a path.
     pub(crate) by_name: bool,
 }
 

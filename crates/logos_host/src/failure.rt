@@ -29,12 +29,12 @@ pub enum Failure<'w> {
     OwnOutput(&'w str),
     /// The source is refused, for the reasons in this text.
     Refused(String),
-    /// The input is not UTF-8. `valid_up_to` is the length in bytes of its longest prefix that is.
+    /// The input is not UTF-8. `valid_up_to` is the length in bytes of its longest UTF-8 prefix.
     NotUtf8 {
         valid_up_to: usize,
     },
     /// The file at this path is not UTF-8. `valid_up_to` is the length in bytes of its longest
-    /// prefix that is.
+    /// UTF-8 prefix.
     NotText {
         path: &'w str,
         valid_up_to: usize,

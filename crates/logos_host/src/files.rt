@@ -11,7 +11,7 @@ pub enum FileError {
     /// The file was not read or written, for this reason.
     Failed(Reason),
     /// The file should be text, but is not UTF-8. `valid_up_to` is the length in bytes of its
-    /// longest prefix that is.
+    /// longest UTF-8 prefix.
     NotText { valid_up_to: usize },
     /// Memory ran out.
     Memory,

@@ -14,7 +14,7 @@ pub enum Reason {
     Folder,
     /// A part of the path is not a folder.
     NoFolder,
-    /// The system does not allow it.
+    /// The system denies the permission to read or write the file.
     Permission,
     /// The links of the path form a cycle, or there are too many.
     Links,

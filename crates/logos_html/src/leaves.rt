@@ -129,7 +129,7 @@ fn push_line_cell(html: &mut Html, line: usize) {
     html.push_markup("</td>");
 }
 
-/// Appends the cell with a text that a leaf finds, or that states that it finds none.
+/// Appends the cell with a text that a leaf finds, or with the statement that it finds none.
 fn push_example_cell(
     alloc: Global,
     html: &mut Html,

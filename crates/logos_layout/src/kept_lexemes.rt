@@ -16,7 +16,7 @@ struct Enclosing<'t, 's> {
 pub(crate) struct Staying<'t, 's> {
     /// The rest of the innermost open group.
     rest: Tokens<'t, 's>,
-    /// The byte offset at which that group ends.
+    /// The byte offset at which the innermost open group ends.
     to: usize,
     /// For each open group, the outermost first, the tokens after it and the end of the group
     /// around it.

@@ -54,9 +54,9 @@ pub(crate) struct LayoutState {
     pub(crate) types: usize,
     /// The last lexeme.
     pub(crate) last: LexemeClass,
-    /// The gap after it.
+    /// The gap after the last lexeme.
     pub(crate) gap: Gap,
-    /// The unit that ends with it.
+    /// The unit that ends with the last lexeme.
     pub(crate) end: LastEnd,
     /// The content of the innermost open delimiter.
     pub(crate) inner: Open,

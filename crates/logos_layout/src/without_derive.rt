@@ -13,7 +13,7 @@ struct Thinned {
     text: String,
     /// The gap after the text, which is not appended to it yet.
     gap: String,
-    /// Whether that gap has a line end.
+    /// Whether the gap has a line end.
     has_line: bool,
     /// Whether the last lexeme was removed and no gap has followed it.
     is_cut: bool,

@@ -30,7 +30,7 @@ pub struct Arguments<'w> {
 /// The settings that are given, with their values.
 #[derive(Clone, Copy)]
 pub struct Settings<'w> {
-    /// The value of each option by its number, if it is given.
+    /// For each option, by its number, its value if the option is given.
     values: [Option<&'w str>; OPTIONS],
 }
 
@@ -236,7 +236,7 @@ fn read_option<'w>(
     }
 }
 
-/// Reads a setting, which may be given once.
+/// Reads a setting, which may be given only once.
 fn read_setting<'w>(
     arguments: Arguments<'w>,
     one: GivenOption<'w>,

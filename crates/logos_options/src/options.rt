@@ -32,7 +32,7 @@ pub(crate) const OPTIONS: usize = 17;
 /// The effect of an option.
 #[derive(Clone, Copy, Debug, PartialEq, Eq)]
 pub enum OptionRole {
-    /// Sets something. It is given at most once.
+    /// Changes a setting. Each setting is given at most once.
     Setting,
     /// Requests an answer about the lexers, such as `--examples`. At most one is given.
     Question,

@@ -16,7 +16,7 @@ use std::alloc::{AllocError, AllocFailed, Global};
 #[derive(Clone, Copy, Debug, PartialEq, Eq)]
 pub enum RelexError {
     /// The input is not UTF-8, and the code is in UTF-8 mode. `valid_up_to` is the length in bytes
-    /// of its longest prefix that is.
+    /// of the longest prefix of the input that is UTF-8.
     NotUtf8 { valid_up_to: usize },
     /// Memory ran out.
     Memory,

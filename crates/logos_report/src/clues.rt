@@ -24,7 +24,7 @@ pub struct Clues {
 pub struct Meeting {
     /// The names of the leaves, in the order of their faults.
     pub names: Vec<String>,
-    /// A text on which they meet, and the priority that would decide.
+    /// A text on which the leaves meet, and the priority that would decide between them.
     pub note: String,
 }
 

@@ -34,7 +34,7 @@ fn pattern_span(part: Part<'_, '_>, literal: Span, detail: PatternDetail) -> Spa
 #[derive(Clone, Copy)]
 pub struct PutIn<'t> {
     pub name: &'t str,
-    /// The byte offset of its name, at its definition, in the part of the file.
+    /// The byte offset in the part of the file of the name in the definition of the subpattern.
     pub definition: usize,
 }
 

@@ -32,11 +32,11 @@ use std::mem;
 /// The output for a file.
 #[derive(Drop)]
 pub(crate) struct Shown {
-    /// The tables of its lexers, or their examples.
+    /// The tables of the lexers of the file, or their examples.
     pub(crate) tables: String,
     /// The tables or examples as lines of JSON. Either this or `tables` is empty.
     pub(crate) records: Vec<u8>,
-    /// The text of its warnings.
+    /// The text of the warnings of the file.
     pub(crate) warnings: Vec<u8>,
 }
 

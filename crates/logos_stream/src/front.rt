@@ -12,7 +12,8 @@ use logos_machine::machine::{Item, Lexer, Within};
 /// The first event in some bytes.
 #[derive(Clone, Copy)]
 pub(crate) enum Front {
-    /// An item, after matches without items. Its span is relative to the bytes.
+    /// An item, possibly after matches without items. Its span is relative to the start of the
+    /// bytes.
     Item(StreamItem),
     /// No item up to this offset. The next item depends on the bytes that follow.
     Waits(usize),

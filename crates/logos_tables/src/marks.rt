@@ -26,7 +26,7 @@ pub(crate) fn marks_of(alloc: Global, states: &[CodeState]) -> Result<Vec<usize>
 }
 
 /// Returns the number of a mark: 0 for none, otherwise 2 plus twice the number of its leaf, plus 1
-/// if it is late.
+/// if the mark is late.
 fn mark_number(mark: Option<Mark>) -> usize
     requires { IfSome mark (λ mark. mark.leaf.0 < leaf_limit) }
     ensures { result ≡ mark_number (option_map mark_of mark) }
