@@ -94,7 +94,7 @@ fn loss_of(alloc: Global, graph: &Graph<'_>, leaf: usize) -> Result<Option<Loss>
     }
 }
 
-/// Returns an input that a leaf loses, with the leaf that is found there first.
+/// Returns an input with the leaf that is found first in it, or `None` if no leaf is found there.
 fn with_winner(alloc: Global, graph: &Graph<'_>, input: Vec<u8>) -> Result<Option<Loss>, AllocError>
     ensures { IfOk result (λ loss. (leaf : ℕ) →
         IsGraphOf graph.now.leaves graph.now.utf8 graph.now → graph.now.faults ≡ [] →

@@ -124,7 +124,8 @@ fn write_escape(text: &mut [u8], at: usize, byte: u8) -> usize
     at + 4
 }
 
-/// Returns the letter after the backslash in the escape of a byte whose escape has two bytes.
+/// Returns the letter after the backslash in the escape of a byte, or `None` if that escape does
+/// not have exactly two bytes.
 fn letter_of(byte: u8) -> Option<u8> {
     match byte {
         b'"' | b'\\' => Some(byte),

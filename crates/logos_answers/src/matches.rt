@@ -77,8 +77,8 @@ pub fn push_first(
     Ok(true)
 }
 
-/// Returns the last match of each leaf. If the matches are in the order of their ends, it is the
-/// longest one.
+/// Returns the last match of each leaf, or `None` for a leaf without a match. If the matches are in
+/// the order of their ends, the last match of a leaf is its longest one.
 ///
 /// # Errors
 ///

@@ -106,7 +106,7 @@ fn pattern_width(row: LeafRow<'_>) -> usize {
     cut_width(pattern_cell(row)).saturating_add(options_cell(row).len())
 }
 
-/// Returns the width of a text that is cut if it is long.
+/// Returns the width of the shown form of a text, which is cut if it is long.
 fn cut_width(text: &str) -> usize {
     match long_front(text) {
         Some(front) => width_of(front).saturating_add(2),

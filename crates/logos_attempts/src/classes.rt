@@ -96,7 +96,7 @@ pub fn push_class(page: &mut Page, class: &ByteClass, most: usize) {
     push_others(page, class.ranges.len().saturating_sub(most));
 }
 
-/// Appends the number of the ranges that are left out, if there are some.
+/// Appends the number of the ranges that are left out, if there are any.
 fn push_others(page: &mut Page, count: usize) {
     if count > 0 {
         page.push(" +");

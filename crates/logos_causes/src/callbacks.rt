@@ -326,7 +326,7 @@ fn group_mistake(to: usize, group: Group<'_, '_>, rest: Tokens<'_, '_>) -> Optio
     None
 }
 
-/// Returns the span of the tokens of a run up to an offset, if there are some.
+/// Returns the span of the tokens of a run up to an offset, if there are any.
 fn dropped(to: usize, run: Tokens<'_, '_>) -> Option<Span> {
     let from = run.first()?.span().from;
     if from < to {

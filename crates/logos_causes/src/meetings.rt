@@ -74,7 +74,8 @@ fn numbers_of(alloc: Global, leaves: &[LeafId]) -> Result<Vec<usize>, AllocError
     Ok(set)
 }
 
-/// Returns the clue about a set of ambiguous leaves.
+/// Returns the clue about a set of ambiguous leaves. It has a text on which they meet only if
+/// `is_searched` is set.
 fn meeting_of(
     alloc: Global,
     graph: &Graph<'_>,
@@ -109,8 +110,8 @@ fn name_at(alloc: Global, leaves: &[Leaf<'_>], number: usize) -> Result<String, 
     String::from_str(alloc, name)
 }
 
-/// Returns the note with the text on which the leaves of a set meet, and the priority that would
-/// decide.
+/// Returns the note with the priority that would decide between the leaves of a set. If
+/// `is_searched` is set, the note has a text on which they meet.
 fn note_of(
     alloc: Global,
     graph: &Graph<'_>,
@@ -152,7 +153,8 @@ fn push_priority(page: &mut Page, priority: usize) {
     page.push(" would decide");
 }
 
-/// Appends a shortest text on which exactly the leaves of a set meet.
+/// Appends a shortest text on which exactly the leaves of a set meet, or a general phrase if none
+/// is found.
 fn push_text(
     alloc: Global,
     page: &mut Page,
@@ -172,7 +174,8 @@ fn push_text(
     }
 }
 
-/// Returns a shortest input that begins with a text on which exactly the leaves of a set meet.
+/// Returns a shortest input that begins with a text on which exactly the leaves of a set meet, if
+/// there is one and the set ascends.
 fn text_of(alloc: Global, graph: &Graph<'_>, set: &[usize]) -> Result<Option<Vec<u8>>, AllocError> {
     if set.is_empty() {
         return Ok(None);

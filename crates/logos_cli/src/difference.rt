@@ -176,7 +176,7 @@ fn push_shape(page: &mut Page, found: &str, stale: &StaleFile<'_>) {
     }
 }
 
-/// Returns the name of the shape that the first line of a file names.
+/// Returns the name of the shape that the first line of a file names, if it names a known one.
 fn named_shape(found: &str) -> Option<&'static str> {
     let (line, _) = found.split_once('\n')?;
     let front = line.strip_suffix("; do not edit")?;

@@ -204,7 +204,7 @@ fn shape_given<'w>(name: Option<&'w str>) -> Result<Shape, Failure<'w>>
     }
 }
 
-/// Returns the shape with this name.
+/// Returns the shape with this name, if there is one.
 fn shape_by_name(name: &str) -> Option<Shape>
     ensures { result ≡ shape_named name.now }
 {

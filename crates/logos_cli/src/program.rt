@@ -298,6 +298,7 @@ fn deliver_and_end<F: ComparableFiles, O: Write, E: Write>(
 }
 
 /// Writes the message of a failure that followed warnings, and returns the ending of the program.
+/// `is_warned` is whether standard error took the warnings.
 fn failed_after<E: Write>(is_warned: bool, failure: &Failure<'_>, err: &mut E) -> Ending
     ensures status { result.status ≡ status_of failure.now }
     ensures written { IsTrue result.is_written → IsTrue is_warned × ((usage : List ℕ)

@@ -41,7 +41,7 @@ fn holds(class: &ByteClass, byte: u8) -> bool
     false
 }
 
-/// Returns the target of the edge that holds a byte.
+/// Returns the target of the edge that holds a byte, if there is one.
 fn target_of(edges: &[(ByteClass, State)], byte: u8) -> Option<usize>
     ensures { result ≡ option_map (λ edge. edge.1)
         (find (λ edge. is_in edge.0 byte) (map edge_of edges.now)) }
@@ -54,7 +54,7 @@ fn target_of(edges: &[(ByteClass, State)], byte: u8) -> Option<usize>
     None
 }
 
-/// Returns the target of the edge of a state that holds a byte.
+/// Returns the target of the edge of a state that holds a byte, if there is one.
 fn target_in(from: &StateData, byte: u8) -> Option<usize>
     ensures { result ≡ option_map (λ edge. edge.1)
         (find (λ edge. is_in edge.0 byte) (graph_state_of from.now).normal) }

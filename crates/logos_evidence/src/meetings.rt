@@ -61,7 +61,7 @@ fn is_top(leaves: &[Leaf<'_>], listed: &[usize], set: &[usize]) -> bool
     rest.is_empty()
 }
 
-/// Returns whether leaves are listed, and those of highest priority are exactly `set`.
+/// Returns whether leaves are listed, and those of highest priority among them are exactly `set`.
 fn tops_are(leaves: &[Leaf<'_>], listed: Option<&[usize]>, set: &[usize]) -> bool
     ensures { result ≡ machines.tops_are (rules_of leaves.now) set.now (option_map (λ listed. listed.now) listed.entry) }
 {
@@ -71,7 +71,8 @@ fn tops_are(leaves: &[Leaf<'_>], listed: Option<&[usize]>, set: &[usize]) -> boo
     }
 }
 
-/// Returns the point at a state, or the only point after the set was met.
+/// Returns the point at a state. If `met` is set, returns the one point after the set was met,
+/// whatever the state is.
 fn point_at(state: usize, met: bool) -> Point
     ensures { result ≡ machines.meeting_at state met }
 {

@@ -176,8 +176,9 @@ fn expanded_file(
     with_head(alloc, source.path(), shape, &body)
 }
 
-/// Returns a file with plain comments for its own documentation and attributes, if it begins with
-/// them. `tokens` are those of the file before parts of it were replaced.
+/// Returns a file with plain comments in place of its own documentation and attributes, if it
+/// begins with them and can have such comments; otherwise unchanged. `tokens` are those of the file
+/// before parts of it were replaced.
 fn plain_file(alloc: Global, bytes: Vec<u8>, tokens: Tokens<'_, '_>) -> Result<Vec<u8>, Memory>
     ensures { IfOk result (λ body. IsWithoutInner bytes.items body.items) }
 {

@@ -42,7 +42,7 @@ entered. Sets of bytes are written as in a pattern.</p>
     Ok(())
 }
 
-/// Appends the head of the table, after the meaning of the counts if there are some.
+/// Appends the head of the table, after the meaning of the counts if there are any.
 fn push_head(html: &mut Html, entries: Option<&Entries>) {
     if let Some(entries) = entries {
         html.push_markup(

@@ -87,7 +87,8 @@ fn has_default_priority(
     Ok(default == Some(priority))
 }
 
-/// Returns the default priority of a `token` with this literal.
+/// Returns the default priority of a `token` with this literal, or `None` if the literal has no
+/// value.
 fn token_priority(alloc: Global, text: &str) -> Result<Option<usize>, Memory>
     ensures { IfOk result (λ priority. priority ≡ option_map held_priority (held text.now)) }
 {

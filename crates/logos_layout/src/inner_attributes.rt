@@ -136,7 +136,8 @@ fn inner_at<'t, 's>(tokens: Tokens<'t, 's>) -> Option<(usize, Tokens<'t, 's>)>
     }
 }
 
-/// Returns the byte offset at which the brackets after `!` end, and the tokens after them.
+/// Returns the byte offset at which the brackets after `!` end, and the tokens after them, or
+/// `None` if the run does not begin with `!` and brackets.
 fn marked<'t, 's>(tokens: Tokens<'t, 's>) -> Option<(usize, Tokens<'t, 's>)>
     ensures { MatchOption result (after_mark (tokens_of tokens.entry) ≡ None)
         (λ read. (after_mark (tokens_of tokens.entry) ≡ Some (tokens_of read.1))
@@ -148,7 +149,8 @@ fn marked<'t, 's>(tokens: Tokens<'t, 's>) -> Option<(usize, Tokens<'t, 's>)>
     }
 }
 
-/// Returns the byte offset at which leading brackets end, and the tokens after them.
+/// Returns the byte offset at which leading brackets end, and the tokens after them, or `None` if
+/// the run does not begin with brackets.
 fn bracketed<'t, 's>(tokens: Tokens<'t, 's>) -> Option<(usize, Tokens<'t, 's>)>
     ensures { MatchOption result (after_brackets (tokens_of tokens.entry) ≡ None)
         (λ read. (after_brackets (tokens_of tokens.entry) ≡ Some (tokens_of read.1))

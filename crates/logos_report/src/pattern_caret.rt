@@ -51,7 +51,8 @@ pub fn put_in<'t>(part: Part<'_, 't>, fault: &SpannedError) -> Option<PutIn<'t>>
     })
 }
 
-/// Returns the piece of a literal that spells the byte at the index `byte` of the literal's value.
+/// Returns the piece of a literal that spells the byte at the index `byte` of the literal's value,
+/// if there is one.
 fn piece_at(literal: &str, byte: usize) -> Option<Span> {
     let (prefix, rest) = literal.split_once('"')?;
     let (inner, _) = rest.rsplit_once('"')?;
@@ -94,8 +95,8 @@ struct Reader {
     piece: Span,
 }
 
-/// Returns the piece that spells the byte at the index `byte`. `inner` is the text between the
-/// quotes.
+/// Returns the piece that spells the byte at the index `byte`, if there is one. `inner` is the text
+/// between the quotes.
 fn find(start: Reader, inner: &str, byte: usize) -> Option<Span> {
     let mut reader = start;
     let mut left = byte;

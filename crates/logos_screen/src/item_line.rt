@@ -88,7 +88,8 @@ fn split<'l>(text: &'l str, at: usize) -> (&'l str, &'l str)
     }
 }
 
-/// Appends the parts of a line.
+/// Appends the parts of a line. Those of an error have the color of errors, except for the
+/// location.
 fn push_parts(
     block: &mut Vec<u8>,
     is_colored: bool,

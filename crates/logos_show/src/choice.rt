@@ -102,7 +102,8 @@ fn first_text(
     Ok(page.finish()?)
 }
 
-/// Returns the selection of the requested enum of a file. At least one enum is selected.
+/// Returns the selection of the requested enum of a file. It is never `Nothing`: without such an
+/// enum the file is refused.
 pub(crate) fn found_in<'w>(
     alloc: Global,
     task: Task<'w>,
@@ -255,8 +256,8 @@ fn push_name(page: &mut Page, name: Option<&str>)
 }
 
 /// Returns the selection among the enums that derive `Logos`. A name selects the one with this
-/// path, or those whose path ends with it. Without a name, the first one is selected, and another
-/// one if there is one.
+/// path, or otherwise those whose path ends with it. Without a name, the first one is selected, and
+/// another one if there is one.
 fn enum_meant(
     alloc: Global,
     source: &Source<'_>,
@@ -286,7 +287,7 @@ fn first_enum(alloc: Global, source: &Source<'_>, found: &[FoundEnum]) -> Result
     Ok(chosen_of(choice))
 }
 
-/// Returns the selected enum, with another one if there is one.
+/// Returns the selection of the enums of a choice.
 fn chosen_of(choice: Choice) -> Chosen
     ensures { chosen_first result ≡ choice.first }
 {

@@ -79,7 +79,7 @@ pub(crate) struct EnumInFile<'f, 's> {
 ///
 /// # Errors
 ///
-/// Returns `Refused` with the faults of the file, or of the first enum that has some. Returns
+/// Returns `Refused` with the faults of the file, or of the first enum that has any. Returns
 /// `Memory` if memory runs out.
 pub(crate) fn shown_of(
     alloc: Global,

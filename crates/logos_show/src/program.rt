@@ -224,7 +224,8 @@ fn answer_or_compare<'w, F: Files, C: Clock + StandardInput, O: Write, E: Write>
     }
 }
 
-/// Compares the answer to the question about the lexers of a file with the stored one at a path.
+/// Compares the answer to the question about the lexers of a file with the stored one at a path,
+/// writes the outcome, and returns it.
 fn expect<'w, F: Files, C: Clock + StandardInput, O: Write, E: Write>(
     task: Task<'w>,
     path: &'w str,

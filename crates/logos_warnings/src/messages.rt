@@ -49,7 +49,8 @@ fn warnings_of_unread(alloc: Global, error: TokenError) -> Result<Vec<Warning>, 
     }
 }
 
-/// Returns the warnings of `enum_warnings` for an enum with these tokens.
+/// Returns the warnings of `enum_warnings` for an enum with these tokens. `derives` is whether the
+/// enum derives `Logos`.
 ///
 /// # Errors
 ///
@@ -83,7 +84,8 @@ fn warnings_of_misread(alloc: Global, error: ReadError) -> Result<Vec<Warning>, 
     }
 }
 
-/// Returns the warnings of `enum_warnings` for an enum that was read.
+/// Returns the warnings of `enum_warnings` for an enum that was read. `derives` is whether the enum
+/// derives `Logos`.
 ///
 /// # Errors
 ///
