@@ -20,7 +20,7 @@ struct MatchStart<'a, 's> {
     from: usize,
 }
 
-/// Appends a line for each leaf that matches from an offset of an input, with its longest match
+/// Appends a line for each leaf that matches from a byte offset of an input, with its longest match
 /// from there, and then a line with the match that a lexer takes there, and the reason.
 ///
 /// # Errors

@@ -87,7 +87,7 @@ fn around_of(kind: SurroundingKind, from: usize, to: usize) -> Surrounding
     Surrounding { kind, from, to }
 }
 
-/// Appends a line with the match or the error around an offset of an input, if there is one.
+/// Appends a line with the match or the error around a byte offset of an input, if there is one.
 pub fn push_around(
     page: &mut Page,
     code: &Code<'_>,

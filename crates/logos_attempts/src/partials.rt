@@ -42,7 +42,7 @@ struct Edge {
     target: usize,
 }
 
-/// Returns the partial matches of all leaves from an offset of an input, in the order of the
+/// Returns the partial matches of all leaves from a byte offset of an input, in the order of the
 /// leaves.
 ///
 /// # Errors

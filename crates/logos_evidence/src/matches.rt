@@ -54,8 +54,8 @@ fn add_matches(
     Ok(())
 }
 
-/// Returns all matches of all leaves from an offset of an input, in the order of their ends, and at
-/// the same end in the order of the leaves. The offset is at most the length of the input.
+/// Returns all matches of all leaves from a byte offset of an input, in the order of their ends,
+/// and at the same end in the order of the leaves. The offset is at most the length of the input.
 ///
 /// The leaves must have no faults except ambiguous sets. The input is read to its end.
 ///

@@ -27,8 +27,8 @@ pub struct Showing {
     pub denies: bool,
 }
 
-/// Adds warnings for a text that begins at an offset of a file. Their spans are then relative to
-/// the beginning of the file.
+/// Adds warnings for a text that begins at a byte offset of a file. Their spans are then relative
+/// to the beginning of the file.
 ///
 /// # Errors
 ///
@@ -70,7 +70,7 @@ fn moved_span(span: Span, offset: usize) -> Span
     }
 }
 
-/// Adds the warnings for the text of an enum that begins at an offset of a file. `derives` is
+/// Adds the warnings for the text of an enum that begins at a byte offset of a file. `derives` is
 /// whether the enum derives `Logos`.
 ///
 /// # Errors
@@ -91,7 +91,7 @@ pub fn add_text(
 }
 
 /// Adds the warnings of an enum without faults that derives `Logos`, and of its lexer. The enum has
-/// these tokens, and begins at an offset of a file.
+/// these tokens, and begins at a byte offset of a file.
 ///
 /// # Errors
 ///

@@ -21,7 +21,7 @@ struct StartRecord<'a, 's> {
     winner: usize,
 }
 
-/// Returns the lines about the matches from an offset of an input: an object for each leaf that
+/// Returns the lines about the matches from a byte offset of an input: an object for each leaf that
 /// matches from there, with its longest match, and whether a lexer takes that match.
 ///
 /// # Errors

@@ -33,7 +33,7 @@ pub struct Meeting {
 pub struct Start {
     /// The name of the leaf.
     pub name: String,
-    /// The span of the literal.
+    /// The span of the literal, in bytes of the source.
     pub span: Span,
 }
 

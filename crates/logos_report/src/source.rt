@@ -28,15 +28,16 @@ impl Part<'_, '_> {
 }
 
 impl<'t> Part<'_, 't> {
-    /// Returns the text of the part at a span, or an empty one if the file has no such span.
+    /// Returns the text of the part at a span in bytes, or an empty one if the file has no such
+    /// span.
     pub fn text_at(self, span: Span) -> &'t str {
         let from = span.from.saturating_add(self.offset);
         let to = span.to.saturating_add(self.offset);
         self.source.text().get(from..to).unwrap_or("")
     }
 
-    /// Returns the text of the file from an offset of the part to the end of the file, or an empty
-    /// one past that end.
+    /// Returns the text of the file from a byte offset of the part to the end of the file, or an
+    /// empty one past that end.
     pub fn text_from(self, offset: usize) -> &'t str {
         let from = offset.saturating_add(self.offset);
         self.source.text().get(from..).unwrap_or("")

@@ -34,7 +34,7 @@ pub enum Streamed {
 }
 
 impl StreamItem {
-    /// Returns the span of the item.
+    /// Returns the span of the item in the stream, in bytes.
     pub fn span(self) -> Span
         ensures from { result.from ≡ start_of self }
         ensures to { result.to ≡ end_of self }

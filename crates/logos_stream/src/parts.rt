@@ -79,7 +79,7 @@ impl<R: Read + Drop> Parts<R> {
         &self.buffer[..self.held]
     }
 
-    /// Returns the offset of the part in the input.
+    /// Returns the offset of the part in the input, in bytes.
     pub fn before(&self) -> u64
         ensures { result ≡ self.now.before }
     {
