@@ -14,7 +14,7 @@ use Rattle.logos_attempts.specs.Around.{location_in, location_text}
 abbrev pub shown : ℕ
 shown = 8
 
--- A leaf at the beginning of its line.
+-- The beginning of the line of a leaf.
 abbrev pub reader_text : List Leaf → ℕ → List ℕ
 reader_text leaves leaf = codes "  leaf " ++ (decimal leaf ++ (codes "  " ++ name_at leaves leaf))
 

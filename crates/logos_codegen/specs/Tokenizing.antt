@@ -33,7 +33,7 @@ pub data Outcome : Type 0 where
   yields : List Token → Outcome
   bad : (from to : ℕ) → Outcome
 
--- Every match is a token.
+-- A callback that answers `Emit` for every match.
 abbrev pub emits : Callback
 emits leaf slice answer = answer ≡ Emit
 

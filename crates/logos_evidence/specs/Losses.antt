@@ -13,7 +13,7 @@ pub record IsLoss (rules : List Rule) (utf8 : Bool) (leaf : ℕ) (bytes : List �
   pub found : Finds rules utf8 bytes 0 (matched winner to)
   pub other : winner ≢ leaf
 
--- A shortest loss.
+-- A shortest input that satisfies `IsLoss`.
 pub record IsShortestLoss (rules : List Rule) (utf8 : Bool) (leaf : ℕ) (bytes : List ℕ) : Type 0 where
   pub loss : IsLoss rules utf8 leaf bytes
   pub least : (other : List ℕ) → IsLoss rules utf8 leaf other → length bytes ≤ length other

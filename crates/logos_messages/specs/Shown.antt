@@ -44,7 +44,7 @@ pub record IsMarked (text : List ℕ) (first last : Location) (line : Marked) : 
   pub from : line.from ≡ first_column first number
   pub to : line.to ≡ last_column last number line.text
 
--- Lines of a span.
+-- Each line is a line of the span with these first and last locations.
 abbrev pub AreLinesOf : List ℕ → Location → Location → List Marked → Type 0
 AreLinesOf text first last [] = Unit {0}
 AreLinesOf text first last (line ∷ lines) = IsMarked text first last line × AreLinesOf text first last lines

@@ -22,7 +22,7 @@ use Rattle.logos_records.specs.Matches.{AreMatchRecords}
 use Rattle.logos_replies.specs.declared.replies.Agreement.{Agreement}
 use Rattle.logos_replies.specs.declared.replies.Agreement.TheVariants.{Different, Same}
 
--- The line with a point.
+-- The line with the location of a point.
 abbrev pub location_line : Location → List ℕ
 location_line location = codes "from " ++ (decimal location.line ++ (codes ":" ++ (decimal location.column ++ codes "\n")))
 

@@ -34,7 +34,7 @@ module _ (one other : GraphValue) where
   IsVerdictObject (compared.Differ input) tokens = (found found_by_other : Finding) × (tokens ≡ difference_object input.items found found_by_other)
   IsVerdictObject compared.OtherMode tokens = tokens ≡ object (bool_member (codes "same") false ++ (mode_member (codes "old") one.utf8 ++ mode_member (codes "new") other.utf8))
 
-  -- The line of the verdict.
+  -- The text is the line of JSON with the verdict.
   abbrev pub IsVerdictRecord : Compared → List ℕ → Type 0
   IsVerdictRecord verdict text = (tokens : List Token) × IsVerdictObject verdict tokens × AreLines (tokens ∷ []) text
 

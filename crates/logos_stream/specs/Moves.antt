@@ -55,7 +55,7 @@ module _ {R : Type 0} (old new : WindowValue R) where
   Waits to NotUtf8 = IsStuck to
   Waits to other = ⊥
 
-  -- The event if nothing is left.
+  -- The event if the lexable bytes have no further item.
   abbrev pub Finishes : Streamed → Type 0
   Finishes NotUtf8 = GoesPast (length old.lexed) old new × IsTorn new
   Finishes End = GoesPast (length old.lexed) old new × (new.after ≡ []) × IsTrue new.is_over

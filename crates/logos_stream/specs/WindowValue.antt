@@ -10,10 +10,10 @@ pub record WindowValue (R : Type 0) : Type 0 where
   -- The bytes that the last move passed without an item, and those at the span of its item.
   pub skipped : List ℕ
   pub slice : List ℕ
-  -- The lexable bytes after these.
+  -- The lexable bytes after `skipped` and `slice`.
   pub lexed : List ℕ
-  -- The bytes that were read after them: in a text, an incomplete character, or bytes that are not
-  -- UTF-8.
+  -- The bytes that were read after `lexed`: in a text, an incomplete character, or bytes that are
+  -- not UTF-8.
   pub after : List ℕ
   -- Whether `lexed` are the last bytes that are lexed.
   pub is_last : Bool

@@ -27,7 +27,7 @@ rest_after rest b =
 abbrev pub rest_by : Bool → Rest → ℕ → Option Rest
 rest_by utf8 rest b = if utf8 then rest_after rest b else Some rest
 
--- Like `rest_by`, after several bytes.
+-- The rest of the character after several more bytes, if `rest_by` accepts each of them.
 abbrev pub rest_over : Bool → Rest → List ℕ → Option Rest
 rest_over utf8 rest [] = Some rest
 rest_over utf8 rest (b ∷ bytes) = option_and_then (λ next. rest_over utf8 next bytes) (rest_by utf8 rest b)

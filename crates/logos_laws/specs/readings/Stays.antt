@@ -36,7 +36,7 @@ entries_of (also token rest) =
     if is_comma token then record { tokens = none; comma = also token none } ∷ entries_of rest
     else with_first token (entries_of rest)
 
--- An entry that names the macro is removed with its comma.
+-- An entry and its comma: removed if the entry names the macro, otherwise kept.
 abbrev pub entry_stays : Entry → List (Option Token)
 entry_stays entry =
     let all = append entry.tokens entry.comma in
