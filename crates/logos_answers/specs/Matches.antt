@@ -19,7 +19,7 @@ abbrev pub last_of : ℕ → Option Match → List Match → Option Match
 last_of leaf found [] = found
 last_of leaf found (m ∷ rest) = last_of leaf (if m.leaf == leaf then Some m else found) rest
 
--- A leaf at the beginning of a line.
+-- The beginning of the line of a leaf.
 abbrev pub leaf_head : List Leaf → ℕ → List ℕ
 leaf_head leaves leaf = codes "  leaf " ++ (decimal leaf ++ (codes "  " ++ (name_at leaves leaf ++ codes "  ")))
 

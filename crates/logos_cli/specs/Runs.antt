@@ -136,7 +136,7 @@ Perhaps R files after = (after ≡ files) ⊎ R files after
 -- before a write, the path, and the files after it. Each holds whether the operation succeeds or
 -- fails.
 module _ {F : Type 0} (reads : F → F → Type 0) (writes : F → List ℕ → F → Type 0) where
-  -- The file for a result was written, or this failed.
+  -- The file for a result was written, or writing it failed.
   abbrev pub IsWrite : Option (List ℕ) → F → F → Type 0
   IsWrite output files after = (path : List ℕ) × (output ≡ Some path) × writes files path after
 

@@ -184,7 +184,7 @@ module _ {F : Type 0} (yields : F → List ℕ → List ℕ → F → Type 0) wh
 -- files before a write, the path, and the files after it. Each holds whether the operation succeeds
 -- or fails
 
--- The file of an effect was written, or this failed.
+-- The file of an effect was written, or writing it failed.
 abbrev pub WritesFor : {F : Type 0} → (F → List ℕ → F → Type 0) → Effect → F → F → Type 0
 WritesFor writes (prints text) files after = after ≡ files
 WritesFor writes (makes_file path text) files after = writes files path after

@@ -94,7 +94,7 @@ diagnostic_tokens source begin head span also shown =
     begin_object ∷ (head ++ (spans_tokens source begin span also shown.lines shown.other_lines ++
     (list_member (codes "children") (flat_map note_tokens shown.notes) ++ (maybe_text (codes "rendered") shown.rendered ++ end_object ∷ []))))
 
--- A fault, and a warning, with its details.
+-- The diagnostic of a fault, and that of a warning, with its details.
 abbrev pub fault_tokens : SourceValue → ℕ → Fault → Shown → List Token
 fault_tokens source begin fault shown = diagnostic_tokens source begin (fault_head fault) fault.span fault.also shown
 
