@@ -116,8 +116,8 @@ fn push_title(page: &mut Page, name: &str)
 }
 
 /// Appends the line of a variant at its last leaf. `sum` is the number of the items of the leaves
-/// of the variant up to this one. Returns the sum for the next leaf, which is 0 after the end of a
-/// variant.
+/// of the variant up to the leaf `number`. Returns the sum for the next leaf, which is 0 after the
+/// end of a variant.
 fn push_sum(page: &mut Page, leaves: &[CodeLeaf<'_>], number: usize, sum: usize) -> usize
     requires { number < length leaves.now }
     ensures line { Gains (line_after leaves.now number sum) page.old page.new }

@@ -48,7 +48,8 @@ fn is_refused(code: &Code<'_>, input: &[u8]) -> bool {
     code.is_utf8() & str::from_utf8(input).is_err()
 }
 
-/// Returns the match or the error that begins before an offset of an input and ends after it.
+/// Returns the match or the error that begins before an offset of an input and ends after it, if
+/// there is one.
 fn found_around(code: &Code<'_>, input: &[u8], offset: usize) -> Option<Surrounding>
     requires { offset ≤ length input.now }
     ensures { IfSome result (IsAround code.now input.now offset) }

@@ -35,7 +35,7 @@ pub(crate) fn add_hidden(
 }
 
 /// Adds the warning for a leaf if its flag is not set, which means that it is never found. Returns
-/// the number of leaves with a warning, of which `count` come before this one.
+/// the number of leaves with a warning, of which `count` come before the leaf.
 fn add_if_hidden(
     graph: &Graph<'_>,
     marked: &[bool],

@@ -60,7 +60,7 @@ abbrev pub first_of : List ℕ → ℕ → ℕ
 first_of set number = unwrap_or (slice_get set 0) number
 
 module _ (leaves : List NamedLeaf) where
-  -- The lines of the leaves of the set except this one.
+  -- The lines of the leaves of a set except `leaf`.
   abbrev pub other_lines : ℕ → List ℕ → List ℕ
   other_lines leaf set = flat_map (λ other. if other == leaf then [] else option_map_or line_of (slice_get leaves other) []) set
 

@@ -157,8 +157,8 @@ fn report_limit(error: BuildError, item: Span, errors: &mut Errors) -> Result<()
     }
 }
 
-/// Builds the graph of the leaves, unless a limit is exceeded. Reports its faults, or the limit
-/// instead.
+/// Builds the graph of the leaves, unless a limit is exceeded. Reports the faults of the graph, or
+/// the exceeded limit.
 fn graph_of<'s>(
     leaves: Vec<Leaf<'s>>,
     utf8_mode: bool,

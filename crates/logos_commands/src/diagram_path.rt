@@ -44,8 +44,8 @@ fn refused_by(extension: &str) -> ExportRefusal
     }
 }
 
-/// Returns the extension of a name: the part after its last `.`. A leading `.` begins no extension,
-/// and `..` has none.
+/// Returns the extension of a name, if it has one: the part after its last `.`. A leading `.`
+/// begins no extension, and `..` has none.
 fn extension_of(name: &str) -> Option<&str>
     ensures { option_copied result ≡ extension name.now }
 {

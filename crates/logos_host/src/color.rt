@@ -27,7 +27,8 @@ impl Color {
     }
 }
 
-/// Returns the color setting for a value of `--color`: `always`, `never` or `auto`.
+/// Returns the color setting for a value of `--color`: `always`, `never` or `auto`. Returns `None`
+/// for any other value.
 pub fn color_by_name(name: &str) -> Option<Color>
     ensures { result ≡ color_named name.now }
 {

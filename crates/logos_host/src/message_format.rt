@@ -12,7 +12,8 @@ pub enum MessageFormat {
     Json,
 }
 
-/// Returns the format for a value of `--message-format`: `human` or `json`.
+/// Returns the format for a value of `--message-format`: `human` or `json`. Returns `None` for any
+/// other value.
 pub fn format_by_name(name: &str) -> Option<MessageFormat>
     ensures { result ≡ format_named name.now }
 {

@@ -59,7 +59,7 @@ fn push_known(lines: &mut JsonLines, member: Option<Member<'_>>)
     }
 }
 
-/// Returns an optional text as a `&str`.
+/// Returns an optional text by reference.
 pub(crate) fn text_of(text: &Option<String>) -> Option<&str>
     ensures { option_map (λ t. t.now) result ≡ option_map string_bytes text.now }
 {

@@ -298,7 +298,7 @@ pub(crate) const ROWS: [OptionRow; OPTIONS] = [
 ];
 
 impl OptionName {
-    /// Returns the option with this name, such as `--output` or `-o`.
+    /// Returns the option with this name, such as `--output` or `-o`, if there is one.
     pub fn by_word(word: &str) -> Option<OptionName>
         ensures { result ≡ option_named word.now }
     {
@@ -336,7 +336,7 @@ impl OptionName {
     }
 }
 
-/// Returns the option of the first of these rows that has the name `word`.
+/// Returns the option of the first of these rows that has the name `word`, if there is one.
 fn named_in(rows: &[OptionRow], word: &str) -> Option<OptionName>
     ensures { result ≡ named_in (map row_value rows.now) word.now }
 {

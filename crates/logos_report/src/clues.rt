@@ -68,7 +68,7 @@ pub struct NextFaults<'c> {
 #[derive(Clone, Copy)]
 pub struct Member<'c> {
     pub meeting: &'c Meeting,
-    /// The number of faults of the set before this one.
+    /// The number of faults in the set before this fault.
     pub number: usize,
 }
 

@@ -22,7 +22,7 @@ HasPath name candidate = path_in candidate ≡ name
 abbrev pub EndsWith : List ℕ → Candidate → Type 0
 EndsWith name candidate = EndsWithPath (path_in candidate) name
 
--- The path of a candidate ends with the name, and differs from this one.
+-- The path of a candidate ends with the name, and differs from `path`.
 abbrev pub IsOther : List ℕ → List ℕ → Candidate → Type 0
 IsOther name path candidate = EndsWith name candidate × (path_in candidate ≢ path)
 

@@ -60,8 +60,8 @@ abbrev pub PrintsInputsAs : Bool → GraphValue → ℕ → Option (List ℕ) �
 PrintsInputsAs true graph most old new = PrintsInputRecords graph.states graph.utf8 most old new
 PrintsInputsAs false graph most old new = PrintsInputs graph.states graph.utf8 most old new
 
--- A file has a requested lexer, and the verdict on another lexer and this one was written to
--- standard output.
+-- A file has a requested lexer, and the verdict on the lexer `first` and on that lexer was written
+-- to standard output.
 pub record ComparesTo (order : OrderValue) (first : GraphValue) (path : List ℕ) (other : SourceValue) (agreement : Agreement) (old new : Option (List ℕ)) : Type 0 where
   pub second : GraphValue
   pub of_second : IsLexerIn other.text (name_in order) second

@@ -49,7 +49,7 @@ fn add_symbol(rows: &[Steps], classes: &mut SymbolClasses, symbol: usize) -> Res
     Ok(())
 }
 
-/// Returns the class whose symbol has the same step as this one in each of the rows, if there is
+/// Returns the class whose symbol has the same step as `symbol` in each of the rows, if there is
 /// one.
 fn class_of(rows: &[Steps], symbols: &[usize], symbol: usize) -> Option<usize>
     ensures { IfSome result (IsClassOf rows.now symbols.now symbol) }
