@@ -27,8 +27,8 @@ fn location_of(line: Option<usize>, column: Option<usize>) -> Option<Location>
     }
 }
 
-/// Returns the number in a text, which is at least 1, or `None` if the text is not a number. It has
-/// at most seventeen digits.
+/// Returns the number in a text, which is at least 1 and has at most seventeen digits, or `None` if
+/// the text is not such a number.
 pub fn number_by_text(text: &str) -> Option<usize>
     ensures { result ≡ number_named text.now }
 {

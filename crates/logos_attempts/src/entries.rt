@@ -22,9 +22,9 @@ pub struct Entries {
     total: usize,
 }
 
-/// Returns the number of times that match attempts enter each state of a graph. They begin in the
-/// first `most` bytes of an input, and end with these bytes. After 4,194,304 entries no further
-/// match attempt is counted.
+/// Returns the number of times that match attempts enter each state of a graph. The match attempts
+/// begin in the first `most` bytes of an input, and end with these bytes. After 4,194,304 entries
+/// no further match attempt is counted.
 ///
 /// # Errors
 ///

@@ -26,8 +26,9 @@ struct ReadStart<'a, 's> {
 }
 
 /// Appends a line for each of at most eight leaves that read at least one byte from an offset of an
-/// input, if no leaf matches from there: the bytes that the leaf reads, and those that continue
-/// them. Those that read furthest come first, and the number of the others comes last.
+/// input, if no leaf matches from there: the bytes that the leaf reads, and the bytes that can
+/// continue them. Leaves that read furthest come first, and the number of the other leaves comes
+/// last.
 ///
 /// # Errors
 ///

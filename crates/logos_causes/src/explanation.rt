@@ -271,7 +271,7 @@ fn add_of_lexer(
     Ok(())
 }
 
-/// The lexer about which there may be warnings.
+/// A lexer without faults, for which warnings are searched.
 #[derive(Clone, Copy)]
 pub struct Lexer<'g, 's> {
     /// The graph of the lexer, with its leaves.

@@ -80,13 +80,13 @@ fn lex_input<'i, C: Fn(LeafId, &[u8]) -> Action + Drop>(
 
 /// Returns the items of an input, found with the leaves of a source.
 ///
-/// The source is read as by `generate`. From each point of the input the longest match is taken,
-/// and of several matches of that length the one whose leaf has the highest priority. Its item is a
-/// token of its leaf; matches of a `skip` have no item. If no leaf matches, the item is an error
-/// that spans the longest prefix that could still have become a match. For each match of a leaf
-/// that has a callback, `callbacks` receives the leaf and the slice, and returns the action; `Emit`
-/// for a `skip` means `Skip`. It is not called for other leaves. The items are the same in both
-/// shapes of `config`.
+/// The source is read as `generate` reads it. From each point of the input the longest match is
+/// taken, and of several matches of that length the one whose leaf has the highest priority. Its
+/// item is a token of its leaf; matches of a `skip` have no item. If no leaf matches, the item is
+/// an error that spans the longest prefix that could still have become a match. For each match of a
+/// leaf that has a callback, `callbacks` receives the leaf and the slice, and returns the action;
+/// `Emit` for a `skip` means `Skip`. It is not called for other leaves. The items are the same in
+/// both shapes of `config`.
 ///
 /// # Errors
 ///

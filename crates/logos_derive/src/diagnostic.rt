@@ -5,7 +5,7 @@ use logos_token::error::{FaultCode, Memory};
 use logos_token::token::Span;
 use std::alloc::Global;
 
-/// The level of a diagnostic: whether it refuses its enum.
+/// The level of a diagnostic. An error refuses its enum.
 #[derive(Clone, Copy, Debug, PartialEq, Eq)]
 pub enum Level {
     Error,

@@ -112,8 +112,8 @@ fn better(one: Match, other: Match) -> Match
 }
 
 /// Returns the match that a lexer selects among those from an offset: the longest, and of several
-/// the one of highest priority. If leaves are ambiguous, it is one of theirs. Returns `None` if
-/// there is no match.
+/// the one of highest priority. If leaves are ambiguous, it is the match of one of them. Returns
+/// `None` if there is no match.
 pub fn winner(matches: &[Match]) -> Option<Match>
     ensures { MatchOption result (matches.now ≡ []) (IsWinner matches.now) }
 {

@@ -9,7 +9,7 @@ use logos_report::{Clues, Helps, Part};
 use logos_token::error::{Errors, Memory, SpannedError};
 use logos_token::token::Span;
 
-/// The helps of this crate, for callers that take any.
+/// The helps of this crate, for callers that are generic over `Helps`.
 #[derive(Clone, Copy)]
 pub struct FaultHelps;
 

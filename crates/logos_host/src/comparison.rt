@@ -17,7 +17,7 @@ pub enum Occurrence {
     Missing,
 }
 
-/// Files that can be compared.
+/// Files whose content can be compared with bytes.
 pub trait ComparableFiles: Files {
     // Relates the files before a comparison, the path, the bytes, the result, and the files after
     // it.

@@ -137,8 +137,8 @@ impl<'c> NextFaults<'c> {
         *self.helps.first()?
     }
 
-    /// Returns which member of its ambiguous set the next fault reports, if there is a clue about
-    /// the set.
+    /// Returns `fault`, which is the next fault, as a member of its set of ambiguous leaves, if
+    /// there is a clue about the set.
     pub fn member(self, fault: &SpannedError) -> Option<Member<'c>>
         ensures { MatchOption result (follows (next_value self.entry) (fault_of fault.now) ≡ false)
             (λ member. (follows (next_value self.entry) (fault_of fault.now)

@@ -38,7 +38,7 @@ pub fn push_warnings(page: &mut Page, part: Part<'_, '_>, warnings: &[Warning])
     push_left_out(page, warnings.len().saturating_sub(MOST));
 }
 
-/// Returns the warnings that are shown.
+/// Returns the warnings that are shown, which are the first 50.
 pub fn first_of(warnings: &[Warning]) -> &[Warning]
     ensures { result.now ≡ shown_of warnings.now }
 {

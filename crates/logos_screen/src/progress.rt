@@ -17,14 +17,14 @@ const PAUSE: u64 = 200;
 /// The text that overwrites the line with blanks.
 const CLEAR: &[u8] = b"\r                                \r";
 
-/// Whether the line is shown. The outputs of a program share it.
+/// The state of the progress line, which the outputs of a program share: whether the line is shown.
 #[derive(Drop)]
 pub struct ProgressLine {
     is_shown: Cell<bool>,
 }
 
 impl ProgressLine {
-    /// Returns a line that is not shown.
+    /// Returns the state of a line that is not shown.
     pub fn new() -> ProgressLine {
         ProgressLine {
             is_shown: Cell::new(false),
@@ -41,7 +41,7 @@ impl ProgressLine {
     }
 }
 
-/// Standard error, which clears the line before it is written.
+/// Standard error, as an output that clears the progress line before each write.
 #[derive(Drop)]
 pub struct MessageOutput<'l, E> {
     line: &'l ProgressLine,
@@ -82,7 +82,7 @@ impl<E: IsTerminal> IsTerminal for MessageOutput<'_, E> {
     }
 }
 
-/// Standard output, which shows the number of its bytes on standard error.
+/// Standard output, as an output that shows the number of written bytes on standard error.
 #[derive(Drop)]
 pub struct CountedOutput<'l, S, O, E> {
     writer: O,
