@@ -24,7 +24,8 @@ pub struct PartialMatch {
     pub may_end: bool,
 }
 
-/// The states that an automaton enters on an input from an offset, and those after them.
+/// The states that an automaton enters on an input from an offset, and the states to which edges
+/// lead from them.
 #[derive(Drop)]
 struct Walk {
     /// For each state the end of the longest prefix of the input that leads to it, or 0.

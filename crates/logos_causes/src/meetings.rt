@@ -224,7 +224,7 @@ fn end_of(matches: &[Match], set: &[usize]) -> usize {
     usize::MAX
 }
 
-/// Returns whether a match is one of the first leaf of a set.
+/// Returns whether a match is a match of the first leaf of a set.
 fn is_first(one: Match, set: &[usize]) -> bool {
     match set.first() {
         Some(leaf) => one.leaf == *leaf,

@@ -72,7 +72,7 @@ fn warnings_by(alloc: Global, source: &str, made: &Generated<'_>) -> Result<Vec<
 {
     match tokenize(alloc, source) {
         Ok(stream) => warnings_with(alloc, stream.run(), made),
-        // The source has tokens, within the limits.
+        // Only memory can run out: the source has tokens, within the limits.
         Err(_) => Err(Memory),
     }
 }

@@ -9,16 +9,16 @@ use crate::search::{Machine, Point, shortest};
 use logos_graph::graph::{Graph, StateData};
 use std::alloc::{AllocError, Global};
 
-/// A machine that follows a graph. Its goals are the points at which the last match is one of a
-/// leaf.
+/// A machine that follows a graph. Its goals are the points at which the last match is a match of
+/// `leaf`.
 #[derive(Clone, Copy)]
 struct Examples<'g> {
     states: &'g [&'g StateData],
     leaf: usize,
 }
 
-/// Returns whether the last match is one of `leaf`. Without a match of `mark` it is the match
-/// before, for which `before` is the result.
+/// Returns whether the last match is a match of `leaf`: the match of the leaf `mark`, or without
+/// one an earlier match, for which `before` is the answer.
 pub(crate) fn is_last(leaf: usize, mark: Option<usize>, before: bool) -> bool
     ensures { result ≡ machines.is_last leaf mark before }
 {

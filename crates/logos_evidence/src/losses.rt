@@ -13,8 +13,8 @@ use logos_automaton::dfa::Dfa;
 use logos_graph::graph::{Graph, StateData};
 use std::alloc::{AllocError, Global};
 
-/// A machine that follows an automaton and its graph. Its goals are the points at which a leaf has
-/// matched, but the last match is one of another leaf.
+/// A machine that follows an automaton and its graph. Its goals are the points at which `leaf` has
+/// matched, but the last match is a match of another leaf.
 #[derive(Clone, Copy)]
 struct Losses<'g> {
     dfa: &'g Dfa,

@@ -345,7 +345,7 @@ fn expansion_by(
 {
     match tokenize(*warned.allocator(), source) {
         Ok(stream) => expansion_with(source, stream.run(), site, made, warned),
-        // The source has tokens, within the limits.
+        // Only memory can run out: the source has tokens, within the limits.
         Err(_) => Err(Memory),
     }
 }

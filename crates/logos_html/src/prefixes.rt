@@ -6,7 +6,7 @@ ghost use Rattle.logos_html.specs.Imports.{IsDead, IsEnough, dfa_next, dfa_of};
 use logos_automaton::dfa::parts::{end_at, leaves_at};
 use logos_automaton::dfa::{Dfa, StateId};
 
-/// The number of different bytes.
+/// The number of values of a byte.
 const BYTES: usize = 256;
 
 /// Returns the number of the first bytes of `rest` after which no match from its beginning can end,

@@ -7,7 +7,7 @@ use logos_json::JsonLines;
 use logos_lines::Location;
 use logos_report::Source;
 
-/// The maximum number of lines of a span, after its first one, with which its lines are shown.
+/// The maximum number of lines after the first one that a span may have for its lines to be shown.
 const LINES: usize = 8;
 
 /// The maximum length of a line that is shown, in bytes.

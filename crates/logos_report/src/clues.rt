@@ -85,7 +85,7 @@ pub fn first_faults(clues: &Clues) -> NextFaults<'_>
     }
 }
 
-/// Returns whether a fault with this code is one of a set of ambiguous leaves.
+/// Returns whether a fault with this code belongs to a set of ambiguous leaves.
 fn is_ambiguity(code: FaultCode) -> bool
     ensures { result ≡ is_ambiguity code }
 {

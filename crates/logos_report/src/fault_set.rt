@@ -40,7 +40,7 @@ pub fn set_at(faults: &[SpannedError], number: usize) -> FaultSet<'_> {
     }
 }
 
-/// Returns whether a fault is one of a set, and not the first one.
+/// Returns whether a fault belongs to a set of ambiguous leaves, and is not its first fault.
 fn continues_set(fault: &SpannedError) -> bool {
     match fault.detail {
         Detail::Ambiguous { leaf, first } => leaf != first,
@@ -48,7 +48,8 @@ fn continues_set(fault: &SpannedError) -> bool {
     }
 }
 
-/// Returns whether the fault with this number is one of a set, and not the first one.
+/// Returns whether the fault with this number belongs to a set of ambiguous leaves, and is not its
+/// first fault.
 fn continues_at(faults: &[SpannedError], number: usize) -> bool {
     match faults.get(number) {
         Some(fault) => continues_set(fault),

@@ -101,7 +101,7 @@ pub(crate) fn run<
 >(alloc: Global, arguments: &[String], files: &mut F, clock: &C, err: &mut E, out: &mut O) -> u8
     ensures usage { (result ≡ 2) ↔ (requested (map string_bytes arguments.now) ≡ None) }
     // At exit status 0 the question was answered as requested. Two lexers that are compared find
-    // the same on all inputs, and an answer that is compared equals the stored one.
+    // the same items in all inputs, and an answer that is compared equals the stored one.
     ensures fulfilled { result ≡ 0 → IfSome (requested (map string_bytes arguments.now))
         (λ request. IsFulfilled F.read_yields request files.old files.new Agreement.Same
         (O.contents out.old) (O.contents out.new)) }

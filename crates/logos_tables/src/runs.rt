@@ -11,7 +11,7 @@ use std::alloc::{AllocError, Global};
 /// The maximum length of a run.
 const LONGEST: usize = 65535;
 
-/// A run: the number of equal numbers, and that number.
+/// A run of equal numbers: its length, and the number.
 pub(crate) type Run = (usize, usize);
 
 /// Returns the runs of numbers.

@@ -9,8 +9,8 @@ use Rattle.logos_evidence.specs.declared.search.point.Point.{Point}
 use Rattle.logos_evidence.specs.inside.Steps.{step_by, listed_at_end}
 use Rattle.logos_evidence.specs.inside.Lasts.{mark_by, mark_at_end, step_to}
 
--- Whether the last match is one of the leaf. Without a new mark it is the match before, for which
--- `before` is the answer.
+-- Whether the last match is a match of the leaf: the match of the new mark, or without one an
+-- earlier match, for which `before` is the answer.
 abbrev pub is_last : ℕ → Option ℕ → Bool → Bool
 is_last leaf None before = before
 is_last leaf (Some mark) before = mark == leaf
@@ -22,7 +22,7 @@ point_from s = record { here = s; there = 0; begun = false; met = false; last = 
 abbrev pub first_point : Point
 first_point = point_from 0
 
--- The machine of examples. At a goal the last match is one of a leaf.
+-- The machine of examples. At a goal the last match is a match of `leaf`.
 module _ (graph : List GraphState) (leaf : ℕ) where
   abbrev pub example_next : Point → ℕ → Option Point
   example_next at b = Some (record {
@@ -105,7 +105,8 @@ abbrev pub tops_are : List Rule → List ℕ → Option (List ℕ) → Bool
 tops_are rules set None = false
 tops_are rules set (Some leaves) = bytes_eq (top_of rules leaves) set
 
--- The machine of losses. At a goal a leaf has matched, and the last match is one of another leaf.
+-- The machine of losses. At a goal `leaf` has matched, and the last match is a match of another
+-- leaf.
 module _ (dfa : Automaton) (graph : List GraphState) (leaf : ℕ) where
   abbrev pub loss_at : Point → ℕ → ℕ → Point
   loss_at at b next = record {
