@@ -98,7 +98,7 @@ fn create_file<R: Files + AllocGlobal + Clone + Drop>(
 }
 
 /// Writes a new file beside another one, and returns its path. Its name contains the process id.
-/// Files that processes which have ended left there are removed first.
+/// Files left there by processes that have ended are removed first.
 fn write_beside<R: Files + AllocGlobal + Clone + Drop>(
     rt: &R,
     path: &str,
@@ -121,7 +121,7 @@ fn own_number<R: Files + AllocGlobal>(rt: &R) -> io::Result<String> {
     }
 }
 
-/// Removes the new files that processes which have ended left beside a file.
+/// Removes the files that were left beside a file by processes that have ended.
 fn remove_leftovers<R: Files + AllocGlobal + Clone + Drop>(rt: &R, path: &str) -> io::Result<()> {
     let folder = match folder_of(path) {
         "" => ".",

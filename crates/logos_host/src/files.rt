@@ -1,5 +1,5 @@
-//! The interface to files, by their paths. `Disk` and `SourceDisk` implement it; the tests have
-//! others.
+//! The interface to files, by their paths. `Disk` and `SourceDisk` implement it, and the tests have
+//! further implementations.
 
 ghost use Rattle.std.specs.Prelude.{ℕ, List, ⊤, IfOk, OnOk};
 

@@ -32,8 +32,8 @@ pub struct LeafRow<'l> {
 
 /// Returns the row of a leaf.
 ///
-/// `lines` are those of the whole file. The enum begins in it at byte `offset`, and `text` is its
-/// text. The spans of the leaf are relative to that offset.
+/// `lines` is the line index of the whole file, in which the enum begins at byte `offset`. `text`
+/// is the text of the enum, to which the spans of the leaf are relative.
 ///
 /// # Errors
 ///

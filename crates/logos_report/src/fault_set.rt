@@ -66,8 +66,8 @@ fn begin_of_set(faults: &[SpannedError], number: usize) -> usize {
     from
 }
 
-/// Returns the number after the last fault of the set of a fault; the number of the fault itself if
-/// it is not of an ambiguous leaf.
+/// Returns the number after the last fault of the set of a fault, or the number of the fault itself
+/// if the fault is not of an ambiguous leaf.
 fn end_of_set(faults: &[SpannedError], number: usize) -> usize {
     let Some(fault) = faults.get(number) else {
         return number;

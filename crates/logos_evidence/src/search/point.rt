@@ -5,7 +5,7 @@
 pub struct Point {
     /// A state.
     pub here: usize,
-    /// A second state.
+    /// A second state, for machines that follow two states.
     pub there: usize,
     /// Whether a byte was read.
     pub begun: bool,
