@@ -51,7 +51,7 @@ fn line_start(text: &[u8], at: usize) -> usize
     start
 }
 
-/// Returns the bytes before an offset.
+/// Returns the bytes before an offset, or all bytes if there are fewer.
 fn front_of(text: &[u8], at: usize) -> &[u8]
     ensures { result.now ≡ take at text.now }
 {
@@ -61,7 +61,7 @@ fn front_of(text: &[u8], at: usize) -> &[u8]
     }
 }
 
-/// Returns the bytes from an offset to the end.
+/// Returns the bytes from an offset to the end, or none if there are fewer.
 fn tail_of(text: &[u8], at: usize) -> &[u8]
     ensures { result.now ≡ drop at text.now }
 {

@@ -169,7 +169,7 @@ fn length_from(from: usize, end: usize) -> usize
     end.saturating_sub(from)
 }
 
-/// Appends a number of bytes.
+/// Appends a number of bytes with its unit.
 fn push_length(page: &mut Page, count: usize)
     ensures { Gains (shown.length_text count) page.old page.new }
 {

@@ -121,7 +121,7 @@ fn long_front(text: &str) -> Option<&str> {
     if rest.is_empty() { None } else { Some(front) }
 }
 
-/// Returns the width of a text.
+/// Returns the width of a text, in columns.
 fn width_of(text: &str) -> usize {
     let mut width: usize = 0;
     for character in text.chars() {
@@ -130,7 +130,7 @@ fn width_of(text: &str) -> usize {
     width
 }
 
-/// Returns the width of a character.
+/// Returns the width of a character, in columns.
 fn columns_of(character: char) -> usize {
     if character == '\t' { TAB } else { 1 }
 }

@@ -104,7 +104,7 @@ fn push_others(page: &mut Page, count: usize) {
     }
 }
 
-/// Appends a range of bytes.
+/// Appends a range of bytes, as its first byte and its last byte if they differ.
 fn push_range(page: &mut Page, range: &RangeInclusive<u8>) {
     let first = *range.start();
     let last = *range.end();

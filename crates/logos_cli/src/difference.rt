@@ -74,7 +74,7 @@ fn difference_text(
     page.finish()
 }
 
-/// Appends the line with the error.
+/// Appends the line which states that a file is missing or differs from the result.
 fn push_what(page: &mut Page, stale: &StaleFile<'_>) {
     page.push("error: ");
     page.push_shown(stale.path);

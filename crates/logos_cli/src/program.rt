@@ -233,7 +233,7 @@ fn own_output<'w, F: ComparableFiles>(order: ExpandOrder<'w>, files: &F) -> Opti
     }
 }
 
-/// Reads a file, and expands it.
+/// Reads the file of an order, and returns its expansion.
 fn expansion_of<'w, F: ComparableFiles>(
     alloc: Global,
     order: ExpandOrder<'w>,

@@ -189,7 +189,7 @@ fn is_faultless(errors: &Errors) -> bool
     errors.list().is_empty()
 }
 
-/// Builds the graph of leaves.
+/// Builds the graph of the leaves, if neither the graph nor `errors` has a fault.
 ///
 /// # Errors
 ///

@@ -114,7 +114,7 @@ fn callback_text<'l>(text: &'l str, callback: Option<&Callback<'_>>) -> Option<&
     }
 }
 
-/// Returns the text at a span.
+/// Returns the text at a span, or an empty text if there is no such span.
 fn text_at(text: &str, span: Span) -> &str
     ensures { IsTextAt text.now span result.now }
 {

@@ -175,7 +175,7 @@ fn write_found<O: Write>(lines: &mut Lines, out: &mut O) -> Result<(), Failure<'
     }
 }
 
-/// Returns the location after some bytes.
+/// Returns the location after the bytes that begin at `location`.
 fn after(location: Location, bytes: &[u8]) -> Location {
     let mut location = location;
     for byte in bytes {

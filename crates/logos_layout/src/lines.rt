@@ -44,7 +44,7 @@ impl WordLines {
         })
     }
 
-    /// Begins a word.
+    /// Puts the current word into its line, and begins a word with the separator `lead` before it.
     pub(crate) fn begin(&mut self, lead: WordLead) -> Result<(), Memory> {
         self.put_word()?;
         self.lead = lead;
@@ -63,7 +63,7 @@ impl WordLines {
         Ok(())
     }
 
-    /// Returns all lines.
+    /// Returns all lines, with the last word.
     pub(crate) fn finish(mut self) -> Result<String, Memory> {
         self.put_word()?;
         Ok(self.text)
@@ -96,7 +96,7 @@ impl WordLines {
         self.column.saturating_add(self.word.len()) < MAX_LINE
     }
 
-    /// Appends a blank.
+    /// Appends a blank to the line.
     fn put_blank(&mut self) -> Result<(), Memory> {
         self.text.push(' ')?;
         self.column = self.column.saturating_add(1);

@@ -87,7 +87,7 @@ impl Thinned {
         Ok(())
     }
 
-    /// Removes a lexeme.
+    /// Removes a lexeme, and counts the open delimiters that were removed.
     fn leave_out(&mut self, kind: LexemeKind) {
         self.is_cut = true;
         match kind {

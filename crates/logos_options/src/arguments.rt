@@ -81,7 +81,7 @@ pub fn misuse<'w>(what: &'static str, word: &'w str) -> Failure<'w>
     Failure::Misuse { what, word }
 }
 
-/// Reads all arguments.
+/// Reads all arguments, up to an option that requests a text.
 fn read_arguments(program: Program, arguments: &[String]) -> Result<Arguments<'_>, Failure<'_>>
     ensures read { IfOk result (λ parsed. with_arguments program (Some nothing_given)
         (map string_bytes arguments.now) ≡ Some (arguments_value parsed)) }
@@ -123,7 +123,7 @@ fn settled(arguments: Arguments<'_>) -> Result<Arguments<'_>, Failure<'_>>
     }
 }
 
-/// Reads one more argument.
+/// Reads one more argument, unless a text is requested.
 fn read_word<'w>(
     program: Program,
     arguments: Arguments<'w>,
@@ -190,7 +190,7 @@ fn unknown<'w>(option: OptionName) -> Failure<'w>
     }
 }
 
-/// Reads a path.
+/// Reads an argument that is a path. `logos_show` takes at most two.
 fn read_path<'w>(
     program: Program,
     arguments: Arguments<'w>,

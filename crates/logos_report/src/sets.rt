@@ -123,7 +123,7 @@ fn push_explained(page: &mut Page, part: Part<'_, '_>, known: KnownFault<'_>, st
     push_notes(page, ShownFault { part, known, width });
 }
 
-/// Appends these patterns.
+/// Appends each of these patterns, with its location.
 fn push_starts(page: &mut Page, part: Part<'_, '_>, starts: &[Start])
     ensures { Shows (map (location_line page.old.is_colored part.entry.source.now part.entry.offset)
         (map from_of starts.now)) page.old page.new }

@@ -14,7 +14,7 @@ const LONGEST: usize = 65535;
 /// A run of equal numbers: its length, and the number.
 pub(crate) type Run = (usize, usize);
 
-/// Returns the runs of numbers.
+/// Returns the runs of equal numbers of which `numbers` consists, in order.
 ///
 /// # Errors
 ///

@@ -15,7 +15,7 @@ const SYMBOLS: usize = 257;
 /// The steps of a state, for each symbol.
 pub(crate) type Steps = [usize; SYMBOLS];
 
-/// Returns the steps of a state.
+/// Returns the step of each symbol in a state.
 pub(crate) fn steps_of(code: &Code<'_>, state: usize) -> Steps
     requires { state < length code.now.states }
     ensures { HasSteps code.now (state_at code.now state) result }
