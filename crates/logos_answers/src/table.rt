@@ -77,7 +77,7 @@ fn first_line(text: &str) -> &str {
     }
 }
 
-/// Returns the widths of the columns for these rows and the headings.
+/// Returns the widths of the columns that fit these rows and the headings.
 fn widths_of(rows: &[LeafRow<'_>]) -> Widths {
     let mut widths = Widths {
         variant: 7,

@@ -244,7 +244,7 @@ fn push_next(page: &mut Page, partial: &PartialMatch) {
     }
 }
 
-/// Appends the bytes that complete a partial match, if not all that continue it do.
+/// Appends the bytes that complete a partial match, unless all bytes that continue it do.
 fn push_last(page: &mut Page, partial: &PartialMatch) {
     if partial.last.ranges.is_empty() | (partial.last == partial.next) {
         return;

@@ -64,7 +64,8 @@ pub fn partial_matches(
     Ok(found)
 }
 
-/// Returns the states that an automaton enters on an input from an offset, and those after them.
+/// Returns the states that an automaton enters on an input from an offset, and the states to which
+/// edges lead from them.
 fn walk_of(alloc: Global, dfa: &Dfa, input: &[u8], from: usize) -> Result<Walk, AllocError> {
     let ends = ends_of(alloc, dfa, input, from)?;
     let mut walk = Walk {

@@ -117,7 +117,7 @@ fn after_same<'t>(found: &'t str, made: &'t str) -> Option<(&'t str, &'t str)> {
     }
 }
 
-/// Appends the first lines of two texts. `number` is the number of the first one.
+/// Appends the first lines of two texts. `number` is the number of the first line.
 fn push_both(page: &mut Page, number: usize, found: &str, made: &str) {
     push_side(page, " - ", number, found);
     push_side(page, " + ", number, made);

@@ -113,7 +113,7 @@ fn rest_from(faults: &[SpannedError], number: usize) -> &[SpannedError] {
 }
 
 /// Returns the number of faults with this code, from the one with the number `number` to the last.
-/// Returns 0 unless the faults before it include as many as are shown.
+/// Returns 0 unless the faults before it include as many with this code as are shown.
 fn left_out(faults: &[SpannedError], number: usize, code: FaultCode) -> usize {
     let Some(front) = faults.get(..number) else {
         return 0;

@@ -30,8 +30,8 @@ fn highest(leaves: &[Leaf<'_>], listed: &[usize]) -> usize
     highest
 }
 
-/// Returns the rest of a set after its first leaf, or `None` if that is not `leaf`. If `counts` is
-/// not set, returns the whole set.
+/// Returns the rest of a set after its first leaf, or `None` if its first leaf is not `leaf`. If
+/// `counts` is not set, returns the whole set.
 fn after_leaf(rest: &[usize], leaf: usize, counts: bool) -> Option<&[usize]>
     ensures { MatchOption result
         (IsTrue counts × ((ys : List ℕ) → bytes_eq (leaf ∷ ys) rest.now ≡ false))

@@ -116,7 +116,7 @@ fn has_last_comma(bytes: &[u8]) -> bool {
     false
 }
 
-/// Returns the last byte that is not white space, after one more byte.
+/// Returns the last byte that is not white space: `byte`, or `last` if `byte` is white space.
 fn last_of(last: u8, byte: u8) -> u8 {
     if byte.is_ascii_whitespace() {
         last

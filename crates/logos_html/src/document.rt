@@ -208,7 +208,7 @@ fn push_head(html: &mut Html, page: LexerPage<'_, '_>, has_input: bool) {
     html.push_markup("</header>\n<main>\n");
 }
 
-/// Appends the links to the sections, of which the text of an input is optional.
+/// Appends the links to the sections. The text of an input is linked only if `has_input` is set.
 fn push_navigation(html: &mut Html, has_input: bool) {
     html.push_markup(
         "<nav aria-label=\"Sections\">\n<ul>\n<li><a href=\"#leaves\">Leaves</a></li>\n",

@@ -79,7 +79,7 @@ fn failure_at(alloc: Global, stop: StreamStop, offset: usize) -> Failure<'static
     }
 }
 
-/// Returns the failure for a token at an offset that is too long.
+/// Returns the failure for a token that begins at an offset and is too long.
 fn too_long(alloc: Global, offset: usize) -> Failure<'static>
     ensures { IsNoMisuse result }
 {

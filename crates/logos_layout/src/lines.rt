@@ -33,7 +33,8 @@ pub(crate) struct WordLines {
 }
 
 impl WordLines {
-    /// Returns an empty text, in which each line, also the first one, will begin with `margin`.
+    /// Returns an empty text, in which each line, including the first one, will begin with
+    /// `margin`.
     pub(crate) fn new(alloc: Global, margin: &str) -> Result<WordLines, Memory> {
         Ok(WordLines {
             text: String::new(alloc),

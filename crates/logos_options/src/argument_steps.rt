@@ -172,7 +172,7 @@ fn unknown<'w>(word: &'w str) -> Failure<'w>
     Failure::UnknownOption { word, nearest: "" }
 }
 
-/// Returns whether an argument begins with `-` and is longer.
+/// Returns whether an argument begins with `-` and has further bytes.
 fn is_option(word: &str) -> bool
     ensures { result ≡ begins_option word.now }
 {

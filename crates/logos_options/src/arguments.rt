@@ -265,7 +265,7 @@ fn settings_with<'w>(settings: Settings<'w>, one: GivenOption<'w>) -> Settings<'
     Settings { values }
 }
 
-/// Reads a question, of which there may be one.
+/// Reads a question, of which only one may be given.
 fn read_question<'w>(
     arguments: Arguments<'w>,
     one: GivenOption<'w>,

@@ -1,5 +1,5 @@
-//! The table of options: the name of each, whether it has a value, its effect, and the programs
-//! that take it with its lines in their help. Every reader of arguments looks options up here.
+//! The table of options: the name of each, whether it has a value, its effect, and its lines in the
+//! help of each program that takes it. Every reader of arguments looks options up here.
 
 ghost use Rattle.std.specs.Prelude.{◌≡◌, ◌<◌, Some, is_some, map};
 ghost use Rattle.logos_options.specs.Imports.{is_named, named_in, number, option_named, role_of, row_value, takes_value, word_of};

@@ -56,9 +56,9 @@ pub(crate) fn make<C: Fn(LeafId, &[u8]) -> Action>(
     Ok((chunks, last))
 }
 
-/// Returns the number of the `left` remaining bytes to examine: as far as the former chunk that
-/// ends at the border examined bytes, so that the border is met if the items stay unchanged. If
-/// these bytes are none, or more than twice `WINDOW`, the number is `WINDOW`.
+/// Returns the number of the `left` remaining bytes to examine. They reach as far as the former
+/// chunk that ends at the border examined bytes, so that the border is met if the items stay
+/// unchanged. If that is no byte, or more than twice `WINDOW`, the number is `WINDOW`.
 fn window(former: &Lexed, border: Border, left: usize) -> usize
     ensures { 0 < result }
 {

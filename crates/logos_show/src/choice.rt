@@ -61,6 +61,7 @@ pub(crate) fn lexer_in<'w, E: Write>(
 }
 
 /// Returns the first of several enums and writes a note to standard error, if no name is given.
+/// With a name, refuses the file.
 fn one_of<'w, E: Write>(
     task: Task<'w>,
     source: &Source<'_>,

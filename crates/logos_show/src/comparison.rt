@@ -98,7 +98,7 @@ fn named_lexer<'m, 's>(
     }
 }
 
-/// Writes the verdict on a lexer and the one of another file, and returns it with a note.
+/// Writes the verdict on a lexer and that of another file, and returns the verdict with a note.
 fn compare_to<'w, O: Write, E: Write>(
     task: Task<'w>,
     one: NamedLexer<'_, '_>,

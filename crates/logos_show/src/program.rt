@@ -325,7 +325,7 @@ fn lex_any<'w, F: Files, C: Clock + StandardInput, O: Write, E: Write>(
     }
 }
 
-/// Writes the tables of a file or examples, and its warnings.
+/// Writes the tables or the examples of a file, and its warnings.
 fn show<'w, O: Write, E: Write>(
     task: Task<'w>,
     source: &Source<'_>,
@@ -353,7 +353,8 @@ fn show<'w, O: Write, E: Write>(
     print_bytes(&records, out)
 }
 
-/// Writes the tables of a file, with lines that fit the screen, or examples.
+/// Writes the tables or the examples of a file. The lines of tables are cut to the width of the
+/// screen.
 fn print_tables<'w, O: Write>(task: Task<'w>, tables: &str, out: &mut O) -> Result<(), Failure<'w>>
     ensures { IfErr result IsNoMisuse }
 {
