@@ -125,7 +125,7 @@ fn last_of(last: u8, byte: u8) -> u8 {
     }
 }
 
-/// Returns the blanks before an offset of a text, if its line has nothing else before it.
+/// Returns the blanks before an offset of a text, if nothing else precedes the offset in its line.
 fn margin_at(text: &str, offset: usize) -> &str
     ensures { are_blanks result.now ≡ true }
 {
