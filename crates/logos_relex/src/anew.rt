@@ -58,7 +58,7 @@ pub(crate) fn make<C: Fn(LeafId, &[u8]) -> Action>(
 
 /// Returns the number of the `left` remaining bytes to examine. They reach as far as the former
 /// chunk that ends at the border examined bytes, so that the border is met if the items stay
-/// unchanged. If that is no byte, or more than twice `WINDOW`, the number is `WINDOW`.
+/// unchanged. If the number would be 0 or more than twice `WINDOW`, it is `WINDOW`.
 fn window(former: &Lexed, border: Border, left: usize) -> usize
     ensures { 0 < result }
 {
