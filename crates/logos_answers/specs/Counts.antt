@@ -27,7 +27,7 @@ is_same_name None other = false
 abbrev pub next_shares_variant : List CodeLeaf → ℕ → Bool
 next_shares_variant leaves leaf = is_same_name (code_variant leaves leaf) (code_variant leaves (leaf + 1))
 
--- A name and a number.
+-- A line with a name and a number.
 abbrev pub count_line : List ℕ → ℕ → List ℕ
 count_line name count = name ++ (codes ": " ++ (decimal count ++ codes "\n"))
 
@@ -40,7 +40,7 @@ variant_line (Some name) count = if count == 0 then [] else codes "  " ++ count_
 abbrev pub line_after : List CodeLeaf → ℕ → ℕ → List ℕ
 line_after leaves leaf sum = if next_shares_variant leaves leaf then [] else variant_line (code_variant leaves leaf) sum
 
--- The sum for the next leaf.
+-- The sum for the next leaf, which is 0 after the last leaf of a variant.
 abbrev pub sum_after : List CodeLeaf → ℕ → ℕ → ℕ
 sum_after leaves leaf sum = if next_shares_variant leaves leaf then sum else 0
 
@@ -50,7 +50,7 @@ module _ (leaves : List CodeLeaf) (counts : List ℕ) where
   abbrev pub sum_with : ℕ → ℕ → ℕ
   sum_with leaf sum = min (sum + slice_index counts leaf) (2 ^ 64 - 1)
 
-  -- The lines of the variants of some leaves, from a number on.
+  -- The lines of the variants of `left` consecutive leaves.
   abbrev pub lines_from : ℕ → ℕ → ℕ → List ℕ
   lines_from leaf sum zero = []
   lines_from leaf sum (suc left) = line_after leaves leaf (sum_with leaf sum) ++ lines_from (suc leaf) (sum_after leaves leaf (sum_with leaf sum)) left

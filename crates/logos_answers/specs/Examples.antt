@@ -23,7 +23,7 @@ abbrev pub loss_value : Loss → LossValue
 loss_value loss = record { input = loss.input.items; winner = loss.winner }
 
 module _ (rules : List Rule) (utf8 : Bool) (leaf : ℕ) where
-  -- It is a shortest input that the leaf loses, and the leaf of a match that wins there.
+  -- A shortest input that the leaf loses, with the leaf of a match that wins there.
   pub record IsLostTo (loss : LossValue) : Type 0 where
     pub shortest : IsShortestLoss rules utf8 leaf loss.input
     pub matches : List Match
@@ -58,7 +58,7 @@ pub record IsExampleLine (leaves : List Leaf) (utf8 : Bool) (leaf : ℕ) (text :
   pub is : text ≡ evidence_line leaves leaf found loss
 
 module _ (leaves : List Leaf) (utf8 : Bool) where
-  -- The lines of some leaves, from a number on.
+  -- The lines of consecutive leaves, from the first one's number and their count.
   abbrev pub AreExampleLines : ℕ → ℕ → List ℕ → Type 0
   AreExampleLines leaf zero text = text ≡ []
   AreExampleLines leaf (suc count) text = (line rest : List ℕ) × IsExampleLine leaves utf8 leaf line × AreExampleLines (suc leaf) count rest × (text ≡ line ++ rest)
@@ -67,6 +67,6 @@ module _ (leaves : List Leaf) (utf8 : Bool) where
   abbrev pub ShowsExample : ℕ → PageValue → PageValue → Type 0
   ShowsExample leaf old new = (text : List ℕ) × IsExampleLine leaves utf8 leaf text × Gains text old new
 
-  -- The lines of some leaves, from a number on, were appended to a page.
+  -- The lines of `count` consecutive leaves were appended to a page.
   abbrev pub ShowsExamples : ℕ → ℕ → PageValue → PageValue → Type 0
   ShowsExamples leaf count old new = (text : List ℕ) × AreExampleLines leaf count text × Gains text old new

@@ -15,7 +15,7 @@ is_one_line (byte ∷ next ∷ rest) = not (byte == 10) && is_one_line (next ∷
 abbrev pub is_time : List ℕ → Bool
 is_time text = starts_with (λ one other. one == other) text (codes "milliseconds: ") && is_one_line text
 
--- A text without its last line, if that is the line with the time. The flag is whether a line
+-- A text without its last line, if that is the line with the time. `begins` is whether a line
 -- begins with the text.
 abbrev pub timeless_from : Bool → List ℕ → List ℕ
 timeless_from begins [] = []
@@ -26,7 +26,7 @@ timeless_from begins (byte ∷ rest) = if begins && is_time (byte ∷ rest) then
 abbrev pub timeless : List ℕ → List ℕ
 timeless answer = timeless_from true answer
 
--- A line begins at an offset, and continues to another one.
+-- The line with the offset `at` begins at the offset `start`.
 pub record IsLineStart (text : List ℕ) (at start : ℕ) : Type 0 where
   pub before : start ≤ at
   pub begins : (start ≡ 0) ⊎ ((k : ℕ) × (start ≡ k + 1) × (slice_index text k ≡ 10))

@@ -13,13 +13,13 @@ use Rattle.logos_answers.specs.Quoting.{quoted}
 abbrev pub bytes_between : List ℕ → ℕ → ℕ → List ℕ
 bytes_between input from to = if nat_le from to && nat_le to (length input) then take (to - from) (drop from input) else []
 
--- The last match of a leaf among these, or otherwise the given one. If the matches are in the order
+-- The last match of a leaf in a list, or `found` if there is none. If the matches are in the order
 -- of their ends, it is the longest.
 abbrev pub last_of : ℕ → Option Match → List Match → Option Match
 last_of leaf found [] = found
 last_of leaf found (m ∷ rest) = last_of leaf (if m.leaf == leaf then Some m else found) rest
 
--- A leaf at the beginning of a line.
+-- The beginning of the line of a leaf.
 abbrev pub leaf_head : List Leaf → ℕ → List ℕ
 leaf_head leaves leaf = codes "  leaf " ++ (decimal leaf ++ (codes "  " ++ (name_at leaves leaf ++ codes "  ")))
 
@@ -44,7 +44,7 @@ module _ (leaves : List Leaf) (input : List ℕ) (from : ℕ) where
   abbrev pub lines_of : List (Option Match) → List ℕ
   lines_of found = flat_map line_or_none found
 
--- The last match of each of some leaves, from a number on.
+-- The last match of each of consecutive leaves, from the first one's number and their count.
 abbrev pub longest_from : List Match → ℕ → ℕ → List (Option Match)
 longest_from matches leaf zero = []
 longest_from matches leaf (suc count) = last_of leaf None matches ∷ longest_from matches (suc leaf) count
@@ -65,7 +65,7 @@ abbrev pub IsVerdict : List Leaf → List Match → List ℕ → Type 0
 IsVerdict leaves matches text =
     ((matches ≡ []) × (text ≡ codes "no leaf matches\n")) ⊎ ((m : Match) × IsWinner matches m × (text ≡ winner_text leaves matches m))
 
--- The lines about the matches from an offset, for all matches from there.
+-- The lines about all matches from an offset.
 pub record AreLines (leaves : List Leaf) (input : List ℕ) (from : ℕ) (matches : List Match) (text : List ℕ) : Type 0 where
   pub verdict : List ℕ
   pub decided : IsVerdict leaves matches verdict

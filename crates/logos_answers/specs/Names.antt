@@ -26,7 +26,7 @@ name_or_none (Some leaf) = leaf_name leaf
 abbrev pub name_at : List Leaf → ℕ → List ℕ
 name_at leaves leaf = name_or_none (slice_get leaves leaf)
 
--- A leaf, by its name and its number.
+-- A leaf in messages: its name and its number.
 abbrev pub leaf_text : List Leaf → ℕ → List ℕ
 leaf_text leaves leaf = codes "`" ++ (name_at leaves leaf ++ (codes "` (leaf " ++ (decimal leaf ++ codes ")")))
 

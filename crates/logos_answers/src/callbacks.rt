@@ -10,10 +10,10 @@ use std::alloc::{AllocError, Global};
 /// The variants and callbacks of a lexer, for lookups.
 #[derive(Drop)]
 struct Known<'l> {
-    /// The names of its variants, and `skip` if it has skips.
+    /// The names of the lexer's variants, and `skip` if it has skips.
     variants: IndexSet<&'l str>,
-    /// The names of its variants with the callbacks of their leaves. A missing callback is an empty
-    /// text.
+    /// The names of the lexer's variants with the callbacks of their leaves. A missing callback is
+    /// an empty text.
     callbacks: IndexSet<(&'l str, &'l str)>,
 }
 

@@ -13,11 +13,11 @@ use std::alloc::{AllocError, Global};
 /// The result of a comparison of two lexers.
 #[derive(Debug, Drop)]
 pub enum Compared {
-    /// From each offset of each input the two find the same variants and errors.
+    /// The two lexers find the same variants and errors from each offset of each input.
     Same,
-    /// At the beginning of this input they find different ones.
+    /// The lexers find different variants or errors at the beginning of this input.
     Differ(Vec<u8>),
-    /// One reads UTF-8, and the other one reads any bytes.
+    /// One lexer reads UTF-8, and the other one reads any bytes.
     OtherMode,
 }
 
@@ -86,7 +86,7 @@ fn numbers_of<'l>(
     Ok(numbers)
 }
 
-/// Returns the number of a variant in a table, to which a new name is added, or 0 for a skip.
+/// Returns the number of a variant, or 0 for a skip. Adds a new name to the table.
 fn number_of<'l>(table: &mut IndexSet<&'l str>, name: Option<&'l str>) -> Result<usize, AllocError>
     ensures number { IfOk result (λ number. IsNumberOf table.new.keys
         (option_map (λ name. name.now) name.entry) number) }
@@ -100,7 +100,7 @@ fn number_of<'l>(table: &mut IndexSet<&'l str>, name: Option<&'l str>) -> Result
     }
 }
 
-/// Returns the index of a name in a table plus 1. A new name is added.
+/// Returns the index of a name in a table, plus 1. Adds a new name to the table.
 fn index_of<'l>(table: &mut IndexSet<&'l str>, name: &'l str) -> Result<usize, AllocError>
     ensures number { IfOk result (λ number. IsNumberOf table.new.keys (Some name.now) number) }
     ensures grows { OnOk result (Grows table.old.keys table.new.keys) }

@@ -27,7 +27,7 @@ impl Counts {
     ghost use Rattle.std.specs.Prelude.{◌≡◌, IfOk, replicate, slice_index};
     ghost use Rattle.logos_answers.specs.Imports.{CountsItem, Gains, ends_text, one_more, totals_text, variant_lines};
 
-    /// Returns counts that are zero, for this many leaves.
+    /// Returns counts of zero for `leaves` leaves.
     ///
     /// # Errors
     ///
@@ -59,9 +59,9 @@ impl Counts {
         self.errors = self.errors.saturating_add(1);
     }
 
-    /// Appends the counts for an input that the lexer of the enum with this name read: the name, a
-    /// line for each variant with items that has their number, the number of errors, and the
-    /// measurements. The leaves of a variant are consecutive.
+    /// Appends the counts for an input: the name of the enum, a line with the number of items for
+    /// each variant that has items, the number of errors, and the measurements. The leaves of a
+    /// variant must be consecutive.
     pub fn push_totals(&self, page: &mut Page, name: &str, leaves: &[CodeLeaf<'_>], totals: Totals)
         ensures { Gains (totals_text name.now leaves.now self.now.by_leaf.items self.now.errors
             totals.bytes totals.passed) page.old page.new }
@@ -116,8 +116,8 @@ fn push_title(page: &mut Page, name: &str)
 }
 
 /// Appends the line of a variant at its last leaf. `sum` is the number of the items of the leaves
-/// of the variant up to this one. Returns the sum for the next leaf, which is 0 after the end of a
-/// variant.
+/// of the variant up to the leaf `number`. Returns the sum for the next leaf, which is 0 after the
+/// end of a variant.
 fn push_sum(page: &mut Page, leaves: &[CodeLeaf<'_>], number: usize, sum: usize) -> usize
     requires { number < length leaves.now }
     ensures line { Gains (line_after leaves.now number sum) page.old page.new }
@@ -130,7 +130,7 @@ fn push_sum(page: &mut Page, leaves: &[CodeLeaf<'_>], number: usize, sum: usize)
     0
 }
 
-/// Returns whether the next leaf is of the same variant.
+/// Returns whether the next leaf has the variant of the leaf `number`.
 fn next_shares_variant(leaves: &[CodeLeaf<'_>], number: usize) -> bool
     requires { number < length leaves.now }
     ensures { result ≡ next_shares_variant leaves.now number }
@@ -152,7 +152,7 @@ fn is_same_name(one: Option<&str>, other: Option<&str>) -> bool
     }
 }
 
-/// Returns the name of the variant of a leaf; `None` for a skip, and if there is no such leaf.
+/// Returns the name of the variant of a leaf, or `None` for a skip and if there is no such leaf.
 pub fn code_name_at<'l>(leaves: &'l [CodeLeaf<'_>], number: usize) -> Option<&'l str>
     ensures { option_map (λ name. name.now) result ≡ code_variant leaves.now number }
 {

@@ -37,7 +37,7 @@ pub struct Finding<'f> {
     pub bytes: &'f [u8],
 }
 
-/// Appends the kinds of inputs that two lexers read.
+/// Appends a line for each of two lexers, which states whether it reads UTF-8 or any bytes.
 pub fn push_modes(page: &mut Page, one: NamedLexer<'_, '_>, other: NamedLexer<'_, '_>)
     ensures { Gains (mode_line one.entry.path.now one.entry.graph.now.utf8
         ++ mode_line other.entry.path.now other.entry.graph.now.utf8) page.old page.new }
@@ -46,7 +46,7 @@ pub fn push_modes(page: &mut Page, one: NamedLexer<'_, '_>, other: NamedLexer<'_
     push_mode(page, other);
 }
 
-/// Appends the line with the kind of inputs that a lexer reads.
+/// Appends the line that states whether a lexer reads UTF-8 or any bytes.
 fn push_mode(page: &mut Page, one: NamedLexer<'_, '_>)
     ensures { Gains (mode_line one.entry.path.now one.entry.graph.now.utf8) page.old page.new }
 {
@@ -124,7 +124,7 @@ fn push_finding(
     Ok(())
 }
 
-/// Appends an error, or that there is none if it is empty.
+/// Appends an error, or `nothing` if it is empty.
 fn push_error(page: &mut Page, error: &[u8]) {
     if error.is_empty() {
         page.push("nothing");

@@ -18,7 +18,7 @@ use std::alloc::{AllocError, Global};
 pub struct Evidence {
     /// A shortest input on which a lexer finds a match of the leaf first, if there is one.
     pub found: Option<Vec<u8>>,
-    /// A shortest input on which it matches and another leaf is found first, if there is one.
+    /// A shortest input on which the leaf matches and another leaf is found first, if there is one.
     pub loss: Option<Loss>,
 }
 
@@ -94,7 +94,7 @@ fn loss_of(alloc: Global, graph: &Graph<'_>, leaf: usize) -> Result<Option<Loss>
     }
 }
 
-/// Returns an input that a leaf loses, with the leaf that is found there first.
+/// Returns an input with the leaf that is found first in it, or `None` if no leaf is found there.
 fn with_winner(alloc: Global, graph: &Graph<'_>, input: Vec<u8>) -> Result<Option<Loss>, AllocError>
     ensures { IfOk result (λ loss. (leaf : ℕ) →
         IsGraphOf graph.now.leaves graph.now.utf8 graph.now → graph.now.faults ≡ [] →
@@ -124,7 +124,7 @@ fn push_evidence(page: &mut Page, leaves: &[Leaf<'_>], leaf: usize, evidence: &E
     page.push("\n");
 }
 
-/// Appends the input that a leaf finds, or that it finds none.
+/// Appends the input that a leaf finds, or `finds nothing`.
 fn push_found(page: &mut Page, found: &Option<Vec<u8>>)
     ensures { Gains (shown.found_text (option_map (λ input. input.items) found.now))
         page.old page.new }

@@ -11,9 +11,9 @@ use logos_page::Page;
 /// The beginning of the line that may differ between two runs.
 const TIME: &[u8] = b"milliseconds: ";
 
-/// Appends whether an answer equals the stored one, and returns whether it does. If not, appends
-/// the line and the column of the stored one at which they first differ, and both lines. The line
-/// with the time is not compared. `path` is the path of the stored answer.
+/// Appends the result of comparing an answer with the one that is stored at `path`, and returns
+/// whether they are equal. If they are not, the result is the line and the column of the stored
+/// answer at which they first differ, and both lines. A last line with the time is not compared.
 pub fn push_agreement(page: &mut Page, path: &str, stored: &[u8], made: &[u8]) -> bool
     ensures same { IsTrue result ↔ (timeless stored.now ≡ timeless made.now) }
     ensures shows { ShowsAgreement path.now result page.old page.new }
@@ -39,7 +39,7 @@ fn without_time(answer: &[u8]) -> &[u8]
     answer
 }
 
-/// Returns the offset after the last LF before an offset.
+/// Returns the offset at which the line with the offset `at` begins.
 fn line_start(text: &[u8], at: usize) -> usize
     requires { at ≤ length text.now }
     ensures { IsLineStart text.now at result }
@@ -51,7 +51,7 @@ fn line_start(text: &[u8], at: usize) -> usize
     start
 }
 
-/// Returns the bytes before an offset.
+/// Returns the bytes before an offset, or all bytes if there are fewer.
 fn front_of(text: &[u8], at: usize) -> &[u8]
     ensures { result.now ≡ take at text.now }
 {
@@ -61,7 +61,7 @@ fn front_of(text: &[u8], at: usize) -> &[u8]
     }
 }
 
-/// Returns the bytes from an offset on.
+/// Returns the bytes from an offset to the end, or none if there are fewer.
 fn tail_of(text: &[u8], at: usize) -> &[u8]
     ensures { result.now ≡ drop at text.now }
 {
@@ -112,7 +112,7 @@ fn push_location(page: &mut Page, text: &[u8], at: usize)
     push_point(page, cursor.location());
 }
 
-/// Appends a line and a column, and the end of the line of a difference.
+/// Appends a location, and the rest of the line that reports a difference.
 fn push_point(page: &mut Page, location: Location)
     ensures { (added : List ℕ) × Gains added page.old page.new }
 {
@@ -123,7 +123,7 @@ fn push_point(page: &mut Page, location: Location)
     page.push(": the answer is another\n");
 }
 
-/// Appends a line of an answer in quotes.
+/// Appends the text `before`, and a line of an answer in quotes.
 fn push_line(page: &mut Page, before: &str, line: &[u8])
     ensures { Gains (line_text before.now line.now) page.old page.new }
 {

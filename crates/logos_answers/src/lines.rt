@@ -11,17 +11,17 @@ use std::str;
 /// The maximum number of characters of an item that are shown.
 const SHOWN: usize = 60;
 
-/// The length in bytes of two numbers of 20 digits and a colon between them.
+/// The maximum length in bytes of a location: two numbers of 20 digits with a colon between them.
 const POSITION: usize = 41;
 
 /// The length in bytes of the longest head for which a line is assembled in one buffer.
 const HEAD: usize = 64;
 
-/// The length in bytes of the longest line that is assembled in one buffer: a position, a head, an
+/// The length in bytes of the longest line that is assembled in one buffer: a location, a head, an
 /// escape of four bytes for each shown byte, a quote and a line end.
 pub const LINE: usize = 347;
 
-/// Appends the line of an item: its position, its head, which names it, and its text in quotes. A
+/// Appends the line of an item: its location, its head, which names it, and its text in quotes. A
 /// short line is assembled in `line` first.
 ///
 /// # Errors
@@ -46,7 +46,7 @@ pub fn push_item(
     block.extend_from_slice(b"\n")
 }
 
-/// Writes a position as `line:column` so that it ends at `POSITION`, and returns the index at which
+/// Writes a location as `line:column` so that it ends at `POSITION`, and returns the index at which
 /// it begins.
 #[inline(always)]
 fn write_location(line: &mut [u8; LINE], location: Location) -> usize
@@ -58,7 +58,7 @@ fn write_location(line: &mut [u8; LINE], location: Location) -> usize
     write_digits(location.line as u64, line, colon)
 }
 
-/// Writes the rest of a line after the position of an item with a short ASCII text, and returns the
+/// Writes the rest of a line after the location of an item with a short ASCII text, and returns the
 /// index at which it ends.
 #[inline(always)]
 fn write_short(line: &mut [u8; LINE], head: &[u8], slice: &[u8]) -> usize
@@ -87,8 +87,7 @@ fn write_text(line: &mut [u8], at: usize, text: &[u8]) -> usize
     end
 }
 
-/// Writes a byte that needs no escape in quotes, or the escape of another one, and returns the
-/// index at which that ends.
+/// Writes a byte, or its escape if it needs one in quotes, and returns the index after it.
 #[inline(always)]
 fn write_byte(text: &mut [u8], at: usize, byte: u8) -> usize
     requires { at + 4 ≤ length text.old }
@@ -125,7 +124,8 @@ fn write_escape(text: &mut [u8], at: usize, byte: u8) -> usize
     at + 4
 }
 
-/// Returns the letter after the backslash in the escape of a byte whose escape has two bytes.
+/// Returns the letter after the backslash in the escape of a byte, or `None` if that escape does
+/// not have exactly two bytes.
 fn letter_of(byte: u8) -> Option<u8> {
     match byte {
         b'"' | b'\\' => Some(byte),

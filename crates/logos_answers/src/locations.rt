@@ -27,16 +27,17 @@ fn location_of(line: Option<usize>, column: Option<usize>) -> Option<Location>
     }
 }
 
-/// Returns the number in a text, which is at least 1, or `None` if the text is not a number. It has
-/// at most seventeen digits.
+/// Returns the number in a text, which is at least 1 and has at most seventeen digits, or `None` if
+/// the text is not such a number.
 pub fn number_by_text(text: &str) -> Option<usize>
     ensures { result ≡ number_named text.now }
 {
     digits_after(0, text.as_bytes())
 }
 
-/// Returns the number whose digits are those of `number` followed by `digits`. A number has at most
-/// seventeen digits, which bounds the depth of the recursion.
+/// Returns the number whose digits are those of `number` followed by `digits`. Returns `None` if
+/// that is not a positive number of at most seventeen decimal digits without leading zeros. This
+/// bound also limits the depth of the recursion.
 fn digits_after(number: usize, digits: &[u8]) -> Option<usize>
     ensures { result ≡ digits_after (Some number) digits.now }
 {

@@ -20,7 +20,7 @@ struct MatchStart<'a, 's> {
     from: usize,
 }
 
-/// Appends a line for each leaf that matches from an offset of an input, with its longest match
+/// Appends a line for each leaf that matches from a byte offset of an input, with its longest match
 /// from there, and then a line with the match that a lexer takes there, and the reason.
 ///
 /// # Errors
@@ -77,8 +77,8 @@ pub fn push_first(
     Ok(true)
 }
 
-/// Returns the last match of each leaf. If the matches are in the order of their ends, it is the
-/// longest one.
+/// Returns the last match of each leaf, or `None` for a leaf without a match. If the matches are in
+/// the order of their ends, the last match of a leaf is its longest one.
 ///
 /// # Errors
 ///
@@ -97,7 +97,7 @@ pub fn longest_of(
     Ok(longest)
 }
 
-/// Replaces an earlier match of the same leaf.
+/// Sets the match of the leaf of `found`, in place of an earlier one.
 fn set_longest(longest: &mut Vec<Option<Match>>, found: Match)
     ensures count { length longest.new.items ≡ length longest.old.items }
     ensures each { (leaf : ℕ) → leaf < length longest.old.items →
@@ -169,7 +169,7 @@ fn length_from(from: usize, end: usize) -> usize
     end.saturating_sub(from)
 }
 
-/// Appends a number of bytes.
+/// Appends a number of bytes with its unit.
 fn push_length(page: &mut Page, count: usize)
     ensures { Gains (shown.length_text count) page.old page.new }
 {
@@ -195,7 +195,7 @@ pub fn bytes_between(input: &[u8], from: usize, to: usize) -> &[u8]
     }
 }
 
-/// Appends the line with the match that a lexer takes among these.
+/// Appends the line with the match that a lexer takes, or a line which states that no leaf matches.
 fn push_verdict(page: &mut Page, leaves: &[Leaf<'_>], matches: &[Match])
     ensures { (text : List ℕ) × shown.IsVerdict leaves.now matches.now text
         × Gains text page.old page.new }

@@ -1,4 +1,4 @@
-//! The note that callbacks were not called.
+//! The note which states that callbacks were not called. Used by `logos_items`.
 
 use crate::counts::{Counts, code_name_at};
 use logos_code::code::CodeLeaf;

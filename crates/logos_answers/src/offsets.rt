@@ -13,8 +13,8 @@ fn begins_at(byte: u8, here: Location, location: Location) -> bool
     !continues(byte) & (here == location)
 }
 
-/// Returns the offset of a line and a column of an input, or `None` if it does not have them. Lines
-/// and columns are counted from 1, and columns count characters.
+/// Returns the offset in bytes of a line and a column of an input, or `None` if the input does not
+/// have them. Lines and columns are counted from 1, and columns count characters.
 pub fn offset_of(input: &[u8], location: Location) -> Option<usize>
     ensures { MatchOption result ((at : ℕ) → ¬ IsOffsetOf input.now location at)
         (IsOffsetOf input.now location) }

@@ -182,7 +182,7 @@ fn push_number_escape(page: &mut Page, number: u32)
     page.push("}");
 }
 
-/// Appends four digits of a number, or six.
+/// Appends the last four hexadecimal digits of a number, or six if it has more than four.
 fn push_number_digits(page: &mut Page, number: u32)
     ensures { Gains (shown.number_digits number) page.old page.new }
 {
@@ -268,7 +268,7 @@ fn is_hidden_special(number: u32) -> bool
     is_between(0xFFF0, 0xFFFB, number) | is_between(0xE0000, 0xE0FFF, number)
 }
 
-/// Returns whether a number is in a range.
+/// Returns whether a number is in `from..=to`.
 fn is_between(from: u32, to: u32, number: u32) -> bool
     ensures { result ≡ shown.is_between from to number }
 {

@@ -77,7 +77,7 @@ fn first_line(text: &str) -> &str {
     }
 }
 
-/// Returns the widths of the columns for these rows and the headings.
+/// Returns the widths of the columns that fit these rows and the headings.
 fn widths_of(rows: &[LeafRow<'_>]) -> Widths {
     let mut widths = Widths {
         variant: 7,
@@ -91,7 +91,7 @@ fn widths_of(rows: &[LeafRow<'_>]) -> Widths {
     widths
 }
 
-/// Returns the widths for one more row.
+/// Returns the widths of the columns with one more row.
 fn widened(widths: Widths, row: LeafRow<'_>) -> Widths {
     Widths {
         variant: max(widths.variant, width_of(variant_cell(row))),
@@ -106,7 +106,7 @@ fn pattern_width(row: LeafRow<'_>) -> usize {
     cut_width(pattern_cell(row)).saturating_add(options_cell(row).len())
 }
 
-/// Returns the width of a text that is cut if it is long.
+/// Returns the width of the shown form of a text, which is cut if it is long.
 fn cut_width(text: &str) -> usize {
     match long_front(text) {
         Some(front) => width_of(front).saturating_add(2),
@@ -121,7 +121,7 @@ fn long_front(text: &str) -> Option<&str> {
     if rest.is_empty() { None } else { Some(front) }
 }
 
-/// Returns the width of a text.
+/// Returns the width of a text, in columns.
 fn width_of(text: &str) -> usize {
     let mut width: usize = 0;
     for character in text.chars() {
@@ -130,7 +130,7 @@ fn width_of(text: &str) -> usize {
     width
 }
 
-/// Returns the width of a character.
+/// Returns the width of a character, in columns.
 fn columns_of(character: char) -> usize {
     if character == '\t' { TAB } else { 1 }
 }
@@ -146,7 +146,7 @@ fn push_heads(page: &mut Page, widths: Widths) {
     page.push("line\n");
 }
 
-/// Appends a row.
+/// Appends the row of the leaf `number`.
 fn push_row(page: &mut Page, number: usize, row: LeafRow<'_>, widths: Widths) {
     push_right(page, number, 4);
     push_cell(page, variant_cell(row), widths.variant);

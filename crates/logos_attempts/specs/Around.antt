@@ -30,7 +30,8 @@ pub data LeadsTo (code : CodeValue) (input : List ℕ) : ℕ → Type 0 where
   begins : LeadsTo code input 0
   passes : (found : Surrounding) → LeadsTo code input found.from → Finds code input found → LeadsTo code input found.to
 
--- One of these match attempts finds this, which begins before the offset and ends after it.
+-- `found` begins before the offset and ends after it, and is the result of one of the match
+-- attempts from the beginning of the input.
 pub record IsAround (code : CodeValue) (input : List ℕ) (offset : ℕ) (found : Surrounding) : Type 0 where
   pub leads : LeadsTo code input found.from
   pub finds : Finds code input found
@@ -56,6 +57,6 @@ around_text leaves input found =
     codes "inside " ++ (kind_text leaves found.kind ++ (codes " from " ++ (location_text (location_in input found.from) ++ (codes " to " ++
     (location_text (location_in input found.to) ++ (codes "  " ++ (quoted (bytes_between input found.from found.to) ++ codes "\n")))))))
 
--- The line of the match or the error around an offset, or nothing.
+-- The line of the match or the error around an offset, or an empty text.
 abbrev pub IsAroundText : CodeValue → List Leaf → List ℕ → ℕ → List ℕ → Type 0
 IsAroundText code leaves input offset text = (text ≡ []) ⊎ ((found : Surrounding) × IsAround code input offset found × (text ≡ around_text leaves input found))

@@ -1,4 +1,4 @@
--- The lines about how far leaves read where none matches.
+-- The lines of partial matches, at an offset from which no leaf matches.
 use Rattle.std.specs.Prelude.{◌≡◌, ◌<◌, ◌≤◌, ◌⊎◌, ℕ, zero, suc, List, [], ◌++◌, codes, decimal, length}
 use Rattle.logos_answers.specs.Matches.{bytes_between}
 use Rattle.logos_answers.specs.Names.{name_at}
@@ -14,7 +14,7 @@ use Rattle.logos_attempts.specs.Around.{location_in, location_text}
 abbrev pub shown : ℕ
 shown = 8
 
--- A leaf at the beginning of its line.
+-- The beginning of the line of a leaf.
 abbrev pub reader_text : List Leaf → ℕ → List ℕ
 reader_text leaves leaf = codes "  leaf " ++ (decimal leaf ++ (codes "  " ++ name_at leaves leaf))
 
@@ -23,7 +23,7 @@ abbrev pub read_text : List ℕ → ℕ → ℕ → List ℕ
 read_text input from end = codes "  reads " ++ (quoted (bytes_between input from end) ++ (codes " to " ++ location_text (location_in input end)))
 
 module _ (leaves : List Leaf) (input : List ℕ) (from : ℕ) where
-  -- The line of a leaf that reads up to an offset and needs other bytes then.
+  -- The line of a leaf that reads up to the offset `end` and then needs other bytes.
   abbrev pub partial_line : ℕ → ℕ → List ℕ → List ℕ
   partial_line leaf end needs = reader_text leaves leaf ++ (read_text input from end ++ (codes "  then needs " ++ (needs ++ codes "\n")))
 
@@ -36,7 +36,7 @@ module _ (leaves : List Leaf) (input : List ℕ) (from : ℕ) where
     begins : PartialLines 0 []
     adds : (count : ℕ) (text line : List ℕ) → PartialLines count text → IsPartialLine line → PartialLines (suc count) (text ++ line)
 
-  -- The line of a leaf was appended, or nothing.
+  -- The line of a leaf, or an empty text, was appended.
   abbrev pub AddsLine : PageValue → PageValue → Type 0
   AddsLine old new = (line : List ℕ) × ((line ≡ []) ⊎ IsPartialLine line) × Gains line old new
 
@@ -49,6 +49,7 @@ module _ (leaves : List Leaf) (input : List ℕ) (from : ℕ) where
     pub rest : List ℕ
     pub is : text ≡ lines ++ rest
 
-  -- Only where a match attempt finds an error are there lines.
+  -- The text is empty; or a match attempt from the offset finds an error, and the text has the
+  -- lines of leaves.
   abbrev pub IsPartialText : CodeValue → List ℕ → Type 0
   IsPartialText code text = (text ≡ []) ⊎ ((to : ℕ) × CodeFinds code input from (failed to) × ArePartialLines text)

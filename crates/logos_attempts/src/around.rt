@@ -31,8 +31,8 @@ pub struct Surrounding {
 }
 
 /// Returns the match or the error that begins before an offset of an input and ends after it, if a
-/// lexer finds one from the beginning on. No callback is called. An input that the lexer refuses,
-/// since it is not UTF-8, has none.
+/// lexer that begins at the first byte finds one. No callback is called. An input that the lexer
+/// refuses, since it is not UTF-8, has none.
 pub fn match_around(code: &Code<'_>, input: &[u8], offset: usize) -> Option<Surrounding>
     requires { offset ≤ length input.now }
     ensures { IfSome result (IsAround code.now input.now offset) }
@@ -48,7 +48,8 @@ fn is_refused(code: &Code<'_>, input: &[u8]) -> bool {
     code.is_utf8() & str::from_utf8(input).is_err()
 }
 
-/// Returns the match or the error that begins before an offset of an input and ends after it.
+/// Returns the match or the error that begins before an offset of an input and ends after it, if
+/// there is one.
 fn found_around(code: &Code<'_>, input: &[u8], offset: usize) -> Option<Surrounding>
     requires { offset ≤ length input.now }
     ensures { IfSome result (IsAround code.now input.now offset) }
@@ -80,14 +81,14 @@ pub(crate) fn found_at(code: &Code<'_>, input: &[u8], from: usize) -> Surroundin
     }
 }
 
-/// Returns a match or an error with this span.
+/// Returns a match or an error of the kind `kind` with the span `from..to`.
 fn around_of(kind: SurroundingKind, from: usize, to: usize) -> Surrounding
     ensures { result ≡ record { kind = kind; from = from; to = to } }
 {
     Surrounding { kind, from, to }
 }
 
-/// Appends a line with the match or the error around an offset of an input, if there is one.
+/// Appends a line with the match or the error around a byte offset of an input, if there is one.
 pub fn push_around(
     page: &mut Page,
     code: &Code<'_>,

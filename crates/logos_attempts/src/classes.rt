@@ -12,8 +12,8 @@ const NEEDED: usize = 12;
 /// The number of bytes that are ASCII.
 const ASCII: usize = 128;
 
-/// Appends a set of bytes, one of which a leaf needs next. If it has the first byte of every
-/// character outside ASCII, the ASCII characters are shown that it excludes.
+/// Appends a set of bytes, one of which a leaf needs next. If the set contains the first byte of
+/// every character outside ASCII, appends the ASCII characters that it excludes.
 pub(crate) fn push_needed(page: &mut Page, class: &ByteClass) {
     if !is_wide(class) {
         return push_class(page, class, NEEDED);
@@ -32,7 +32,7 @@ fn is_wide(class: &ByteClass) -> bool {
     has_run(class, 0xC2, 0xF4)
 }
 
-/// Returns whether a range of a set has all bytes from one to another.
+/// Returns whether one range of a set contains all bytes in `first..=last`.
 fn has_run(class: &ByteClass, first: u8, last: u8) -> bool {
     class
         .ranges
@@ -56,7 +56,7 @@ fn push_run(page: &mut Page, range: Option<RangeInclusive<u8>>) {
     }
 }
 
-/// Returns the range of equal flags that begins at a byte, if one with this flag does.
+/// Returns the longest range of bytes whose flags are `flag`, if one begins at `from`.
 pub(crate) fn run_at(table: &[bool], flag: bool, from: usize) -> Option<RangeInclusive<u8>> {
     if !has_flag(table, flag, from) {
         return None;
@@ -68,7 +68,7 @@ pub(crate) fn run_at(table: &[bool], flag: bool, from: usize) -> Option<RangeInc
     Some(RangeInclusive::new((from % 256) as u8, (end.saturating_sub(1) % 256) as u8))
 }
 
-/// Returns whether a byte has this flag.
+/// Returns whether the flag of a byte is `flag`.
 fn has_flag(table: &[bool], flag: bool, byte: usize) -> bool {
     match table.get(byte) {
         Some(found) => *found == flag,
@@ -76,7 +76,7 @@ fn has_flag(table: &[bool], flag: bool, byte: usize) -> bool {
     }
 }
 
-/// Returns the first byte from another one on that does not have this flag, or the length.
+/// Returns the first byte, at least `from`, whose flag is not `flag`, or the length of the table.
 fn run_end(table: &[bool], flag: bool, from: usize) -> usize {
     for byte in from..table.len() {
         if table[byte] != flag {
@@ -96,7 +96,7 @@ pub fn push_class(page: &mut Page, class: &ByteClass, most: usize) {
     push_others(page, class.ranges.len().saturating_sub(most));
 }
 
-/// Appends the number of the ranges that are left out, if there are some.
+/// Appends the number of the ranges that are left out, if there are any.
 fn push_others(page: &mut Page, count: usize) {
     if count > 0 {
         page.push(" +");
@@ -104,7 +104,7 @@ fn push_others(page: &mut Page, count: usize) {
     }
 }
 
-/// Appends a range of bytes.
+/// Appends a range of bytes, as its first byte and its last byte if they differ.
 fn push_range(page: &mut Page, range: &RangeInclusive<u8>) {
     let first = *range.start();
     let last = *range.end();
@@ -127,7 +127,7 @@ fn push_byte(page: &mut Page, byte: u8) {
     }
 }
 
-/// Appends a byte that has a meaning between brackets.
+/// Appends the escape of a byte that has a meaning between brackets.
 fn push_escaped(page: &mut Page, byte: u8) {
     page.push("\\");
     page.push_char(byte as char);

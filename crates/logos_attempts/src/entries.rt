@@ -1,4 +1,4 @@
-//! How often match attempts enter the states of a graph. Called by `logos_html`.
+//! Counts the entries of the states of a graph by match attempts. Called by `logos_html`.
 
 ghost use Rattle.std.specs.Prelude.{◌≡◌, ◌≤◌, length};
 
@@ -8,22 +8,23 @@ use logos_graph::byte_class::ByteClass;
 use logos_graph::graph::StateData;
 use std::alloc::{AllocError, Global};
 
-/// The number of entries after which no other match attempt is counted.
+/// The number of entries after which no further match attempt is counted.
 const MOST: usize = 4_194_304;
 
-/// How often match attempts enter states, on the front of an input.
+/// The number of times that match attempts enter each state, on the front of an input.
 #[derive(Drop)]
 pub struct Entries {
-    /// For each state the number of times that it is entered.
+    /// The number of entries of each state.
     pub counts: Vec<usize>,
-    /// The counted match attempts are those that begin before this offset.
+    /// The byte offset before which the counted match attempts begin.
     pub end: usize,
     /// The sum of the counts.
     total: usize,
 }
 
-/// Returns how often the match attempts that begin in the first `most` bytes of an input enter the
-/// states of a graph, on these bytes. After 4,194,304 entries no other match attempt is counted.
+/// Returns the number of times that match attempts enter each state of a graph. The match attempts
+/// begin in the first `most` bytes of an input, and end with these bytes. After 4,194,304 entries
+/// no further match attempt is counted.
 ///
 /// # Errors
 ///
@@ -80,7 +81,7 @@ fn add_end(entries: &mut Entries, states: &[&StateData], state: usize)
     }
 }
 
-/// Counts a state.
+/// Counts an entry of a state.
 fn add_entry(entries: &mut Entries, state: usize)
     ensures { entries.new.end ≡ entries.old.end }
 {
@@ -90,7 +91,7 @@ fn add_entry(entries: &mut Entries, state: usize)
     }
 }
 
-/// Returns the state to which a byte leads.
+/// Returns the state to which a byte leads, if there is one.
 fn target_of(states: &[&StateData], state: usize, byte: u8) -> Option<usize> {
     let data = states.get(state)?;
     for edge in &data.normal {
@@ -101,7 +102,7 @@ fn target_of(states: &[&StateData], state: usize, byte: u8) -> Option<usize> {
     None
 }
 
-/// Returns the state to which the end of the input leads.
+/// Returns the state to which the end of the input leads, if there is one.
 fn target_at_end(states: &[&StateData], state: usize) -> Option<usize> {
     let data = states.get(state)?;
     let next = data.eoi?;

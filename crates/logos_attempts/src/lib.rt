@@ -1,5 +1,5 @@
 //! Match attempts on an input: the match or the error around an offset, partial matches where no
-//! leaf matches, and how often states are entered. Called by `logos_replies` and `logos_html`.
+//! leaf matches, and counts of entered states. Called by `logos_replies` and `logos_html`.
 
 #![tactic(auto)]
 

@@ -26,8 +26,9 @@ struct ReadStart<'a, 's> {
 }
 
 /// Appends a line for each of at most eight leaves that read at least one byte from an offset of an
-/// input, if no leaf matches from there: how far the leaf reads, and the bytes that continue it.
-/// Those that read furthest come first, and the number of the others comes last.
+/// input, if no leaf matches from there: the bytes that the leaf reads, and the bytes that can
+/// continue them. Leaves that read furthest come first, and the number of the other leaves comes
+/// last.
 ///
 /// # Errors
 ///
@@ -108,7 +109,8 @@ fn push_lines(
     Ok(())
 }
 
-/// Returns a line with the number of the partial matches that are not shown, or no text if it is 0.
+/// Returns a line with the number of the partial matches that are not shown, or an empty text if it
+/// is 0.
 fn others_text(alloc: Global, count: usize) -> Result<String, AllocError> {
     let mut page = Page::new(alloc, false);
     if count > 0 {
@@ -229,7 +231,8 @@ fn needs_of(alloc: Global, partial: &PartialMatch) -> Result<String, AllocError>
     page.finish()
 }
 
-/// Appends the bytes that continue a partial match, and whether the end of the input does.
+/// Appends the bytes that continue a partial match, and the end of the input if it completes a
+/// match.
 fn push_next(page: &mut Page, partial: &PartialMatch) {
     if partial.next.ranges.is_empty() {
         page.push("the end of the input");
@@ -241,7 +244,7 @@ fn push_next(page: &mut Page, partial: &PartialMatch) {
     }
 }
 
-/// Appends the bytes that complete a partial match, if not all that continue it do.
+/// Appends the bytes that complete a partial match, unless all bytes that continue it do.
 fn push_last(page: &mut Page, partial: &PartialMatch) {
     if partial.last.ranges.is_empty() | (partial.last == partial.next) {
         return;

@@ -1,5 +1,5 @@
-//! Partial matches: how far each leaf reads an input from an offset, and the bytes that continue
-//! it. Used by `partial_lines`.
+//! Partial matches: for each leaf the longest prefix of a match that an input has at an offset, and
+//! the bytes that continue it. Used by `partial_lines`.
 
 use crate::classes::run_at;
 use logos_automaton::dfa::Dfa;
@@ -16,7 +16,7 @@ pub struct PartialMatch {
     pub leaf: usize,
     /// The offset of the input at which the prefix ends, in bytes.
     pub end: usize,
-    /// The bytes that continue the prefix to one of a match, or complete a match before them.
+    /// The bytes that continue the prefix, or before which a match ends.
     pub next: ByteClass,
     /// The bytes that complete a match at the end of an input.
     pub last: ByteClass,
@@ -24,14 +24,15 @@ pub struct PartialMatch {
     pub may_end: bool,
 }
 
-/// The states of an automaton that an input enters from an offset on.
+/// The states that an automaton enters on an input from an offset, and the states to which edges
+/// lead from them.
 #[derive(Drop)]
 struct Walk {
     /// For each state the end of the longest prefix of the input that leads to it, or 0.
     ends: Vec<usize>,
-    /// The states that are entered, and all states after them.
+    /// The states that are entered, and all states to which edges lead from them.
     reached: Vec<usize>,
-    /// The edges between them. Of equal edges for consecutive bytes only the first is here.
+    /// The edges between the reached states. Equal edges for consecutive bytes are stored once.
     edges: Vec<Edge>,
 }
 
@@ -42,7 +43,8 @@ struct Edge {
     target: usize,
 }
 
-/// Returns the partial matches of all leaves from an offset of an input, by the numbers of leaves.
+/// Returns the partial matches of all leaves from a byte offset of an input, in the order of the
+/// leaves.
 ///
 /// # Errors
 ///
@@ -62,7 +64,8 @@ pub fn partial_matches(
     Ok(found)
 }
 
-/// Returns the states that an input enters from an offset on, and those after them.
+/// Returns the states that an automaton enters on an input from an offset, and the states to which
+/// edges lead from them.
 fn walk_of(alloc: Global, dfa: &Dfa, input: &[u8], from: usize) -> Result<Walk, AllocError> {
     let ends = ends_of(alloc, dfa, input, from)?;
     let mut walk = Walk {
@@ -74,8 +77,8 @@ fn walk_of(alloc: Global, dfa: &Dfa, input: &[u8], from: usize) -> Result<Walk, 
     Ok(walk)
 }
 
-/// Returns for each state the end of the longest prefix of the input from an offset on that leads
-/// to it, or 0.
+/// Returns for each state the end of the longest prefix, from the offset `from`, that leads to it,
+/// or 0 if none does.
 fn ends_of(alloc: Global, dfa: &Dfa, input: &[u8], from: usize) -> Result<Vec<usize>, AllocError> {
     let mut ends = vec![in alloc; 0; state_count(dfa)]?;
     let mut state = dfa.start().index();
@@ -86,7 +89,7 @@ fn ends_of(alloc: Global, dfa: &Dfa, input: &[u8], from: usize) -> Result<Vec<us
     Ok(ends)
 }
 
-/// Returns the state to which a byte leads.
+/// Returns the state to which a byte leads. A number that is not a state is returned unchanged.
 fn next_by(dfa: &Dfa, state: usize, byte: usize) -> usize {
     if state >= state_count(dfa) {
         return state;
@@ -110,14 +113,14 @@ fn lists_at_end(dfa: &Dfa, state: usize, leaf: usize) -> bool {
     lists(dfa, end_at(dfa, state) as usize, leaf)
 }
 
-/// Sets the end of a state.
+/// Sets the end of the longest prefix that leads to a state.
 fn set_end(ends: &mut Vec<usize>, state: usize, end: usize) {
     if state < ends.len() {
         ends[state] = end;
     }
 }
 
-/// Adds the states that have an end, all states after them, and the edges between them.
+/// Adds the states that a prefix enters, all states after them, and the edges between them.
 fn add_reached(alloc: Global, dfa: &Dfa, walk: &mut Walk) -> Result<(), AllocError> {
     let count = walk.ends.len();
     let mut seen = vec![in alloc; false; count]?;
@@ -128,7 +131,7 @@ fn add_reached(alloc: Global, dfa: &Dfa, walk: &mut Walk) -> Result<(), AllocErr
     Ok(())
 }
 
-/// Adds the states that have an end.
+/// Adds the states that a prefix enters.
 fn add_entered(
     seen: &mut Vec<bool>,
     reached: &mut Vec<usize>,
@@ -215,7 +218,8 @@ fn add_partial(
     Ok(found.push(partial)?)
 }
 
-/// Returns for each state whether a match of a leaf can end after it, among the reached states.
+/// Returns for each state whether it is open: whether it was reached, and a match of the leaf can
+/// end after it.
 fn open_states(
     alloc: Global,
     dfa: &Dfa,
@@ -230,7 +234,7 @@ fn open_states(
     Ok(open)
 }
 
-/// Opens the reached states before open ones, and before those that list the leaf.
+/// Opens each reached state from which edges lead to an open state or to one that lists the leaf.
 fn open_before(dfa: &Dfa, walk: &Walk, leaf: usize, open: &mut Vec<bool>) {
     for _ in 0..walk.reached.len() {
         if !open_more(dfa, walk, leaf, open) {
@@ -274,7 +278,7 @@ fn is_set(flags: &[bool], index: usize) -> bool {
     }
 }
 
-/// Returns the end of a state, or 0.
+/// Returns the end of the longest prefix that leads to a state, or 0 if none does.
 fn end_of(walk: &Walk, state: usize) -> usize {
     match walk.ends.get(state) {
         Some(end) => *end,
@@ -282,7 +286,7 @@ fn end_of(walk: &Walk, state: usize) -> usize {
     }
 }
 
-/// Returns the open state with the last end, if one was entered.
+/// Returns the open state with the last end, if a prefix entered an open one.
 fn furthest(walk: &Walk, open: &[bool]) -> Option<usize> {
     let mut best = None;
     for state in 0..walk.ends.len() {
@@ -291,8 +295,7 @@ fn furthest(walk: &Walk, open: &[bool]) -> Option<usize> {
     best
 }
 
-/// Returns a state that was entered and is open, if its end is later than that of the best one;
-/// otherwise the best one.
+/// Returns `state` if it was entered, is open, and has a later end than `best`; otherwise `best`.
 fn later(walk: &Walk, open: &[bool], best: Option<usize>, state: usize) -> Option<usize> {
     let least = match best {
         Some(best) => end_of(walk, best),
@@ -304,7 +307,7 @@ fn later(walk: &Walk, open: &[bool], best: Option<usize>, state: usize) -> Optio
     best
 }
 
-/// Returns for each byte whether it continues a prefix, or completes a match before it.
+/// Returns for each byte whether it continues a prefix, or a match ends before it.
 fn next_table(dfa: &Dfa, state: usize, leaf: usize, open: &[bool]) -> [bool; 256] {
     let mut table = [false; 256];
     for byte in 0..256 {

@@ -11,7 +11,8 @@ use Rattle.logos_parser.specs.Views.{leaf_view}
 use Rattle.logos_pattern.specs.declared.leaf.Leaf.{Leaf}
 use Rattle.logos_token.specs.Faults.{Fault as SourceFault}
 
--- The number of leaves of a set of ambiguous leaves, if a fault of a graph is one.
+-- The number of leaves of the set of ambiguous leaves that a fault of a graph reports, if it
+-- reports one.
 abbrev pub set_size : Fault → List ℕ
 set_size (disambiguation set) = length set ∷ []
 set_size fault = []

@@ -38,7 +38,7 @@ pub record IsHidden (graph : GraphValue) (warning : Warning) : Type 0 where
 abbrev pub IsOfLexer : GraphValue → Warning → Type 0
 IsOfLexer graph warning = IsOfCallback warning ⊎ IsHidden graph warning
 
--- These are the warnings about an enum with these tokens, whose lexer has this graph.
+-- The warnings about an enum with these tokens, whose lexer has this graph.
 pub record AreOfLexer (tokens : TokenList) (graph : GraphValue) (origin : Origin) (warnings : List Warning) : Type 0 where
   pub front : List Warning
   pub of_tokens : AreOfTokens tokens true origin front

@@ -23,15 +23,15 @@ pub(crate) enum CallbackOwner {
 /// A probable mistake in a callback.
 #[derive(Clone, Copy)]
 pub(crate) enum CallbackMistake {
-    /// It is the name of an option.
+    /// The callback is the name of an option.
     OptionName,
-    /// It is neither the path of a function nor a closure.
+    /// The callback is neither the path of a function nor a closure.
     NoFunction,
     /// A closure ends before the end of its argument.
     Dropped,
     /// The body of a closure loses its brackets.
     NoBrackets,
-    /// A closure has the type of its value.
+    /// A closure states the type of its value.
     TypeInBody,
     /// A closure has a `return`.
     Return,
@@ -72,8 +72,8 @@ pub(crate) fn add_callbacks(
     Ok(())
 }
 
-/// Returns the index of the next closure after a callback, if the index of the next one before it
-/// is `next`.
+/// Returns the index of the next closure after a callback. `next` is that index before the
+/// callback.
 fn after_callback(callback: Option<&Callback<'_>>, next: usize) -> usize {
     match callback {
         Some(Callback::Inline(_)) => next.saturating_add(1),
@@ -103,7 +103,8 @@ pub(crate) fn add_error_callback(
     )
 }
 
-/// Adds the warnings of a callback, if there is one. `run` begins with its closure, if it is one.
+/// Adds the warnings of a callback, if there is one. If the callback is a closure, `run` begins
+/// with it.
 fn add_callback(
     owner: CallbackOwner,
     callback: Option<&Callback<'_>>,
@@ -195,7 +196,8 @@ fn help_for_label(owner: CallbackOwner, label: Tokens<'_, '_>) -> &'static str {
     }
 }
 
-/// Returns the help for such a callback of an error type, whose only option is `callback`.
+/// Returns the help for a callback of an error type that names no function. The only option of an
+/// error type is `callback`.
 fn help_for_error(label: Tokens<'_, '_>) -> &'static str {
     match label.first() {
         Some(TokenTree::Ident(name)) if name.text == "callback" => {
@@ -205,7 +207,8 @@ fn help_for_error(label: Tokens<'_, '_>) -> &'static str {
     }
 }
 
-/// Returns the help for such a callback of a leaf, chosen by its first token.
+/// Returns the help for a callback of a leaf that is neither a path nor a closure, chosen by its
+/// first token.
 fn help_for_leaf(label: Tokens<'_, '_>) -> &'static str {
     match label.first() {
         Some(TokenTree::Ident(name)) if is_option(name.text) => {
@@ -278,8 +281,8 @@ fn add_closure(
     add_found(closure_mistake(closure.span.to, run), warnings)
 }
 
-/// Returns the mistake of the body of a closure, which ends at an offset and with which `run`
-/// begins, if it has one.
+/// Returns the mistake in the body of the closure with which `run` begins and which ends at the
+/// offset `to`, if there is one.
 fn closure_mistake(to: usize, run: Option<Tokens<'_, '_>>) -> Option<FoundMistake> {
     match run {
         Some(run) => body_mistake(to, after_bars(run)),
@@ -292,7 +295,7 @@ fn after_bars<'t, 's>(closure: Tokens<'t, 's>) -> Tokens<'t, 's> {
     closure.rest().rest().rest()
 }
 
-/// Returns the mistake of the body of a closure, which ends at an offset, if it has one.
+/// Returns the mistake in the body of a closure that ends at the offset `to`, if there is one.
 fn body_mistake(to: usize, body: Tokens<'_, '_>) -> Option<FoundMistake> {
     match body.first() {
         Some(TokenTree::Group(group)) => group_mistake(to, group, body.rest()),
@@ -303,8 +306,8 @@ fn body_mistake(to: usize, body: Tokens<'_, '_>) -> Option<FoundMistake> {
 
 const BRACES: &str = "put all of the body in braces";
 
-/// Returns the mistake of a body that begins with a group and ends at an offset, if more follows
-/// the group there or its brackets matter.
+/// Returns the mistake in a body that begins with a group: tokens between the group and the offset
+/// `to`, or brackets that matter, if there are any.
 fn group_mistake(to: usize, group: Group<'_, '_>, rest: Tokens<'_, '_>) -> Option<FoundMistake> {
     if let Some(span) = dropped(to, rest) {
         return Some(FoundMistake {
@@ -323,7 +326,7 @@ fn group_mistake(to: usize, group: Group<'_, '_>, rest: Tokens<'_, '_>) -> Optio
     None
 }
 
-/// Returns the span of the tokens of a run up to an offset, if there are some.
+/// Returns the span of the tokens of a run up to an offset, if there are any.
 fn dropped(to: usize, run: Tokens<'_, '_>) -> Option<Span> {
     let from = run.first()?.span().from;
     if from < to {
@@ -333,7 +336,7 @@ fn dropped(to: usize, run: Tokens<'_, '_>) -> Option<Span> {
     }
 }
 
-/// Returns whether a body means something else without the brackets around it.
+/// Returns whether a body has another meaning without the brackets around it.
 fn loses_brackets(delimiter: Delimiter, inside: Tokens<'_, '_>) -> bool {
     match delimiter {
         Delimiter::Bracket => true,
@@ -354,8 +357,8 @@ fn has_comma(run: Tokens<'_, '_>) -> bool {
     false
 }
 
-/// Returns the mistake of a body that begins with this punctuation and ends at an offset, if the
-/// type of its value is in front of it.
+/// Returns the mistake in a body that begins with the punctuation `first` and ends at the offset
+/// `to`, if it begins with the type of its value.
 fn type_mistake(to: usize, first: Punct, rest: Tokens<'_, '_>) -> Option<FoundMistake> {
     let from = first.span.from;
     if (first.character == '-') & begins_with('>', rest) {

@@ -1,4 +1,5 @@
-//! The closures of a source, as runs of its tokens. `callbacks` calls it once for all callbacks.
+//! Finds the closures of a source, as runs of its tokens. Called by `callbacks`, once for all
+//! leaves and once for errors.
 
 use logos_pattern::leaf::{Callback, Leaf};
 use logos_token::token::{TokenTree, Tokens};
@@ -35,7 +36,7 @@ pub(crate) fn runs_at<'t, 's>(
     Ok(runs)
 }
 
-/// Appends the runs that begin in a run at those of the offsets that are not reached yet.
+/// Appends the runs within a run that begin at those offsets for which no run was found before.
 #[cycle(search)]
 fn search_run<'t, 's>(
     run: Tokens<'t, 's>,
@@ -50,8 +51,8 @@ fn search_run<'t, 's>(
     Ok(())
 }
 
-/// Appends a run, if its first token begins at the next offset, and those in a group with which it
-/// begins.
+/// Appends a run if its first token begins at the next offset, and the runs in a group at its
+/// beginning.
 #[cycle(search)]
 fn search_first<'t, 's>(
     run: Tokens<'t, 's>,

@@ -1,4 +1,5 @@
-//! Explains the faults of a refused source, and warns about a lexer.
+//! Explains the faults of a refused source, and warns about a lexer. Called by the programs and the
+//! derive macro.
 
 ghost use Rattle.std.specs.Prelude.{◌≡◌, ◌≢◌, ◌≤◌, [], IfOk, OnOk};
 ghost use Rattle.logos_causes.specs.Views.{AddsEach, AreOfLexer, IsOfLexer, YieldsEnum, HasSets, IsRefusal, LeavesHaveSets, Spells, delimiter_limit, depth_of, enum_value, run_span, set_sizes, sizes_of, tokens_of};
@@ -21,9 +22,9 @@ use std::mem;
 /// The clues about a refused source, and its warnings.
 #[derive(Debug, Drop)]
 pub struct Explained {
-    /// The clues about the faults of its graph.
+    /// The clues about the faults of the source's graph.
     pub clues: Clues,
-    /// Its warnings.
+    /// The warnings about the source.
     pub warnings: Vec<Warning>,
 }
 
@@ -127,7 +128,7 @@ struct EnumText<'t, 's> {
     tokens: Tokens<'t, 's>,
 }
 
-/// Returns the clues about the enum that a source spells.
+/// Returns the clues about the faults of an enum, and its warnings.
 fn explain_item(
     alloc: Global,
     text: EnumText<'_, '_>,
@@ -270,11 +271,11 @@ fn add_of_lexer(
     Ok(())
 }
 
-/// The lexer that warnings are about.
+/// A lexer without faults, for which warnings are searched.
 #[derive(Clone, Copy)]
 pub struct Lexer<'g, 's> {
-    /// Its graph, with its leaves.
+    /// The graph of the lexer, with its leaves.
     pub graph: &'g Graph<'s>,
-    /// Its callback for errors, if it has one.
+    /// The callback for errors, if there is one.
     pub error: Option<&'g Callback<'s>>,
 }

@@ -14,7 +14,7 @@ use logos_pattern::leaf::Leaf;
 use logos_report::Meeting;
 use std::alloc::{AllocError, Global};
 
-/// The maximum number of sets for which a text is searched on which they meet.
+/// The maximum number of sets for which a text on which their leaves meet is searched.
 const SEARCHED: usize = 10;
 
 /// Returns the clue about each set of ambiguous leaves of a graph, in order.
@@ -29,7 +29,7 @@ pub(crate) fn meetings_of(alloc: Global, graph: &Graph<'_>) -> Result<Vec<Meetin
     Ok(meetings)
 }
 
-/// Adds the clue about a set of ambiguous leaves, if the fault is one.
+/// Adds the clue about a set of ambiguous leaves, if the fault is about one.
 fn add_fault(
     alloc: Global,
     graph: &Graph<'_>,
@@ -74,7 +74,8 @@ fn numbers_of(alloc: Global, leaves: &[LeafId]) -> Result<Vec<usize>, AllocError
     Ok(set)
 }
 
-/// Returns the clue about a set of ambiguous leaves.
+/// Returns the clue about a set of ambiguous leaves. It has a text on which they meet only if
+/// `is_searched` is set.
 fn meeting_of(
     alloc: Global,
     graph: &Graph<'_>,
@@ -109,8 +110,8 @@ fn name_at(alloc: Global, leaves: &[Leaf<'_>], number: usize) -> Result<String, 
     String::from_str(alloc, name)
 }
 
-/// Returns the note with the text on which the leaves of a set meet, and the priority that would
-/// decide.
+/// Returns the note with the priority that would decide between the leaves of a set. If
+/// `is_searched` is set, the note has a text on which they meet.
 fn note_of(
     alloc: Global,
     graph: &Graph<'_>,
@@ -152,7 +153,8 @@ fn push_priority(page: &mut Page, priority: usize) {
     page.push(" would decide");
 }
 
-/// Appends a shortest text on which exactly the leaves of a set meet.
+/// Appends a shortest text on which exactly the leaves of a set meet, or a general phrase if none
+/// is found.
 fn push_text(
     alloc: Global,
     page: &mut Page,
@@ -172,7 +174,8 @@ fn push_text(
     }
 }
 
-/// Returns a shortest input that begins with a text on which exactly the leaves of a set meet.
+/// Returns a shortest input that begins with a text on which exactly the leaves of a set meet, if
+/// there is one and the set ascends.
 fn text_of(alloc: Global, graph: &Graph<'_>, set: &[usize]) -> Result<Option<Vec<u8>>, AllocError> {
     if set.is_empty() {
         return Ok(None);
@@ -199,7 +202,7 @@ fn ascends(set: &[usize]) -> bool
 }
 
 /// Appends the text on which leaves meet, which is the prefix of an input up to `end`, and the
-/// bytes that follow it there, if some have to.
+/// bytes that follow it in the input, if there are any.
 fn push_found(page: &mut Page, input: &[u8], end: usize)
     requires { end ≤ length input.now }
 {
@@ -210,7 +213,8 @@ fn push_found(page: &mut Page, input: &[u8], end: usize)
     }
 }
 
-/// Returns the end of a match of exactly these leaves, or the greatest number.
+/// Returns the end of a match of exactly the leaves of a set, or the greatest number if there is
+/// none.
 fn end_of(matches: &[Match], set: &[usize]) -> usize {
     for one in matches {
         if is_first(*one, set) && is_met(matches, *one, set) {
@@ -220,7 +224,7 @@ fn end_of(matches: &[Match], set: &[usize]) -> usize {
     usize::MAX
 }
 
-/// Returns whether a match is one of the first leaf of a set.
+/// Returns whether a match is a match of the first leaf of a set.
 fn is_first(one: Match, set: &[usize]) -> bool {
     match set.first() {
         Some(leaf) => one.leaf == *leaf,

@@ -50,7 +50,7 @@ fn push_bytes(page: &mut Page, bytes: &[u8]) {
     }
 }
 
-/// Returns a hexadecimal digit.
+/// Returns the hexadecimal digit of a number below 16.
 fn digit(value: u8) -> &'static str {
     const DIGITS: &str = "0123456789ABCDEF";
     let at = usize::from(value);

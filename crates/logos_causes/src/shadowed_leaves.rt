@@ -35,7 +35,7 @@ pub(crate) fn add_hidden(
 }
 
 /// Adds the warning for a leaf if its flag is not set, which means that it is never found. Returns
-/// how many leaves have a warning, if `count` leaves before it do.
+/// the number of leaves with a warning, of which `count` come before the leaf.
 fn add_if_hidden(
     graph: &Graph<'_>,
     marked: &[bool],
@@ -65,7 +65,8 @@ fn is_unmarked(marked: &[bool], number: usize) -> bool
     false
 }
 
-/// Adds the warning for a leaf that is never found.
+/// Adds the warning for a leaf that is never found. Names the leaf that is found instead only if
+/// `is_searched` is set.
 fn add_leaf(
     graph: &Graph<'_>,
     number: usize,
@@ -84,7 +85,8 @@ fn add_leaf(
     Ok(())
 }
 
-/// Returns the warning for the leaf of a graph with this number, which is never found.
+/// Returns the warning for the leaf of a graph with this number, which is never found. Names the
+/// leaf that is found instead only if `is_searched` is set.
 fn hidden_warning(
     alloc: Global,
     graph: &Graph<'_>,
@@ -114,7 +116,7 @@ fn warning_of(alloc: Global, leaf: &Leaf<'_>) -> Result<Warning, AllocError>
     Ok(plain_warning(message, leaf.span, None))
 }
 
-/// Adds to the warning for a leaf the leaf that is found instead, if there is one.
+/// Adds to the warning the leaf that is found instead of the leaf `number`, if there is one.
 fn explain(
     alloc: Global,
     graph: &Graph<'_>,

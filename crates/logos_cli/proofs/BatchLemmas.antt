@@ -189,7 +189,7 @@ module _ {F : Type 0} (yields makes : F → List ℕ → List ℕ → F → Type
       | inr e ↦ (omega (arith, e, k.0), λ t. k.1 (sym e ∙ t))
     ]
 
-  -- All files are through.
+  -- All files were expanded.
   pub all_done : (orders : List OrderValue) (status : ℕ) (first now : F) (old new : Option (List ℕ)) → IsDoneSoFar orders [] status first now old new → status ≡ 0 → AreCarriedOut yields makes finds orders first now old new
   all_done orders status first now old new so e = so e now new (refl, refl)
 

@@ -1,4 +1,4 @@
--- The reasons why a run fails, and their reports.
+-- The reasons that a run fails, and their reports.
 use Rattle.std.proofs.Common.{◌≡◌, ◌≢◌, ◌⊎◌, ◌≤◌, ℕ, List, [], ◌++◌, Option, Some, None, Bool, Result, Ok, Err, IfErr, IfSome, IsTrue, inl, inr, refl, subst, arith, string_bytes}
 use Rattle.std.proofs.KnownBytes.{Appends-trans}
 use Rattle.std.specs.Io.KnownBytes.{Appends}

@@ -19,8 +19,8 @@ use Rattle.logos_tables.specs.declared.shape.Shape.{Shape}
 use Rattle.logos_tables.specs.declared.shape.Shape.TheVariants.{Code, Tables}
 
 -- A file to expand: its path, the path of the file for the result, whether that is only compared,
--- the shape of the lexers, the format of messages, whether warnings are denied, and when messages
--- have colors.
+-- the shape of the lexers, the format of messages, whether warnings are denied, and the condition
+-- under which messages have colors.
 pub record OrderValue : Type 0 where
   pub input : List ℕ
   pub output : Option (List ℕ)
@@ -30,7 +30,7 @@ pub record OrderValue : Type 0 where
   pub denies : Bool
   pub color : Color
 
--- A request.
+-- A request of `logos_cli`.
 pub data Requested : Type 0 where
   requests_help : Requested
   requests_version : Requested
@@ -70,7 +70,8 @@ placed arguments order None second = one_order order second
 placed arguments order (Some output) second =
     if is_folder output then Some (requests_each (orders_into order output (paths_of arguments))) else one_order order second
 
--- Files to expand, with messages in this style. A check needs a file for the result.
+-- The request to expand files in this shape, with messages in this style. A check needs a file for
+-- the result.
 abbrev pub shaped_given : List (List ℕ) → ArgumentsValue → List ℕ → MessageStyle → Option Shape → Option Requested
 shaped_given arguments parsed input style None = None
 shaped_given arguments parsed input style (Some shape) =
@@ -79,7 +80,7 @@ shaped_given arguments parsed input style (Some shape) =
     (record { input = input; output = setting options.Output parsed.settings; is_check = is_set options.Check parsed.settings; shape = shape; format = style.format; denies = is_set options.DenyWarnings parsed.settings; color = style.color })
     (setting options.Output parsed.settings) parsed.second
 
--- Files to expand, with messages in this style and in the given shape.
+-- The request to expand files in the given shape, with messages in this style.
 abbrev pub file_given : List (List ℕ) → ArgumentsValue → List ℕ → MessageStyle → Option Requested
 file_given arguments parsed input style = shaped_given arguments parsed input style (named_shape (setting options.Shape parsed.settings))
 
@@ -92,7 +93,7 @@ abbrev pub order_given : List (List ℕ) → ArgumentsValue → Option (List ℕ
 order_given arguments parsed None = None
 order_given arguments parsed (Some input) = style_requested arguments parsed input (style_given parsed.settings)
 
--- A text, or files to expand.
+-- The request for a text, or to expand files.
 abbrev pub request_given : List (List ℕ) → ArgumentsValue → Option OptionName → Option Requested
 request_given arguments parsed (Some options.Version) = Some requests_version
 request_given arguments parsed (Some option) = Some requests_help
@@ -107,7 +108,7 @@ requested_given arguments (Some parsed) = request_given arguments parsed parsed.
 abbrev pub requested : List (List ℕ) → Option Requested
 requested arguments = requested_given arguments (arguments_of Cli arguments)
 
--- The views of the program's types.
+-- The view of an order.
 abbrev pub order_value : ExpandOrder → OrderValue
 order_value order = record {
   input = order.input.now;

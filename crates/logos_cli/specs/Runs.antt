@@ -1,7 +1,7 @@
--- The effects of a run of the program, determined by the content of its files. `yields` holds of
--- files, a path, the bytes that are read there, and the files after the read; `makes` of files, a
--- path, the bytes that are written there, and the files after the write; `finds` of files, a path,
--- some bytes, how the file there compares with them, and the files after the comparison.
+-- The effects of a run of the program, determined by the content of its files. `yields` relates the
+-- files before a read, the path, the bytes that are read, and the files after it; `makes` the files
+-- before a write, the path, the bytes that are written, and the files after it; `finds` the files
+-- before a comparison, the path, the bytes, the result, and the files after it.
 use Rattle.std.specs.Prelude.{◌≡◌, ◌≢◌, ◌⊎◌, ◌++◌, ◌||◌, ℕ, List, [], ◌∷◌, All, Bool, Contains, true, false, IsTrue, Option, Some, None, IfSome, bytes_eq, map, unwrap_or}
 use Rattle.std.specs.Io.KnownBytes.{Appends, Keeps}
 use Rattle.logos_host.specs.declared.comparison.Occurrence.{Occurrence}
@@ -35,7 +35,7 @@ module _ {F : Type 0} (yields makes : F → List ℕ → List ℕ → F → Type
   IsSettled order path bytes files after = IsThere path bytes files after ⊎ ((order.is_check ≡ false) × IsRewritten makes finds path bytes files after)
 
   -- The result was delivered as requested: to a file, or to the end of standard output. The other
-  -- one stays unchanged.
+  -- output stays unchanged.
   abbrev pub IsDelivered : OrderValue → Option (List ℕ) → List ℕ → F → F → Option (List ℕ) → Option (List ℕ) → Type 0
   IsDelivered order None bytes files after old new = (after ≡ files) × Appends old new bytes
   IsDelivered order (Some path) bytes files after old new = IsSettled order path bytes files after × Keeps old new
@@ -93,7 +93,7 @@ module _ {F : Type 0} (yields makes : F → List ℕ → List ℕ → F → Type
 abbrev pub output_of : OrderValue → List ℕ
 output_of order = unwrap_or order.output []
 
--- A path is among these.
+-- A path is among these paths.
 abbrev pub is_among : List ℕ → List (List ℕ) → Bool
 is_among path [] = false
 is_among path (other ∷ rest) = bytes_eq other path || is_among path rest
@@ -104,7 +104,7 @@ has_twins [] = false
 has_twins (path ∷ rest) = is_among path rest || has_twins rest
 
 module _ {F : Type 0} (same : F → List ℕ → List ℕ → Bool → Type 0) where
-  -- The path leads to none of the inputs. `same` holds of files, two paths, and whether these lead
+  -- The path leads to none of the inputs. `same` relates files, two paths, and whether these lead
   -- to one file.
   abbrev pub IsNoInput : List OrderValue → F → List ℕ → Type 0
   IsNoInput orders files path = All (λ order. same files order.input path false) orders
@@ -128,14 +128,15 @@ module _ {F : Type 0} (same : F → List ℕ → List ℕ → Bool → Type 0) w
   IsApart (requests_expansion order) files = IfSome order.output (λ path. same files order.input path false)
   IsApart (requests_each orders) files = All (λ order. IsNoInput orders files (output_of order)) orders × (has_twins (map output_of orders) ≡ false)
 
--- The files are as they were, or as `R` states.
+-- The files are unchanged, or `R` relates them.
 abbrev pub Perhaps : {F : Type 0} → (F → F → Type 0) → F → F → Type 0
 Perhaps R files after = (after ≡ files) ⊎ R files after
 
--- `reads` holds of files before and after a read or a comparison; `writes` of files, a path, and
--- the files after a write there. Each holds whether the operation succeeds or fails.
+-- `reads` relates the files before and after a read or a comparison; `writes` relates the files
+-- before a write, the path, and the files after it. Each holds whether the operation succeeds or
+-- fails.
 module _ {F : Type 0} (reads : F → F → Type 0) (writes : F → List ℕ → F → Type 0) where
-  -- The file for a result was written, or this failed.
+  -- The file for a result was written, or writing it failed.
   abbrev pub IsWrite : Option (List ℕ) → F → F → Type 0
   IsWrite output files after = (path : List ℕ) × (output ≡ Some path) × writes files path after
 
@@ -153,7 +154,7 @@ module _ {F : Type 0} (reads : F → F → Type 0) (writes : F → List ℕ → 
   AreTouched [] files after = after ≡ files
   AreTouched (order ∷ rest) files after = (between : F) × IsTouched order files between × AreTouched rest between after
 
-  -- The operations on files that a request has.
+  -- The operations on files of a request.
   abbrev pub Touches : Requested → F → F → Type 0
   Touches requests_help files after = after ≡ files
   Touches requests_version files after = after ≡ files

@@ -17,14 +17,14 @@ use std::io::{IsTerminal, Write};
 struct BatchFile<'w> {
     /// The path of the file.
     input: &'w str,
-    /// The path of its result.
+    /// The path of the result.
     output: String,
 }
 
 /// Expands files, and writes each result into a folder, under the name of its file. If a file is
 /// refused or fails, the others are still expanded. The exit status is the highest one of all
-/// files. If a result would overwrite an input or another result, the status is 2, and nothing is
-/// read or written.
+/// files. If a result would overwrite an input or another result, the exit status is 2, and nothing
+/// is read or written.
 pub(crate) fn run_batch<F: ComparableFiles, O: Write, E: Write + IsTerminal>(
     alloc: Global,
     batch: Batch<'_>,
@@ -210,7 +210,7 @@ fn run_each<F: ComparableFiles, O: Write, E: Write + IsTerminal>(
     ending
 }
 
-/// Returns the order for one file.
+/// Returns the order for one file of a batch.
 fn order_at<'e>(order: ExpandOrder<'_>, batch_file: &'e BatchFile<'_>) -> ExpandOrder<'e>
     ensures { order_value result ≡ batch_file_order (order_value order.entry) batch_file.now }
 {
@@ -225,7 +225,8 @@ fn order_at<'e>(order: ExpandOrder<'_>, batch_file: &'e BatchFile<'_>) -> Expand
     }
 }
 
-/// Returns the ending of two runs: the one with the higher status.
+/// Returns the ending of two runs: the higher exit status, and whether the messages of both were
+/// written.
 fn joined(one: Ending, other: Ending) -> Ending
     ensures status { (result.status ≡ one.status) ⊎ (result.status ≡ other.status) }
     ensures highest { (one.status ≤ result.status) × (other.status ≤ result.status) }

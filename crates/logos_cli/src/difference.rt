@@ -23,13 +23,13 @@ const NAMES: [&str; 3] = ["tables", "tailcall", "state_machine"];
 pub(crate) struct StaleFile<'t> {
     /// The path of the file that was expanded.
     pub(crate) input: &'t str,
-    /// The path of the file.
+    /// The path of the file that differs.
     pub(crate) path: &'t str,
     /// The shape of the result.
     pub(crate) shape: Shape,
-    /// How the file compares with the result.
+    /// The result of comparing the file with `made`.
     pub(crate) occurrence: Occurrence,
-    /// The result.
+    /// The bytes of the requested result.
     pub(crate) made: &'t [u8],
 }
 
@@ -74,7 +74,7 @@ fn difference_text(
     page.finish()
 }
 
-/// Appends the line with the error.
+/// Appends the line which states that a file is missing or differs from the result.
 fn push_what(page: &mut Page, stale: &StaleFile<'_>) {
     page.push("error: ");
     page.push_shown(stale.path);
@@ -88,7 +88,8 @@ fn push_what(page: &mut Page, stale: &StaleFile<'_>) {
     }
 }
 
-/// Appends the first lines of a file and of the result that differ, if there is a file.
+/// Appends the first lines of a file and of the result that differ, unless the file is empty or
+/// missing.
 fn push_lines(page: &mut Page, found: &str, made: &str) {
     if found.is_empty() {
         return;
@@ -105,7 +106,7 @@ fn push_lines(page: &mut Page, found: &str, made: &str) {
     push_both(page, number, rests.0, rests.1);
 }
 
-/// Returns the texts after their first lines, if these are equal.
+/// Returns both texts without their first lines, if these lines are equal.
 fn after_same<'t>(found: &'t str, made: &'t str) -> Option<(&'t str, &'t str)> {
     let (one, found) = found.split_once('\n')?;
     let (other, made) = made.split_once('\n')?;
@@ -116,13 +117,13 @@ fn after_same<'t>(found: &'t str, made: &'t str) -> Option<(&'t str, &'t str)> {
     }
 }
 
-/// Appends the first lines of two texts, from a line on.
+/// Appends the first lines of two texts. `number` is the number of the first line.
 fn push_both(page: &mut Page, number: usize, found: &str, made: &str) {
     push_side(page, " - ", number, found);
     push_side(page, " + ", number, made);
 }
 
-/// Appends the first lines of a text.
+/// Appends the first lines of a text, each with its number and a sign.
 fn push_side(page: &mut Page, sign: &str, number: usize, text: &str) {
     let mut rest = text;
     for line in 0..SHOWN_LINES {
@@ -136,7 +137,7 @@ fn push_side(page: &mut Page, sign: &str, number: usize, text: &str) {
     }
 }
 
-/// Returns the first line of a text, and the rest after it; `None` if the text is empty.
+/// Returns the first line of a text and the rest after it, or `None` if the text is empty.
 fn first_line(text: &str) -> Option<(&str, &str)> {
     if text.is_empty() {
         return None;
@@ -175,7 +176,7 @@ fn push_shape(page: &mut Page, found: &str, stale: &StaleFile<'_>) {
     }
 }
 
-/// Returns the name of the shape that the first line of a file names.
+/// Returns the name of the shape that the first line of a file names, if it names a known one.
 fn named_shape(found: &str) -> Option<&'static str> {
     let (line, _) = found.split_once('\n')?;
     let front = line.strip_suffix("; do not edit")?;

@@ -10,7 +10,7 @@ use logos_options::{
 };
 use logos_tables::Shape;
 
-/// A request.
+/// A request of `logos_cli`.
 #[derive(Clone, Copy)]
 pub(crate) enum Request<'w> {
     Help,
@@ -25,9 +25,10 @@ pub(crate) enum Request<'w> {
 pub(crate) struct ExpandOrder<'w> {
     /// The path of the file.
     pub(crate) input: &'w str,
-    /// The path of the file for the result. Without one it is written to standard output.
+    /// The path of the file for the result. Without a path the result is written to standard
+    /// output.
     pub(crate) output: Option<&'w str>,
-    /// Whether that file is only compared with the result.
+    /// Whether the file for the result is only compared with it.
     pub(crate) is_check: bool,
     /// The shape of the lexers.
     pub(crate) shape: Shape,
@@ -35,7 +36,7 @@ pub(crate) struct ExpandOrder<'w> {
     pub(crate) format: MessageFormat,
     /// Whether a file with warnings is refused.
     pub(crate) denies: bool,
-    /// When messages have colors.
+    /// The condition under which messages have colors.
     pub(crate) color: Color,
 }
 
@@ -44,7 +45,7 @@ pub(crate) struct ExpandOrder<'w> {
 pub(crate) struct Batch<'w> {
     /// The arguments of the command line, which contain the paths of the files.
     pub(crate) arguments: &'w [String],
-    /// The order for each of them, written for the first one.
+    /// The order for the first file, which the orders for the others repeat with other paths.
     pub(crate) order: ExpandOrder<'w>,
     /// The path of the folder, which ends in `/`.
     pub(crate) folder: &'w str,
@@ -67,7 +68,7 @@ pub(crate) fn request_of(arguments: &[String]) -> Result<Request<'_>, Failure<'_
     }
 }
 
-/// Returns the request of arguments.
+/// Returns the request of arguments that were read.
 fn request_given<'w>(
     arguments: &'w [String],
     parsed: Arguments<'w>,
@@ -86,7 +87,7 @@ fn request_given<'w>(
     }
 }
 
-/// Returns the files to expand.
+/// Returns the request to expand files.
 fn order_given<'w>(
     arguments: &'w [String],
     parsed: Arguments<'w>,
@@ -108,7 +109,7 @@ fn order_given<'w>(
     file_given(arguments, parsed, input, style)
 }
 
-/// Returns the files to expand, with messages in this style.
+/// Returns the request to expand files, with messages in this style.
 fn file_given<'w>(
     arguments: &'w [String],
     parsed: Arguments<'w>,
@@ -142,7 +143,7 @@ fn file_given<'w>(
     placed(arguments, order, parsed.second)
 }
 
-/// Returns the order for one file, or the batch of files to expand into a folder.
+/// Returns the request to expand one file, or several files into a folder.
 fn placed<'w>(
     arguments: &'w [String],
     order: ExpandOrder<'w>,
@@ -203,7 +204,7 @@ fn shape_given<'w>(name: Option<&'w str>) -> Result<Shape, Failure<'w>>
     }
 }
 
-/// Returns the shape with this name.
+/// Returns the shape with this name, if there is one.
 fn shape_by_name(name: &str) -> Option<Shape>
     ensures { result ≡ shape_named name.now }
 {

@@ -134,7 +134,7 @@ pub(crate) fn run<F: ComparableFiles, O: Write, E: Write + IsTerminal>(
     }
 }
 
-/// Ends the program if there are no warnings.
+/// Returns the ending of a run without warnings. After a failure, writes its message.
 fn ended<E: Write>(done: Result<(), Failure<'_>>, err: &mut E) -> Ending
     requires { IfErr done (λ failure. status_of failure ≡ 3) }
     ensures { (result.status ≡ 3) ⊎ (result.status ≡ 0) }
@@ -148,7 +148,7 @@ fn ended<E: Write>(done: Result<(), Failure<'_>>, err: &mut E) -> Ending
     }
 }
 
-/// Ends the program after a failure: writes its message.
+/// Writes the message of a failure, and returns the ending of the program.
 pub(crate) fn failed<E: Write>(failure: &Failure<'_>, err: &mut E) -> Ending
     ensures status { result.status ≡ status_of failure.now }
     ensures written { IsTrue result.is_written → (usage : List ℕ) × Appends (E.contents err.old)
@@ -160,7 +160,7 @@ pub(crate) fn failed<E: Write>(failure: &Failure<'_>, err: &mut E) -> Ending
     }
 }
 
-/// Expands a file, and delivers the result. The output is not the input.
+/// Expands a file, and delivers the result, unless the output is the input.
 fn run_order<F: ComparableFiles, O: Write, E: Write + IsTerminal>(
     alloc: Global,
     order: ExpandOrder<'_>,
@@ -233,7 +233,7 @@ fn own_output<'w, F: ComparableFiles>(order: ExpandOrder<'w>, files: &F) -> Opti
     }
 }
 
-/// Reads a file, and expands it.
+/// Reads the file of an order, and returns its expansion.
 fn expansion_of<'w, F: ComparableFiles>(
     alloc: Global,
     order: ExpandOrder<'w>,
@@ -265,7 +265,7 @@ fn expansion_of<'w, F: ComparableFiles>(
     expand(&source, order.shape, showing)
 }
 
-/// Writes the warnings, delivers an expansion, and ends.
+/// Writes the warnings, delivers an expansion, and returns the ending of the program.
 fn deliver_and_end<F: ComparableFiles, O: Write, E: Write>(
     alloc: Global,
     order: ExpandOrder<'_>,
@@ -297,7 +297,8 @@ fn deliver_and_end<F: ComparableFiles, O: Write, E: Write>(
     }
 }
 
-/// Ends the program after a failure that followed a warning: writes its message.
+/// Writes the message of a failure that followed warnings, and returns the ending of the program.
+/// `is_warned` is whether standard error took the warnings.
 fn failed_after<E: Write>(is_warned: bool, failure: &Failure<'_>, err: &mut E) -> Ending
     ensures status { result.status ≡ status_of failure.now }
     ensures written { IsTrue result.is_written → IsTrue is_warned × ((usage : List ℕ)
@@ -345,7 +346,8 @@ fn deliver<'w, F: ComparableFiles, O: Write>(
     }
 }
 
-/// Writes a file unless it has this content; with `--check`, only compares.
+/// Writes `bytes` to a file, unless it has them already. With `--check`, only compares the file
+/// with them.
 fn settle<'w, F: ComparableFiles>(
     alloc: Global,
     order: ExpandOrder<'w>,

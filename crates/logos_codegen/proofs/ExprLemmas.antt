@@ -231,7 +231,7 @@ module _ {C : Type 0} (callback : Callback) (answers : (leaf : ℕ) (slice : Lis
       let read = end_on kinds l.rules l.utf8 text tokens old.to (continues l.rules l.utf8 l.lexer) (none_emitted l.rules l.utf8 code text l.lexer (bytes, λ t. valid) callback answers old.to over) in
       record { rules = l.rules; utf8 = l.utf8; accepted = l.accepted; items = read.0; read = read.1; is = sym read.2 ∙ ap (λ k. outcome_of k read.0) l.kinds }
 
--- why there is no tokenizer
+-- the reason that there is no tokenizer
 pub refusal_of : (refusal : Refusal) (why : ExprError) → IsThatError refusal why → Refuses (IsRefused SOURCE.now) refusal → IsRefusalOf why
 refusal_of (refusals.Errors faults) why e r = rw e (faults, r)
 refusal_of refusals.Memory why e r = rw e tt

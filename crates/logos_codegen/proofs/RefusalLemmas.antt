@@ -1,4 +1,4 @@
--- Why a source is refused.
+-- The reasons that a source is refused.
 use Rattle.std.proofs.Common.{ℕ, List}
 use Rattle.logos_parser.specs.Refusals.{Refuses}
 use Rattle.logos_parser.specs.declared.refusal.Refusal.{Refusal}

@@ -1,4 +1,4 @@
--- The text around the lexer of a source, by its options.
+-- The text around the lexer of a source, as its options determine it.
 use Rattle.std.specs.Prelude.{◌≡◌, ℕ, Bool, List, codes, Option, Some, None, if◌then◌else◌}
 use Rattle.logos_codegen.specs.Given.{IsGraphOfSource}
 use Rattle.logos_definition.specs.ErrorTypes.{ErrorView}
@@ -32,7 +32,8 @@ around_given options utf8 = record {
   source = input_text utf8;
 }
 
--- This is printed around the lexer of a source with this graph, by the options of the source.
+-- `around` is the text around the lexer of a source with this graph, as the options of the source
+-- determine it.
 pub record IsAroundOf (source : List ℕ) (graph : GraphValue) (around : AroundValue) : Type 0 where
   pub name : Slice
   pub options : OptionsView

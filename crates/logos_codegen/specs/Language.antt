@@ -8,7 +8,7 @@ use Rattle.logos_codegen.specs.Tokenizing.{kinds_of_views}
 use Rattle.logos_codegen.specs.declared.expr.ExprKind.{ExprKind}
 use Rattle.logos_codegen.specs.declared.expr.TheConstants.{SOURCE}
 
--- Its code, and the kind of the tokens of each leaf.
+-- The view of the tokenizer: its code, and the kind of the tokens of each leaf.
 pub record LanguageValue : Type 0 where
   pub code : CodeValue
   pub kinds : List ExprKind

@@ -9,8 +9,9 @@ use Rattle.logos_parser.specs.declared.refusal.Refusal.TheVariants as refusals
 use Rattle.logos_codegen.specs.declared.lexing.LexSourceError.{LexSourceError}
 use Rattle.logos_codegen.specs.declared.lexing.LexSourceError.TheVariants as errors
 
--- Why an input is not lexed: the source has these faults; or the source is accepted in UTF-8 mode
--- and the input is not UTF-8, with the length of its longest prefix that is; or memory ran out.
+-- The reason that an input is not lexed: the source has these faults; or the source is accepted in
+-- UTF-8 mode and the input is not UTF-8, with the length of its longest prefix that is; or memory
+-- ran out.
 abbrev pub IsJust : List ℕ → List ℕ → LexSourceError → Type 0
 IsJust source input (errors.Refused faults) = IsRefused source faults
 IsJust source input (errors.NotUtf8 valid_up_to) = ((rules : List Rule) × IsAccepted source rules true) × (¬ IsUtf8 input) × IsValidUpTo input valid_up_to

@@ -1,4 +1,4 @@
--- When a source is accepted, and why it is refused.
+-- The conditions under which a source is accepted, and the reasons that it is refused.
 use Rattle.std.specs.Prelude.{◌≡◌, ◌≢◌, ℕ, ◌≤◌, ◌^◌, Bool, List, [], ◌∷◌, ◌++◌, length, map}
 use Rattle.logos_lexeme.specs.declared.lexeme.Span.{Span}
 use Rattle.logos_token.specs.Faults.{Fault as SourceFault}
@@ -13,8 +13,7 @@ use Rattle.logos_automaton.specs.Measures.{size_of}
 use Rattle.logos_automaton.specs.ReadKeys.{HasMoreKeys}
 use Rattle.logos_codegen.specs.Rules.{named_of_view, rules_of_views, GraphReports}
 
--- These are all faults of an enum, in order: those of its parts, then those of the graph of its
--- leaves.
+-- All faults of an enum, in order: those of its parts, then those of the graph of its leaves.
 pub record AreReported (enum : EnumValue) (item : Span) (faults : List SourceFault) (leaves : List LeafView) : Type 0 where
   pub options : OptionsView
   pub enum_faults : List SourceFault
@@ -36,8 +35,8 @@ pub record IsAccepted (source : List ℕ) (rules : List Rule) (utf8 : Bool) : Ty
   pub same_rules : rules ≡ rules_of_views leaves
   pub same_mode : utf8 ≡ utf8_mode options
 
--- Why a source is refused: one fault that ends the reading; or, within the limits on length and
--- nesting, all faults of its enum, of which there are some.
+-- The reason that a source is refused: one fault that ends the reading; or, within the limits on
+-- length and nesting, all faults of its enum, of which there is at least one.
 pub data IsRefused (source : List ℕ) (faults : List SourceFault) : Type 0 where
   unread : {fault : SourceFault} → EndsReading source fault → faults ≡ fault ∷ [] → IsRefused source faults
   faulty : {enum : EnumValue} {item : Span} {leaves : List LeafView} → length source ≤ 16777216 → IsShallow source →

@@ -14,13 +14,13 @@ use Rattle.logos_automaton.specs.Faults.{Fault, no_universal_start, empty_match,
 
 -- A leaf, in the form that messages use.
 pub record NamedLeaf : Type 0 where
-  -- Its pattern and its variant.
+  -- The pattern and the variant.
   pub text : List ℕ
-  -- Its literal.
+  -- The literal of the pattern.
   pub source : List ℕ
-  -- Its variant.
+  -- The variant.
   pub kind : List ℕ
-  -- The span of its literal.
+  -- The span of the literal.
   pub span : Span
   pub priority : ℕ
 
@@ -60,7 +60,7 @@ abbrev pub first_of : List ℕ → ℕ → ℕ
 first_of set number = unwrap_or (slice_get set 0) number
 
 module _ (leaves : List NamedLeaf) where
-  -- The lines of the leaves of the set except this one.
+  -- The lines of the leaves of a set except `leaf`.
   abbrev pub other_lines : ℕ → List ℕ → List ℕ
   other_lines leaf set = flat_map (λ other. if other == leaf then [] else option_map_or line_of (slice_get leaves other) []) set
 

@@ -33,7 +33,7 @@ pub data Outcome : Type 0 where
   yields : List Token → Outcome
   bad : (from to : ℕ) → Outcome
 
--- Every match is a token.
+-- A callback that answers `Emit` for every match.
 abbrev pub emits : Callback
 emits leaf slice answer = answer ≡ Emit
 
@@ -66,7 +66,7 @@ abbrev pub in_front : List Token → Outcome → Outcome
 in_front tokens (yields others) = yields (tokens ++ others)
 in_front tokens (bad from to) = bad from to
 
--- Under the kinds of leaves, by leaf number.
+-- For the kinds of leaves, in the order of their numbers.
 module _ (kinds : List ExprKind) where
   -- The outcome of items: if an error is among them, the span of the first; otherwise the tokens in
   -- order, each with its leaf's kind.
@@ -85,7 +85,7 @@ abbrev pub IsErrorAt : Item → Span → Type 0
 IsErrorAt (token leaf from to slice) span = ⊥
 IsErrorAt (error leaf from to slice) span = (from ≡ span.from) × (to ≡ span.to)
 
--- The items of a text from an offset on that the outcome needs: all of them, if no error is among
+-- The items of a text from an offset that determine its outcome: all of them, if no error is among
 -- them, otherwise those up to the first error. Each is the next one after its predecessor.
 pub data AreRead (rules : List Rule) (utf8 : Bool) (text : List ℕ) : ℕ → List Item → Type 0 where
   all_read : (at : ℕ) → Items rules emits utf8 text at [] → AreRead rules utf8 text at []
@@ -104,7 +104,8 @@ pub record Tokenizes (text : List ℕ) (outcome : Outcome) : Type 0 where
   pub read : AreRead rules utf8 text 0 items
   pub is : outcome ≡ outcome_of (kinds_of_views accepted.leaves) items
 
--- This is the outcome of the text, for each list of items that it has under the leaves of the enum.
+-- `outcome` is the outcome of the text, for each list of items that the text has under the leaves
+-- of the enum.
 abbrev pub IsOutcome : List ℕ → Outcome → Type 0
 IsOutcome text outcome =
     (rules : List Rule) (utf8 : Bool) (items : List Item) (accepted : IsAccepted SOURCE.now rules utf8) → Items rules emits utf8 text 0 items → outcome ≡ outcome_of (kinds_of_views accepted.leaves) items
@@ -116,7 +117,7 @@ Answers Holds (Err errors.Refused) = ⊥
 Answers Holds (Err (errors.Bad span)) = Holds (bad span.from span.to)
 Answers Holds (Err errors.Memory) = Unit {0}
 
--- Why there is no tokenizer: its enum is refused, or memory ran out.
+-- The reason that there is no tokenizer: its enum is refused, or memory ran out.
 abbrev pub IsRefusalOf : ExprError → Type 0
 IsRefusalOf errors.Refused = (faults : List SourceFault) × IsRefused SOURCE.now faults
 IsRefusalOf (errors.Bad span) = ⊥

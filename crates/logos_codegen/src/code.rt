@@ -1,5 +1,5 @@
-//! Re-exports code values under one name for users. The parts of a code are the values that its
-//! generated code is printed from.
+//! Re-exports the types of code values, for users' code. Generated code is printed from the
+//! `CodeParts` of a code.
 
 pub use logos_generator::code::{
     Code, CodeLeaf, CodeParts, CodeState, Condition, Config, Fork, Header, Mark, NOWHERE,

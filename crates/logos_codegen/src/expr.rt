@@ -73,7 +73,7 @@ pub struct ExprToken<'i> {
 pub enum ExprError {
     /// The enum of the tokenizer is refused. This never happens: a test constructs the tokenizer.
     Refused,
-    /// No token begins at the start of the span, and this is the first such offset.
+    /// The start of the span is the first offset at which no token begins.
     Bad { span: Span },
     /// Memory ran out.
     Memory,
@@ -110,7 +110,7 @@ impl From<Refusal> for ExprError {
 #[derive(Drop)]
 pub struct Language {
     code: Code<'static>,
-    /// The kind of the tokens of each leaf, by the name of its variant.
+    /// The kind of the tokens of each leaf, chosen by the name of the leaf's variant.
     kinds: Vec<ExprKind>,
 }
 
@@ -129,14 +129,15 @@ impl Model for Language {
 }
 
 impl Language {
-    /// Makes the tokenizer.
+    /// Generates the code of the tokenizer's enum, and returns the tokenizer.
     ///
     /// # Errors
     ///
     /// Returns `Memory` if memory runs out. `Refused` is never returned.
     pub fn new(alloc: Global) -> Result<Language, ExprError>
         ensures ok { IfOk result IsLanguage }
-        // It is refused only if the enum is refused, and no input is at fault.
+        // An error means that the enum is refused or that memory ran out; it never depends on an
+        // input.
         ensures err { IfErr result IsRefusalOf }
     {
         let made = generate(alloc, SOURCE, Config::STATE_MACHINE)?;
@@ -160,7 +161,7 @@ impl Language {
     pub fn tokens<'i>(&self, alloc: Global, input: &'i str) -> Result<Vec<ExprToken<'i>>, ExprError>
         // The items of maximal munch from the start of the text determine the outcome.
         ensures reads { Answers (Tokenizes input.now) result }
-        // It is the outcome of all the items of the text, by the leaves of the enum.
+        // The result is the outcome of all items of the text under the leaves of the enum.
         ensures all { Answers (IsOutcome input.now) result }
     {
         let mut tokens = Vec::new(alloc);
@@ -191,7 +192,7 @@ impl Language {
         }
     }
 
-    /// Returns the kind of the tokens of a leaf.
+    /// Returns the kind of the tokens of a leaf, or `Close` if the leaf does not exist.
     fn kind_at(&self, leaf: LeafId) -> ExprKind
         ensures { result ≡ kind_at self.now.kinds leaf.0 }
     {
@@ -234,7 +235,7 @@ fn kind_given(kind: &VariantKind<'_>) -> ExprKind
     }
 }
 
-/// Returns the kind with this name.
+/// Returns the kind with this name, or `Close` if no other kind has it.
 fn kind_named(name: &str) -> ExprKind
     ensures { result ≡ kind_named name.now }
 {

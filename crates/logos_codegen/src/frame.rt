@@ -1,4 +1,5 @@
-//! The text around the body of a lexer. `Generated` prints its text with it.
+//! The options of a source that determine the text around the body of its lexer. Used by
+//! `Generated`.
 
 ghost use Rattle.std.specs.Prelude.{◌≡◌, option_map, option_copied};
 ghost use Rattle.logos_codegen.specs.Views.{around_options, around_value, error_run, error_tree, error_view, input_text, run_in, stream_tokens, tokens_of, type_tree};
@@ -9,7 +10,7 @@ use logos_token::token::{TokenStream, Tokens};
 use logos_token::util::MaybeVoid;
 use logos_type::TypeExpr;
 
-/// The options of a source that the texts around its code depend on.
+/// The options of a source on which the texts around its code depend.
 #[derive(Drop)]
 pub(crate) struct AroundOptions<'s> {
     /// The path of the library, if the source has one.
@@ -33,7 +34,7 @@ impl<'s> AroundOptions<'s> {
     }
 }
 
-/// Returns the text of the type of inputs, with the gap after it.
+/// Returns the text of the type of inputs, with the blank after it.
 fn input_text(utf8_mode: bool) -> &'static str
     ensures { result.now ≡ input_text utf8_mode }
 {
@@ -50,7 +51,7 @@ fn run_of<'t, 's>(path: Option<&'t TokenStream<'s>>) -> Option<Tokens<'t, 's>>
     }
 }
 
-/// Returns the tokens of a type, if it has some.
+/// Returns the tokens of a type, or `None` if it is `Void`.
 fn run_in<'t, 's>(tokens: &'t MaybeVoid<'s>) -> Option<Tokens<'t, 's>>
     ensures { option_map tokens_of result ≡ run_in tokens.now }
 {
@@ -60,7 +61,7 @@ fn run_in<'t, 's>(tokens: &'t MaybeVoid<'s>) -> Option<Tokens<'t, 's>>
     }
 }
 
-/// Returns the tokens of the type of errors, if it has some.
+/// Returns the tokens of the type of errors, if the source has one.
 fn error_run<'t, 's>(error: Option<&'t ErrorType<'s>>) -> Option<Tokens<'t, 's>>
     ensures { option_map tokens_of result
         ≡ error_run (option_map error_view (option_copied error.entry)) }
@@ -71,7 +72,7 @@ fn error_run<'t, 's>(error: Option<&'t ErrorType<'s>>) -> Option<Tokens<'t, 's>>
     }
 }
 
-/// Returns the type of errors as it was read, if it was.
+/// Returns the parsed type of errors, or `None` if there is none or it could not be parsed.
 fn read_type<'t, 's>(error: Option<&'t ErrorType<'s>>) -> Option<&'t TypeExpr<'s>>
     ensures { option_map type_tree (option_copied result)
         ≡ error_tree (option_map error_view (option_copied error.entry)) }

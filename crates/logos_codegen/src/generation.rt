@@ -1,4 +1,5 @@
-//! From a source text to the code of its lexer.
+//! `generate`, which makes the code of a lexer from its source. Called by `lex_source`, the
+//! programs and users' code.
 
 ghost use Rattle.std.specs.Prelude.{◌≡◌, ◌<◌, ◌↔◌, ◌∷◌, ◌++◌, Bool, List, [], length, map, flat_map, option_map, IfOk, IfErr, IsErrAnd, OnOk, IsTrue, string_bytes, option_copied};
 ghost use Rattle.logos_codegen.specs.Views.{Rule, fault_of, ident_slice, callback_view, parser_view, kind_value, utf8_mode, IsGraphOf, rules_of, KeepsGiven, IsLexer, HeadHasItsType, IsHeadOf, analysis_view, too_long, Refuses, IsMemory, OccurInOrder, texts_of, named_leaf, reported_as, IsGiven, KeepsEnum, error_callback, variant_at, RunsAreCut, IsAccepted, IsRefused, IsWithinSizes, IsWithinLimits, IsLimit, ReportsGraph, IsFaultless, AreGraphFaults, IsGraphMade, BeginsImplementation, IsFrontOf};
@@ -52,9 +53,9 @@ struct EnumHead<'s> {
 }
 
 impl Generated<'_> {
-    /// Returns the whole Rust text of the lexer: the implementation of `Logos` for the enum, as
-    /// printed tokens. The texts of all bit tables, by number, and after them those of the
-    /// conditions of all forks, by states and by the fork's order, occur in it without overlap.
+    /// Returns the generated code: the implementation of `Logos` for the enum, as printed tokens.
+    /// It contains the texts of all bit tables, in the order of their numbers, and after them the
+    /// conditions of all forks, in the order of the states and within a fork, without overlap.
     ///
     /// # Errors
     ///
@@ -62,13 +63,14 @@ impl Generated<'_> {
     pub fn text(&self, alloc: Global) -> Result<String, Memory>
         ensures occur { IfOk result (λ text.
             OccurInOrder (texts_of self.now.code) (string_bytes text)) }
-        // It begins with the head of the implementation, by the options of the source.
+        // The text begins with the head of the implementation, as the options of the source
+        // determine it.
         ensures begins { IfOk result (λ text. BeginsImplementation self.now (string_bytes text)) }
     {
         Ok(self.printed(alloc)?.text)
     }
 
-    /// Returns the text that `text` returns, with the pieces of the source in it.
+    /// Returns the generated code, like `text`, with the pieces of the source in it.
     ///
     /// # Errors
     ///
@@ -77,7 +79,7 @@ impl Generated<'_> {
         ensures occur { IfOk result (λ sink.
             OccurInOrder (texts_of self.now.code) (string_bytes sink.text)) }
         ensures begins { IfOk result (λ sink. BeginsImplementation self.now (string_bytes sink.text)) }
-        // Each piece is tokens of the source, and these are all of them.
+        // Each piece consists of tokens of the source, and no piece is missing.
         ensures pieces { IfOk result (λ sink. ArePrinted (text_runs (around_made self.now) self.now.code)
             0 sink.pieces.items (string_bytes sink.text)) }
     {
@@ -88,10 +90,10 @@ impl Generated<'_> {
         )
     }
 
-    /// Returns the beginning of the Rust text of a lexer by tables: the implementation of `Logos`
-    /// for the enum, as printed tokens, up to the functions for errors, matches and tokens in the
-    /// body of the function that lexes. The tables follow it. The pieces of the source in it are
-    /// returned with it.
+    /// Returns the front of the generated code in the shape `tables`, with the pieces of the source
+    /// in it: the implementation of `Logos` for the enum, as printed tokens. It ends with the
+    /// functions for errors, matches and tokens in the body of the lexing function. The tables
+    /// follow it.
     ///
     /// # Errors
     ///
@@ -140,7 +142,7 @@ fn report_faults(
     Ok(())
 }
 
-/// Reports the limit that keeps the graph from being built.
+/// Reports the limit that `error` names, or fails if memory ran out.
 fn report_limit(error: BuildError, item: Span, errors: &mut Errors) -> Result<(), Memory>
     ensures { OnOk result (IsLimit error item errors.old errors.new) }
 {
@@ -155,8 +157,8 @@ fn report_limit(error: BuildError, item: Span, errors: &mut Errors) -> Result<()
     }
 }
 
-/// Builds the graph of the leaves, unless a limit is exceeded. Reports its faults, or the limit
-/// instead.
+/// Builds the graph of the leaves, unless a limit is exceeded. Reports the faults of the graph, or
+/// the exceeded limit.
 fn graph_of<'s>(
     leaves: Vec<Leaf<'s>>,
     utf8_mode: bool,
@@ -187,7 +189,7 @@ fn is_faultless(errors: &Errors) -> bool
     errors.list().is_empty()
 }
 
-/// Builds the graph of leaves.
+/// Builds the graph of the leaves, if neither the graph nor `errors` has a fault.
 ///
 /// # Errors
 ///
@@ -267,7 +269,7 @@ fn callback_in<'p, 's>(parser: &'p Parser<'s>) -> Option<&'p Callback<'s>>
     }
 }
 
-/// Makes the code of a graph for the enum with this head. The code finds the longest matches.
+/// Generates the code of a graph for the enum with this head. The code finds the longest matches.
 fn code_of<'s>(
     alloc: Global,
     config: Config,
@@ -305,7 +307,7 @@ fn accept<'s>(alloc: Global, src: &'s str) -> Result<(Graph<'s>, EnumHead<'s>), 
     }
 }
 
-/// Returns the path of a state diagram.
+/// Returns the path of a state diagram, if the source exports one.
 fn path_of(export: Option<ExportPath>) -> Option<String>
     ensures { option_map string_bytes result
         ≡ option_map (λ e. string_bytes e.path) export }
@@ -316,7 +318,7 @@ fn path_of(export: Option<ExportPath>) -> Option<String>
     }
 }
 
-/// Puts together the value that `generate` returns.
+/// Assembles the value that `generate` returns.
 fn put_together<'s>(code: Code<'s>, graph: Graph<'s>, head: EnumHead<'s>) -> Generated<'s>
     ensures parts { (result.code ≡ code.entry) × (result.graph ≡ graph.entry)
         × (result.name ≡ head.entry.name) }
@@ -355,7 +357,7 @@ fn put_together<'s>(code: Code<'s>, graph: Graph<'s>, head: EnumHead<'s>) -> Gen
 /// # Errors
 ///
 /// Returns `Errors` with all faults of the source, in order, or with the one that ends its reading:
-/// faults of the generic parameters, of the attributes of the enum, of parameters that hold
+/// faults of the generic parameters, of the attributes of the enum, of parameters that contain
 /// themselves, of subpatterns, of skips, of variants in source order, of leaves that can match
 /// invalid UTF-8 when inputs are UTF-8, of parameters without a type, and of the graph. Limits are
 /// among them: on the source's bytes, on the nesting of its delimiters, types and patterns, on the
@@ -369,7 +371,7 @@ pub fn generate<'s>(alloc: Global, src: &'s str, config: Config) -> Result<Gener
     // the enum's, and the path is that of `export_dir`.
     ensures given { IfOk result (λ made. IsGiven src.now config made.graph made.code
         (ident_slice made.name) (option_map string_bytes made.export_path)) }
-    // The text around the lexer is that of the options of the source.
+    // The text around the lexer is determined by the options of the source.
     ensures around { IfOk result (λ made. IsAroundOf src.now made.graph (around_made made)) }
     // The length of the source, its nesting and the size of its trees are within their limits.
     ensures within { IfOk result (λ made. IsWithinSizes src.now (rules_of made.graph.leaves)) }

@@ -1,4 +1,4 @@
-//! Lexing of an input with the lexer of a source. Called by users' code.
+//! Lexes an input with the lexer of a source in one call. Called by users' code.
 
 ghost use Rattle.std.specs.Prelude.{◌≡◌, List, Bool, map, length, true, IfOk, IfErr, IsTrue};
 ghost use Rattle.logos_codegen.specs.Views.{All, IsUtf8, Rule, CodeValue, IsCut, IsLexer, Items, answers_of, item_of, AreInOrder, Parts, IsLeftOut, Runs, IsAccepted, IsWithinLimits, IsUnlexed, IsJust, IsNoRefusal, TakesMatches, TakesMatchesOf, Memory as OutOfMemory, NotUtf8 as NoUtf8, IsThatRefusal};
@@ -13,12 +13,12 @@ use logos_scan::items::items;
 use logos_token::error::Errors;
 use std::alloc::{AllocError, AllocFailed, Global};
 
-/// The reasons why an input cannot be lexed.
+/// The reason that an input cannot be lexed.
 #[derive(Debug, Drop)]
 pub enum LexSourceError {
-    /// The source has these faults, or passes a limit.
+    /// The faults of the source, among them the limits that it exceeds.
     Refused(Errors),
-    /// The input is not UTF-8. `valid_up_to` is the length in bytes of its longest prefix that is.
+    /// The input is not UTF-8. `valid_up_to` is the length in bytes of its longest UTF-8 prefix.
     NotUtf8 { valid_up_to: usize },
     /// Memory ran out.
     Memory,
@@ -80,18 +80,18 @@ fn lex_input<'i, C: Fn(LeafId, &[u8]) -> Action + Drop>(
 
 /// Returns the items of an input, found with the leaves of a source.
 ///
-/// The source is read as by `generate`. From each point of the input the longest match is taken,
-/// and of several matches of that length the one whose leaf has the highest priority. Its item is a
-/// token of its leaf; matches of a `skip` have no item. If no leaf matches, the item is an error
-/// that spans the longest prefix that could still have become a match. For a match of a leaf with a
-/// callback, `callbacks` decides by the leaf and the slice; `Emit` for a `skip` means `Skip`. It is
-/// not called for other leaves. The items are the same in both shapes of `config`.
+/// The source is read as `generate` reads it. From each point of the input the longest match is
+/// taken, and of several matches of that length the one whose leaf has the highest priority. Its
+/// item is a token of its leaf; matches of a `skip` have no item. If no leaf matches, the item is
+/// an error that spans the longest prefix that could still have become a match. For each match of a
+/// leaf that has a callback, `callbacks` receives the leaf and the slice, and returns the action;
+/// `Emit` for a `skip` means `Skip`. It is not called for other leaves. The items are the same in
+/// both shapes of `config`.
 ///
 /// # Errors
 ///
 /// Returns `Refused` if the source has faults; otherwise `NotUtf8` if the source is in UTF-8 mode
-/// and the input is not UTF-8. Returns `Memory` if memory runs out. Nothing that the caller holds
-/// is changed.
+/// and the input is not UTF-8. Returns `Memory` if memory runs out.
 pub fn lex_source<'i, C: Fn(LeafId, &[u8]) -> Action + Drop>(
     alloc: Global,
     src: &str,
@@ -101,8 +101,8 @@ pub fn lex_source<'i, C: Fn(LeafId, &[u8]) -> Action + Drop>(
 ) -> Result<Vec<Item<'i>>, LexSourceError>
     requires { (rules : List Rule) (utf8 : Bool) → IsAccepted src.now rules utf8 →
         TakesMatchesOf C.Fn rules callbacks }
-    // The items are those of maximal munch, by the rules of a source without faults; in UTF-8 mode,
-    // of UTF-8.
+    // The source has no faults, and the items are those of maximal munch under its rules. In UTF-8
+    // mode the input is UTF-8.
     ensures items { IfOk result (λ items. (rules : List Rule) × (utf8 : Bool)
         × IsAccepted src.now rules utf8 × (IsTrue utf8 → IsUtf8 input.now)
         × Items rules (answers_of C.Fn callbacks) utf8 input.now 0 (map item_of items.items)) }

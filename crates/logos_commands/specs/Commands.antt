@@ -1,4 +1,4 @@
--- The requests that the arguments of `logos` make.
+-- The requests in the arguments of `logos`.
 use Rattle.std.specs.Prelude.{◌∷◌, [], ℕ, List, Option, Some, None, true, if◌then◌else◌, option_map, bytes_eq, codes}
 use Rattle.logos_code.specs.declared.code.Config.{Config}
 use Rattle.logos_code.specs.Shapes.{shape_named}
@@ -23,27 +23,27 @@ shape_in [] = Some (record { use_state_machine_codegen = true })
 shape_in (option ∷ name ∷ []) = if bytes_eq option (word_of options.Shape) then shape_named name else None
 shape_in arguments = None
 
--- After `gen`: a file, and optionally a shape.
+-- The request of `gen` with these arguments: a file, and optionally a shape.
 abbrev pub text_in : List (List ℕ) → Option Requested
 text_in (file ∷ rest) = option_map (requests_text file) (shape_in rest)
 text_in [] = None
 
--- After `lex`: a file, an input, and optionally a shape.
+-- The request of `lex` with these arguments: a file, an input, and optionally a shape.
 abbrev pub items_in : List (List ℕ) → Option Requested
 items_in (file ∷ input ∷ rest) = option_map (requests_items file input) (shape_in rest)
 items_in arguments = None
 
--- After `mermaid`: a file.
+-- The request of `mermaid` with these arguments: a file.
 abbrev pub diagram_in : List (List ℕ) → Option Requested
 diagram_in (file ∷ []) = Some (requests_diagram file)
 diagram_in arguments = None
 
--- After `export`: a file.
+-- The request of `export` with these arguments: a file.
 abbrev pub export_in : List (List ℕ) → Option Requested
 export_in (file ∷ []) = Some (requests_export file)
 export_in arguments = None
 
--- After `strip`: a file.
+-- The request of `strip` with these arguments: a file.
 abbrev pub strip_in : List (List ℕ) → Option Requested
 strip_in (file ∷ []) = Some (requests_strip file)
 strip_in arguments = None

@@ -19,7 +19,7 @@ extension name = if bytes_eq name parent_dir then None else extension_of_split (
 abbrev pub file_in : List ℕ → List ℕ → List ℕ
 file_in folder name = with_separator folder ++ (map to_ascii_lowercase name ++ codes ".mmd")
 
--- Why a path with this extension, which is not `mmd`, is refused.
+-- The reason that a path with this extension, which is not `mmd`, is refused.
 abbrev pub refusal_by : List ℕ → ExportRefusal
 refusal_by extension = if bytes_eq extension (codes "dot") then Dot else Extension
 

@@ -24,7 +24,8 @@ lines_of items = flat_map line_of items
 abbrev pub emits : Callback
 emits leaf slice answer = answer ≡ Emit
 
--- After these bytes, the lines of all items of a run of a code from `from` on were written.
+-- The bytes `before` were written, followed by the lines of all items of a run of a code from the
+-- offset `from`.
 pub record WritesLines (code : CodeValue) (callback : Callback) (bytes : List ℕ) (from : ℕ) (before : List ℕ) (old new : Option (List ℕ)) : Type 0 where
   pub items : List Item
   pub runs : Runs code callback bytes from items

@@ -51,7 +51,7 @@ IsPart Diagram graph code name export (prints shown) = shown ≡ mermaid_of grap
 IsPart Export graph code name export (makes_file path shown) = (file_at path ≡ export_destination export name.text) × (shown ≡ mermaid_of graph.states)
 IsPart part graph code name export effect = ⊥
 
--- The source has no faults, and this is a part of its lexer.
+-- The source has no faults, and the effect shows a part of its lexer.
 pub record IsPartOf (part : Part) (source : List ℕ) (effect : Effect) : Type 0 where
   pub rules : List Rule
   pub utf8 : Bool
@@ -110,14 +110,15 @@ pub record IsUnreadable (source : List ℕ) (faults : List Fault) : Type 0 where
   pub ends : EndsReading source ending
   pub one : faults ≡ ending ∷ []
 
--- Why a lexer is refused: the faults of its source; or, if its diagram is to be exported, its lack
--- of a valid path.
+-- The reason that a lexer is refused: the faults of its source; or, if its diagram is to be
+-- exported, its lack of a valid path.
 abbrev pub RefusesLexer : List ℕ → Part → Failure → Type 0
 RefusesLexer source (Text shape) failure = ShowsFaultsOf (IsRefused source) failure
 RefusesLexer source Diagram failure = ShowsFaultsOf (IsRefused source) failure
 RefusesLexer source Export failure = ShowsFaultsOf (IsRefused source) failure ⊎ ShowsReasonOf (IsUnexported source) failure
 
--- Why the items of an input are refused: the faults of the source, or that the input is not UTF-8.
+-- The reason that the items of an input are refused: the faults of the source, or that the input is
+-- not UTF-8.
 abbrev pub IsTornInput : List ℕ → List ℕ → Failure → Type 0
 IsTornInput source input (NotUtf8 valid_up_to) = IsTorn source input valid_up_to
 IsTornInput source input failure = ⊥
@@ -125,17 +126,17 @@ IsTornInput source input failure = ⊥
 abbrev pub RefusesInput : List ℕ → List ℕ → Failure → Type 0
 RefusesInput source input failure = ShowsFaultsOf (IsRefused source) failure ⊎ IsTornInput source input failure
 
--- Why a source is not stripped: its one fault.
+-- The reason that a source is not stripped: its one fault.
 abbrev pub RefusesStripping : List ℕ → Failure → Type 0
 RefusesStripping source failure = ShowsFaultsOf (IsUnreadable source) failure
 
--- Why a diagram with this destination is not exported.
+-- The reason that a diagram with this destination is not exported.
 abbrev pub RefusesExport : Destination → Failure → Type 0
 RefusesExport destination failure = ShowsReasonOf (λ why. destination ≡ refused why) failure
 
--- ---- Files: `yields` holds of files, a path, the bytes that are read there, and the files after
--- the read; `makes` holds of files, a path, the bytes that are written there, and the files after
--- the write
+-- ---- Files: `yields` relates the files before a read, the path, the bytes that are read, and the
+-- files after it; `makes` relates the files before a write, the path, the bytes that are written,
+-- and the files after it
 
 -- The effect of a command on files and on standard output.
 abbrev pub HasEffect : {F : Type 0} → (F → List ℕ → List ℕ → F → Type 0) → Effect → F → F → Option (List ℕ) → Option (List ℕ) → Type 0
@@ -179,10 +180,11 @@ module _ {F : Type 0} (yields : F → List ℕ → List ℕ → F → Type 0) wh
   IsDenied (requests_export file) files after failure = ReadsSource file files after (λ source. RefusesLexer source Export failure)
   IsDenied (requests_strip file) files after failure = ReadsSource file files after (λ source. RefusesStripping source failure)
 
--- ---- Operations on files: `reads` holds of files before and after a read; `writes` of files, a
--- path, and the files after a write there. Each holds whether the operation succeeds or fails
+-- ---- Operations on files: `reads` relates the files before and after a read; `writes` relates the
+-- files before a write, the path, and the files after it. Each holds whether the operation succeeds
+-- or fails
 
--- The file of an effect was written, or this failed.
+-- The file of an effect was written, or writing it failed.
 abbrev pub WritesFor : {F : Type 0} → (F → List ℕ → F → Type 0) → Effect → F → F → Type 0
 WritesFor writes (prints text) files after = after ≡ files
 WritesFor writes (makes_file path text) files after = writes files path after
@@ -192,12 +194,13 @@ abbrev pub IsLookedAt : {F : Type 0} → (F → F → Type 0) → F → F → Ty
 IsLookedAt {F} reads files after = (read : F) × reads files read × ((after ≡ read) ⊎ reads read after)
 
 module _ {F : Type 0} (yields : F → List ℕ → List ℕ → F → Type 0) (reads : F → F → Type 0) (writes : F → List ℕ → F → Type 0) where
-  -- A file was read, and then only the file was written that its source determines, if any.
+  -- A file was read, and then no file was written, except perhaps the one that its source
+  -- determines.
   abbrev pub IsTouched : List ℕ → F → F → (List ℕ → Effect → Type 0) → Type 0
   IsTouched file files after Yields =
       (read : F) × reads files read × ((after ≡ read) ⊎ ((source path text : List ℕ) × yields files file source read × Yields source (makes_file path text) × writes read path after))
 
-  -- The operations on files that a request has, whatever the exit status.
+  -- The operations on files of a request, whatever the exit status.
   abbrev pub Touches : Requested → F → F → Type 0
   Touches (requests_text file shape) files after = IsTouched file files after (IsPartOf (Text shape))
   Touches (requests_items file input shape) files after = IsLookedAt reads files after

@@ -54,7 +54,7 @@ fn is_word(word: &String, text: &str) -> bool
     word.as_str() == text
 }
 
-/// Returns the command `gen` with the arguments after its name.
+/// Returns the command `gen` with the arguments after its name, if they are valid.
 fn text_of(arguments: &[String]) -> Option<Command<'_>>
     ensures { option_map command_requested result ≡ text_in (map string_bytes arguments.now) }
 {
@@ -66,7 +66,7 @@ fn text_of(arguments: &[String]) -> Option<Command<'_>>
     Some(Command::Text { file, config })
 }
 
-/// Returns the command `lex` with the arguments after its name.
+/// Returns the command `lex` with the arguments after its name, if they are valid.
 fn items_of(arguments: &[String]) -> Option<Command<'_>>
     ensures { option_map command_requested result ≡ items_in (map string_bytes arguments.now) }
 {
@@ -81,7 +81,7 @@ fn items_of(arguments: &[String]) -> Option<Command<'_>>
     }))
 }
 
-/// Returns the command `mermaid` with the arguments after its name.
+/// Returns the command `mermaid` with the arguments after its name, if they are valid.
 fn diagram_of(arguments: &[String]) -> Option<Command<'_>>
     ensures { option_map command_requested result ≡ diagram_in (map string_bytes arguments.now) }
 {
@@ -93,7 +93,7 @@ fn diagram_of(arguments: &[String]) -> Option<Command<'_>>
     }
 }
 
-/// Returns the command `export` with the arguments after its name.
+/// Returns the command `export` with the arguments after its name, if they are valid.
 fn export_of(arguments: &[String]) -> Option<Command<'_>>
     ensures { option_map command_requested result ≡ export_in (map string_bytes arguments.now) }
 {
@@ -105,7 +105,7 @@ fn export_of(arguments: &[String]) -> Option<Command<'_>>
     }
 }
 
-/// Returns the command `strip` with the arguments after its name.
+/// Returns the command `strip` with the arguments after its name, if they are valid.
 fn strip_of(arguments: &[String]) -> Option<Command<'_>>
     ensures { option_map command_requested result ≡ strip_in (map string_bytes arguments.now) }
 {
@@ -117,8 +117,8 @@ fn strip_of(arguments: &[String]) -> Option<Command<'_>>
     }
 }
 
-/// Returns the code shape that the last arguments of a command select. The default is one loop with
-/// a state.
+/// Returns the code shape that the last arguments of a command select, if they are valid. The
+/// default is one loop over a state.
 fn shape_of(arguments: &[String]) -> Option<Config>
     ensures { result ≡ shape_in (map string_bytes arguments.now) }
 {

@@ -33,7 +33,7 @@ pub(super) fn diagram_path(
     Err(refused_export(alloc, refused_by(extension)))
 }
 
-/// Returns why a diagram's path must not have this extension, which is not `mmd`.
+/// Returns the reason that the path of a diagram must not have this extension, which is not `mmd`.
 fn refused_by(extension: &str) -> ExportRefusal
     ensures { result ≡ refusal_by extension.now }
 {
@@ -44,8 +44,8 @@ fn refused_by(extension: &str) -> ExportRefusal
     }
 }
 
-/// Returns the extension of a name: the part after its last `.`. A leading `.` begins no extension,
-/// and `..` has none.
+/// Returns the extension of a name, if it has one: the part after its last `.`. A leading `.`
+/// begins no extension, and `..` has none.
 fn extension_of(name: &str) -> Option<&str>
     ensures { option_copied result ≡ extension name.now }
 {

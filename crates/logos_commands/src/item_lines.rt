@@ -33,8 +33,8 @@ pub(super) struct LexRequest<'w> {
 
 /// Writes a line for each item of an input, found by the lexer of the enum in a file.
 ///
-/// The source and the input are validated before the first item is written. After it only writing
-/// can fail.
+/// The source and the input are validated before the first item is written. After that, only
+/// writing can fail.
 pub(super) fn lex<'w, F: Files, O: Write>(
     alloc: Global,
     request: LexRequest<'w>,
@@ -164,7 +164,7 @@ fn write_lines<C: Fn(LeafId, &[u8]) -> Action, O: Write>(
     print_bytes(block, out)
 }
 
-/// Writes a block if it is full, and empties it.
+/// Writes a block and empties it, if it is full.
 fn write_if_full<O: Write>(block: &mut Vec<u8>, out: &mut O) -> Result<(), Failure<'static>>
     ensures few { vec_len block.new < BLOCK }
     ensures room { vec_capacity block.new ≡ vec_capacity block.old }

@@ -24,11 +24,11 @@ pub(super) enum CommandOutcome {
 /// The part of a lexer that a command requests.
 #[derive(Clone, Copy)]
 pub(super) enum Requested {
-    /// Its generated code, in this shape.
+    /// The generated code, in this shape.
     Text(Config),
-    /// Its state diagram.
+    /// The state diagram, for standard output.
     Diagram,
-    /// Its state diagram, for the file that its source names.
+    /// The state diagram, for the file that the source names.
     Export,
 }
 
@@ -37,7 +37,7 @@ const ANY_SHAPE: Config = Config {
     use_state_machine_codegen: true,
 };
 
-/// Makes the outcome of a command on the source in a file.
+/// Returns the outcome of a command on the source in a file.
 pub(super) fn of_file<'w, F: Files>(
     alloc: Global,
     file: &'w str,
@@ -56,7 +56,7 @@ pub(super) fn of_file<'w, F: Files>(
     of_source(alloc, source.as_str(), requested)
 }
 
-/// Makes the outcome of a command on a source.
+/// Returns the outcome of a command on a source.
 fn of_source(
     alloc: Global,
     source: &str,
@@ -83,7 +83,7 @@ fn shape_of(requested: Requested) -> Config
     }
 }
 
-/// Makes the outcome of a command on a lexer.
+/// Returns the outcome of a command on a lexer.
 fn of_lexer(
     alloc: Global,
     made: &Generated<'_>,
@@ -105,7 +105,7 @@ fn of_lexer(
     }
 }
 
-/// Returns the generated code of a lexer, and LF.
+/// Returns the generated code of a lexer, followed by LF.
 fn text_of_lexer(alloc: Global, made: &Generated<'_>) -> Result<String, Failure<'static>>
     ensures text { IfOk result (λ text. EndsWithLine (OccurInOrder (texts_of made.now.code))
         (string_bytes text)) }
@@ -117,7 +117,7 @@ fn text_of_lexer(alloc: Global, made: &Generated<'_>) -> Result<String, Failure<
     Ok(text)
 }
 
-/// Returns the enum in a file without the attributes of the derive macro, and LF.
+/// Returns the enum in a file without the attributes of the derive macro, followed by LF.
 pub(super) fn stripped<'w, F: Files>(
     alloc: Global,
     file: &'w str,
@@ -138,7 +138,7 @@ pub(super) fn stripped<'w, F: Files>(
     }
 }
 
-/// Returns the enum of a source without the attributes of the derive macro, and LF.
+/// Returns the enum of a source without the attributes of the derive macro, followed by LF.
 fn stripped_source(alloc: Global, source: &str) -> Result<String, Failure<'static>>
     ensures done { IfOk result (λ text. IsLeft source.now (prints (string_bytes text))) }
     ensures denied { IfErr result (λ failure. status_of failure ≡ 1 →
@@ -154,7 +154,7 @@ fn stripped_source(alloc: Global, source: &str) -> Result<String, Failure<'stati
     Ok(text)
 }
 
-/// Makes the state diagram of a lexer, for the file that its source names.
+/// Returns the state diagram of a lexer, for the file that its source names.
 fn export_of_lexer(alloc: Global, made: &Generated<'_>) -> Result<CommandOutcome, Failure<'static>>
     ensures diagram { IfOk result (λ outcome. IsPart Requested.Export made.now.graph made.now.code
         (ident_slice made.now.name) (option_map string_bytes made.now.export_path)

@@ -49,8 +49,8 @@ pub fn run_with<F: Files, O: Write, E: Write>(
 /// 1 if the source or the input was refused, 2 if the arguments are not a command, 3 if a file, the
 /// output or the memory failed.
 ///
-/// If the status is not 0, a message is written to `err`, and nothing was written to `out`, unless
-/// writing to it failed.
+/// If the exit status is not 0, a message is written to `err`, and nothing was written to `out`,
+/// unless writing to it failed.
 pub fn run<F: Files, O: Write, E: Write>(
     alloc: Global,
     arguments: &[String],

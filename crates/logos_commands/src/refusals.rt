@@ -58,8 +58,9 @@ fn export_line(why: ExportRefusal) -> &'static str
     }
 }
 
-/// Returns the lines of all faults. Makes room for them at once: the faults of thousands of equal
-/// leaves have hundreds of megabytes, and a text that grows by doubling takes up to twice as much.
+/// Returns the lines of all faults. Reserves memory for them in one step: the faults of thousands
+/// of equal leaves have hundreds of megabytes, and a text that grows by doubling takes up to twice
+/// as much.
 fn fault_lines(errors: &Errors) -> Result<String, Memory>
     ensures { IfOk result (λ text. string_bytes text ≡ fault_lines errors.now) }
 {
@@ -69,11 +70,11 @@ fn fault_lines(errors: &Errors) -> Result<String, Memory>
     Ok(text)
 }
 
-/// The number of bytes that a line has beside its message: two numbers, a code, and the signs
-/// between them. Most lines have fewer.
+/// An estimate of the number of bytes of a line besides its message: two numbers, a code, and the
+/// separators. Most lines have fewer.
 const BESIDE_MESSAGE: usize = 80;
 
-/// Returns about the number of bytes of the lines of these faults. No proof depends on it.
+/// Returns an estimate of the number of bytes of the lines of these faults. No proof depends on it.
 fn size_of_lines(faults: &[SpannedError]) -> usize {
     let mut size: usize = 0;
     for fault in faults {

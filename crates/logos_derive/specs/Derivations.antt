@@ -9,7 +9,8 @@ use Rattle.logos_tables.specs.declared.shape.Shape.{Shape}
 use Rattle.logos_text.specs.declared.sink.Sink.{Sink}
 use Rattle.logos_token.specs.Faults.{Fault}
 
--- A source is accepted, and this is its implementation in a shape. All diagnostics are warnings.
+-- A source is accepted. The derivation has its implementation in a shape, and all diagnostics are
+-- warnings.
 pub record IsAccepted (shape : Shape) (source : List ℕ) (derivation : Derivation) : Type 0 where
   pub made : Sink
   pub is : derivation.implementation ≡ Some made

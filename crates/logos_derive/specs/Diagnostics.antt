@@ -24,7 +24,7 @@ abbrev pub error_summary : Fault → Summary
 error_summary fault = record { level = Error; code = Some fault.code; message = first_line fault.message; span = fault.span }
 
 -- Whether a fault has its own error, given the faults before it. The first fault has one. Another
--- one has one if a report of an error begins with it, and fewer than 50 faults before it have its
+-- fault has one if a report of an error begins with it, and fewer than 50 faults before it have its
 -- code.
 abbrev pub has_error : List Fault → NextValue → Fault → Bool
 has_error front next fault = length front == 0 || (begins_error next fault && nat_lt (seen_of fault.code front) 50)

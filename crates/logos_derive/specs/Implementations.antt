@@ -7,13 +7,13 @@ use Rattle.logos_text.specs.Fronts.{AroundValue}
 use Rattle.logos_text.specs.Pieces.{ArePrinted}
 use Rattle.logos_text.specs.declared.sink.Sink.{Sink}
 
--- This is the text of a code in a shape, with this around its function. Its pieces are the tokens
--- of the source that it repeats: each run once, at its offset, in order and without overlap.
+-- The text of a code in a shape, with these texts around its function. Its pieces are the tokens of
+-- the source that it repeats: each run once, at its offset, in order and without overlap.
 pub record IsMadeOf (shape : Shape) (around : AroundValue) (code : CodeValue) (made : Sink) : Type 0 where
   pub shown : IsShown shape around code (string_bytes made.text)
   pub pieces : ArePrinted (shape_runs shape around code) 0 made.pieces.items (string_bytes made.text)
 
--- This is the implementation of a source without faults, in this shape.
+-- The implementation of a source without faults, in this shape.
 pub record IsImplementation (shape : Shape) (source : List ℕ) (made : Sink) : Type 0 where
   pub around : AroundValue
   pub code : CodeValue

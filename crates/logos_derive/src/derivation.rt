@@ -26,8 +26,8 @@ pub struct Derivation {
 }
 
 /// Returns the derivation of the enum that a source spells. An enum without faults is accepted: it
-/// has an implementation in this shape, and no errors. One with faults is refused, with at least
-/// one error, and the helps for it. Both may have warnings.
+/// has an implementation in this shape, and no errors. An enum with faults is refused, with at
+/// least one error, and with the helps for its faults. Both may have warnings.
 ///
 /// # Errors
 ///
@@ -38,8 +38,8 @@ pub fn derive<H: Helps>(
     shape: Shape,
     helps: &H,
 ) -> Result<Derivation, Memory>
-    // The text is that of the lexer of the source, with the pieces in it, or the errors are those
-    // for the faults of the source.
+    // The implementation is that of the lexer of the source, with the tokens that it repeats as
+    // pieces; or the errors are those for the faults of the source.
     ensures { IfOk result (IsDerivation shape source.now) }
 {
     match generate(alloc, source, config_of(shape)) {
@@ -72,7 +72,7 @@ fn warnings_by(alloc: Global, source: &str, made: &Generated<'_>) -> Result<Vec<
 {
     match tokenize(alloc, source) {
         Ok(stream) => warnings_with(alloc, stream.run(), made),
-        // The source has tokens, within the limits.
+        // Only memory can run out: the source has tokens, within the limits.
         Err(_) => Err(Memory),
     }
 }

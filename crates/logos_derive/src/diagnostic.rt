@@ -1,10 +1,11 @@
-//! Errors and warnings in the form in which the derive macro shows them.
+//! Errors and warnings in the form in which the derive macro shows them. Used by `errors` and
+//! `warnings`.
 
 use logos_token::error::{FaultCode, Memory};
 use logos_token::token::Span;
 use std::alloc::Global;
 
-/// The level of a diagnostic: whether it refuses its enum.
+/// The level of a diagnostic. An error refuses its enum.
 #[derive(Clone, Copy, Debug, PartialEq, Eq)]
 pub enum Level {
     Error,
@@ -46,7 +47,7 @@ pub struct Note {
     pub text: String,
 }
 
-/// Adds a further span.
+/// Adds a further span with its label.
 pub(crate) fn add_label(span: Span, text: &str, labels: &mut Vec<Label>) -> Result<(), Memory> {
     let text = String::from_str(*labels.allocator(), text)?;
     labels.push(Label { span, text })?;

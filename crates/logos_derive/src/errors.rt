@@ -35,7 +35,7 @@ pub(crate) fn errors_of(
     Ok(errors)
 }
 
-/// Adds the error for the fault with this number, if it has its own.
+/// Adds the error for the fault with this number, if the fault has its own error.
 fn add_fault(
     part: Part<'_, '_>,
     faults: &[SpannedError],
@@ -104,7 +104,7 @@ fn error_of(
     })
 }
 
-/// Returns these faults from the one with this number on.
+/// Returns the faults from the one with the number `number` to the last.
 fn rest_from(faults: &[SpannedError], number: usize) -> &[SpannedError] {
     match faults.get(number..) {
         Some(rest) => rest,
@@ -112,8 +112,8 @@ fn rest_from(faults: &[SpannedError], number: usize) -> &[SpannedError] {
     }
 }
 
-/// Returns how many of these faults from a number on have this code, if the faults before it
-/// include as many as are shown.
+/// Returns the number of faults with this code, from the one with the number `number` to the last.
+/// Returns 0 unless the faults before it include as many with this code as are shown.
 fn left_out(faults: &[SpannedError], number: usize, code: FaultCode) -> usize {
     let Some(front) = faults.get(..number) else {
         return 0;

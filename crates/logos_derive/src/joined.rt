@@ -22,8 +22,8 @@ pub(crate) fn joined_to<'f>(
     faults
 }
 
-/// Returns the further spans of an error: its second one, and those of the leading faults, which
-/// belong to it. There are at most 50 of these.
+/// Returns the further spans of an error: its second one, and those of `joined`, the faults that
+/// belong to the error, but at most 50 of these.
 pub(crate) fn labels_of(
     alloc: Global,
     fault: &SpannedError,

@@ -9,15 +9,16 @@ use std::alloc::Global;
 #[derive(Clone, Copy)]
 pub(crate) struct KnownError<'f, 'p, 't> {
     pub(crate) part: Part<'p, 't>,
-    /// The fault with which it begins.
+    /// The fault with which the error begins.
     pub(crate) fault: &'f SpannedError,
-    /// The position of the fault in a set of ambiguous leaves.
+    /// The fault as a member of its set of ambiguous leaves, if there is a clue about the set.
     pub(crate) member: Option<Member<'f>>,
-    /// The patterns that explain it.
+    /// The patterns that explain the fault.
     pub(crate) starts: &'f [Start],
-    /// The help for it, if there is one.
+    /// The help for the fault, if there is one.
     pub(crate) help: Option<&'static str>,
-    /// How many faults with its code have no error, if it is the last error with this code.
+    /// The number of faults with the code of the error that are left out, if it is the last error
+    /// with this code.
     pub(crate) left_out: usize,
 }
 
@@ -33,7 +34,7 @@ pub(crate) fn notes_of(alloc: Global, error: KnownError<'_, '_, '_>) -> Result<V
     Ok(notes)
 }
 
-/// Adds the substituted subpattern after which the byte of a fault is counted, if there is one.
+/// Adds the name of the subpattern whose substitution shifts the byte of a fault, if there is one.
 fn add_put_in(
     alloc: Global,
     error: KnownError<'_, '_, '_>,

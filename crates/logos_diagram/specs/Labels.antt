@@ -14,7 +14,7 @@ is_alphanumeric c = is_between 48 57 c || (is_between 65 90 c || is_between 97 1
 abbrev pub is_plain : ℕ → Bool
 is_plain c = is_between 40 41 c || (is_between 43 46 c || ((c == 91) || is_between 93 95 c))
 
--- Visible ASCII, but no letter, digit or plain punctuation.
+-- Visible ASCII other than letters, digits and plain punctuation.
 abbrev pub is_coded : ℕ → Bool
 is_coded c = is_between 33 126 c && not (is_alphanumeric c || is_plain c)
 

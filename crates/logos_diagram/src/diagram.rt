@@ -1,11 +1,11 @@
-//! The diagram as a whole. Called by `logos_show`.
+//! The state diagram as a whole. Called by `logos_show`.
 
 use crate::edges::{Drawn, push_edges, push_state};
 use crate::label::Mermaid;
 use logos_graph::graph::{Graph, StateData};
 use std::alloc::{AllocError, Global};
 
-/// A lexer of which a diagram is made.
+/// The lexer of a state diagram.
 #[derive(Clone, Copy)]
 pub struct DiagramLexer<'p, 's> {
     /// The name of the enum.
@@ -14,7 +14,7 @@ pub struct DiagramLexer<'p, 's> {
 }
 
 /// Returns the state diagram of a lexer as Mermaid text: a line for each state, and one for each
-/// edge. The bytes of a character outside ASCII are one edge, without the states between them.
+/// edge. All bytes of a character outside ASCII are one edge, without the states between them.
 ///
 /// # Errors
 ///

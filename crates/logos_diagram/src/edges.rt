@@ -11,7 +11,7 @@ use std::alloc::{AllocError, Global};
 /// The states that are drawn, in the order in which they are reached.
 #[derive(Drop)]
 pub(crate) struct Drawn {
-    /// For each state whether it is drawn.
+    /// Whether each state is drawn, by its number.
     pub(crate) seen: Vec<bool>,
     /// The drawn states.
     pub(crate) reached: Vec<usize>,
@@ -107,7 +107,7 @@ struct EdgesFrom<'a> {
     data: &'a StateData,
 }
 
-/// Counts for each state the characters that lead to it over edges that fold.
+/// Counts for each state the characters that lead to it over folded edges.
 fn count_wide(states: &[&StateData], edges: &[(ByteClass, State)], wide: &mut Vec<usize>) {
     for edge in edges {
         if is_folded(states, edge) {
@@ -116,7 +116,8 @@ fn count_wide(states: &[&StateData], edges: &[(ByteClass, State)], wide: &mut Ve
     }
 }
 
-/// Appends the edges that do not fold, each together with the characters that lead to its target.
+/// Appends the edges that are not folded, each together with the characters that lead to its
+/// target.
 fn push_narrow_edges(
     alloc: Global,
     mermaid: &mut Mermaid,
@@ -143,7 +144,7 @@ fn taken(wide: &mut Vec<usize>, state: usize) -> usize {
     count
 }
 
-/// Appends an edge that does not fold.
+/// Appends an edge that is not folded.
 fn push_narrow(
     alloc: Global,
     mermaid: &mut Mermaid,
@@ -159,8 +160,8 @@ fn push_narrow(
     push_edge(alloc, mermaid, from.state, edge.1.index(), label)
 }
 
-/// Returns whether the edges of a state have all bytes, and one of them at least half of them, in
-/// several ranges or alone.
+/// Returns whether the edges of a state cover all bytes, and `class` has at least half of them: in
+/// several ranges, or all of them.
 fn is_rest(data: &StateData, class: &ByteClass) -> bool {
     let mut size: usize = 0;
     for edge in &data.normal {
@@ -169,7 +170,7 @@ fn is_rest(data: &StateData, class: &ByteClass) -> bool {
     (size == 256) & (size_of(class) >= 128) & ((class.ranges.len() > 1) | (size_of(class) == 256))
 }
 
-/// Appends the edges on characters alone.
+/// Appends the edges whose labels have only characters outside ASCII.
 fn push_wide_edges(
     alloc: Global,
     mermaid: &mut Mermaid,
@@ -186,7 +187,7 @@ fn push_wide_edges(
     Ok(())
 }
 
-/// Appends an edge on a number of characters.
+/// Appends an edge for a number of characters outside ASCII.
 fn push_only_wide(
     alloc: Global,
     mermaid: &mut Mermaid,

@@ -1,10 +1,11 @@
-//! Edges on the bytes of a character outside ASCII, from state to state. Used by `edges`.
+//! Edges over the bytes of characters outside ASCII, which are folded: a diagram has one edge for
+//! all bytes of a character. Used by `edges`.
 
 use logos_graph::byte_class::ByteClass;
 use logos_graph::graph::{State, StateData};
 use std::ops::RangeInclusive;
 
-/// The bytes that can begin a character of two, three or four bytes.
+/// The least first bytes of characters of two, three and four bytes, and the greatest first byte.
 const FIRST: u8 = 0xC2;
 
 const THREE: u8 = 0xE0;
@@ -13,8 +14,8 @@ const FOUR: u8 = 0xF0;
 
 const LAST: u8 = 0xF4;
 
-/// Returns whether an edge leads only over whole characters outside ASCII: each of its bytes begins
-/// one, and the states after it have no mark and lead on over the other bytes of the character.
+/// Returns whether an edge is folded: whether each of its bytes begins a character outside ASCII,
+/// and the states after it have no mark and only edges for the other bytes of the character.
 pub(crate) fn is_folded(states: &[&StateData], edge: &(ByteClass, State)) -> bool {
     edge.0.ranges.iter().all(|range| folds_from(
         states,
@@ -24,8 +25,8 @@ pub(crate) fn is_folded(states: &[&StateData], edge: &(ByteClass, State)) -> boo
     ))
 }
 
-/// Returns whether each byte from one to another begins a character, of which the other bytes lead
-/// on from a state.
+/// Returns whether each byte in `first..=last` begins a character, and a state reads only the other
+/// bytes of such characters.
 fn folds_from(states: &[&StateData], state: usize, first: u8, last: u8) -> bool {
     if (first < FIRST) | (LAST < last) {
         return false;
@@ -38,7 +39,7 @@ fn folds_from(states: &[&StateData], state: usize, first: u8, last: u8) -> bool 
     true
 }
 
-/// Returns whether the other bytes of a character with this first byte lead on from a state.
+/// Returns whether a state reads only the other bytes of characters with this first byte.
 fn folds_at(states: &[&StateData], state: usize, first: u8) -> bool {
     if first < THREE {
         return continues(states, state, 0x80, 0xBF);
@@ -98,7 +99,7 @@ fn is_within(class: &ByteClass, least: u8, most: u8) -> bool {
         .all(|range| (least <= *range.start()) & (*range.end() <= most))
 }
 
-/// Returns whether two bytes lead on from a state, the first of them in a range.
+/// Returns whether a state reads only pairs of continuation bytes, whose first byte is in a range.
 fn continues_twice(states: &[&StateData], state: usize, least: u8, most: u8) -> bool {
     if !continues(states, state, least, most) {
         return false;
@@ -111,7 +112,8 @@ fn continues_twice(states: &[&StateData], state: usize, least: u8, most: u8) -> 
         .all(|edge| continues(states, edge.1.index(), 0x80, 0xBF))
 }
 
-/// Returns whether three bytes lead on from a state, the first of them in a range.
+/// Returns whether a state reads only triples of continuation bytes, whose first byte is in a
+/// range.
 fn continues_thrice(states: &[&StateData], state: usize, least: u8, most: u8) -> bool {
     if !continues(states, state, least, most) {
         return false;
@@ -124,7 +126,7 @@ fn continues_thrice(states: &[&StateData], state: usize, least: u8, most: u8) ->
         .all(|edge| continues_twice(states, edge.1.index(), 0x80, 0xBF))
 }
 
-/// Adds the characters of an edge that folds to the counts of the states to which they lead.
+/// Adds the characters of a folded edge to the counts of the states to which they lead.
 pub(crate) fn add_folded(
     states: &[&StateData],
     edge: &(ByteClass, State),
@@ -135,7 +137,7 @@ pub(crate) fn add_folded(
     }
 }
 
-/// Adds the characters whose first byte is in a range, and whose other bytes lead on from a state.
+/// Adds the characters whose first byte is in a range, and whose other bytes a state reads.
 fn add_range(
     states: &[&StateData],
     state: usize,
@@ -147,7 +149,7 @@ fn add_range(
     }
 }
 
-/// Adds the characters with this first byte, whose other bytes lead on from a state.
+/// Adds the characters with this first byte, whose other bytes a state reads.
 fn add_from(states: &[&StateData], state: usize, first: u8, counts: &mut Vec<usize>) {
     if first < THREE {
         add_last(states, state, 1, counts);
@@ -182,14 +184,15 @@ fn add_last(states: &[&StateData], state: usize, times: usize, counts: &mut Vec<
     }
 }
 
-/// Adds to the count of a state.
+/// Adds `count` to the count of a state.
 fn add_count(counts: &mut Vec<usize>, state: usize, count: usize) {
     if state < counts.len() {
         counts[state] = counts[state].saturating_add(count);
     }
 }
 
-/// Adds two bytes that lead on from a state, `times` times.
+/// Adds the pairs of bytes that a state reads, `times` times, to the counts of the states to which
+/// they lead.
 fn add_twice(states: &[&StateData], state: usize, times: usize, counts: &mut Vec<usize>) {
     if let Some(data) = states.get(state) {
         for edge in &data.normal {
@@ -199,7 +202,7 @@ fn add_twice(states: &[&StateData], state: usize, times: usize, counts: &mut Vec
     }
 }
 
-/// Adds three bytes that lead on from a state.
+/// Adds the triples of bytes that a state reads to the counts of the states to which they lead.
 fn add_thrice(states: &[&StateData], state: usize, counts: &mut Vec<usize>) {
     if let Some(data) = states.get(state) {
         for edge in &data.normal {

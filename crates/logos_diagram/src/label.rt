@@ -1,5 +1,5 @@
-//! Mermaid text that is appended to. Its code comes from constants, and everything else passes
-//! through `push_label_char`. All other modules write with it.
+//! Mermaid text to which code and labels are appended. Its code consists of constants, and all
+//! other text passes through `push_label_char`. All other modules write with it.
 
 ghost use Rattle.std.specs.Prelude.{◌≡◌, ◌↔◌, [], false, true, IfOk, IsOk, IsTrue, decimal, string_bytes};
 ghost use Rattle.logos_diagram.specs.Imports.{Gains, coded, is_alphanumeric, is_between, is_coded, is_plain, label_char, label_text};
@@ -8,7 +8,8 @@ use logos_page::Page;
 use std::alloc::{AllocError, Global};
 use std::marker::Model;
 
-/// Mermaid text that is appended to. It records whether memory ran out, so only `finish` can fail.
+/// Mermaid text to which code and labels are appended. It records whether memory ran out, so only
+/// `finish` can fail.
 #[derive(Drop)]
 pub struct Mermaid {
     page: Page,
@@ -32,7 +33,8 @@ impl Mermaid {
         }
     }
 
-    /// Appends code of Mermaid. It is a constant of the program, so no text of a file is code.
+    /// Appends Mermaid code. It is a constant of the program, so that no text of a file becomes
+    /// code.
     pub fn push_code(&mut self, code: &'static str)
         ensures { Gains code.now self.old self.new }
     {
@@ -89,7 +91,7 @@ impl Mermaid {
     }
 }
 
-/// Returns whether a character is visible ASCII, but no letter, digit or plain punctuation.
+/// Returns whether a character is visible ASCII other than letters, digits and plain punctuation.
 fn is_coded(code: u32) -> bool
     ensures { result ≡ is_coded code }
 {
@@ -111,7 +113,7 @@ fn is_plain(code: u32) -> bool
         | (is_between(43, 46, code) | ((code == 91) | is_between(93, 95, code)))
 }
 
-/// Returns whether a number is in a range.
+/// Returns whether a number is in `from..=to`.
 fn is_between(from: u32, to: u32, number: u32) -> bool
     ensures { result ≡ is_between from to number }
 {

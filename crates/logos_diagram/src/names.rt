@@ -17,7 +17,7 @@ const WIDE: usize = 1_111_936;
 /// The bytes and the characters of an edge.
 #[derive(Clone, Copy)]
 pub(crate) struct EdgeLabel<'a> {
-    /// The bytes, if there are some.
+    /// The bytes, if there are any.
     pub(crate) class: Option<&'a ByteClass>,
     /// Whether the bytes are all that no other edge of the state has.
     pub(crate) is_rest: bool,
@@ -45,7 +45,7 @@ pub(crate) fn push_edge_label(
     Ok(())
 }
 
-/// Appends the bytes of an edge, and its characters outside ASCII if it has some.
+/// Appends the bytes of an edge, and its characters outside ASCII if it has any.
 fn push_bytes(page: &mut Page, class: &ByteClass, label: EdgeLabel<'_>) {
     if (label.wide == WIDE) & is_ascii(class) {
         return push_all_but(page, class);
@@ -69,7 +69,7 @@ fn rest_name(class: &ByteClass) -> &'static str {
     }
 }
 
-/// Appends all characters but the ASCII characters that a set does not have.
+/// Appends the name of all characters except the ASCII characters that a set lacks.
 fn push_all_but(page: &mut Page, class: &ByteClass) {
     if size_of(class) == 128 {
         page.push("any character");

@@ -2,8 +2,8 @@
 use Rattle.std.specs.Prelude.{◌≡◌, ℕ, ◌≤◌, Bool, List, length, IsTrue, IsCharBoundary, slice_get}
 use Rattle.logos_automaton.specs.Munch.{Rule, IsInput, Found, ended, matched, failed, Finds}
 
--- The two results are equal: both the end, errors up to the same offset, or matches up to the same
--- offset by leaves of the same name.
+-- The two results are equal: both are the end, errors up to the same offset, or matches up to the
+-- same offset by leaves of the same name.
 abbrev pub Agree : List ℕ → Found → List ℕ → Found → Type 0
 Agree names ended others ended = Unit {0}
 Agree names ended others (matched other end) = ⊥

@@ -4,8 +4,8 @@ use Rattle.logos_automaton.specs.Munch.{IsInput}
 use Rattle.logos_graph.specs.Graph.{GraphState, next_by, next_at_end, walk}
 
 module _ (graph : List GraphState) where
-  -- On its way from the root an input takes the edge between two states: after `count` bytes it is
-  -- at the first one, and the next byte leads to the second one.
+  -- On its way from the root an input takes the edge from one state to another: after `count` bytes
+  -- it is at the state `from`, and the next byte leads to the state `to`.
   pub record PassesEdge (bytes : List ℕ) (from to : ℕ) : Type 0 where
     pub count : ℕ
     pub byte : ℕ
@@ -13,7 +13,7 @@ module _ (graph : List GraphState) where
     pub reads : slice_get bytes count ≡ Some byte
     pub leads : next_by graph from byte ≡ Some to
 
-  -- The input ends at the first state, and the end leads to the second one.
+  -- The input ends at the state `from`, and its end leads to the state `to`.
   pub record PassesEnd (bytes : List ℕ) (from to : ℕ) : Type 0 where
     pub way : walk graph 0 bytes false ≡ Some from
     pub leads : next_at_end graph from ≡ Some to

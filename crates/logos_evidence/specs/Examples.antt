@@ -8,7 +8,7 @@ pub record IsExample (rules : List Rule) (utf8 : Bool) (leaf : ℕ) (bytes : Lis
   pub to : ℕ
   pub found : Finds rules utf8 bytes 0 (matched leaf to)
 
--- A shortest example.
+-- A shortest input on which maximal munch finds a match of the leaf first.
 pub record IsShortestExample (rules : List Rule) (utf8 : Bool) (leaf : ℕ) (bytes : List ℕ) : Type 0 where
   pub example : IsExample rules utf8 leaf bytes
   pub least : (other : List ℕ) → IsExample rules utf8 leaf other → length bytes ≤ length other

@@ -2,8 +2,8 @@
 use Rattle.std.specs.Prelude.{◌≢◌, ℕ, ◌≤◌, Bool, List, length}
 use Rattle.logos_automaton.specs.Munch.{Rule, IsInput, RuleMatches, Finds, matched}
 
--- An input with which the leaf matches from the beginning, and on which maximal munch finds a match
--- of another leaf first.
+-- An input that begins with a match of the leaf, and on which maximal munch finds a match of
+-- another leaf first.
 pub record IsLoss (rules : List Rule) (utf8 : Bool) (leaf : ℕ) (bytes : List ℕ) : Type 0 where
   pub input : IsInput utf8 bytes
   pub end : ℕ
@@ -13,7 +13,7 @@ pub record IsLoss (rules : List Rule) (utf8 : Bool) (leaf : ℕ) (bytes : List �
   pub found : Finds rules utf8 bytes 0 (matched winner to)
   pub other : winner ≢ leaf
 
--- A shortest loss.
+-- A shortest input that satisfies `IsLoss`.
 pub record IsShortestLoss (rules : List Rule) (utf8 : Bool) (leaf : ℕ) (bytes : List ℕ) : Type 0 where
   pub loss : IsLoss rules utf8 leaf bytes
   pub least : (other : List ℕ) → IsLoss rules utf8 leaf other → length bytes ≤ length other

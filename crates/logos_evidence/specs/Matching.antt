@@ -4,21 +4,21 @@ use Rattle.std.specs.List.{AllPairs}
 use Rattle.logos_automaton.specs.Munch.{Rule, RuleMatches, priority_of}
 use Rattle.logos_evidence.specs.declared.matches.Match.{Match}
 
--- A leaf matches from the point to an end, with its priority.
+-- A match from the offset `from`, with the priority of its leaf.
 pub record IsMatch (rules : List Rule) (bytes : List ℕ) (from : ℕ) (m : Match) : Type 0 where
   pub matches : RuleMatches rules m.leaf bytes from m.end
   pub priority : m.priority ≡ priority_of rules m.leaf
 
--- Lower ends first, and at the same end lower leaves.
+-- Match `a` ends before match `b`, or ends there and has a lower leaf.
 abbrev pub IsBefore : Match → Match → Type 0
 IsBefore a b = (a.end < b.end) ⊎ ((a.end ≡ b.end) × (a.leaf < b.leaf))
 
--- These are all matches from the point.
+-- All matches from the offset `from`, in order.
 pub record AreMatches (rules : List Rule) (bytes : List ℕ) (from : ℕ) (matches : List Match) : Type 0 where
   pub in_order : AllPairs IsBefore matches
   pub exactly : (m : Match) → Contains matches m ↔ IsMatch rules bytes from m
 
--- The second match is longer, or of the same length and no lower priority.
+-- Match `b` is longer than match `a`, or of the same length and no lower priority.
 abbrev pub IsAtMost : Match → Match → Type 0
 IsAtMost a b = (a.end < b.end) ⊎ ((a.end ≡ b.end) × (a.priority ≤ b.priority))
 

@@ -10,7 +10,7 @@ pub record IsMeeting (rules : List Rule) (utf8 : Bool) (set : List ℕ) (bytes :
   pub to : ℕ
   pub exactly : (leaf : ℕ) → Contains set leaf ↔ IsHighest rules bytes 0 to leaf
 
--- A shortest meeting.
+-- A shortest input that satisfies `IsMeeting`.
 pub record IsShortestMeeting (rules : List Rule) (utf8 : Bool) (set : List ℕ) (bytes : List ℕ) : Type 0 where
   pub meeting : IsMeeting rules utf8 set bytes
   pub least : (other : List ℕ) → IsMeeting rules utf8 set other → length bytes ≤ length other

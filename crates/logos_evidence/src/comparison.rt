@@ -13,9 +13,9 @@ use std::alloc::{AllocError, Global};
 /// The result of a comparison of two lexers.
 #[derive(Debug, Drop)]
 pub enum Comparison {
-    /// From each offset of each input the two find the same match or error.
+    /// The two lexers find the same match or error from each offset of each input.
     Same,
-    /// At the beginning of this input they find different ones.
+    /// The lexers find different matches or errors at the beginning of this input.
     Differ(Vec<u8>),
 }
 
@@ -27,8 +27,8 @@ pub struct Named<'g, 's> {
     pub names: &'g [usize],
 }
 
-/// A machine that follows two graphs, and searches for inputs at whose beginning they find
-/// different matches or errors.
+/// A machine that follows two graphs. Its goals are the points after inputs at whose beginning the
+/// graphs find different matches or errors.
 #[derive(Clone, Copy)]
 struct GraphPair<'g> {
     one: &'g [&'g StateData],
@@ -49,7 +49,8 @@ fn same_mark(names: &[usize], mark: usize, others: &[usize], twin: usize) -> boo
     }
 }
 
-/// Returns whether `byte` can begin a character, or inputs are any bytes.
+/// Returns whether an input may be cut before `byte`: in UTF-8 mode, whether `byte` can begin a
+/// character.
 fn is_cut(utf8: bool, byte: u8) -> bool
     ensures { result ≡ machines.is_cut utf8 byte }
 {
@@ -64,8 +65,8 @@ fn one_leads(next: Option<usize>, twin: Option<usize>) -> bool
 }
 
 impl GraphPair<'_> {
-    /// Returns whether the last matches differ after one more step with these marks. `parts` is
-    /// whether errors may end at different offsets.
+    /// Returns whether the last matches of the two graphs differ after a step at which `mark` and
+    /// `twin` are found. `parts` is whether errors may end at different offsets.
     fn differs_after(
         &self,
         at: Point,
@@ -117,8 +118,8 @@ impl Machine for GraphPair<'_> {
 /// Compares two lexers of the same mode. Returns `Same` if they find equal matches and errors from
 /// each offset of each input; otherwise a shortest input at whose beginning they do not. Matches
 /// are equal if they end at the same offset and their leaves have the same name; errors, if they
-/// end at the same offset. Of inputs of the same length it is the one with letters, digits and
-/// punctuation first.
+/// end at the same offset. Among inputs of the same length, it prefers letters, then digits, then
+/// punctuation.
 ///
 /// The graphs must have no faults. Callbacks are not compared. Skips are matches too: a lexer that
 /// skips two blanks one by one differs from one that skips them at once.

@@ -35,9 +35,9 @@ impl Machine for EdgeMachine<'_> {
 /// fuzzers.
 ///
 /// Each input takes an edge that no earlier one takes, so there are at most as many inputs as
-/// edges. In UTF-8 mode they are UTF-8. Deep states come first. Each input has at most one byte for
-/// each state on its way, and up to four more. If the enum has many long keywords and a leaf for
-/// names, the total length of all inputs can be the square of the number of states.
+/// edges. In UTF-8 mode they are UTF-8. Inputs that reach deep states come first. Each input has at
+/// most one byte for each state on its way, and up to four more. If the enum has many long keywords
+/// and a leaf for names, the total length of all inputs can be the square of the number of states.
 ///
 /// # Errors
 ///

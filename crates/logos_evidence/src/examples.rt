@@ -9,15 +9,16 @@ use crate::search::{Machine, Point, shortest};
 use logos_graph::graph::{Graph, StateData};
 use std::alloc::{AllocError, Global};
 
-/// A machine that follows a graph, and searches for inputs whose last match on the way is one of a
-/// leaf.
+/// A machine that follows a graph. Its goals are the points at which the last match is a match of
+/// `leaf`.
 #[derive(Clone, Copy)]
 struct Examples<'g> {
     states: &'g [&'g StateData],
     leaf: usize,
 }
 
-/// Returns whether the last match is one of the leaf, after the match of `mark`, if there is one.
+/// Returns whether the last match is a match of `leaf`: the match of the leaf `mark`, or without
+/// one an earlier match, for which `before` is the answer.
 pub(crate) fn is_last(leaf: usize, mark: Option<usize>, before: bool) -> bool
     ensures { result ≡ machines.is_last leaf mark before }
 {
@@ -27,7 +28,7 @@ pub(crate) fn is_last(leaf: usize, mark: Option<usize>, before: bool) -> bool
     }
 }
 
-/// Returns the point before the first byte, at a state.
+/// Returns the point before the first byte, at the state `here`.
 pub(crate) fn point_from(here: usize) -> Point
     ensures { result ≡ machines.point_from here }
 {
@@ -65,8 +66,8 @@ impl Machine for Examples<'_> {
 }
 
 /// Returns a shortest input on which a lexer finds a match of a leaf first, or `None` if and only
-/// if there is none. Of inputs of the same length it is the one with letters, digits and
-/// punctuation first.
+/// if there is none. Among inputs of the same length, it prefers letters, then digits, then
+/// punctuation.
 ///
 /// The graph must have no faults.
 ///

@@ -1,4 +1,4 @@
-//! Steps of a graph, and the matches that end on them.
+//! Steps of a graph, and the matches that end on them. Used by all searches in graphs.
 
 ghost use Rattle.std.specs.Prelude.{◌≡◌, [], IfOk, find, length, map, option_map};
 ghost use Rattle.logos_evidence.specs.Imports.{has_byte, IsFinished, edge_of, graph_state_of, is_in, shown};
@@ -9,7 +9,7 @@ use logos_byte_class::byte_class::ByteClass;
 use logos_graph::graph::{Graph, State, StateData};
 use std::alloc::{AllocError, Global};
 
-/// Returns the states of a graph, by their numbers.
+/// Returns the states of a graph, in the order of their numbers.
 ///
 /// # Errors
 ///
@@ -41,7 +41,7 @@ fn holds(class: &ByteClass, byte: u8) -> bool
     false
 }
 
-/// Returns the target of the edge that holds a byte.
+/// Returns the target of the edge that holds a byte, if there is one.
 fn target_of(edges: &[(ByteClass, State)], byte: u8) -> Option<usize>
     ensures { result ≡ option_map (λ edge. edge.1)
         (find (λ edge. is_in edge.0 byte) (map edge_of edges.now)) }
@@ -54,7 +54,7 @@ fn target_of(edges: &[(ByteClass, State)], byte: u8) -> Option<usize>
     None
 }
 
-/// Returns the target of the edge of a state that holds a byte.
+/// Returns the target of the edge of a state that holds a byte, if there is one.
 fn target_in(from: &StateData, byte: u8) -> Option<usize>
     ensures { result ≡ option_map (λ edge. edge.1)
         (find (λ edge. is_in edge.0 byte) (graph_state_of from.now).normal) }
@@ -62,7 +62,7 @@ fn target_in(from: &StateData, byte: u8) -> Option<usize>
     target_of(&from.normal, byte)
 }
 
-/// Returns the state to which a byte leads.
+/// Returns the state to which a byte leads, if there is one.
 pub(crate) fn next_by(states: &[&StateData], state: usize, byte: u8) -> Option<usize>
     ensures { result ≡ graphs.next_by (shown states.now) state byte }
 {
@@ -71,7 +71,7 @@ pub(crate) fn next_by(states: &[&StateData], state: usize, byte: u8) -> Option<u
     Some(target)
 }
 
-/// Returns the state to which the end of the input leads.
+/// Returns the state to which the end of the input leads, if there is one.
 pub(crate) fn next_at_end(states: &[&StateData], state: usize) -> Option<usize>
     ensures { result ≡ graphs.next_at_end (shown states.now) state }
 {
@@ -80,7 +80,7 @@ pub(crate) fn next_at_end(states: &[&StateData], state: usize) -> Option<usize>
     Some(next.index())
 }
 
-/// Returns the leaf whose match ends at a state.
+/// Returns the leaf whose match ends at a state, if there is one.
 fn early_of(states: &[&StateData], state: usize) -> Option<usize>
     ensures { result ≡ lasts.early_of (shown states.now) state }
 {
@@ -89,7 +89,7 @@ fn early_of(states: &[&StateData], state: usize) -> Option<usize>
     Some(leaf.0)
 }
 
-/// Returns the leaf whose match ends one byte before a state.
+/// Returns the leaf whose match ends one byte before a state, if there is one.
 fn late_of(states: &[&StateData], state: usize) -> Option<usize>
     ensures { result ≡ lasts.late_of (shown states.now) state }
 {
@@ -98,8 +98,8 @@ fn late_of(states: &[&StateData], state: usize) -> Option<usize>
     Some(leaf.0)
 }
 
-/// Returns the leaf whose match ends at a state, as a step to the state `next` determines it, if
-/// there is one.
+/// Returns the leaf whose match ends at `state`, if there is one. A late mark of `next`, the state
+/// to which the step leads, precedes an early mark of `state`.
 pub(crate) fn seen_by(states: &[&StateData], state: usize, next: Option<usize>) -> Option<usize>
     ensures { result ≡ lasts.seen_by (shown states.now) state next }
 {

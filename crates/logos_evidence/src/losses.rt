@@ -13,8 +13,8 @@ use logos_automaton::dfa::Dfa;
 use logos_graph::graph::{Graph, StateData};
 use std::alloc::{AllocError, Global};
 
-/// A machine that follows an automaton and its graph, and searches for inputs on which a leaf has
-/// matched and the last match is another's.
+/// A machine that follows an automaton and its graph. Its goals are the points at which `leaf` has
+/// matched, but the last match is a match of another leaf.
 #[derive(Clone, Copy)]
 struct Losses<'g> {
     dfa: &'g Dfa,
@@ -29,7 +29,7 @@ fn is_among(leaf: usize, leaves: &[usize]) -> bool
     leaves.iter().any(|other| *other == leaf)
 }
 
-/// Returns whether a leaf is listed.
+/// Returns whether a leaf is among `leaves`, if there are any.
 fn lists(leaf: usize, leaves: Option<&[usize]>) -> bool
     ensures { result ≡ machines.lists leaf (option_map (λ listed. listed.now) leaves.entry) }
 {

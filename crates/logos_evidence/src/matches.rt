@@ -29,7 +29,7 @@ pub(crate) fn priority_of(leaves: &[Leaf<'_>], leaf: usize) -> usize
     }
 }
 
-/// Adds the matches of the listed leaves that end at an offset.
+/// Adds a match that ends at `end` for each leaf in `listed`.
 ///
 /// # Errors
 ///
@@ -54,8 +54,8 @@ fn add_matches(
     Ok(())
 }
 
-/// Returns all matches of all leaves from an offset of an input: lower ends first, and at the same
-/// end lower leaves. The offset is at most the length of the input.
+/// Returns all matches of all leaves from a byte offset of an input, in the order of their ends,
+/// and at the same end in the order of the leaves. The offset is at most the length of the input.
 ///
 /// The leaves must have no faults except ambiguous sets. The input is read to its end.
 ///
@@ -112,8 +112,8 @@ fn better(one: Match, other: Match) -> Match
 }
 
 /// Returns the match that a lexer selects among those from an offset: the longest, and of several
-/// the one of highest priority. If leaves are ambiguous, it is one of theirs. Returns `None` if
-/// there is no match.
+/// the one of highest priority. If leaves are ambiguous, it is the match of one of them. Returns
+/// `None` if there is no match.
 pub fn winner(matches: &[Match]) -> Option<Match>
     ensures { MatchOption result (matches.now ≡ []) (IsWinner matches.now) }
 {

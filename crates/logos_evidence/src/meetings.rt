@@ -11,8 +11,8 @@ use logos_graph::graph::Graph;
 use logos_pattern::leaf::Leaf;
 use std::alloc::{AllocError, Global};
 
-/// A machine that follows an automaton, and searches for inputs that begin with a span for which a
-/// set of leaves has the match of highest priority.
+/// A machine that follows an automaton. Its goals are the points after inputs that begin with a
+/// span for which exactly the leaves of a set have the match of highest priority.
 #[derive(Clone, Copy)]
 struct Meetings<'g, 's> {
     graph: &'g Graph<'s>,
@@ -30,7 +30,8 @@ fn highest(leaves: &[Leaf<'_>], listed: &[usize]) -> usize
     highest
 }
 
-/// Returns the rest of a set after a leaf, if the leaf counts: then it has to be the first one.
+/// Returns the rest of a set after its first leaf, or `None` if its first leaf is not `leaf`. If
+/// `counts` is not set, returns the whole set.
 fn after_leaf(rest: &[usize], leaf: usize, counts: bool) -> Option<&[usize]>
     ensures { MatchOption result
         (IsTrue counts × ((ys : List ℕ) → bytes_eq (leaf ∷ ys) rest.now ≡ false))
@@ -60,7 +61,7 @@ fn is_top(leaves: &[Leaf<'_>], listed: &[usize], set: &[usize]) -> bool
     rest.is_empty()
 }
 
-/// Returns whether the listed leaves of highest priority are exactly `set`, if any are listed.
+/// Returns whether leaves are listed, and those of highest priority among them are exactly `set`.
 fn tops_are(leaves: &[Leaf<'_>], listed: Option<&[usize]>, set: &[usize]) -> bool
     ensures { result ≡ machines.tops_are (rules_of leaves.now) set.now (option_map (λ listed. listed.now) listed.entry) }
 {
@@ -70,7 +71,8 @@ fn tops_are(leaves: &[Leaf<'_>], listed: Option<&[usize]>, set: &[usize]) -> boo
     }
 }
 
-/// Returns the point at a state, depending on whether the set was met.
+/// Returns the point at a state. If `met` is set, returns the one point after the set was met,
+/// whatever the state is.
 fn point_at(state: usize, met: bool) -> Point
     ensures { result ≡ machines.meeting_at state met }
 {
@@ -105,8 +107,8 @@ impl Machine for Meetings<'_, '_> {
 }
 
 /// Returns a shortest input that begins with a span for which exactly the leaves of a set have the
-/// match of highest priority, or `None` if and only if there is none. Of inputs of the same length
-/// it is the one with letters, digits and punctuation first.
+/// match of highest priority, or `None` if and only if there is none. Among inputs of the same
+/// length, it prefers letters, then digits, then punctuation.
 ///
 /// The set must be nonempty and in ascending order. The leaves must have no faults except ambiguous
 /// sets.

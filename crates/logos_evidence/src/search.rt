@@ -1,5 +1,5 @@
-//! Searches over machines that read bytes: shortest inputs that lead to a goal, and inputs that
-//! together take all steps. `evidence` and `cover` call them.
+//! Searches over machines that read bytes: for a shortest input that leads to a goal, and for
+//! inputs that together take all steps. Called by the other modules of this crate.
 
 ghost use Rattle.std.specs.Prelude.{◌≡◌, IfOk, MatchOption};
 ghost use Rattle.logos_evidence.specs.search.Views.{IsShortest, NoneLeads, pending_goal};
@@ -26,7 +26,7 @@ pub(crate) fn is_goal<M: Machine>(machine: &M, pending: PendingPoint) -> bool
 }
 
 /// Returns a shortest input that leads a machine from a point to a goal, or `None` if there is
-/// none. Of inputs of the same length it is the one with letters, digits and punctuation first.
+/// none. Among inputs of the same length, it prefers letters, then digits, then punctuation.
 ///
 /// If `utf8` is set, inputs are UTF-8, otherwise any bytes. Each point is stored with its
 /// predecessor and byte.

@@ -37,7 +37,7 @@ pub(crate) fn listed(dfa: &Dfa, state: usize) -> Option<&[usize]>
     Some(leaves_at(dfa, state))
 }
 
-/// Returns the leaves that the state after the end lists, if there is one.
+/// Returns the leaves that the state after the end of the input lists, if there is such a state.
 pub(crate) fn listed_at_end(dfa: &Dfa, state: usize) -> Option<&[usize]>
     ensures { option_map (λ leaves. leaves.now) result ≡ steps.listed_at_end (dfa_of dfa.now) state }
 {

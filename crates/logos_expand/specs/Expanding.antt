@@ -44,11 +44,12 @@ are_blanks (byte ∷ rest) = (byte == 32 || byte == 9) && are_blanks rest
 abbrev pub guard_text : List ℕ
 guard_text = codes "#[rustfmt::skip]\n"
 
--- The line that excludes an enum from rustfmt, with the blanks before the enum; or nothing.
+-- The line that excludes an enum from rustfmt, with the blanks before the enum, or an empty text.
 abbrev pub IsGuard : List ℕ → Type 0
 IsGuard guard = (guard ≡ []) ⊎ ((margin : List ℕ) × (are_blanks margin ≡ true) × (guard ≡ guard_text ++ margin))
 
--- The text of the remaining tokens of an enum, optionally after such a line.
+-- The text of the remaining tokens of an enum, optionally after the line that excludes it from
+-- rustfmt.
 pub record IsGuarded (left : TokenList) (shown : List ℕ) : Type 0 where
   pub guard : List ℕ
   pub written : List ℕ
@@ -56,8 +57,8 @@ pub record IsGuarded (left : TokenList) (shown : List ℕ) : Type 0 where
   pub is_written : IsWrittenAs left written
   pub is : shown ≡ guard ++ written
 
--- This is an enum without the derive and its attributes, and after LF the generated code of its
--- lexer with attributes, laid out.
+-- The expansion of an enum: the enum without the derive and its attributes, and after LF the
+-- generated code of its lexer with attributes, laid out.
 pub record IsExpansion (shape : Shape) (source shown : List ℕ) : Type 0 where
   pub left : TokenList
   pub written : List ℕ

@@ -18,13 +18,13 @@ use Rattle.logos_token.specs.Tokens.{TokenList}
 use Rattle.logos_warnings.specs.Shown.{AreOfText, IsPassedOver}
 use Rattle.logos_warnings.specs.declared.origin.Origin.TheVariants.{File}
 
--- These are the warnings about an enum with this text, whose lexer has this graph.
+-- The warnings about an enum with this text, whose lexer has this graph.
 pub record AreOfGraph (source : List ℕ) (graph : GraphValue) (warnings : List Warning) : Type 0 where
   pub tokens : TokenList
   pub spelled : Spells source tokens
   pub are : AreOfLexer tokens graph File warnings
 
--- These are the warnings about an enum with this text, and about its lexer, which has no faults.
+-- The warnings about an enum with this text, and about its lexer, which has no faults.
 pub record AreOfAccepted (shape : Shape) (source : List ℕ) (warnings : List Warning) : Type 0 where
   pub graph : GraphValue
   pub code : CodeValue
@@ -33,8 +33,8 @@ pub record AreOfAccepted (shape : Shape) (source : List ℕ) (warnings : List Wa
   pub given : IsGiven source (config_of shape) graph code name export
   pub of_graph : AreOfGraph source graph warnings
 
--- These are the warnings for the enums of a text, in order, with spans of the text. Nothing is
--- claimed about those for the enums that are refused.
+-- The warnings for the enums of a text, in order, with spans of the text. Those for the enums that
+-- are refused may be any warnings.
 pub data AreOfEnums (shape : Shape) (text : List ℕ) : List FoundEnum → List Refused → List Warning → Type 0 where
   no_enum : AreOfEnums shape text [] [] []
   of_other : {one : FoundEnum} {found : List FoundEnum} {refused : List Refused} {own warnings : List Warning} →
@@ -44,14 +44,14 @@ pub data AreOfEnums (shape : Shape) (text : List ℕ) : List FoundEnum → List 
   of_refused : {one : FoundEnum} {found : List FoundEnum} {bad : Refused} {refused : List Refused} {warnings : List Warning} →
       (own : List Warning) → one.derives ≡ true → AreOfEnums shape text found refused warnings → AreOfEnums shape text (one ∷ found) (bad ∷ refused) (own ++ warnings)
 
--- Such warnings were added.
+-- The warnings for the enums of a text were added.
 pub record AddsOfEnums (shape : Shape) (text : List ℕ) (found : List FoundEnum) (refused : List Refused) (old new : List Warning) : Type 0 where
   pub own : List Warning
   pub are : AreOfEnums shape text found refused own
   pub is : new ≡ old ++ own
 
--- These are the warnings of a file none of whose enums is refused: those for its enums, those about
--- ignored entries of `derive`, and perhaps that none of its enums derives `Logos`.
+-- The warnings of a file none of whose enums is refused: those for its enums, those about ignored
+-- entries of `derive`, and perhaps that none of its enums derives `Logos`.
 pub record AreFileWarnings (shape : Shape) (is_requested : Bool) (text : List ℕ) (warnings : List Warning) : Type 0 where
   pub found : List FoundEnum
   pub enums : AreEnumsOf text found

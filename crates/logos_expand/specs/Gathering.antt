@@ -44,8 +44,8 @@ pub data Gathers (shape : Shape) (text : List ℕ) : List FoundEnum → List Rep
 abbrev pub GathersAll : Shape → List ℕ → List FoundEnum → Gathered → Type 0
 GathersAll shape text found gathered = Gathers shape text found gathered.parts.items gathered.refused.items
 
--- These are the refusals of a file: the one of a file that cannot be read into tokens, or those of
--- all lexers with faults, of which there is at least one.
+-- The refusals of a file: the one of a file that cannot be read into tokens, or those of all lexers
+-- with faults, of which there is at least one.
 pub data AreRefused (shape : Shape) (text : List ℕ) (refused : List Refused) : Type 0 where
   whole : {bad : Refused} → refused ≡ bad ∷ [] → bad.offset ≡ 0 → IsUnreadable text bad.errors → AreRefused shape text refused
   lexers : {found : List FoundEnum} {parts : List Replacement} → AreEnumsOf text found → Gathers shape text found parts refused → refused ≢ [] → AreRefused shape text refused
@@ -60,7 +60,7 @@ errors_in [] = 0
 errors_in (part ∷ parts) = errors_of part + errors_in parts
 
 -- The texts of some warnings of a file, those of the faults of these parts of it, and the line with
--- the number of errors, which is at most the greatest one.
+-- the number of errors, saturating at the greatest number.
 abbrev pub report_texts : Bool → SourceValue → List Warning → List Refused → List (List ℕ)
 report_texts is_colored source warnings refused = warnings_texts is_colored source 0 warnings ++ (refused_texts is_colored source refused ++ summary_line is_colored (min (errors_in refused) (2 ^ 64 - 1)) ∷ [])
 

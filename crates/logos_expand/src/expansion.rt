@@ -48,9 +48,9 @@ struct Gathered {
 ///
 /// # Errors
 ///
-/// Returns `Refused` with all faults of all these enums, in the order of the file, or with the one
-/// fault of a file that cannot be read into tokens, after its warnings, or with only these if they
-/// are denied. Returns `Memory` if memory runs out.
+/// Returns `Refused` with the warnings of the file and all faults of these enums, in the order of
+/// the file, or with the one fault of a file that cannot be read into tokens. If warnings are
+/// denied, a file without faults is refused with its warnings. Returns `Memory` if memory runs out.
 pub fn expand<'w>(
     source: &Source<'_>,
     shape: Shape,
@@ -79,7 +79,7 @@ fn refused_whole<'w>(source: &Source<'_>, showing: Showing, refusal: Refusal) ->
     }
 }
 
-/// Returns a file that was read with its enums expanded.
+/// Returns a file that was read into tokens, with its enums expanded.
 fn expand_enums<'w>(
     source: &Source<'_>,
     shape: Shape,
@@ -109,7 +109,8 @@ fn expand_enums<'w>(
     Err(refused_file(source, showing, &gathered.refused, &warned))
 }
 
-/// Returns whether a file may have an import of `Logos`, because it contains such a path.
+/// Returns whether a file may import `Logos`: whether it contains a path that could be in such an
+/// import.
 fn has_import(source: &Source<'_>) -> bool {
     let text = source.text();
     text.contains("::Logos") | text.contains("logos::{") | text.contains("::*")
@@ -175,8 +176,9 @@ fn expanded_file(
     with_head(alloc, source.path(), shape, &body)
 }
 
-/// Returns a file with plain comments for its own documentation and attributes, if it begins with
-/// such. These are the tokens of the file before parts of it were replaced.
+/// Returns a file with plain comments in place of its own documentation and attributes, if it
+/// begins with them and can have such comments; otherwise unchanged. `tokens` are those of the file
+/// before parts of it were replaced.
 fn plain_file(alloc: Global, bytes: Vec<u8>, tokens: Tokens<'_, '_>) -> Result<Vec<u8>, Memory>
     ensures { IfOk result (λ body. IsWithoutInner bytes.items body.items) }
 {
@@ -189,8 +191,8 @@ fn plain_file(alloc: Global, bytes: Vec<u8>, tokens: Tokens<'_, '_>) -> Result<V
     }
 }
 
-/// Returns a file with plain comments for the documentation and the attributes of the file itself.
-/// `None` if it cannot have them.
+/// Returns a file with plain comments for the documentation and the attributes of the file itself,
+/// or `None` if it cannot have them.
 fn plain_bytes(alloc: Global, bytes: &[u8]) -> Result<Option<Vec<u8>>, Memory>
     ensures { IfOk result (λ found. IfSome found (λ body. IsPlainly bytes.now body.items)) }
 {
@@ -343,12 +345,12 @@ fn expansion_by(
 {
     match tokenize(*warned.allocator(), source) {
         Ok(stream) => expansion_with(source, stream.run(), site, made, warned),
-        // The source has tokens, within the limits.
+        // Only memory can run out: the source has tokens, within the limits.
         Err(_) => Err(Memory),
     }
 }
 
-/// Returns the same of an enum with these tokens.
+/// Returns the expansion of an enum with these tokens, like `expansion_by`.
 fn expansion_with(
     source: &str,
     tokens: Tokens<'_, '_>,
@@ -424,7 +426,7 @@ fn fault_lines(
 
 /// Returns the text of all faults of a file, in order, with their number, after its warnings. For
 /// each, the text has a line with the name of its code and the first line of its message, and one
-/// with its position in the file.
+/// with its location in the file.
 fn refusal_text(
     source: &Source<'_>,
     showing: Showing,
@@ -441,7 +443,7 @@ fn refusal_text(
     page.finish()
 }
 
-/// Returns how many of these faults are errors, saturating at the greatest number.
+/// Returns the number of error reports for these faults, saturating at the greatest number.
 fn count_refused(refused: &[Refused]) -> usize
     ensures { result ≡ min (errors_in refused.now) (2 ^ 64 - 1) }
 {

@@ -24,7 +24,7 @@ pub(crate) fn with_head(
     Ok(made)
 }
 
-/// Returns the first line of a file with these bytes, or nothing if it cannot have one.
+/// Returns the first line of a file with these bytes, or an empty text if it cannot have one.
 fn head_of(alloc: Global, path: &str, shape: Shape, bytes: &[u8]) -> Result<String, Memory>
     ensures { IfOk result (λ head. string_bytes head ≡ head_of shape path.now bytes.now) }
 {
@@ -70,7 +70,7 @@ fn push_head(text: &mut String, name: &str, shape: Shape) -> Result<(), Memory>
     push_line(text, shown_name(name), shape_name(shape))
 }
 
-/// Appends the first line of a file with these names of a file and a shape.
+/// Appends the first line of a file, with the name of its source and the name of a shape.
 fn push_line(text: &mut String, name: &str, shape: &str) -> Result<(), Memory>
     ensures { OnOk result (string_bytes text.new ≡ string_bytes text.old ++ line_text name.now shape.now) }
 {

@@ -16,13 +16,13 @@ use std::alloc::Global;
 /// The location of an enum, and the shape of its lexer.
 #[derive(Clone, Copy)]
 pub(crate) struct Site<'f, 't> {
-    /// The shape of its lexer.
+    /// The shape of the lexer of the enum.
     pub(crate) shape: Shape,
     /// The file.
     pub(crate) file: &'f Source<'t>,
     /// The byte offset of the enum in the file.
     pub(crate) offset: usize,
-    /// Whether the file may have an import of `Logos`, and the enum derives it without a path.
+    /// Whether the file may have an import of `Logos`, and the enum derives `Logos` without a path.
     pub(crate) by_name: bool,
 }
 
@@ -81,8 +81,8 @@ fn guarded(
     Ok(text)
 }
 
-/// Returns the line that excludes an enum from rustfmt, with the blanks before the enum; or nothing
-/// if rustfmt would not change it.
+/// Returns the line that excludes an enum from rustfmt, with the blanks before the enum, or an
+/// empty text if rustfmt would not change the enum.
 fn guard_of(alloc: Global, written: &str, site: Site<'_, '_>) -> Result<String, Memory>
     ensures { IfOk result (λ guard. IsGuard (string_bytes guard)) }
 {
@@ -116,7 +116,7 @@ fn has_last_comma(bytes: &[u8]) -> bool {
     false
 }
 
-/// Returns the last byte that is not white space, after one more byte.
+/// Returns the last byte that is not white space: `byte`, or `last` if `byte` is white space.
 fn last_of(last: u8, byte: u8) -> u8 {
     if byte.is_ascii_whitespace() {
         last
@@ -125,7 +125,7 @@ fn last_of(last: u8, byte: u8) -> u8 {
     }
 }
 
-/// Returns the blanks before an offset of a text, if its line has nothing else before it.
+/// Returns the blanks before an offset of a text, if nothing else precedes the offset in its line.
 fn margin_at(text: &str, offset: usize) -> &str
     ensures { are_blanks result.now ≡ true }
 {
@@ -160,7 +160,8 @@ fn are_blanks(bytes: &[u8]) -> bool
     true
 }
 
-/// Returns a text that ends with a lexer, laid out, with the line of the file at each callback.
+/// Returns a text that ends with a lexer, laid out, with a comment at each callback that names its
+/// line in the file.
 fn laid_out(alloc: Global, whole: &str, site: Site<'_, '_>, lexer: &Sink) -> Result<String, Memory>
     ensures { IfOk result (λ laid. IsLaidOut whole.now (string_bytes laid)) }
 {
@@ -174,8 +175,8 @@ fn laid_out(alloc: Global, whole: &str, site: Site<'_, '_>, lexer: &Sink) -> Res
     lay_out(alloc, whole, setting)
 }
 
-/// Returns the lines of the file that contain the callbacks of a lexer, whose text begins at an
-/// offset.
+/// Returns a comment for each callback of a lexer, which names the line of the callback in the
+/// file. The text of the lexer begins at the offset `start`.
 fn notes_of(
     alloc: Global,
     start: usize,

@@ -6,7 +6,7 @@ use Rattle.logos_lexeme.specs.declared.lexeme.Span.{Span}
 use Rattle.logos_report.specs.declared.warnings.Warning.{Warning}
 use Rattle.logos_rust_file.specs.declared.finder.FoundEnum.{FoundEnum}
 
--- A number moved by an offset, up to the greatest number.
+-- A number moved by an offset, saturating at the greatest number.
 abbrev pub moved_number : ℕ → ℕ → ℕ
 moved_number offset number = min (number + offset) (2 ^ 64 - 1)
 
@@ -24,8 +24,8 @@ moved offset warning = record {
   also = option_map (moved_span offset) warning.also;
 }
 
--- Warnings of a part that begins at an offset of a file were added, with spans of the file, and
--- this holds of them.
+-- Warnings of a part that begins at an offset of a file were added, with spans of the file. Before
+-- they were moved they satisfied `Are`.
 pub record AddsMoved (offset : ℕ) (Are : List Warning → Type 0) (old new : List Warning) : Type 0 where
   pub own : List Warning
   pub are : Are own
@@ -47,12 +47,12 @@ pub record IsMissing (warning : Warning) : Type 0 where
   pub message : string_bytes warning.message ≡ codes "no enum in this file derives `Logos`"
   pub span : warning.span ≡ record { from = 0; to = 0 }
 
--- These are one such warning or none.
+-- One warning that no enum of the file derives `Logos`, or no warning.
 abbrev pub AreMissing : Bool → List Warning → Type 0
 AreMissing true added = (warning : Warning) × IsMissing warning × (added ≡ warning ∷ [])
 AreMissing false added = added ≡ []
 
--- Such a warning was added, if it is requested and none of these enums derives `Logos`.
+-- The warning that no enum of the file derives `Logos` was added, if it is requested and none does.
 pub record AddsMissing (is_requested : Bool) (found : List FoundEnum) (old new : List Warning) : Type 0 where
   pub added : List Warning
   pub are : AreMissing (is_requested && not (has_lexer found)) added

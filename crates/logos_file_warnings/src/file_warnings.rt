@@ -27,8 +27,12 @@ pub struct Showing {
     pub denies: bool,
 }
 
-/// Adds warnings for a text that begins at an offset of a file. Their spans are then relative to
-/// the beginning of the file.
+/// Adds warnings for a text that begins at a byte offset of a file. Their spans are then relative
+/// to the beginning of the file.
+///
+/// # Errors
+///
+/// Returns `Memory` if memory runs out. Then some of the warnings may have been added.
 pub fn add_warnings(
     offset: usize,
     warnings: Vec<Warning>,
@@ -66,8 +70,12 @@ fn moved_span(span: Span, offset: usize) -> Span
     }
 }
 
-/// Adds the warnings for the text of an enum that begins at an offset of a file, and that may
-/// derive `Logos`.
+/// Adds the warnings for the text of an enum that begins at a byte offset of a file. `derives` is
+/// whether the enum derives `Logos`.
+///
+/// # Errors
+///
+/// Returns `Memory` if memory runs out. Then some of the warnings may have been added.
 pub fn add_text(
     text: &str,
     offset: usize,
@@ -83,7 +91,11 @@ pub fn add_text(
 }
 
 /// Adds the warnings of an enum without faults that derives `Logos`, and of its lexer. The enum has
-/// these tokens, and begins at an offset of a file.
+/// these tokens, and begins at a byte offset of a file.
+///
+/// # Errors
+///
+/// Returns `Memory` if memory runs out. Then some of the warnings may have been added.
 pub fn add_accepted(
     tokens: Tokens<'_, '_>,
     offset: usize,
@@ -101,6 +113,10 @@ pub fn add_accepted(
 
 /// Adds the warnings of entries of `derive` that are passed over in a file with these tokens and
 /// these enums.
+///
+/// # Errors
+///
+/// Returns `Memory` if memory runs out. Then some of the warnings may have been added.
 pub fn add_passed(
     tokens: Tokens<'_, '_>,
     found: &[FoundEnum],
@@ -119,6 +135,10 @@ const MISSING: &str = "no enum in this file derives `Logos`";
 
 /// Adds a warning if none of `found` derives `Logos` and the format is JSON or warnings are denied.
 /// Its span is the beginning of the file.
+///
+/// # Errors
+///
+/// Returns `Memory` if memory runs out.
 pub fn add_missing(
     showing: Showing,
     found: &[FoundEnum],
@@ -176,7 +196,11 @@ pub fn push_warned(page: &mut Page, source: &Source<'_>, warned: &[Warning])
 }
 
 /// Returns the text of the warnings of a file. If `is_missing` is set, none of its enums derives
-/// `Logos`, and the text has a line about that.
+/// `Logos`, and a report has a line about that.
+///
+/// # Errors
+///
+/// Returns `Memory` if memory runs out.
 pub fn warning_text(
     source: &Source<'_>,
     showing: Showing,
@@ -213,7 +237,7 @@ fn warning_report(
     page.finish()
 }
 
-/// Appends that no enum of a file derives `Logos`, if `is_missing` is set.
+/// Appends the line which states that no enum of a file derives `Logos`, if `is_missing` is set.
 fn push_missing(page: &mut Page, source: &Source<'_>, is_missing: bool)
     ensures { Shows (missing_texts source.now is_missing) page.old page.new }
 {
@@ -222,7 +246,7 @@ fn push_missing(page: &mut Page, source: &Source<'_>, is_missing: bool)
     }
 }
 
-/// Appends that no enum of a file derives `Logos`.
+/// Appends the line which states that no enum of a file derives `Logos`.
 fn push_missing_line(page: &mut Page, source: &Source<'_>)
     ensures { Gains (missing_line source.now) page.old page.new }
 {
@@ -231,7 +255,11 @@ fn push_missing_line(page: &mut Page, source: &Source<'_>)
     page.push(" derives `Logos`\n");
 }
 
-/// Returns a line of JSON for each warning.
+/// Returns a line of JSON for each warning, but for at most 50.
+///
+/// # Errors
+///
+/// Returns `Memory` if memory runs out.
 pub fn warning_lines(
     alloc: Global,
     source: &Source<'_>,
@@ -245,6 +273,10 @@ pub fn warning_lines(
 }
 
 /// Returns the text about a file whose warnings are denied.
+///
+/// # Errors
+///
+/// Returns `Memory` if memory runs out.
 pub fn denial_text(
     source: &Source<'_>,
     showing: Showing,
@@ -260,7 +292,7 @@ pub fn denial_text(
     }
 }
 
-/// Returns a report of warnings with the line that they are denied.
+/// Returns a report of warnings, followed by a line which states that warnings are denied.
 fn denied(report: String) -> Result<String, Memory>
     ensures { IfOk result (λ text. string_bytes text ≡ string_bytes report ++ denied_line) }
 {
@@ -270,6 +302,10 @@ fn denied(report: String) -> Result<String, Memory>
 }
 
 /// Returns the text that these bytes spell.
+///
+/// # Errors
+///
+/// Returns `Memory` if the bytes are not UTF-8, which those of messages always are.
 pub fn text_of(bytes: Vec<u8>) -> Result<String, Memory>
     ensures { IfOk result (λ text. string_bytes text ≡ bytes.items) }
 {

@@ -9,7 +9,7 @@ use logos_report::{Clues, Helps, Part};
 use logos_token::error::{Errors, Memory, SpannedError};
 use logos_token::token::Span;
 
-/// The helps of this crate, for callers that take any.
+/// The helps of this crate, for callers that are generic over `Helps`.
 #[derive(Clone, Copy)]
 pub struct FaultHelps;
 
@@ -43,8 +43,8 @@ fn add_all(
     Ok(())
 }
 
-/// Returns the text of a part of a file at a span, and after it. Both are empty if the file has no
-/// such span.
+/// Returns the text of a part of a file at a span, and the text after the span. Both are empty if
+/// the file has no such span.
 fn sight_at<'t>(part: Part<'_, 't>, span: Span) -> Sight<'t> {
     Sight {
         text: part.text_at(span),

@@ -158,8 +158,8 @@ fn looks_back(front: PatternFront) -> bool
     opens_with(front, b'<') & ((front.fourth == b'=') | (front.fourth == b'!'))
 }
 
-/// Returns the help for a greedy dot, chosen by the shape of the pattern. None of the patterns that
-/// it recommends has one.
+/// Returns the help for a greedy dot, chosen by the shape of the pattern. None of the recommended
+/// patterns has a greedy dot, unless it also has `allow_greedy`.
 pub(crate) fn help_for_dot(sight: Sight<'_>) -> &'static str {
     let pattern = between_quotes(sight.text);
     if is_block_comment(pattern) {
@@ -179,7 +179,7 @@ fn is_block_comment(pattern: &str) -> bool {
     begins & pattern.contains('*') & pattern.ends_with('/')
 }
 
-/// Returns whether a pattern has a text first, and then any characters up to the end of the line.
+/// Returns whether a pattern matches a text, and then any characters up to the end of the line.
 fn is_to_line_end(pattern: &str) -> bool {
     if pattern.contains("(?s") {
         return false;

@@ -1,6 +1,6 @@
-//! The text of a source at the span of a fault.
+//! The text of a source at the span of a fault. Used by `codes`, `patterns` and `sights`.
 
-/// The text of a source at a span, and after it.
+/// The text of a source at a span, and the text after it.
 #[derive(Clone, Copy, Debug)]
 pub struct Sight<'t> {
     /// The text that the span covers.

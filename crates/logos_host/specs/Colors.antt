@@ -1,9 +1,9 @@
--- When a text has colors.
+-- The condition under which a text has colors.
 use Rattle.std.specs.Prelude.{ℕ, List, Bool, true, false, Option, Some, None, if◌then◌else◌, bytes_eq, codes}
 use Rattle.logos_host.specs.declared.color.Color.{Color}
 use Rattle.logos_host.specs.declared.color.Color.TheVariants.{Always, Never, Auto}
 
--- Whether there are colors, on a terminal or not.
+-- Whether a text has colors, on a terminal or elsewhere.
 abbrev pub has_colors : Color → Bool → Bool
 has_colors Always is_terminal = true
 has_colors Never is_terminal = false

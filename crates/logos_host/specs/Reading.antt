@@ -1,5 +1,5 @@
--- The results of reads: `yields` holds of files, a path, the bytes that are read there, and the
--- files after the read.
+-- The results of reads: `yields` relates the files before a read, the path, the bytes that are
+-- read, and the files after it.
 use Rattle.std.specs.Prelude.{ℕ, List}
 
 -- A file is read, and `Holds` holds of its bytes and of the files after the read.

@@ -1,5 +1,5 @@
 //! Writes a file of the system entirely or not at all: writes a new file beside it, and then
-//! renames that to its name. Called by `Disk` and `SourceDisk`.
+//! renames the new file to its name. Called by `Disk` and `SourceDisk`.
 
 use crate::paths::file_name;
 use std::fs::Metadata;
@@ -8,10 +8,10 @@ use std::os::unix::fs::{MetadataExt, PermissionsExt};
 use std::rt::Files;
 use std::{fs, io};
 
-/// The maximum number of links, one after another, that are followed to a file.
+/// The maximum length of a chain of links that is followed to a file.
 const LINKS: usize = 40;
 
-/// The bits of a file's mode for the rights to read, write and run it.
+/// The permission bits of a file's mode, to read, write and execute it.
 const RIGHTS: u32 = 0o777;
 
 /// Writes a file entirely or not at all. First creates the missing folders of its path.
@@ -34,7 +34,7 @@ pub(crate) fn write_whole<R: Files + AllocGlobal + Clone + Drop>(
     }
 }
 
-/// Returns the target of the links at a path where no file exists.
+/// Follows the links at `path`, and returns the path of the missing file to which they lead.
 fn target_of<R: Files + AllocGlobal>(rt: &R, path: &str) -> io::Result<String> {
     let mut target = String::from_str(rt.alloc(), path)?;
     for _ in 0..LINKS {
@@ -46,7 +46,7 @@ fn target_of<R: Files + AllocGlobal>(rt: &R, path: &str) -> io::Result<String> {
     Err(io::Error::from(ErrorKind::FilesystemLoop))
 }
 
-/// Returns the target of a link at a path.
+/// Returns the path to which the link `link` at `path` leads.
 fn joined<R: AllocGlobal>(rt: &R, path: &str, link: &str) -> io::Result<String> {
     let mut target = String::new(rt.alloc());
     if !link.starts_with('/') && path.contains('/') {
@@ -85,7 +85,7 @@ fn keep_owner<R: Files>(rt: &R, path: &str, old: &Metadata) -> io::Result<()> {
     fs::set_permissions(rt, path, permissions)
 }
 
-/// Creates a file that does not exist.
+/// Creates a file that does not exist, and the missing folders of its path.
 fn create_file<R: Files + AllocGlobal + Clone + Drop>(
     rt: &R,
     path: &str,
@@ -98,7 +98,7 @@ fn create_file<R: Files + AllocGlobal + Clone + Drop>(
 }
 
 /// Writes a new file beside another one, and returns its path. Its name contains the process id.
-/// Files that ended processes left there are removed first.
+/// Files left there by processes that have ended are removed first.
 fn write_beside<R: Files + AllocGlobal + Clone + Drop>(
     rt: &R,
     path: &str,
@@ -121,7 +121,7 @@ fn own_number<R: Files + AllocGlobal>(rt: &R) -> io::Result<String> {
     }
 }
 
-/// Removes the new files that processes which have ended left beside a file.
+/// Removes the files that were left beside a file by processes that have ended.
 fn remove_leftovers<R: Files + AllocGlobal + Clone + Drop>(rt: &R, path: &str) -> io::Result<()> {
     let folder = match folder_of(path) {
         "" => ".",
@@ -180,7 +180,7 @@ fn remove_after_error<R: Files>(rt: &R, path: &str, done: io::Result<()>) -> io:
     done
 }
 
-/// Returns the folder of a file: its path up to the last `/`, or nothing if it has no `/`.
+/// Returns the folder of a file: its path up to the last `/`, or an empty path if it has no `/`.
 fn folder_of(path: &str) -> &str {
     match path.rsplit_once('/') {
         Some((folder, _)) => folder,

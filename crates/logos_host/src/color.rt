@@ -15,7 +15,8 @@ pub enum Color {
 }
 
 impl Color {
-    /// Returns whether a text has colors, depending on whether it is written to a terminal.
+    /// Returns whether a text has colors. `is_terminal` is whether the text is written to a
+    /// terminal.
     pub fn is_on(self, is_terminal: bool) -> bool
         ensures { result ≡ has_colors self is_terminal }
     {
@@ -27,7 +28,8 @@ impl Color {
     }
 }
 
-/// Returns the color setting for a value of `--color`: `always`, `never` or `auto`.
+/// Returns the color setting for a value of `--color`: `always`, `never` or `auto`. Returns `None`
+/// for any other value.
 pub fn color_by_name(name: &str) -> Option<Color>
     ensures { result ≡ color_named name.now }
 {

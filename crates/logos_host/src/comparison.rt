@@ -6,7 +6,7 @@ ghost use Rattle.logos_host.specs.declared.comparison.Occurrence.{Occurrence as 
 use crate::files::Files;
 use std::alloc::AllocError;
 
-/// How a file compares with some bytes.
+/// The result of comparing a file with bytes.
 #[derive(Clone, Copy, Debug, PartialEq, Eq)]
 pub enum Occurrence {
     /// The file has exactly these bytes.
@@ -17,13 +17,13 @@ pub enum Occurrence {
     Missing,
 }
 
-/// Files that can be compared.
+/// Files whose content can be compared with bytes.
 pub trait ComparableFiles: Files {
-    // Holds of the files before a comparison, the path, the bytes, how the file compares with them,
-    // and the files after it.
+    // Relates the files before a comparison, the path, the bytes, the result, and the files after
+    // it.
     ghost compare_finds: { Self → List ℕ → List ℕ → OccurrenceValue → Self → Type 0 } = { λ _ _ _ _ _. ⊤ };
 
-    // Holds of files, two paths, and whether these lead to one file.
+    // Holds if two paths lead to one file.
     ghost same_finds: { Self → List ℕ → List ℕ → Bool → Type 0 } = { λ _ _ _ _. ⊤ };
 
     /// Compares the file at a path with some bytes. Only a regular file is read.

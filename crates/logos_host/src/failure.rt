@@ -1,4 +1,4 @@
-//! The ways in which a program fails.
+//! The failures of a program, and their exit statuses. Used by all three programs.
 
 ghost use Rattle.std.specs.IoError.{error_kind};
 ghost use Rattle.std.specs.Prelude.{◌≡◌, ◌≢◌};
@@ -11,7 +11,7 @@ use std::alloc::{AllocError, AllocFailed};
 use std::io;
 use std::io::ErrorKind;
 
-/// The ways in which a program fails.
+/// The reason that a program ends with another exit status than 0.
 #[derive(Drop)]
 pub enum Failure<'w> {
     /// The arguments are invalid: the reason, and the invalid argument, which may be empty.
@@ -29,11 +29,12 @@ pub enum Failure<'w> {
     OwnOutput(&'w str),
     /// The source is refused, for the reasons in this text.
     Refused(String),
-    /// The input is valid UTF-8 only up to this byte.
+    /// The input is not UTF-8. `valid_up_to` is the length in bytes of its longest UTF-8 prefix.
     NotUtf8 {
         valid_up_to: usize,
     },
-    /// The file at this path is not UTF-8. It is valid only up to this byte.
+    /// The file at this path is not UTF-8. `valid_up_to` is the length in bytes of its longest
+    /// UTF-8 prefix.
     NotText {
         path: &'w str,
         valid_up_to: usize,
@@ -123,7 +124,7 @@ impl Failure<'_> {
     }
 }
 
-/// Returns the failure for an error of this kind of standard output.
+/// Returns the failure for an error of standard output that has this kind.
 fn output_failure(kind: ErrorKind) -> Failure<'static>
     ensures closed { kind ≡ ErrorKind.BrokenPipe → result ≡ Closed }
     ensures other { kind ≢ ErrorKind.BrokenPipe → result ≡ Output }

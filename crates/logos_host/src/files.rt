@@ -1,5 +1,5 @@
-//! The interface to files, by their paths. `Disk` and `SourceDisk` implement it; the tests have
-//! others.
+//! The interface to files, by their paths. `Disk` and `SourceDisk` implement it, and the tests have
+//! further implementations.
 
 ghost use Rattle.std.specs.Prelude.{ℕ, List, ⊤, IfOk, OnOk};
 
@@ -10,7 +10,8 @@ use crate::reason::Reason;
 pub enum FileError {
     /// The file was not read or written, for this reason.
     Failed(Reason),
-    /// The file should be text, but is valid UTF-8 only up to this byte.
+    /// The file should be text, but is not UTF-8. `valid_up_to` is the length in bytes of its
+    /// longest UTF-8 prefix.
     NotText { valid_up_to: usize },
     /// Memory ran out.
     Memory,
@@ -18,18 +19,17 @@ pub enum FileError {
 
 /// Files by their paths.
 pub trait Files {
-    // Holds of the files before a read, the path, all bytes that are read, and the files after it.
+    // Relates the files before a read, the path, all bytes that are read, and the files after it.
     ghost read_yields: { Self → List ℕ → List ℕ → Self → Type 0 } = { λ _ _ _ _. ⊤ };
 
-    // Holds of the files before a write, the path, all bytes of the file there from then on, and
-    // the files after it.
+    // Relates the files before a write, the path, the bytes that the file has from then on, and the
+    // files after it.
     ghost write_makes: { Self → List ℕ → List ℕ → Self → Type 0 } = { λ _ _ _ _. ⊤ };
 
-    // Holds of the files before a read or a comparison, and of those after it, whether it succeeds
-    // or fails.
+    // Relates the files before and after a read or a comparison, whether it succeeds or fails.
     ghost read_ends: { Self → Self → Type 0 } = { λ _ _. ⊤ };
 
-    // Holds of the files before a write, the path, and the files after it, whether it succeeds or
+    // Relates the files before a write, the path, and the files after it, whether it succeeds or
     // fails.
     ghost write_ends: { Self → List ℕ → Self → Type 0 } = { λ _ _ _. ⊤ };
 

@@ -54,7 +54,7 @@ fn write_message<E: Write>(failure: &Failure<'_>, usage: &str, err: &mut E) -> i
     }
 }
 
-/// Writes that a file is not UTF-8.
+/// Writes the message for a file that is not UTF-8.
 fn write_not_text<E: Write>(path: &str, valid_up_to: usize, err: &mut E) -> io::Result<()>
     ensures { OnOk result (Appends (E.contents err.old) (E.contents err.new)
         (codes "error: cannot read " ++ (shown_text path.now
@@ -120,7 +120,8 @@ fn write_misuse_line<E: Write>(what: &str, word: &str, err: &mut E) -> io::Resul
     writeln!(err, "`")
 }
 
-/// Writes that an argument is an unknown option, the option that may be meant, and the usage.
+/// Writes the message for an unknown option: the argument, the option that may be meant, and the
+/// usage.
 fn write_unknown<E: Write>(word: &str, nearest: &str, usage: &str, err: &mut E) -> io::Result<()>
     ensures { OnOk result (Appends (E.contents err.old) (E.contents err.new)
         (misuse_line (codes "unknown option") word.now ++ (hint_line nearest.now ++ usage.now))) }

@@ -6,13 +6,14 @@ ghost use Rattle.logos_host.specs.Formats.{format_named};
 /// The format of messages.
 #[derive(Clone, Copy, Debug, PartialEq, Eq)]
 pub enum MessageFormat {
-    /// As a report.
+    /// A report.
     Human,
-    /// As lines of JSON.
+    /// Lines of JSON.
     Json,
 }
 
-/// Returns the format for a value of `--message-format`: `human` or `json`.
+/// Returns the format for a value of `--message-format`: `human` or `json`. Returns `None` for any
+/// other value.
 pub fn format_by_name(name: &str) -> Option<MessageFormat>
     ensures { result ≡ format_named name.now }
 {

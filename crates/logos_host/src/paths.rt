@@ -3,7 +3,8 @@
 ghost use Rattle.std.specs.Prelude.{◌≡◌};
 ghost use Rattle.logos_host.specs.Imports.{file_name};
 
-/// Returns the name at the end of a path: the part after its last `/`, or all of it.
+/// Returns the name at the end of a path: the part after its last `/`, or the whole path if it has
+/// no `/`.
 pub fn file_name(path: &str) -> &str
     ensures { result.now ≡ file_name path.now }
 {

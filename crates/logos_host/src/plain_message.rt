@@ -41,7 +41,7 @@ fn write_plainly<E: Write>(failure: &Failure<'_>, usage: &str, err: &mut E) -> i
     }
 }
 
-/// Writes that the file at a path cannot be read.
+/// Writes the message for a file that cannot be read.
 fn write_unread<E: Write>(path: &str, err: &mut E) -> io::Result<()>
     ensures { OnOk result (Appends (E.contents err.old) (E.contents err.new)
         (codes "cannot read " ++ (path.now ++ codes "\n"))) }

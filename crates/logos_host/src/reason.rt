@@ -5,7 +5,7 @@ ghost use Rattle.logos_host.specs.Messages.{reason_text};
 
 use std::io::ErrorKind;
 
-/// The reasons why a file cannot be read or written.
+/// The reason that a file cannot be read or written.
 #[derive(Clone, Copy, Debug, PartialEq, Eq)]
 pub enum Reason {
     /// There is no such file.
@@ -14,7 +14,7 @@ pub enum Reason {
     Folder,
     /// A part of the path is not a folder.
     NoFolder,
-    /// The system does not allow it.
+    /// The system denies the permission to read or write the file.
     Permission,
     /// The links of the path form a cycle, or there are too many.
     Links,

@@ -12,9 +12,9 @@ use std::{fs, io};
 /// that the text is still too long after its last character is removed.
 const MAX_READ: u64 = 16_777_221;
 
-/// The files that a runtime can access, for reading sources. Of a longer file only enough is read
-/// to detect that it is too long for a source, so a device without an end is refused as such a
-/// file.
+/// The files that a runtime can access, for reading sources. At most `MAX_READ` bytes of a file are
+/// read, enough to detect that it is too long for a source. A device without an end is therefore
+/// refused as too long.
 #[derive(Drop)]
 pub struct SourceDisk<'r, R> {
     /// The runtime.

@@ -78,7 +78,7 @@ fn bytes_at<R: Runtime + AllocGlobal>(rt: &R, path: &str) -> Result<Vec<u8>, All
     }
 }
 
-/// Returns whether two files are one regular file.
+/// Returns whether two paths with these metadata lead to one regular file.
 fn is_same(one: &Metadata, other: &Metadata) -> bool {
     one.is_file() && one.dev() == other.dev() && one.ino() == other.ino()
 }

@@ -59,11 +59,12 @@ pub fn write_file<'w, F: Files>(
     }
 }
 
-/// Writes a block if it has at least this length, and empties it.
+/// Writes a block and empties it, if it has at least `length` bytes.
 ///
 /// # Errors
 ///
-/// Returns the error of the writer.
+/// Returns the error of the writer. Then a part of the block may be written, and the block is
+/// empty.
 #[inline(always)]
 pub fn write_full<O: Write>(block: &mut Vec<u8>, length: usize, out: &mut O) -> io::Result<()>
     requires { 0 < length }
@@ -82,7 +83,8 @@ pub fn write_full<O: Write>(block: &mut Vec<u8>, length: usize, out: &mut O) -> 
 ///
 /// # Errors
 ///
-/// Returns the error of the writer.
+/// Returns the error of the writer. Then a part of the block may be written, and the block is
+/// empty.
 pub fn write_block<O: Write>(block: &mut Vec<u8>, out: &mut O) -> io::Result<()>
     ensures empty { block.new.items ≡ [] }
     ensures room { vec_capacity block.new ≡ vec_capacity block.old }

@@ -23,10 +23,10 @@ pub record DescribedItem : Type 0 where
   pub item : Item
   pub description : List ℕ
 
--- An input, with the code and the leaves of its lexer.
+-- For an input, and the code and the leaves of its lexer.
 module _ (leaves : List Leaf) (code : CodeValue) (bytes : List ℕ) where
   -- The lines that `--at` prints about an offset: first those about all matches from there, then
-  -- those about how far leaves read if none matches. They quote a prefix of the input, in which all
+  -- those of the partial matches if no leaf matches. They quote a prefix of the input, in which all
   -- these matches end.
   pub record IsDescription (from : ℕ) (text : List ℕ) : Type 0 where
     pub matches : List Match

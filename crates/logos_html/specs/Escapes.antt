@@ -1,4 +1,4 @@
--- Text in a page, and how a browser reads it.
+-- Text in a page, in a form that a browser reads as the shown text.
 use Rattle.std.specs.Prelude.{◌≡◌, ℕ, List, [], ◌∷◌, ◌++◌, ◌==◌, ◌||◌, not, Bool, true, chars, codes, if◌then◌else◌}
 use Rattle.std.specs.List.{flat_map}
 use Rattle.logos_page.specs.Shown.{shown_char}

@@ -9,13 +9,14 @@ use Rattle.logos_code.specs.declared.action.Action.TheVariants.{Emit}
 abbrev pub emits : Callback
 emits leaf slice answer = answer ≡ Emit
 
--- From a point of an input, a run of a code has these items, and then it is at another point.
+-- From an offset of an input, a run of a code has these items, and then continues at another
+-- offset.
 pub data RunsTo (code : CodeValue) (callback : Callback) (input : List ℕ) (from : ℕ) : List Item → ℕ → Type 0 where
   begins : RunsTo code callback input from [] from
   adds : (items : List Item) (item : Item) (at to : ℕ) → RunsTo code callback input from items at → RunsOn code callback input at item to →
       RunsTo code callback input from (items ++ item ∷ []) to
 
--- From a point of an input, these are all items of the run of a code, or its first ones up to one
+-- `items` are all items of a run of a code from an offset of an input, or the first ones up to one
 -- that ends at byte `most` or after it.
 pub record Begins (code : CodeValue) (callback : Callback) (input : List ℕ) (from most : ℕ) (items : List Item) : Type 0 where
   pub to : ℕ

@@ -20,7 +20,7 @@ flowing_char c = escaped_char c ++ line_end c
 abbrev pub flowing_byte : ℕ → List ℕ
 flowing_byte b = if nat_lt b 128 then flowing_char b else byte_escape b
 
--- A text, and bytes that are not UTF-8.
+-- A text as preformatted text, and bytes that are not UTF-8 as preformatted text.
 abbrev pub flowing_text : List ℕ → List ℕ
 flowing_text text = flat_map flowing_char (chars text)
 

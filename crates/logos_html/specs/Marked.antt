@@ -19,7 +19,7 @@ module _ (code : CodeValue) (graph : GraphValue) (bytes : List ℕ) where
   abbrev pub AreDescribed : List DescribedItem → Type 0
   AreDescribed items = IsGraphOf graph.leaves graph.utf8 graph → AllStart (rules_of graph.leaves) → IsBytes bytes → All (IsDescribed graph.leaves code bytes) items
 
-  -- This is a front of an input, in which the first items of its lexer are marked.
+  -- `text` is a front of an input, in which the first items of its lexer are marked.
   pub record IsMarked (text : List ℕ) : Type 0 where
     pub items : List DescribedItem
     pub first : Begins code emits bytes 0 shown (map (λ (it : DescribedItem). it.item) items)
@@ -27,7 +27,7 @@ module _ (code : CodeValue) (graph : GraphValue) (bytes : List ℕ) where
     pub end : ℕ
     pub is : text ≡ items_text graph.leaves bytes end 0 0 items
 
-  -- A page has such a front.
+  -- A page contains the marked front of an input.
   pub record HasMarked (page : List ℕ) : Type 0 where
     pub text : List ℕ
     pub marked : IsMarked text

@@ -72,18 +72,18 @@ slice_text bytes end from to = flowing_bytes (part_of bytes end from to) ++ code
 abbrev pub moved : List ℕ → ℕ → ℕ → ℕ
 moved bytes at offset = max at (min offset (length bytes))
 
--- An input, with the leaves of its lexer, whose front up to `end` is shown.
+-- For an input, whose front up to `end` is shown, and the leaves of its lexer.
 module _ (leaves : List Leaf) (bytes : List ℕ) (end : ℕ) where
   -- The span of an item at a location, with its description.
   abbrev pub item_markup : Location → DescribedItem → List ℕ
   item_markup location it =
       item_head leaves it.item ++ (label_end (start_of it.item) (end_of it.item) location ++ (description_text it.description ++ slice_text bytes end (start_of it.item) (end_of it.item)))
 
-  -- An item, with the bytes before it from an offset on.
+  -- The bytes from the offset `at` to an item, and the item.
   abbrev pub next_text : ℕ → ℕ → DescribedItem → List ℕ
   next_text at cursor it = flowing_bytes (part_of bytes end at (start_of it.item)) ++ item_markup (location_at bytes (moved bytes cursor (start_of it.item))) it
 
-  -- The shown text from an offset on, with these items.
+  -- The shown text from the offset `at` to its end, with these items.
   abbrev pub items_text : ℕ → ℕ → List DescribedItem → List ℕ
   items_text at cursor [] = flowing_bytes (part_of bytes end at end)
   items_text at cursor (it ∷ rest) = next_text at cursor it ++ items_text (end_of it.item) (moved bytes cursor (start_of it.item)) rest

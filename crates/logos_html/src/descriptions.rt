@@ -27,7 +27,7 @@ const LONGEST: usize = 65_536;
 #[derive(Drop)]
 pub(crate) struct Described<'i> {
     pub(crate) item: Item<'i>,
-    /// The lines about the start of the item, or no text if they add nothing to its label.
+    /// The lines about the start of the item, or an empty text if they add nothing to its label.
     pub(crate) description: String,
 }
 
@@ -43,8 +43,8 @@ pub(crate) struct Subject<'a, 's> {
 #[derive(Clone, Copy)]
 pub(crate) struct Budget {
     left: usize,
-    /// The start of the first item for which it was too small, if there is one. That item and those
-    /// after it have no description.
+    /// The start of the first item for which the budget was too small, if there is one. That item
+    /// and those after it have no description.
     pub(crate) end: Option<usize>,
 }
 
@@ -82,8 +82,8 @@ pub(crate) fn describe<'i>(
     Ok(described)
 }
 
-/// Returns the description of an item, or no text if it adds nothing to the label of the item, or
-/// if the budget is too small.
+/// Returns the description of an item, or an empty text if it adds nothing to the label of the
+/// item, or if the budget is too small.
 fn description_of(
     alloc: Global,
     subject: Subject<'_, '_>,
@@ -113,7 +113,7 @@ fn description_of(
 }
 
 /// Returns the lines that `--at` prints about an offset of an input: the matches from there, and
-/// how far leaves read if none matches. They depend on this number of bytes after the offset.
+/// the partial matches if no leaf matches. They depend only on the `count` bytes after the offset.
 ///
 /// # Errors
 ///
@@ -140,8 +140,8 @@ fn answer_of(
     Ok(text)
 }
 
-/// Returns whether the lines about an item add nothing to its label: one for its match, if it is
-/// one, and one for the verdict. The steps to them are spent.
+/// Returns whether the lines about an item add nothing to its label: whether they are only the line
+/// for its match, if it is a match, and the line for the verdict. Spends the steps for these lines.
 fn is_usual(
     subject: Subject<'_, '_>,
     budget: &mut Budget,
@@ -159,8 +159,8 @@ fn is_usual(
     false
 }
 
-/// Returns the number of steps at an error: its states are walked for each leaf, and the location
-/// in each line is counted from the beginning of the input.
+/// Returns the number of steps for the partial matches at an error: the states are visited for each
+/// leaf, and the location in each line is counted from the beginning of the input.
 fn steps_at(subject: Subject<'_, '_>, item: Item<'_>, lines: usize) -> usize {
     match item {
         Item::Token { .. } => 0,
@@ -179,7 +179,7 @@ fn spend(budget: &mut Budget, count: usize) {
     budget.left = budget.left.saturating_sub(count);
 }
 
-/// Ends a budget at an item.
+/// Ends a budget at the item that begins at `from`.
 fn close(budget: &mut Budget, from: usize) {
     budget.left = 0;
     if budget.end.is_none() {

@@ -21,7 +21,7 @@ use std::alloc::{AllocError, Global};
 /// The maximum number of bytes of an input that are shown.
 const SHOWN: usize = 65_536;
 
-/// A lexer of which a page is made.
+/// The lexer of a page.
 #[derive(Clone, Copy)]
 pub struct LexerPage<'p, 's> {
     /// The name of the enum.
@@ -149,7 +149,8 @@ fn marked_of(
     html.finish()
 }
 
-/// Returns the page after the marked text of the input, if one is given, or from its states on.
+/// Returns the page after the marked text of the input, if one is given, or the page from its
+/// states to its end.
 fn rest_of(
     alloc: Global,
     page: LexerPage<'_, '_>,
@@ -207,7 +208,7 @@ fn push_head(html: &mut Html, page: LexerPage<'_, '_>, has_input: bool) {
     html.push_markup("</header>\n<main>\n");
 }
 
-/// Appends the links to the sections.
+/// Appends the links to the sections. The text of an input is linked only if `has_input` is set.
 fn push_navigation(html: &mut Html, has_input: bool) {
     html.push_markup(
         "<nav aria-label=\"Sections\">\n<ul>\n<li><a href=\"#leaves\">Leaves</a></li>\n",
@@ -224,7 +225,8 @@ fn push_navigation(html: &mut Html, has_input: bool) {
     );
 }
 
-/// Returns the end of the shown front of an input. It is between characters, if the input is UTF-8.
+/// Returns the end of the shown front of an input, in bytes. It is between characters, if the input
+/// is UTF-8.
 fn end_of(bytes: &[u8]) -> usize {
     if bytes.len() <= SHOWN {
         return bytes.len();
@@ -236,7 +238,7 @@ fn end_of(bytes: &[u8]) -> usize {
     end
 }
 
-/// Returns the offset before another one at which a character continues, or that one.
+/// Returns the offset before `at` if the byte at `at` continues a character, otherwise `at`.
 fn before_continuation(bytes: &[u8], at: usize) -> usize {
     match bytes.get(at) {
         Some(byte) if (128 <= *byte) & (*byte < 192) => at.saturating_sub(1),
@@ -268,7 +270,7 @@ color. <a class=\"skip\" href=\"#states\">Skip the text</a></p>
     );
 }
 
-/// Appends how many bytes are shown, if not all are.
+/// Appends the number of shown bytes, if not all bytes are shown.
 fn push_cut(html: &mut Html, length: usize, end: usize) {
     if end < length {
         html.push_markup("<p class=\"cut\">The first ");
@@ -279,7 +281,7 @@ fn push_cut(html: &mut Html, length: usize, end: usize) {
     }
 }
 
-/// Appends which items have no description, if some have none.
+/// Appends the offset from which items have no description, if there is one.
 fn push_undescribed(html: &mut Html, described: Option<usize>) {
     if let Some(end) = described {
         html.push_markup(

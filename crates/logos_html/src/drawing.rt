@@ -47,7 +47,7 @@ enum Bend {
     Back,
 }
 
-/// Appends the section with the drawing of a graph, or why there is none.
+/// Appends the section with the drawing of a graph, or with the reason that there is none.
 ///
 /// # Errors
 ///
@@ -72,7 +72,7 @@ pub(crate) fn push_drawing(
     Ok(())
 }
 
-/// Appends why a large graph is not drawn.
+/// Appends the reason that a large graph is not drawn.
 fn push_too_large(html: &mut Html, count: usize) {
     html.push_markup("<p class=\"cut\">Only lexers of at most ");
     html.push_number(DRAWN);
@@ -226,7 +226,7 @@ fn push_back(html: &mut Html, from: Dot, to: Dot) {
     push_point(html, " ", to.x, to.y.saturating_add(RADIUS + 2));
 }
 
-/// Appends a point of a curve, after a letter.
+/// Appends the text `head`, and a point of a curve.
 fn push_point(html: &mut Html, head: &'static str, x: usize, y: usize) {
     html.push_markup(head);
     html.push_number(x);

@@ -1,5 +1,5 @@
-//! HTML that is appended to. Markup comes from constants, and everything else passes through
-//! `push_char`. All other modules write with it.
+//! HTML to which markup and text are appended. Markup comes from constants, and all other text
+//! passes through `push_char`. All other modules write with it.
 
 ghost use Rattle.std.specs.Prelude.{◌≡◌, ◌↔◌, [], true, false, IfOk, IsOk, IsTrue, decimal, string_bytes};
 ghost use Rattle.logos_html.specs.Views.{Gains, escaped_char, escaped_line_char, escaped_lines, escaped_text, line_end};
@@ -8,7 +8,8 @@ use logos_page::Page;
 use std::alloc::{AllocError, Global};
 use std::marker::Model;
 
-/// HTML that is appended to. It records whether memory ran out, so only `finish` can fail.
+/// HTML to which markup and text are appended. It records whether memory ran out, so only `finish`
+/// can fail.
 #[derive(Drop)]
 pub struct Html {
     page: Page,
@@ -32,7 +33,7 @@ impl Html {
         }
     }
 
-    /// Appends markup. It is a constant of the program, so no text of a file is markup.
+    /// Appends markup. It is a constant of the program, so that no text of a file becomes markup.
     pub fn push_markup(&mut self, markup: &'static str)
         ensures { Gains markup.now self.old self.new }
     {
@@ -54,7 +55,7 @@ impl Html {
         }
     }
 
-    /// Appends a text. It has no markup, also in the value of an attribute.
+    /// Appends a text. It contains no markup, even in the value of an attribute.
     pub fn push_text(&mut self, text: &str)
         ensures { Gains (escaped_text text.now) self.old self.new }
     {
@@ -63,8 +64,8 @@ impl Html {
         }
     }
 
-    /// Appends lines of text, each with its line end. They have no markup, also in the value of an
-    /// attribute.
+    /// Appends lines of text, each with its line end. They contain no markup, even in the value of
+    /// an attribute.
     pub fn push_lines(&mut self, text: &str)
         ensures { Gains (escaped_lines text.now) self.old self.new }
     {

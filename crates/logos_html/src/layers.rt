@@ -43,7 +43,7 @@ pub(crate) fn layers_of(alloc: Global, states: &[&StateData]) -> Result<Layers, 
     Ok(layers)
 }
 
-/// Returns the number of states in a column, and adds one to it.
+/// Returns the number of states in a column, and increases it by one.
 fn next_row(filled: &mut Vec<usize>, column: usize) -> usize {
     if column < filled.len() {
         let row = filled[column];
@@ -72,7 +72,7 @@ fn columns_of(alloc: Global, states: &[&StateData]) -> Result<Vec<usize>, AllocE
     Ok(columns)
 }
 
-/// Reaches the targets of the edges of the state that was reached at this number, if there is one.
+/// Reaches the targets of the edges of the state at the index `at` of `reached`, if there is one.
 fn reach_next(
     columns: &mut Vec<usize>,
     reached: &mut Vec<usize>,

@@ -7,7 +7,7 @@ use logos_inspect::LeafRow;
 use logos_page::Page;
 use std::alloc::{AllocError, Global};
 
-/// Appends the section of the leaves of a graph, whose rows are these.
+/// Appends the section of the leaves of a graph, with these rows.
 ///
 /// # Errors
 ///
@@ -129,7 +129,7 @@ fn push_line_cell(html: &mut Html, line: usize) {
     html.push_markup("</td>");
 }
 
-/// Appends the cell with a text that a leaf finds.
+/// Appends the cell with a text that a leaf finds, or with the statement that it finds none.
 fn push_example_cell(
     alloc: Global,
     html: &mut Html,
@@ -174,7 +174,7 @@ pub(crate) fn push_leaf_link(html: &mut Html, graph: &Graph<'_>, leaf: usize) {
     html.push_markup(")</a>");
 }
 
-/// Appends bytes in quotes.
+/// Appends bytes in quotes, as code.
 fn push_code(alloc: Global, html: &mut Html, bytes: &[u8]) -> Result<(), AllocError> {
     let mut quoted = Page::new(alloc, false);
     push_quoted(&mut quoted, bytes);

@@ -6,11 +6,12 @@ ghost use Rattle.logos_html.specs.Imports.{IsDead, IsEnough, dfa_next, dfa_of};
 use logos_automaton::dfa::parts::{end_at, leaves_at};
 use logos_automaton::dfa::{Dfa, StateId};
 
-/// The number of bytes that there are.
+/// The number of values of a byte.
 const BYTES: usize = 256;
 
-/// Returns the number of the first bytes of the rest of an input after which no match from its
-/// beginning can end, or of all if there are none. Returns `None` if there are more than `most`.
+/// Returns the number of the first bytes of `rest` after which no match from its beginning can end,
+/// or the length of `rest` if there is no such number. Returns `None` if more than `most` bytes are
+/// needed, or if the automaton has no dead state.
 pub(crate) fn enough_bytes(dfa: &Dfa, rest: &[u8], most: usize) -> Option<usize>
     ensures { IfSome result (IsEnough (dfa_of dfa.now) rest.now) }
 {

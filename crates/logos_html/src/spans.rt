@@ -39,8 +39,8 @@ pub(crate) fn push_items(html: &mut Html, shown: ShownInput<'_, '_>, items: &[De
     push_bytes(html, part_of(shown, at, shown.end));
 }
 
-/// Appends the span of an item, after the bytes before it from an offset on, and moves the cursor
-/// to the item.
+/// Appends the bytes from the offset `at` to an item, and the span of the item. Moves the cursor to
+/// the item.
 fn push_next(
     html: &mut Html,
     shown: ShownInput<'_, '_>,
@@ -152,7 +152,8 @@ fn priority_at(leaves: &[Leaf<'_>], leaf: usize) -> usize
     }
 }
 
-/// Appends the rest of a label: the location and the span of an item; and the span for programs.
+/// Appends the rest of a label, which is the location and the span of an item, and then the span
+/// for programs.
 fn push_label_end(html: &mut Html, span: Span, location: Location)
     ensures { Gains (label_end span.from span.to location) html.old html.new }
 {

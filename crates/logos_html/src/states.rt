@@ -13,8 +13,8 @@ const LISTED: usize = 1000;
 /// The maximum number of ranges of an edge that are shown.
 const RANGES: usize = 12;
 
-/// Appends the section of the states of a graph, with how often they are entered if an input is
-/// shown.
+/// Appends the section of the states of a graph, with the number of entries of each state if an
+/// input is shown.
 ///
 /// # Errors
 ///
@@ -42,7 +42,7 @@ entered. Sets of bytes are written as in a pattern.</p>
     Ok(())
 }
 
-/// Appends the head of the table, after the meaning of the counts if there are some.
+/// Appends the head of the table, after the meaning of the counts if there are any.
 fn push_head(html: &mut Html, entries: Option<&Entries>) {
     if let Some(entries) = entries {
         html.push_markup(
@@ -63,7 +63,7 @@ fn push_head(html: &mut Html, entries: Option<&Entries>) {
     html.push_markup("<th scope=\"col\">Edges</th></tr>\n</thead>\n<tbody>\n");
 }
 
-/// Appends how many states are listed, if not all are.
+/// Appends the number of listed states, if not all states are listed.
 fn push_cut(html: &mut Html, count: usize) {
     if count > LISTED {
         html.push_markup("<p class=\"cut\">The first ");
@@ -100,7 +100,7 @@ fn push_listed(
     Ok(())
 }
 
-/// Appends the cell with how often a state was entered, if that was counted.
+/// Appends the cell with the number of entries of a state, if entries were counted.
 fn push_count(html: &mut Html, number: usize, entries: Option<&Entries>) {
     if let Some(entries) = entries {
         html.push_markup("<td class=\"n\">");
@@ -145,7 +145,7 @@ fn push_edges(alloc: Global, html: &mut Html, state: &StateData) -> Result<(), A
     Ok(())
 }
 
-/// Appends the edge of the end of the input, if there is one.
+/// Appends the edge for the end of the input, if there is one.
 fn push_end_edge(html: &mut Html, end: Option<State>) {
     if let Some(target) = end {
         html.push_markup("<li>end of input to ");

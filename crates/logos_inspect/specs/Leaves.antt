@@ -30,11 +30,11 @@ held_priority (of_bytes value) = 2 * length value
 abbrev pub default_priority : Pattern → Option ℕ
 default_priority pattern = if is_token pattern then option_map held_priority (held (source_of pattern)) else fitted (value (pattern_tree pattern))
 
--- This is the text at a span, if it is a span of the text.
+-- `shown` is the text at a span, if that is a span of the text.
 abbrev pub IsTextAt : List ℕ → Span → List ℕ → Type 0
 IsTextAt text span shown = IsSpanOf text span → shown ≡ slice_range text span.from span.to
 
--- This is the callback of a leaf as it is written, if it has one.
+-- `shown` is the callback of a leaf as it is written, if it has one.
 abbrev pub ShowsCallback : List ℕ → Option Callback → Option (List ℕ) → Type 0
 ShowsCallback text None shown = shown ≡ None
 ShowsCallback text (Some callback) None = ⊥

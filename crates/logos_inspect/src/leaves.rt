@@ -13,18 +13,18 @@ use std::alloc::Global;
 /// The row of a leaf in a table.
 #[derive(Clone, Copy)]
 pub struct LeafRow<'l> {
-    /// The name of its variant, or `None` for a skip.
+    /// The name of the variant, or `None` for a skip.
     pub variant: Option<&'l str>,
-    /// Whether it is a `token`, not a `regex` or a `skip`.
+    /// Whether the leaf is a `token`, not a `regex` or a `skip`.
     pub is_token: bool,
-    /// Its literal as it is written, with the quotes.
+    /// The literal as it is written, with the quotes.
     pub pattern: &'l str,
-    /// The options of its definition.
+    /// The options of the definition.
     pub options: LeafOptions,
     pub priority: usize,
-    /// Whether its priority is the default one.
+    /// Whether the priority is the default one.
     pub is_default: bool,
-    /// Its callback as it is written, if it has one.
+    /// The callback as it is written, if there is one.
     pub callback: Option<&'l str>,
     /// The line of the file on which the literal begins, counted from 1.
     pub line: usize,
@@ -32,8 +32,8 @@ pub struct LeafRow<'l> {
 
 /// Returns the row of a leaf.
 ///
-/// `lines` are those of the whole file. The enum begins in it at byte `offset`, and `text` is its
-/// text. The spans of the leaf are relative to that offset.
+/// `lines` is the line index of the whole file, in which the enum begins at byte `offset`. `text`
+/// is the text of the enum, to which the spans of the leaf are relative.
 ///
 /// # Errors
 ///
@@ -87,7 +87,8 @@ fn has_default_priority(
     Ok(default == Some(priority))
 }
 
-/// Returns the default priority of a `token` with this literal.
+/// Returns the default priority of a `token` with this literal, or `None` if the literal has no
+/// value.
 fn token_priority(alloc: Global, text: &str) -> Result<Option<usize>, Memory>
     ensures { IfOk result (λ priority. priority ≡ option_map held_priority (held text.now)) }
 {
@@ -113,7 +114,7 @@ fn callback_text<'l>(text: &'l str, callback: Option<&Callback<'_>>) -> Option<&
     }
 }
 
-/// Returns the text at a span.
+/// Returns the text at a span, or an empty text if there is no such span.
 fn text_at(text: &str, span: Span) -> &str
     ensures { IsTextAt text.now span result.now }
 {
@@ -123,7 +124,7 @@ fn text_at(text: &str, span: Span) -> &str
     }
 }
 
-/// Returns the line of the file at an offset relative to another one.
+/// Returns the line of the file at the offset `from`, which is relative to `offset`.
 fn line_at(lines: &LineIndex<'_>, offset: usize, from: usize) -> usize
     ensures { result ≡ (location_at lines.now (moved offset from)).line }
 {

@@ -37,7 +37,7 @@ fn add_marks(flags: &mut Vec<bool>, state_type: StateType)
     add_mark(flags, state_type.early);
 }
 
-/// Sets the flag of a leaf.
+/// Sets the flag of a leaf, if a leaf is given.
 fn add_mark(flags: &mut Vec<bool>, leaf: Option<LeafId>)
     ensures { AddsMark flags.old.items (option_map leaf_number leaf) flags.new.items }
 {

@@ -1,4 +1,4 @@
-//! Blocks of text, written when they are full.
+//! Blocks of text, written when they are full. Used by `inputs`, `lines`, `records` and `streams`.
 
 ghost use Rattle.std.specs.Prelude.{IfErr};
 ghost use Rattle.logos_items.specs.Imports.{IsNoMisuse};
@@ -9,7 +9,7 @@ use std::io::Write;
 /// The minimum length of a block that is written, in bytes.
 pub(crate) const BLOCK: usize = 65_536;
 
-/// Writes a block that is full, and empties it.
+/// Writes a block and empties it, if it is full.
 #[inline(always)]
 pub(crate) fn write_if_full<O: Write>(
     block: &mut Vec<u8>,

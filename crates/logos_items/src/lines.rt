@@ -47,7 +47,7 @@ pub(crate) struct Canvas {
     screen: Screen,
     /// The buffer for a short line.
     line: [u8; LINE],
-    /// The line without colors, if it is not appended as it is.
+    /// The buffer for a line that is colored or cut before it is appended.
     plain: Vec<u8>,
 }
 
@@ -85,7 +85,7 @@ pub(crate) fn push_line(
     push_styled(block, canvas, location, head, slice)
 }
 
-/// Appends the line of an item with colors, or cut.
+/// Appends the line of an item with colors, or cut to a width.
 fn push_styled(
     block: &mut Vec<u8>,
     canvas: &mut Canvas,
@@ -167,7 +167,7 @@ pub(crate) fn now<C: Clock>(clock: &C) -> Option<Duration> {
     }
 }
 
-/// Returns the milliseconds between two times.
+/// Returns the milliseconds between two times, if both are known.
 pub(crate) fn milliseconds(start: Option<Duration>, end: Option<Duration>) -> Option<usize> {
     let passed = end?.checked_sub(start?)?;
     match usize::try_from(passed.as_millis()) {

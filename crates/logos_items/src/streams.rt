@@ -60,14 +60,14 @@ pub fn write_streamed<S: Clock + Input, O: Write>(
     Ok(note)
 }
 
-/// Why a stream is not lexed to its end.
+/// The reason that a stream is not lexed to its end.
 #[derive(Clone, Copy)]
 enum StreamStop {
     NotUtf8,
     TooLong,
 }
 
-/// Returns the failure for a stream that is not lexed from an offset on.
+/// Returns the failure for a stream that is not lexed past an offset.
 fn failure_at(alloc: Global, stop: StreamStop, offset: usize) -> Failure<'static>
     ensures { IsNoMisuse result }
 {
@@ -79,7 +79,7 @@ fn failure_at(alloc: Global, stop: StreamStop, offset: usize) -> Failure<'static
     }
 }
 
-/// Returns the failure for a too long token that begins at an offset.
+/// Returns the failure for a token that begins at an offset and is too long.
 fn too_long(alloc: Global, offset: usize) -> Failure<'static>
     ensures { IsNoMisuse result }
 {
@@ -92,8 +92,8 @@ fn too_long(alloc: Global, offset: usize) -> Failure<'static>
     }
 }
 
-/// Writes a line for each item of a stream in blocks. The caller writes the last block. Returns why
-/// the stream was not lexed to its end, if it was not.
+/// Writes a line for each item of a stream in blocks. The caller writes the last block. Returns the
+/// reason that the stream was not lexed to its end, or `None` if it was.
 fn write_stream<R: Read + Drop, C: Fn(LeafId, &[u8]) -> Action + Copy, O: Write>(
     stream: &mut Stream<'_, '_, R, C>,
     lines: &mut Lines,
@@ -175,7 +175,7 @@ fn write_found<O: Write>(lines: &mut Lines, out: &mut O) -> Result<(), Failure<'
     }
 }
 
-/// Returns the location after some bytes.
+/// Returns the location after the bytes that begin at `location`.
 fn after(location: Location, bytes: &[u8]) -> Location {
     let mut location = location;
     for byte in bytes {
@@ -184,7 +184,7 @@ fn after(location: Location, bytes: &[u8]) -> Location {
     location
 }
 
-/// Returns the location after one more byte. Continuation bytes of a character have its column.
+/// Returns the location after one more byte. Continuation bytes of a character do not change it.
 #[inline(always)]
 fn after_byte(location: Location, byte: u8) -> Location {
     if byte == b'\n' {

@@ -39,7 +39,7 @@ pub record Ends (old new : LinesValue) : Type 0 where
   pub reads : tokens (print old.tokens) ≡ old.tokens
   pub utf8 : IsUtf8 (print old.tokens)
 
--- These are the bytes of lines without a lost token, if the last one was ended.
+-- `bytes` are the bytes of the lines, of which no token was lost, if the last line was ended.
 pub record Finishes (lines : LinesValue) (bytes : List ℕ) : Type 0 where
   pub whole : IsTrue lines.is_whole
   pub is : lines.tokens ≡ [] → bytes ≡ lines.before

@@ -1,4 +1,4 @@
-//! Lines of JSON that are appended to. Used by `logos_messages` and `logos_records`.
+//! Lines of JSON to which tokens are appended. Used by `logos_messages` and `logos_records`.
 
 ghost use Rattle.std.specs.Prelude.{◌≡◌, ◌↔◌, ◌∷◌, [], true, IfOk, IsOk, IsTrue, decimal, option_map};
 ghost use Rattle.logos_json.specs.Imports.{Ends, Finishes, Gains, bool_member, byte_tokens, bytes_member, flat_map, list_member, maybe_bytes, maybe_number, maybe_text, null_member, number_member, text_member, begin_array, begin_object, boolean, end_array, end_object, key, null, number, string};
@@ -8,8 +8,8 @@ use std::alloc::{AllocError, Global};
 use std::marker::Model;
 use std::{mem, str};
 
-/// Lines of JSON that are appended to. They record whether memory ran out, so only `finish` can
-/// fail.
+/// Lines of JSON to which tokens are appended. They record whether memory ran out, so only `finish`
+/// can fail.
 #[derive(Drop)]
 pub struct JsonLines {
     writer: Writer,
@@ -30,7 +30,7 @@ impl Model for JsonLines {
 }
 
 impl JsonLines {
-    /// Returns an empty line after these bytes.
+    /// Returns an empty line after the bytes `out`.
     pub fn new(alloc: Global, out: Vec<u8>) -> JsonLines
         ensures { result ≡ record { before = out.items; tokens = []; is_whole = true } }
     {

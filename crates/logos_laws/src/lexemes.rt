@@ -1,5 +1,5 @@
-//! Laws of lexemes: how literals and comments open, by their first bytes. No code calls these
-//! functions: the contract of each is a proved law.
+//! Laws of lexemes: the bytes with which literals and comments open. No code calls these functions:
+//! the contract of each is a proved law.
 
 ghost use Rattle.std.specs.Prelude.{codes};
 ghost use Rattle.logos_laws.specs.lexemes.Imports.{Apostrophes, Block, Bytes, C, Doc, Gap, Line, OpensBlock, OpensBlockDoc, OpensBy, OpensLine, OpensLineDoc, OpensNumber, OpensRaw, Quotes, Text};

@@ -66,9 +66,9 @@ pub fn short_reports_are_whole()
         refused_texts is_colored source parts ≡ all_lines is_colored source parts }
 {}
 
-/// If some leaves in turn are all those of a variant from the first of them on, the next line of
-/// the totals has the sum of their numbers of items, if that is not zero and fits into 64 bits.
-/// The lines after it are those of the leaves after them.
+/// If consecutive leaves are the remaining leaves of a variant, the next line of the totals has the
+/// sum of their numbers of items, if that is not zero and fits into 64 bits. The lines after it are
+/// those of the leaves after them.
 pub fn totals_are_sums()
     ensures { (leaves : List CodeLeaf) (counts : List ℕ) (from size last total left : ℕ) →
         AreOfVariant leaves counts from size last total →

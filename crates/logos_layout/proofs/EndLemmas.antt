@@ -1,4 +1,4 @@
--- How the tokens of a text end.
+-- The end of the tokens of a text.
 use Rattle.std.proofs.Common.{◌≡◌, ◌∙◌, ℕ, Some, ap, subst, sym}
 use Rattle.logos_layout.specs.Layout.{EndsWithBraces, braces_end}
 use Rattle.logos_layout.specs.Layout.EndsWithBraces.{last}

@@ -15,7 +15,8 @@ abbrev pub text_if : Option TokenList → TokenList → List ℕ
 text_if None inside = []
 text_if (Some rest) inside = attribute_text inside
 
--- An attribute with this inside its brackets, if it is a condition: if it begins with `cfg`.
+-- The attribute with this run between its brackets, if it is a condition: if the run begins with
+-- `cfg`.
 abbrev pub condition_text : TokenList → List ℕ
 condition_text inside = text_if (after_word (codes "cfg") inside) inside
 
@@ -34,7 +35,7 @@ abbrev mutual
   conditions_text (also (literal text span) rest) = []
   conditions_text (also (group delimiter span inside) rest) = []
 
-  -- Those after `#`.
+  -- The `cfg` attributes of an item, from the tokens after a `#` among its leading attributes.
   pub bracket_conditions : TokenList → List ℕ
   bracket_conditions none = []
   bracket_conditions (also (group Bracket span inside) rest) = condition_text inside ++ conditions_text rest

@@ -28,8 +28,8 @@ after_inner (also (doc text span) rest) = if is_inner text then Some rest else N
 after_inner (also (punctuation character spacing span) rest) = if character == 35 then after_mark rest else None
 after_inner run = None
 
--- The second run is the rest of the first one after inner documentation comments and attributes
--- that come first in it.
+-- The second run is the first one without some of its leading inner documentation comments and
+-- attributes.
 pub data FollowsInner (run : TokenList) : TokenList → Type 0 where
   begun : FollowsInner run run
   next : {rest after : TokenList} → FollowsInner run rest → after_inner rest ≡ Some after → FollowsInner run after
@@ -41,8 +41,8 @@ pub record IsInnerText (text : List ℕ) : Type 0 where
   pub are : FollowsInner tokens none
 
 -- The second text is the first one, except that a prefix that spells only inner documentation
--- comments and attributes is replaced by one that spells nothing. Its tokens print as those do that
--- come after them in the first text.
+-- comments and attributes is replaced by one that spells nothing. The tokens of the second text
+-- print as those after the prefix in the first one.
 pub record IsPlainly (text made : List ℕ) : Type 0 where
   pub front : List ℕ
   pub plain : List ℕ

@@ -7,8 +7,8 @@ use logos_token::error::Memory;
 use logos_token::token::{TokenError, print, tokenize};
 use std::alloc::Global;
 
-/// Returns whether two texts spell equal tokens, apart from their spans. A text that cannot be read
-/// into tokens spells none.
+/// Returns whether two texts spell equal tokens, apart from their spans. If one of them cannot be
+/// read into tokens, returns `false`.
 pub(crate) fn spell_same(alloc: Global, text: &str, other: &str) -> Result<bool, Memory>
     ensures { IfOk result (λ same. IsTrue same → SpellsSame text.now other.now) }
 {

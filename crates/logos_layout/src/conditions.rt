@@ -9,8 +9,8 @@ use logos_token::token::{Tokens, print};
 use logos_token::util::after_word;
 use std::alloc::Global;
 
-/// Appends the `cfg` attributes of an item, one on each line. They are among the attributes that
-/// come first in it.
+/// Appends the `cfg` attributes of an item, one on each line. They are among its leading
+/// attributes.
 ///
 /// # Errors
 ///

@@ -1,4 +1,4 @@
-//! How the tokens of a text end. Used by `layout`.
+//! The end of the tokens of a text. Used by `layout`.
 
 ghost use Rattle.std.specs.Prelude.{◌≡◌, IfOk, IsTrue, Some};
 ghost use Rattle.logos_layout.specs.Imports.{EndsWithBraces, IsClosed, braces_end, tokens_of, tree_of};

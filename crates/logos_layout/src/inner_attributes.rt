@@ -10,18 +10,18 @@ use logos_token::error::Memory;
 use logos_token::token::{Delimiter, TokenError, TokenTree, Tokens, print, tokenize};
 use std::alloc::Global;
 
-/// Returns whether inner documentation or inner attributes come first in a Rust file with these
-/// tokens.
+/// Returns whether a Rust file with these tokens begins with inner documentation or inner
+/// attributes.
 pub fn has_inner(tokens: Tokens<'_, '_>) -> bool {
     read_inner(tokens).0 > 0
 }
 
-/// Returns a Rust file with plain comments for the inner documentation and the inner attributes
-/// that come first in it: `//!` is `//`, `/*!` is `/*`, and `#![..]` is put into `/* */`. So
-/// another file can include it. It has the tokens that come after them.
+/// Returns a Rust file with plain comments in place of the inner documentation and the inner
+/// attributes with which it begins: `//!` becomes `//`, `/*!` becomes `/*`, and `#![..]` is put
+/// into `/* */`. Another file can then include it. The tokens after them are unchanged.
 ///
-/// `None` if the file cannot be read into tokens, if nothing of this kind comes first, or if the
-/// attributes would end these comments.
+/// Returns `None` if the file cannot be read into tokens, if it does not begin with inner
+/// documentation or inner attributes, or if the attributes would end these comments.
 ///
 /// # Errors
 ///
@@ -37,8 +37,7 @@ pub fn without_inner(alloc: Global, file: &str) -> Result<Option<String>, Memory
     }
 }
 
-/// Returns a file that has these tokens with plain comments for those that are about the file
-/// itself, like `without_inner`.
+/// Returns the result of `without_inner` for a file that has these tokens.
 fn without_front(
     alloc: Global,
     file: &str,
@@ -64,8 +63,8 @@ fn without_front(
     Ok(None)
 }
 
-/// Returns the plain comments that replace a text of inner documentation comments and attributes.
-/// `None` if the text spells anything else, or if the comments would spell anything.
+/// Returns the plain comments that replace a text of inner documentation comments and attributes,
+/// or `None` if the text spells anything else, or if the comments would spell tokens.
 fn plain_comments(alloc: Global, front: &str) -> Result<Option<String>, Memory>
     ensures { IfOk result (λ found. IfSome found
         (λ plain. IsInnerText front.now × Spells (string_bytes plain) none)) }
@@ -124,7 +123,7 @@ fn read_inner<'t, 's>(run: Tokens<'t, 's>) -> (usize, Tokens<'t, 's>)
 }
 
 /// Returns the byte offset at which the first inner documentation comment or attribute ends, and
-/// the tokens after it; `None` if the run does not begin with one.
+/// the tokens after it, or `None` if the run does not begin with one.
 fn inner_at<'t, 's>(tokens: Tokens<'t, 's>) -> Option<(usize, Tokens<'t, 's>)>
     ensures { MatchOption result (after_inner (tokens_of tokens.entry) ≡ None)
         (λ read. (after_inner (tokens_of tokens.entry) ≡ Some (tokens_of read.1))
@@ -137,7 +136,8 @@ fn inner_at<'t, 's>(tokens: Tokens<'t, 's>) -> Option<(usize, Tokens<'t, 's>)>
     }
 }
 
-/// Returns the byte offset at which the brackets after `!` end, and the tokens after them.
+/// Returns the byte offset at which the brackets after `!` end, and the tokens after them, or
+/// `None` if the run does not begin with `!` and brackets.
 fn marked<'t, 's>(tokens: Tokens<'t, 's>) -> Option<(usize, Tokens<'t, 's>)>
     ensures { MatchOption result (after_mark (tokens_of tokens.entry) ≡ None)
         (λ read. (after_mark (tokens_of tokens.entry) ≡ Some (tokens_of read.1))
@@ -149,7 +149,8 @@ fn marked<'t, 's>(tokens: Tokens<'t, 's>) -> Option<(usize, Tokens<'t, 's>)>
     }
 }
 
-/// Returns the byte offset at which leading brackets end, and the tokens after them.
+/// Returns the byte offset at which leading brackets end, and the tokens after them, or `None` if
+/// the run does not begin with brackets.
 fn bracketed<'t, 's>(tokens: Tokens<'t, 's>) -> Option<(usize, Tokens<'t, 's>)>
     ensures { MatchOption result (after_brackets (tokens_of tokens.entry) ≡ None)
         (λ read. (after_brackets (tokens_of tokens.entry) ≡ Some (tokens_of read.1))

@@ -16,9 +16,10 @@ struct Enclosing<'t, 's> {
 pub(crate) struct Staying<'t, 's> {
     /// The rest of the innermost open group.
     rest: Tokens<'t, 's>,
-    /// The byte offset at which that group ends.
+    /// The byte offset at which the innermost open group ends.
     to: usize,
-    /// The tokens after it, and the groups around it, from the outermost on.
+    /// For each open group, the outermost first, the tokens after it and the end of the group
+    /// around it.
     outer: Vec<Enclosing<'t, 's>>,
 }
 

@@ -14,7 +14,7 @@ use std::alloc::Global;
 pub struct Note {
     /// The byte offset in the text before which the comment is inserted.
     pub offset: usize,
-    /// The number of the line, from 1 on.
+    /// The number of the line, counted from 1.
     pub line: usize,
 }
 

@@ -15,7 +15,7 @@ use std::alloc::Global;
 struct Layout {
     lines: WordLines,
     state: LayoutState,
-    /// The content of the open delimiters except the innermost one, from the outermost on.
+    /// The content of the open delimiters except the innermost one, the outermost first.
     outer: Vec<Open>,
 }
 
@@ -112,7 +112,7 @@ impl Layout {
         Ok(())
     }
 
-    /// Puts a lexeme into a line.
+    /// Adds a lexeme to the current word, or begins a word with it.
     fn put(&mut self, next: LexemeClass, lexeme: &str) -> Result<(), Memory> {
         if let Some(lead) = self.state.lead(next) {
             self.lines.begin(lead)?;
@@ -138,7 +138,7 @@ fn first_byte(text: &str) -> u8 {
     }
 }
 
-/// Returns the class of white space.
+/// Returns the content of a gap that consists of this white space.
 fn gap_of(space: &[u8]) -> Gap {
     let mut gap = Gap::Blank;
     for byte in space {
@@ -147,7 +147,7 @@ fn gap_of(space: &[u8]) -> Gap {
     gap
 }
 
-/// Returns the class of white space with one more byte.
+/// Returns the content of a gap with one more byte of white space.
 fn gap_with(gap: Gap, byte: u8) -> Gap {
     match (gap, byte) {
         (Gap::Line, b'\n') => Gap::EmptyLine,

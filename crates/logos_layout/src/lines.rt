@@ -33,7 +33,8 @@ pub(crate) struct WordLines {
 }
 
 impl WordLines {
-    /// Returns an empty text, in which each line, also the first one, will begin with `margin`.
+    /// Returns an empty text, in which each line, including the first one, will begin with
+    /// `margin`.
     pub(crate) fn new(alloc: Global, margin: &str) -> Result<WordLines, Memory> {
         Ok(WordLines {
             text: String::new(alloc),
@@ -44,7 +45,7 @@ impl WordLines {
         })
     }
 
-    /// Begins a word.
+    /// Puts the current word into its line, and begins a word with the separator `lead` before it.
     pub(crate) fn begin(&mut self, lead: WordLead) -> Result<(), Memory> {
         self.put_word()?;
         self.lead = lead;
@@ -63,7 +64,7 @@ impl WordLines {
         Ok(())
     }
 
-    /// Returns all lines.
+    /// Returns all lines, with the last word.
     pub(crate) fn finish(mut self) -> Result<String, Memory> {
         self.put_word()?;
         Ok(self.text)
@@ -96,7 +97,7 @@ impl WordLines {
         self.column.saturating_add(self.word.len()) < MAX_LINE
     }
 
-    /// Appends a blank.
+    /// Appends a blank to the line.
     fn put_blank(&mut self) -> Result<(), Memory> {
         self.text.push(' ')?;
         self.column = self.column.saturating_add(1);
@@ -122,7 +123,7 @@ impl WordLines {
         Ok(())
     }
 
-    /// Appends the blanks before each line.
+    /// Appends the blanks with which each line begins.
     fn put_margin(&mut self) -> Result<(), Memory> {
         self.text.push_str(self.margin.as_str())?;
         self.column = self.margin.len();

@@ -10,7 +10,7 @@ use logos_lexeme::lexeme::{LexemeKind, lexeme_at};
 pub(crate) struct FirstPiece<'t> {
     pub(crate) kind: LexemeKind,
     pub(crate) piece: &'t str,
-    /// The text after it.
+    /// The text after the piece.
     pub(crate) rest: &'t str,
 }
 

@@ -35,7 +35,7 @@ pub(crate) enum Gap {
 /// The unit that ends with the last lexeme.
 #[derive(Clone, Copy, PartialEq, Eq)]
 pub(crate) enum LastEnd {
-    /// Nothing.
+    /// Neither a line nor braces.
     Nothing,
     /// A line.
     Line,
@@ -54,9 +54,9 @@ pub(crate) struct LayoutState {
     pub(crate) types: usize,
     /// The last lexeme.
     pub(crate) last: LexemeClass,
-    /// The gap after it.
+    /// The gap after the last lexeme.
     pub(crate) gap: Gap,
-    /// The unit that ends with it.
+    /// The unit that ends with the last lexeme.
     pub(crate) end: LastEnd,
     /// The content of the innermost open delimiter.
     pub(crate) inner: Open,

@@ -11,11 +11,11 @@ use std::alloc::Global;
 #[derive(Drop)]
 struct Thinned {
     text: String,
-    /// The gap after it.
+    /// The gap after the text, which is not appended to it yet.
     gap: String,
-    /// Whether that gap has a line end.
+    /// Whether the gap has a line end.
     has_line: bool,
-    /// Whether a lexeme after it was removed.
+    /// Whether the last lexeme was removed and no gap has followed it.
     is_cut: bool,
     /// The number of open delimiters that were removed.
     depth: usize,
@@ -42,7 +42,7 @@ pub(crate) fn text_without(
     Ok(thinned.text)
 }
 
-/// Returns whether a lexeme stays. Gaps do not count.
+/// Returns whether a lexeme stays. For a gap, returns `false`.
 fn stays(staying: &mut Staying<'_, '_>, kind: LexemeKind, span: Span) -> Result<bool, Memory> {
     match kind {
         LexemeKind::Gap => Ok(false),
@@ -87,7 +87,7 @@ impl Thinned {
         Ok(())
     }
 
-    /// Removes a lexeme.
+    /// Removes a lexeme, and counts the open delimiters that were removed.
     fn leave_out(&mut self, kind: LexemeKind) {
         self.is_cut = true;
         match kind {

@@ -52,7 +52,7 @@ pub record YieldsSpanList (source : SourceValue) (begin : ℕ) (span : Span) (al
   pub are_other : IfSome also (λ other. AreLinesAt source begin other other_lines)
   pub gained : Gains (spans_tokens source begin span also lines other_lines) old new
 
--- A diagnostic with this head was appended, with this report.
+-- A diagnostic with this head and this report was appended.
 pub record YieldsMessage (source : SourceValue) (begin : ℕ) (head : List Token) (span : Span) (also : Option Span) (rendered : Option (List ℕ)) (old new : LinesValue) : Type 0 where
   pub shown : Shown
   pub lines : AreLinesAt source begin span shown.lines

@@ -1,4 +1,4 @@
--- The lines of faults: at most 50 of one code, and how many more there are.
+-- The lines of faults: at most 50 of one code, and one with the number of the others.
 use Rattle.std.specs.Prelude.{◌≡◌, ◌==◌, nat_lt, ℕ, Bool, true, false, List, [], ◌∷◌, ◌++◌, drop, take}
 use Rattle.json.specs.Token.{Token}
 use Rattle.logos_json.specs.Lines.{AreLines, LinesValue, Puts}
@@ -13,7 +13,7 @@ use Rattle.logos_messages.specs.Shown.{IsShown, Shown}
 use Rattle.logos_messages.specs.Tokens.{fault_tokens, rest_tokens}
 
 -- These tokens are the line of a fault of the part of a file that begins at an offset: the report
--- has the line of the fault, the one that names its position, and otherwise only asides.
+-- has the line of the fault, the one that names its location, and otherwise only asides.
 pub record IsFaultLine (source : SourceValue) (begin : ℕ) (fault : Fault) (tokens : List Token) : Type 0 where
   pub shown : Shown
   pub may : IsShown source begin fault.span fault.also (fault_texts false source begin fault) shown
@@ -45,8 +45,8 @@ LinesAfter source begin all front [] lines = lines ≡ []
 LinesAfter source begin all front (fault ∷ faults) lines =
     (first rest : List (List Token)) × (lines ≡ first ++ rest) × CountedLines source begin all front fault first × LinesAfter source begin all (front ++ fault ∷ []) faults rest
 
--- The lines for the faults of several parts of a file, one after another. The first list has the
--- faults of all parts, and the second one those of the parts before these.
+-- The lines for the faults of several parts of a file, one after another. `all` are the faults of
+-- all parts, and `front` those of the parts before these.
 abbrev pub PartLines : SourceValue → List Fault → List Fault → List Refused → List (List Token) → Type 0
 PartLines source all front [] lines = lines ≡ []
 PartLines source all front (part ∷ parts) lines =
@@ -60,7 +60,7 @@ AreMessages source begin faults text = (lines : List (List Token)) × LinesAfter
 abbrev pub AreRefusedMessages : SourceValue → List Refused → List ℕ → Type 0
 AreRefusedMessages source parts text = (lines : List (List Token)) × PartLines source (all_faults parts) [] parts lines × AreLines lines text
 
--- These lines were appended.
+-- The lines for a fault of a list were appended.
 abbrev pub PutsCounted : SourceValue → ℕ → List Fault → List Fault → Fault → LinesValue → LinesValue → Type 0
 PutsCounted source begin all front fault old new = (lines : List (List Token)) × CountedLines source begin all front fault lines × Puts lines old new
 
@@ -76,7 +76,7 @@ PutsRest code count old new = (line : List Token) × IsRestLine code count line 
 abbrev pub PutsAfter : SourceValue → ℕ → List Fault → List Fault → List Fault → LinesValue → LinesValue → Type 0
 PutsAfter source begin all front faults old new = (lines : List (List Token)) × LinesAfter source begin all front faults lines × Puts lines old new
 
--- The lines for the parts of a file from the one with this number on were appended.
+-- The lines for the parts of a file, beginning with the part `number`, were appended.
 abbrev pub PutsFrom : SourceValue → List Refused → ℕ → LinesValue → LinesValue → Type 0
 PutsFrom source parts number old new =
     (lines : List (List Token)) × PartLines source (all_faults parts) (all_faults (take number parts)) (drop number parts) lines × Puts lines old new

@@ -35,8 +35,7 @@ first_column first number = if number == first.line then first.column else 1
 abbrev pub last_column : Location → ℕ → List ℕ → ℕ
 last_column last number text = if number == last.line then last.column else min (length (chars text) + 1) (2 ^ 64 - 1)
 
--- A line of a file that a span has, by the first and the last location of the span, and the columns
--- of the span in it.
+-- A line of a span with these first and last locations, and the columns of the span in the line.
 pub record IsMarked (text : List ℕ) (first last : Location) (line : Marked) : Type 0 where
   pub number : ℕ
   pub is_line : IsLineOf text number line.text
@@ -45,12 +44,12 @@ pub record IsMarked (text : List ℕ) (first last : Location) (line : Marked) : 
   pub from : line.from ≡ first_column first number
   pub to : line.to ≡ last_column last number line.text
 
--- These are lines of a span.
+-- Each line is a line of the span with these first and last locations.
 abbrev pub AreLinesOf : List ℕ → Location → Location → List Marked → Type 0
 AreLinesOf text first last [] = Unit {0}
 AreLinesOf text first last (line ∷ lines) = IsMarked text first last line × AreLinesOf text first last lines
 
--- These are lines of a span of the part of a file that begins at an offset.
+-- Lines of a span of the part of a file that begins at an offset.
 abbrev pub AreLinesAt : SourceValue → ℕ → Span → List Marked → Type 0
 AreLinesAt source begin span lines = AreLinesOf source.text (location_at source.text (in_file begin span.from)) (location_at source.text (in_file begin span.to)) lines
 

@@ -25,7 +25,7 @@ abbrev pub bytes_tokens : SourceValue → ℕ → Span → List Token
 bytes_tokens source begin span =
     text_member (codes "file_name") source.path ++ (number_member (codes "byte_start") (in_file begin span.from) ++ number_member (codes "byte_end") (in_file begin span.to))
 
--- The lines and the columns of two positions.
+-- The lines and the columns of two locations.
 abbrev pub locations_tokens : Location → Location → List Token
 locations_tokens first last =
     number_member (codes "line_start") first.line ++ (number_member (codes "line_end") last.line ++ (number_member (codes "column_start") first.column ++ number_member (codes "column_end") last.column))
@@ -94,7 +94,7 @@ diagnostic_tokens source begin head span also shown =
     begin_object ∷ (head ++ (spans_tokens source begin span also shown.lines shown.other_lines ++
     (list_member (codes "children") (flat_map note_tokens shown.notes) ++ (maybe_text (codes "rendered") shown.rendered ++ end_object ∷ []))))
 
--- A fault, and a warning, with its details.
+-- The diagnostic of a fault, and that of a warning, with its details.
 abbrev pub fault_tokens : SourceValue → ℕ → Fault → Shown → List Token
 fault_tokens source begin fault shown = diagnostic_tokens source begin (fault_head fault) fault.span fault.also shown
 

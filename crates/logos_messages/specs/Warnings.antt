@@ -9,13 +9,13 @@ use Rattle.logos_messages.specs.Shown.{IsShown, Shown}
 use Rattle.logos_messages.specs.Tokens.{warning_tokens}
 
 -- These tokens are the line of a warning of the part of a file that begins at an offset: the report
--- has the line of the warning, the one that names its position, and otherwise only asides.
+-- has the line of the warning, the one that names its location, and otherwise only asides.
 pub record IsWarningLine (source : SourceValue) (begin : ℕ) (warning : Warning) (tokens : List Token) : Type 0 where
   pub shown : Shown
   pub may : IsShown source begin warning.span warning.also (warning_texts false source begin warning) shown
   pub is : tokens ≡ warning_tokens source begin warning shown
 
--- These are the lines of warnings, one for each, in order.
+-- The lines of warnings, one for each, in order.
 abbrev pub WarningLines : SourceValue → ℕ → List Warning → List (List Token) → Type 0
 WarningLines source begin [] lines = lines ≡ []
 WarningLines source begin (warning ∷ warnings) lines =

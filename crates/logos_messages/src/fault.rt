@@ -16,9 +16,9 @@ use std::alloc::{AllocError, Global};
 pub(crate) struct FaultMessage<'f, 'c, 'p, 't> {
     pub(crate) part: Part<'p, 't>,
     pub(crate) known: KnownFault<'f>,
-    /// Its position in a set of ambiguous leaves with a clue.
+    /// The fault as a member of its set of ambiguous leaves, if there is a clue about the set.
     pub(crate) member: Option<Member<'c>>,
-    /// The patterns that explain it.
+    /// The patterns that explain the fault.
     pub(crate) starts: &'c [Start],
 }
 
@@ -42,7 +42,7 @@ pub(crate) fn push_fault_line(
     Ok(())
 }
 
-/// Appends a fault, this report of it, and the text about a substituted subpattern.
+/// Appends a fault with its report `rendered` and the text about a substituted subpattern.
 fn push_message(
     lines: &mut JsonLines,
     message: FaultMessage<'_, '_, '_, '_>,
@@ -86,8 +86,8 @@ fn rendered(
     Ok(Some(report.finish()?))
 }
 
-/// Returns the text about the subpattern after whose substitution the byte of a fault is counted,
-/// or `None` if there is none.
+/// Returns the text about the subpattern whose substitution shifts the byte of a fault, or `None`
+/// if there is none.
 fn put_in_text(
     alloc: Global,
     message: FaultMessage<'_, '_, '_, '_>,

@@ -35,7 +35,7 @@ pub(crate) fn push_code(lines: &mut JsonLines, code: FaultCode)
     }
 }
 
-/// Returns the level of a fault.
+/// Returns the level of a fault with this code, in rustc's words.
 fn level_of(code: FaultCode) -> &'static str
     ensures { result.now ≡ level_of code }
 {

@@ -7,7 +7,7 @@ use logos_json::JsonLines;
 use logos_lines::Location;
 use logos_report::Source;
 
-/// The maximum number of lines after its first one for which a span is shown with its lines.
+/// The maximum number of lines after the first one that a span may have for its lines to be shown.
 const LINES: usize = 8;
 
 /// The maximum length of a line that is shown, in bytes.
@@ -30,7 +30,7 @@ pub(crate) fn push_lines(lines: &mut JsonLines, source: &Source<'_>, reach: Reac
     lines.end_list();
 }
 
-/// Appends the lines of a span that are not long, if there are few.
+/// Appends the lines of a span that are not long, unless the span has many lines.
 fn push_each_line(lines: &mut JsonLines, source: &Source<'_>, reach: Reach)
     ensures { YieldsLines source.now.text reach.first reach.last lines.old lines.new }
 {

@@ -143,7 +143,7 @@ fn push_part(
     Ok(())
 }
 
-/// Appends the lines of the faults of a part, beginning with the first one.
+/// Appends the lines of the faults of a part. `first` is the state before the first of them.
 fn push_all(
     lines: &mut JsonLines,
     alloc: Global,

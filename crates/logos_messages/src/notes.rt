@@ -23,8 +23,8 @@ pub(crate) fn push_notes(
     lines.end_list();
 }
 
-/// Appends the text about the subpattern after whose substitution the byte of a fault is counted,
-/// if there is one.
+/// Appends the text about the subpattern whose substitution shifts the byte of a fault, if there is
+/// one.
 fn push_put_in(lines: &mut JsonLines, put_in: &Option<String>)
     ensures { YieldsNotes lines.old lines.new }
 {
@@ -59,7 +59,7 @@ fn push_known(lines: &mut JsonLines, member: Option<Member<'_>>)
     }
 }
 
-/// Returns an optional text as a `&str`.
+/// Returns an optional text by reference.
 pub(crate) fn text_of(text: &Option<String>) -> Option<&str>
     ensures { option_map (λ t. t.now) result ≡ option_map string_bytes text.now }
 {

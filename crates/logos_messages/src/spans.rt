@@ -64,7 +64,7 @@ fn push_locations(lines: &mut JsonLines, reach: Reach)
     lines.push_number("column_end", reach.last.column);
 }
 
-/// Appends whether a span is the primary one of its fault, and its label.
+/// Appends the members that state whether a span is the primary one of its fault, and its label.
 fn push_label(lines: &mut JsonLines, label: Option<&str>)
     ensures { Gains (label_tokens (option_map (λ t. t.now) label.entry)) lines.old lines.new }
 {

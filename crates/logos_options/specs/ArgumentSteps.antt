@@ -27,7 +27,7 @@ pub record StepValue : Type 0 where
 abbrev pub finds : ArgumentProgress → UseValue → Option StepValue
 finds progress one = Some (record { progress = progress; found = Some one })
 
--- Whether an argument begins with `-` and is longer.
+-- Whether an argument begins with `-` and has further bytes.
 abbrev pub begins_option : List ℕ → Bool
 begins_option (byte ∷ next ∷ rest) = byte == 45
 begins_option word = false
@@ -41,7 +41,7 @@ split_at_equals word =
     if position_or_len is_equals word == length word then None
     else Some (before_first is_equals word, after_first is_equals word)
 
--- An option before `=`, which has this value.
+-- The step for an option and the value after its `=`, if the option takes a value.
 abbrev pub with_value : ArgumentProgress → Option OptionName → List ℕ → Option StepValue
 with_value progress None word = None
 with_value progress (Some option) word = if takes_value option then finds progress (given (record { option = option; value = word })) else None
@@ -50,18 +50,20 @@ abbrev pub with_split : ArgumentProgress → Option (List ℕ × List ℕ) → O
 with_split progress None = None
 with_split progress (Some parts) = with_value progress (option_named parts.0) parts.1
 
--- An argument that begins with `-` and is not an option: an option and its value, separated by `=`.
+-- The step for an argument that begins with `-` and is not an option by itself: an option and its
+-- value, separated by `=`.
 abbrev pub with_assigned : ArgumentProgress → List ℕ → Option StepValue
 with_assigned progress word = with_split progress (split_at_equals word)
 
--- An argument that may be an option. If it takes a value, the next argument is the value.
+-- The step for an argument that may be an option. If the option takes a value, the next argument is
+-- the value.
 abbrev pub with_option : ArgumentProgress → Option OptionName → List ℕ → Option StepValue
 with_option progress (Some option) word =
     if takes_value option then Some (record { progress = record { pending = Some option; is_over = false }; found = None })
     else finds progress (given (record { option = option; value = [] }))
 with_option progress None word = if begins_option word then with_assigned progress word else finds progress (path word)
 
--- An argument that is not the value of an option. After `--` all arguments are paths.
+-- The step for an argument that is not the value of an option. After `--` all arguments are paths.
 abbrev pub with_written : ArgumentProgress → List ℕ → Option StepValue
 with_written progress word =
     if bytes_eq word (codes "--") then Some (record { progress = record { pending = None; is_over = true }; found = None })
@@ -71,11 +73,11 @@ abbrev pub with_pending : ArgumentProgress → Option OptionName → List ℕ �
 with_pending progress (Some option) word = finds (record { pending = None; is_over = progress.is_over }) (given (record { option = option; value = word }))
 with_pending progress None word = if progress.is_over then finds progress (path word) else with_written progress word
 
--- The meaning of one more argument, if it is valid.
+-- The step for one more argument, if the argument is valid.
 abbrev pub step : ArgumentProgress → List ℕ → Option StepValue
 step progress word = with_pending progress progress.pending word
 
--- The values of the program's types.
+-- The views of an option with its value, and of the meaning of an argument.
 abbrev pub option_value : GivenOption → OptionValue
 option_value one = record { option = one.option; value = one.value.now }
 

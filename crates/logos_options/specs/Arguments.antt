@@ -23,7 +23,7 @@ pub record ArgumentsValue : Type 0 where
   pub text : Option OptionName
   pub progress : ArgumentProgress
 
--- An empty command line. The table has sixteen options.
+-- An empty command line: none of the seventeen options of the table is given.
 abbrev pub nothing_given : ArgumentsValue
 nothing_given = record { first = None; second = None; settings = replicate 17 None; question = None; text = None; progress = not_begun }
 
@@ -35,7 +35,7 @@ setting option settings = get_or settings (number option) None
 abbrev pub is_set : OptionName → List (Option (List ℕ)) → Bool
 is_set option settings = is_some (setting option settings)
 
--- One more path. `logos_show` takes two.
+-- The arguments after a path that follows two others. `logos_show` takes at most two.
 abbrev pub with_third : Program → ArgumentsValue → Option ArgumentsValue
 with_third Cli arguments = Some arguments
 with_third Show arguments = None
@@ -45,27 +45,27 @@ with_path program arguments word =
     if is_some arguments.first then (if is_some arguments.second then with_third program arguments else Some (record arguments { second = Some word }))
     else Some (record arguments { first = Some word })
 
--- A setting, which may be given once.
+-- The arguments with one more setting, which may be given only once.
 abbrev pub with_setting : ArgumentsValue → OptionValue → Option ArgumentsValue
 with_setting arguments one =
     if is_set one.option arguments.settings then None
     else Some (record arguments { settings = set arguments.settings (number one.option) (Some one.value) })
 
--- A question, of which there may be one.
+-- The arguments with a question, of which there may be only one.
 abbrev pub with_question : ArgumentsValue → OptionValue → Option ArgumentsValue
 with_question arguments one = if is_some arguments.question then None else Some (record arguments { question = Some one })
 
--- An option, depending on its role.
+-- The arguments with one more option, according to its role.
 abbrev pub with_role : ArgumentsValue → OptionValue → OptionRole → Option ArgumentsValue
 with_role arguments one roles.Setting = with_setting arguments one
 with_role arguments one roles.Question = with_question arguments one
 with_role arguments one roles.Text = Some (record arguments { text = Some one.option })
 
--- An option that the program takes.
+-- The arguments with one more option, if the program takes it.
 abbrev pub with_given : Program → ArgumentsValue → OptionValue → Option ArgumentsValue
 with_given program arguments one = if takes program one.option then with_role arguments one (role_of one.option) else None
 
--- A path, or an option.
+-- The arguments with one more path or option.
 abbrev pub with_use : Program → ArgumentsValue → UseValue → Option ArgumentsValue
 with_use program arguments (path word) = with_path program arguments (path_named word)
 with_use program arguments (given one) = with_given program arguments one
@@ -78,17 +78,17 @@ abbrev pub with_step : Program → ArgumentsValue → Option StepValue → Optio
 with_step program arguments None = None
 with_step program arguments (Some next) = with_found program (record arguments { progress = next.progress }) next.found
 
--- One more argument. After an option that requests a text no argument is read.
+-- The arguments after one more word. After an option that requests a text no word is read.
 abbrev pub with_word : Program → ArgumentsValue → List ℕ → Option ArgumentsValue
 with_word program arguments word = if is_some arguments.text then Some arguments else with_step program arguments (step arguments.progress word)
 
--- All these arguments, one after another.
+-- The arguments after all these words, one after another.
 abbrev pub with_arguments : Program → Option ArgumentsValue → List (List ℕ) → Option ArgumentsValue
 with_arguments program arguments [] = arguments
 with_arguments program None (word ∷ rest) = None
 with_arguments program (Some arguments) (word ∷ rest) = with_arguments program (with_word program arguments word) rest
 
--- No option lacks its value, or a text is requested.
+-- The arguments, if no option lacks its value or a text is requested.
 abbrev pub settled_by : ArgumentsValue → Option OptionName → Option OptionName → Option ArgumentsValue
 settled_by arguments (Some text) pending = Some arguments
 settled_by arguments None None = Some arguments
@@ -102,7 +102,7 @@ settled (Some arguments) = settled_by arguments arguments.text arguments.progres
 abbrev pub arguments_of : Program → List (List ℕ) → Option ArgumentsValue
 arguments_of program arguments = settled (with_arguments program (Some nothing_given) arguments)
 
--- The views of the program's types.
+-- The view of the settings.
 abbrev pub settings_value : Settings → List (Option (List ℕ))
 settings_value settings = map (option_map (λ text. text.now)) settings.values
 

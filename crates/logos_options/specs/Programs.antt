@@ -1,4 +1,4 @@
--- Which options the programs take.
+-- The options that each program takes.
 use Rattle.std.specs.Prelude.{Bool}
 use Rattle.logos_options.specs.Options.{row_of}
 use Rattle.logos_options.specs.declared.options.OptionName.{OptionName}

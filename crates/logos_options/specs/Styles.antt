@@ -10,12 +10,12 @@ use Rattle.logos_options.specs.Arguments.{setting}
 use Rattle.logos_options.specs.declared.message_style.MessageStyle.{MessageStyle}
 use Rattle.logos_options.specs.declared.options.OptionName.TheVariants as options
 
--- When messages have colors, by the value of `--color`: without one, on a terminal.
+-- The color setting for the value of `--color`. Without a value there are colors on a terminal.
 abbrev pub color_given : Option (List ℕ) → Option Color
 color_given None = Some Auto
 color_given (Some name) = color_named name
 
--- The format of messages, by the value of `--message-format`: without one, a report.
+-- The format of messages for the value of `--message-format`. Without a value it is a report.
 abbrev pub format_given : Option (List ℕ) → Option MessageFormat
 format_given None = Some Human
 format_given (Some name) = format_named name

@@ -14,7 +14,7 @@ pub struct GivenOption<'w> {
     pub value: &'w str,
 }
 
-/// The meaning of an argument, or of two.
+/// The meaning of an argument, or of an option and the argument with its value.
 #[derive(Clone, Copy)]
 pub enum Use<'w> {
     /// A path.
@@ -26,7 +26,7 @@ pub enum Use<'w> {
 /// The state of reading after some arguments.
 #[derive(Clone, Copy)]
 pub struct ArgumentProgress {
-    /// The option whose value the next argument is.
+    /// The option whose value the next argument is, if there is one.
     pub pending: Option<OptionName>,
     /// Whether `--` was read, after which all arguments are paths.
     pub is_over: bool,
@@ -72,7 +72,7 @@ pub fn next_step<'w>(
     step_written(progress, word)
 }
 
-/// Returns a step with a path or an option.
+/// Returns a step that found a path or an option.
 fn found<'w>(progress: ArgumentProgress, one: Use<'w>) -> ArgumentStep<'w>
     ensures { result ≡ record { progress = progress; found = Some one.entry } }
 {
@@ -165,14 +165,14 @@ fn split_at_equals(word: &str) -> Option<(&str, &str)>
     }
 }
 
-/// Returns the error of an argument that is not an option.
+/// Returns the failure for an argument that is not an option.
 fn unknown<'w>(word: &'w str) -> Failure<'w>
     ensures { status_of result ≡ 2 }
 {
     Failure::UnknownOption { word, nearest: "" }
 }
 
-/// Returns whether an argument begins with `-` and is longer.
+/// Returns whether an argument begins with `-` and has further bytes.
 fn is_option(word: &str) -> bool
     ensures { result ≡ begins_option word.now }
 {

@@ -19,7 +19,7 @@ pub struct Arguments<'w> {
     pub second: Option<&'w str>,
     /// The settings that are given.
     pub settings: Settings<'w>,
-    /// The question, such as `--explain`, if there is one.
+    /// The question, such as `--examples`, if there is one.
     pub question: Option<GivenOption<'w>>,
     /// The option whose text is requested.
     pub text: Option<OptionName>,
@@ -30,7 +30,7 @@ pub struct Arguments<'w> {
 /// The settings that are given, with their values.
 #[derive(Clone, Copy)]
 pub struct Settings<'w> {
-    /// The value of each option by its number, if it is given.
+    /// For each option, by its number, its value if the option is given.
     values: [Option<&'w str>; OPTIONS],
 }
 
@@ -38,8 +38,8 @@ impl<'w> Settings<'w> {
     ghost use Rattle.std.specs.Prelude.{◌≡◌, option_map};
     ghost use Rattle.logos_options.specs.Arguments.{is_set, setting, settings_value};
 
-    /// Returns the value of an option, if the option is given. It is empty for an option that takes
-    /// none.
+    /// Returns the value of an option, if the option is given. The value is empty for an option
+    /// that takes none.
     pub fn value(&self, option: OptionName) -> Option<&'w str>
         ensures { option_map (λ text. text.now) result ≡ setting option (settings_value self.now) }
     {
@@ -57,7 +57,7 @@ impl<'w> Settings<'w> {
     }
 }
 
-/// Reads the arguments of a command line. After `--help` and `--version` no argument is read.
+/// Reads the arguments of a command line. Arguments after `--help` or `--version` are not read.
 ///
 /// # Errors
 ///
@@ -81,7 +81,7 @@ pub fn misuse<'w>(what: &'static str, word: &'w str) -> Failure<'w>
     Failure::Misuse { what, word }
 }
 
-/// Reads all arguments.
+/// Reads all arguments, up to an option that requests a text.
 fn read_arguments(program: Program, arguments: &[String]) -> Result<Arguments<'_>, Failure<'_>>
     ensures read { IfOk result (λ parsed. with_arguments program (Some nothing_given)
         (map string_bytes arguments.now) ≡ Some (arguments_value parsed)) }
@@ -110,7 +110,7 @@ fn read_arguments(program: Program, arguments: &[String]) -> Result<Arguments<'_
     Ok(parsed)
 }
 
-/// Returns all arguments, unless an option lacks its value.
+/// Returns the arguments, or fails if the last option lacks its value and no text is requested.
 fn settled(arguments: Arguments<'_>) -> Result<Arguments<'_>, Failure<'_>>
     ensures read { IfOk result (λ all.
         settled (Some (arguments_value arguments.entry)) ≡ Some (arguments_value all)) }
@@ -123,7 +123,7 @@ fn settled(arguments: Arguments<'_>) -> Result<Arguments<'_>, Failure<'_>>
     }
 }
 
-/// Reads one more argument.
+/// Reads one more argument, unless a text is requested.
 fn read_word<'w>(
     program: Program,
     arguments: Arguments<'w>,
@@ -190,7 +190,7 @@ fn unknown<'w>(option: OptionName) -> Failure<'w>
     }
 }
 
-/// Reads a path.
+/// Reads an argument that is a path. `logos_show` takes at most two.
 fn read_path<'w>(
     program: Program,
     arguments: Arguments<'w>,
@@ -236,7 +236,7 @@ fn read_option<'w>(
     }
 }
 
-/// Reads a setting, which may be given once.
+/// Reads a setting, which may be given only once.
 fn read_setting<'w>(
     arguments: Arguments<'w>,
     one: GivenOption<'w>,
@@ -265,7 +265,7 @@ fn settings_with<'w>(settings: Settings<'w>, one: GivenOption<'w>) -> Settings<'
     Settings { values }
 }
 
-/// Reads a question, of which there may be one.
+/// Reads a question, of which only one may be given.
 fn read_question<'w>(
     arguments: Arguments<'w>,
     one: GivenOption<'w>,

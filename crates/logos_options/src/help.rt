@@ -45,7 +45,7 @@ fn write_help<O: Write>(program: Program, help: HelpText, out: &mut O) -> io::Re
     out.flush()
 }
 
-/// Writes the lines of `rows`.
+/// Writes the lines of these options for the help of a program.
 fn write_rows<O: Write>(program: Program, rows: &[OptionRow], out: &mut O) -> io::Result<()> {
     for row in rows {
         out.write_all(program.help_of(row).as_bytes())?;

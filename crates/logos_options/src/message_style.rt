@@ -12,7 +12,7 @@ use logos_host::{Color, Failure, MessageFormat, color_by_name, format_by_name};
 #[derive(Clone, Copy, Debug, PartialEq, Eq)]
 pub struct MessageStyle {
     pub format: MessageFormat,
-    /// When messages have colors.
+    /// The condition under which messages have colors.
     pub color: Color,
 }
 

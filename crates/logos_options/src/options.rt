@@ -1,5 +1,5 @@
-//! The table of options: the name of each, whether it has a value, its effect, and the programs
-//! that take it with its lines in their help. Every reader of arguments looks options up here.
+//! The table of options: the name of each, whether it has a value, its effect, and its lines in the
+//! help of each program that takes it. Every reader of arguments looks options up here.
 
 ghost use Rattle.std.specs.Prelude.{◌≡◌, ◌<◌, Some, is_some, map};
 ghost use Rattle.logos_options.specs.Imports.{is_named, named_in, number, option_named, role_of, row_value, takes_value, word_of};
@@ -32,9 +32,9 @@ pub(crate) const OPTIONS: usize = 17;
 /// The effect of an option.
 #[derive(Clone, Copy, Debug, PartialEq, Eq)]
 pub enum OptionRole {
-    /// Sets something. It is given at most once.
+    /// Changes a setting. Each setting is given at most once.
     Setting,
-    /// Requests an answer about the input, such as `--explain`. At most one is given.
+    /// Requests an answer about the lexers, such as `--examples`. At most one is given.
     Question,
     /// Requests a text. No argument after it is read.
     Text,
@@ -298,7 +298,7 @@ pub(crate) const ROWS: [OptionRow; OPTIONS] = [
 ];
 
 impl OptionName {
-    /// Returns the option with this name, such as `--output` or `-o`.
+    /// Returns the option with this name, such as `--output` or `-o`, if there is one.
     pub fn by_word(word: &str) -> Option<OptionName>
         ensures { result ≡ option_named word.now }
     {
@@ -336,7 +336,7 @@ impl OptionName {
     }
 }
 
-/// Returns the option of the first of these rows that has the name `word`.
+/// Returns the option of the first of these rows that has the name `word`, if there is one.
 fn named_in(rows: &[OptionRow], word: &str) -> Option<OptionName>
     ensures { result ≡ named_in (map row_value rows.now) word.now }
 {

@@ -61,7 +61,8 @@ fn push_found<'w>(paths: &mut Vec<&'w str>, found: Option<Use<'w>>) -> Result<()
     Ok(())
 }
 
-/// Returns the path that an argument names: `-` is standard input.
+/// Returns the path that an argument names: that of standard input for `-`, and otherwise the
+/// argument itself.
 pub fn path_by_word(word: &str) -> &str
     ensures { result.now ≡ path_named word.now }
 {

@@ -40,7 +40,7 @@ shown {bytes} {old} {new} g = record {
   whole = λ w. let m = g.whole w in (m.0, record { added = bytes; is = m.1; occur = ([], [], sym (append-nil bytes), tt) });
 }
 
--- or it is of no account
+-- text that is pushed, without a claim about it
 pub grown : {bytes : List ℕ} {old new : PageValue} → Gains bytes old new → Shows [] old new
 grown {bytes} {old} {new} g = record {
   colored = g.colored;

@@ -1,4 +1,4 @@
--- A text that is appended to, and the texts that occur in it.
+-- Texts to which parts are appended, and the texts that occur in them.
 use Rattle.std.specs.Prelude.{◌≡◌, ℕ, zero, suc, List, [], ◌∷◌, ◌++◌, Bool, true, false, IsTrue, codes}
 use Rattle.logos_page.specs.declared.page.Style.{Style}
 use Rattle.logos_page.specs.declared.page.Style.TheVariants.{Error, Warning, Frame, Strong}

@@ -11,8 +11,8 @@ is_unsafe c =
     ((((((((is_in_range 0x80 0x9F c || (c == 0xAD)) || (c == 0x61C)) || (c == 0x180E)) || is_in_range 0x200B 0x200F c) || is_in_range 0x2028 0x202E c)
     || is_in_range 0x2060 0x206F c) || (c == 0xFEFF)) || is_in_range 0xFFF9 0xFFFB c) || is_in_range 0xE0000 0xE007F c
 
--- The character that is shown for one other than a tab: the picture of an ASCII control character,
--- U+FFFD, or itself.
+-- The character that represents a character other than a tab on a terminal: the picture of an ASCII
+-- control character, U+FFFD for any other unsafe one, or otherwise the character itself.
 abbrev pub occur_in : ℕ → ℕ
 occur_in c = if nat_lt c 32 then 0x2400 + c else if c == 127 then 0x2421 else if is_unsafe c then 0xFFFD else c
 

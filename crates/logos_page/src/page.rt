@@ -1,4 +1,4 @@
-//! A text that is appended to, with optional colors.
+//! A text to which parts are appended, with optional colors.
 
 ghost use Rattle.std.specs.Prelude.{◌≡◌, ◌↔◌, [], true, IfOk, IsOk, IsTrue, decimal, encode_utf8, length, string_bytes};
 ghost use Rattle.logos_page.specs.Views.{shown_char, shown_text, Gains, begun, ended, painted, style_text, times};
@@ -20,7 +20,8 @@ pub enum Style {
     Strong,
 }
 
-/// A text that is appended to. It records whether memory ran out, so only `finish` can fail.
+/// A text to which parts are appended. It records whether memory ran out, so only `finish` can
+/// fail.
 #[derive(Drop)]
 pub struct Page {
     text: String,
@@ -113,7 +114,7 @@ impl Page {
         }
     }
 
-    /// Begins a part of this style.
+    /// Begins a part in a style, if there are colors.
     pub fn begin(&mut self, style: Style)
         ensures { Gains (begun self.old.is_colored style) self.old self.new }
     {
@@ -122,7 +123,7 @@ impl Page {
         }
     }
 
-    /// Ends a part that has a style.
+    /// Ends a part that has a style, if there are colors.
     pub fn end(&mut self)
         ensures { Gains (ended self.old.is_colored) self.old self.new }
     {
@@ -131,7 +132,7 @@ impl Page {
         }
     }
 
-    /// Appends a text of this style.
+    /// Appends a text in a style.
     pub fn paint(&mut self, style: Style, text: &str)
         ensures { Gains (painted self.old.is_colored style text.now) self.old self.new }
     {

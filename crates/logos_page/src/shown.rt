@@ -10,8 +10,8 @@ use unicode_width::UnicodeWidthChar;
 /// The width of a tab, in columns.
 const TAB: usize = 4;
 
-/// Returns the character that is shown for one other than a tab: itself, the picture of an ASCII
-/// control character, or U+FFFD for any other unsafe one.
+/// Returns the character that represents a character other than a tab on a terminal: the picture of
+/// an ASCII control character, U+FFFD for any other unsafe one, or otherwise the character itself.
 pub fn occur_in(character: char) -> char
     ensures { result ≡ occur_in character }
 {

@@ -4,8 +4,7 @@ use Rattle.std.specs.List.{starts_with}
 use Rattle.logos_program.specs.declared.called.Called.{Called}
 use Rattle.logos_program.specs.declared.called.Called.TheVariants.{Logos, LogosCli, LogosShow}
 
--- This is the name at the end of a path: the part after its last slash, or all of it if it has
--- none.
+-- The name at the end of a path: the part after its last slash, or the whole path if it has none.
 pub record IsLastName (path name : List ℕ) : Type 0 where
   pub front : List ℕ
   pub is : path ≡ front ++ name

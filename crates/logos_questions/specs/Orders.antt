@@ -43,29 +43,29 @@ pub data Requested : Type 0 where
   requests_version : Requested
   requests_showing : (order : OrderValue) → Requested
 
--- At most this many inputs. There is no second path.
+-- The question for at most this many inputs. It takes no second path.
 abbrev pub inputs_given : Option ℕ → Option (List ℕ) → Option QuestionValue
 inputs_given None input = None
 inputs_given (Some most) None = Some (inputs most)
 inputs_given (Some most) (Some input) = None
 
--- The matches from a location of an input.
+-- The question for the matches from a location of an input.
 abbrev pub matches_given : Option Location → Option (List ℕ) → Option QuestionValue
 matches_given None input = None
 matches_given (Some location) None = None
 matches_given (Some location) (Some input) = Some (matches input location)
 
--- Examples. There is no second path.
+-- The question for examples. It takes no second path.
 abbrev pub examples_given : Option (List ℕ) → Option QuestionValue
 examples_given None = Some examples
 examples_given (Some input) = None
 
--- A state diagram. There is no second path.
+-- The question for a state diagram. It takes no second path.
 abbrev pub diagram_given : Option (List ℕ) → Option QuestionValue
 diagram_given None = Some diagram
 diagram_given (Some input) = None
 
--- A comparison with another file.
+-- The question for a comparison with another file.
 abbrev pub comparison_given : Option (List ℕ) → Option QuestionValue
 comparison_given None = None
 comparison_given (Some other) = Some (comparison other)
@@ -93,12 +93,12 @@ abbrev pub style_requested : ArgumentsValue → List ℕ → Option MessageStyle
 style_requested arguments file None = None
 style_requested arguments file (Some style) = order_requested arguments file style (question_given arguments.question arguments.second)
 
--- A file to show, if there is one.
+-- The request for a question about a file, if there is one.
 abbrev pub order_given : ArgumentsValue → Option (List ℕ) → Option Requested
 order_given arguments None = None
 order_given arguments (Some file) = style_requested arguments file (style_given arguments.settings)
 
--- A text, or a file to show.
+-- The request for a text, or for a question about a file.
 abbrev pub request_given : ArgumentsValue → Option OptionName → Option Requested
 request_given arguments (Some options.Version) = Some requests_version
 request_given arguments (Some option) = Some requests_help
@@ -113,7 +113,7 @@ requested_given (Some arguments) = request_given arguments arguments.text
 abbrev pub requested : List (List ℕ) → Option Requested
 requested arguments = requested_given (arguments_of programs.Show arguments)
 
--- The views of the program's types.
+-- The view of a question.
 abbrev pub question_value : Question → QuestionValue
 question_value questions.Leaves = leaves
 question_value (questions.Items input) = items input.now

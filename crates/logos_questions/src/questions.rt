@@ -11,7 +11,7 @@ use logos_options::{
     style_given,
 };
 
-/// A request, with the given settings.
+/// A request of `logos_show`, with the given settings.
 #[derive(Clone, Copy)]
 pub struct ShowRequest<'w> {
     pub kind: RequestKind<'w>,
@@ -54,7 +54,7 @@ pub struct ShowOrder<'w> {
 /// A question about the lexers of a file.
 #[derive(Clone, Copy)]
 pub enum Question<'w> {
-    /// Their leaves.
+    /// The leaves of the lexers.
     Leaves,
     /// The items of the file at this path.
     Items(&'w str),
@@ -64,10 +64,10 @@ pub enum Question<'w> {
     Examples,
     /// At most this many inputs that together take all edges of a lexer's graph.
     Inputs(usize),
-    /// Whether the lexer of the file at this path is equivalent.
+    /// Whether the lexer is equivalent to that of the file at this path.
     Comparison(&'w str),
-    /// A page, written to this argument, about a lexer and about the input at a path, if one is
-    /// given.
+    /// A page about a lexer, written to the file at the first path. It is also about the input at
+    /// the second path, if there is one.
     Page(&'w str, Option<&'w str>),
     /// The state diagram of a lexer.
     Diagram,
@@ -90,7 +90,7 @@ pub fn request_of(arguments: &[String]) -> Result<ShowRequest<'_>, Failure<'_>>
     }
 }
 
-/// Returns the request of arguments.
+/// Returns the request of arguments that were read.
 fn request_given(arguments: Arguments<'_>) -> Result<ShowRequest<'_>, Failure<'_>>
     ensures requested { IfOk result (λ request. request_given (arguments_value arguments.entry)
         (arguments_value arguments.entry).text ≡ Some (request_value request)) }
@@ -104,7 +104,7 @@ fn request_given(arguments: Arguments<'_>) -> Result<ShowRequest<'_>, Failure<'_
     }
 }
 
-/// Returns the kind of the request of arguments.
+/// Returns the kind of the request of arguments that were read.
 fn kind_given(arguments: Arguments<'_>) -> Result<RequestKind<'_>, Failure<'_>>
     ensures requested { IfOk result (λ kind. request_given (arguments_value arguments.entry)
         (arguments_value arguments.entry).text
@@ -119,7 +119,7 @@ fn kind_given(arguments: Arguments<'_>) -> Result<RequestKind<'_>, Failure<'_>>
     }
 }
 
-/// Returns the file to show, with a question.
+/// Returns the request for a question about a file.
 fn order_given(arguments: Arguments<'_>) -> Result<RequestKind<'_>, Failure<'_>>
     ensures requested { IfOk result (λ kind. order_given (arguments_value arguments.entry)
         (arguments_value arguments.entry).first

@@ -14,6 +14,6 @@ finding_members finding =
 abbrev pub finding_member : List ℕ → Finding → List Token
 finding_member name finding = key name ∷ object (finding_members finding)
 
--- Whether a lexer reads UTF-8, as a member.
+-- A member that states whether a lexer reads UTF-8.
 abbrev pub mode_member : List ℕ → Bool → List Token
 mode_member name is_utf8 = key name ∷ object (bool_member (codes "utf8") is_utf8)

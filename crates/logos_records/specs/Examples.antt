@@ -28,7 +28,7 @@ pub record IsExampleObject (name : List ℕ) (leaves : List Leaf) (utf8 : Bool) 
   pub is : shown ≡ example_object name leaves leaf found loss
 
 module _ (name : List ℕ) (leaves : List Leaf) (utf8 : Bool) where
-  -- The objects of some leaves, from a number on.
+  -- The objects of consecutive leaves, from the first one's number and their count.
   abbrev pub AreExampleObjects : ℕ → ℕ → List (List Token) → Type 0
   AreExampleObjects leaf zero shown = shown ≡ []
   AreExampleObjects leaf (suc count) shown = (first : List Token) × (rest : List (List Token)) × IsExampleObject name leaves utf8 leaf first × AreExampleObjects (suc leaf) count rest × (shown ≡ first ∷ rest)
@@ -37,6 +37,6 @@ module _ (name : List ℕ) (leaves : List Leaf) (utf8 : Bool) where
   abbrev pub PutsExample : ℕ → LinesValue → LinesValue → Type 0
   PutsExample leaf old new = (shown : List Token) × IsExampleObject name leaves utf8 leaf shown × Puts (shown ∷ []) old new
 
-  -- The objects of some leaves, from a number on, were appended.
+  -- The objects of `count` consecutive leaves were appended.
   abbrev pub PutsExamples : ℕ → ℕ → LinesValue → LinesValue → Type 0
   PutsExamples leaf count old new = (shown : List (List Token)) × AreExampleObjects leaf count shown × Puts shown old new

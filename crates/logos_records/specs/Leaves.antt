@@ -20,12 +20,12 @@ shape_members row =
 abbrev pub leaf_members : List ℕ → ℕ → LeafRow → List Token
 leaf_members name number row = name_members name number row ++ shape_members row
 
--- The objects of leaves, numbered from a number on.
+-- The objects of leaves, which are numbered from `number`.
 abbrev pub leaf_objects : List ℕ → ℕ → List LeafRow → List (List Token)
 leaf_objects name number [] = []
 leaf_objects name number (row ∷ rows) = object (leaf_members name number row) ∷ leaf_objects name (suc number) rows
 
--- The cost of a lexer.
+-- The members for the cost of a lexer.
 abbrev pub cost_members : List ℕ → Costs → List Token
 cost_members name costs =
     text_member (codes "enum") name ++ (number_member (codes "states") costs.states ++ (number_member (codes "bit_tables") costs.bit_tables

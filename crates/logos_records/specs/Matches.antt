@@ -15,7 +15,7 @@ use Rattle.logos_pattern.specs.declared.leaf.Leaf.{Leaf}
 abbrev pub named_leaf : List Leaf → ℕ → List Token
 named_leaf leaves leaf = number_member (codes "leaf") leaf ++ maybe_text (codes "variant") (variant_text leaves leaf)
 
--- The length of a match from an offset, its text, and whether its leaf is the winner.
+-- The span of a match from an offset, its text, and whether its leaf is the winner.
 abbrev pub end_members : List ℕ → ℕ → ℕ → Match → List Token
 end_members input from winner m =
     number_member (codes "from") from ++ (number_member (codes "to") m.end ++ (bytes_member (codes "text") (bytes_between input from m.end)

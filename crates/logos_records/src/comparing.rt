@@ -16,7 +16,7 @@ pub fn push_same_record(lines: &mut JsonLines)
     lines.end_line();
 }
 
-/// Appends an input on which two lexers differ, and the finding of each of them.
+/// Appends the object with an input on which two lexers differ, and with the finding of each lexer.
 pub fn push_difference_record(
     lines: &mut JsonLines,
     input: &[u8],
@@ -61,7 +61,7 @@ pub fn push_modes_record(lines: &mut JsonLines, one: bool, other: bool)
     lines.end_line();
 }
 
-/// Appends whether a lexer reads UTF-8, as a member.
+/// Appends a member that states whether a lexer reads UTF-8.
 fn push_mode(lines: &mut JsonLines, name: &str, is_utf8: bool)
     ensures { Gains (mode_member name.now is_utf8) lines.old lines.new }
 {

@@ -69,7 +69,7 @@ fn push_evidence(lines: &mut JsonLines, evidence: &Evidence)
     push_loss(lines, &evidence.loss);
 }
 
-/// Appends the input that a leaf finds.
+/// Appends the input that a leaf finds, or null if it finds none.
 fn push_found(lines: &mut JsonLines, found: &Option<Vec<u8>>)
     ensures { Gains (maybe_bytes (codes "finds") (option_map (λ input. input.items) found.now))
         lines.old lines.new }
@@ -80,7 +80,7 @@ fn push_found(lines: &mut JsonLines, found: &Option<Vec<u8>>)
     }
 }
 
-/// Appends the input that a leaf loses, and the leaf that wins it.
+/// Appends the input that a leaf loses, and the leaf that wins it, or null if it never loses.
 fn push_loss(lines: &mut JsonLines, loss: &Option<Loss>)
     ensures { Gains (loss_members (option_map loss_value loss.now)) lines.old lines.new }
 {
@@ -99,7 +99,7 @@ fn push_lost(lines: &mut JsonLines, input: &[u8], winner: usize)
     lines.push_number("taker", winner);
 }
 
-/// Appends that a leaf never loses an input.
+/// Appends the members of a leaf that never loses an input.
 fn push_no_loss(lines: &mut JsonLines)
     ensures { Gains (null_member (codes "loses") ++ null_member (codes "taker")) lines.old lines.new }
 {

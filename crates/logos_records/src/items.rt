@@ -9,9 +9,9 @@ use logos_lines::Location;
 /// An item of an input, with the values of its object.
 #[derive(Clone, Copy)]
 pub struct ItemRecord<'i> {
-    /// The line and the column at which it begins.
+    /// The line and the column at which the item begins.
     pub location: Location,
-    /// The offset at which it begins, in bytes.
+    /// The offset at which the item begins, in bytes.
     pub from: usize,
     /// The leaf of a match, or `None` for an error.
     pub leaf: Option<usize>,

@@ -21,7 +21,7 @@ struct StartRecord<'a, 's> {
     winner: usize,
 }
 
-/// Returns the lines about the matches from an offset of an input: an object for each leaf that
+/// Returns the lines about the matches from a byte offset of an input: an object for each leaf that
 /// matches from there, with its longest match, and whether a lexer takes that match.
 ///
 /// # Errors
@@ -115,7 +115,7 @@ pub(crate) fn push_leaf_members(lines: &mut JsonLines, leaves: &[Leaf<'_>], leaf
     lines.push_maybe_text("variant", variant_at(leaves, leaf));
 }
 
-/// Appends the length of a match, its text, and whether a lexer takes it.
+/// Appends the span of a match, its text, and whether a lexer takes it.
 fn push_end(lines: &mut JsonLines, start: StartRecord<'_, '_>, found: Match)
     ensures { Gains (end_members start.entry.input.now start.entry.from start.entry.winner found)
         lines.old lines.new }

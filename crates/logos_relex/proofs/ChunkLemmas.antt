@@ -61,7 +61,7 @@ module _ (code : CodeValue) (callback : Callback) where
       let e : drop n (drop x.length bytes) ≡ drop (x.length + n) bytes = drop-drop n x.length bytes in
       ((c.0, subst (λ (l : List ℕ). AreChunks code callback (drop x.length bytes) (take k xs) l) e more.0), subst (λ (l : List ℕ). AreChunks code callback l (drop k xs) rest) e more.1)
 
-  -- chunks that look at none but the first bytes are the same in each input with these bytes
+  -- chunks that examine only the first bytes are the same in each input with these bytes
   pub chunks_front : (front one other rest : List ℕ) (chunks : List Chunk) → LookBelow (length front) chunks → AreChunks code callback (front ++ one) chunks rest →
       AreChunks code callback (front ++ other) chunks (drop (bytes_of chunks) (front ++ other))
   chunks_front front one other rest [] b c = refl
@@ -79,7 +79,7 @@ module _ (code : CodeValue) (callback : Callback) where
             (subst (λ (l : List ℕ). AreChunks code callback (drop x.length front ++ other) xs l) e more),
       )
 
-  -- how many bytes they have
+  -- the number of bytes of chunks
   pub chunks_length : (bytes rest : List ℕ) (chunks : List Chunk) → AreChunks code callback bytes chunks rest → bytes_of chunks + length rest ≡ length bytes
   chunks_length bytes rest [] e = let same = ap length e in omega (arith, same)
   chunks_length bytes rest (x ∷ xs) c =

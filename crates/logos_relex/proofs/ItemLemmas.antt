@@ -71,7 +71,7 @@ module _ (uses : List Use) (callback : Callback) (bytes : List ℕ) where
   next_slice (yields from to leaf answer item s m e) = match_slice answer leaf from to item e
   next_slice (fails from to s) = refl
 
-  -- and so have all items of a run
+  -- all items of a run have the bytes of their spans
   abbrev pub HaveSlices : List Item → Type 0
   HaveSlices [] = Unit {0}
   HaveSlices (item ∷ items) = HasSlice bytes item × HaveSlices items
@@ -141,7 +141,7 @@ module _ {C : Type 0} (code : CodeValue) (callback : Callback) (input : List ℕ
             (ap (λ x. map (item_at input) items ++ x ∷ []) (sym is) ∙ sym (map-append (item_at input) items (offset_of item ∷ []))) more;
       }
 
-  -- at the end of a loop over `next_within` it waits
+  -- the loop over `next_within` ends at a result that waits
   pub settling_over : (items : List ItemAt) (result : Within) → Settling code callback input items old.to → DoesWithin false callback old new result → ((item : TheItem) → result ≡ Given item → ⊥) →
       Settling code callback input items new.to
   settling_over items (Given item) s d other = absurd (other item refl)

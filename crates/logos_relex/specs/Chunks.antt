@@ -24,7 +24,7 @@ abbrev pub moved : ℕ → ItemAt → ItemAt
 moved far (Token leaf span) = Token leaf (record { from = far + span.from; to = far + span.to })
 moved far (Error leaf span) = Error leaf (record { from = far + span.from; to = far + span.to })
 
--- The start and the end of its span.
+-- The start and the end of an item's span.
 abbrev pub from_of : ItemAt → ℕ
 from_of (Token leaf span) = span.from
 from_of (Error leaf span) = span.from
@@ -38,7 +38,7 @@ abbrev pub EndBy : ℕ → List ItemAt → Type 0
 EndBy end [] = Unit {0}
 EndBy end (item ∷ items) = (from_of item < to_of item) × (to_of item ≤ end) × EndBy end items
 
--- How many bytes the chunks have.
+-- The number of bytes of the chunks.
 abbrev pub bytes_of : List Chunk → ℕ
 bytes_of [] = 0
 bytes_of (chunk ∷ chunks) = chunk.length + bytes_of chunks
@@ -71,7 +71,7 @@ module _ (code : CodeValue) (callback : Callback) where
     pub spans : EndBy to items
     pub begun : AreBegun code callback part (map (item_at part) items) to
 
--- The chunks look only at the first `limit` bytes.
+-- The chunks examine only the first `limit` bytes.
 abbrev pub LookBelow : ℕ → List Chunk → Type 0
 LookBelow limit [] = Unit {0}
 LookBelow limit (chunk ∷ chunks) = (chunk.window ≤ limit) × (chunk.length ≤ limit) × LookBelow (limit - chunk.length) chunks

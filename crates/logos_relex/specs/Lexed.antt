@@ -42,14 +42,15 @@ pub record Stays (old new : Lexed) : Type 0 where
   pub last : new.last.items ≡ old.last.items
   pub length_is : new.length ≡ old.length
 
--- In the input, other bytes replace a span of the former one.
+-- `input` is `former` with other bytes in place of the span `replaced`.
 pub record IsEdited (former : List ℕ) (replaced : Span) (input : List ℕ) : Type 0 where
   pub order : replaced.from ≤ replaced.to
   pub within : replaced.to ≤ length former
   pub inserted : List ℕ
   pub is : input ≡ take replaced.from former ++ inserted ++ drop replaced.to former
 
--- The items are those of a former input, and the edit made this one from it.
+-- The items are those of a former input, and an edit of the span `replaced` has changed it to
+-- `input`.
 pub record WasLexed (code : CodeValue) (callback : Callback) (replaced : Span) (input : List ℕ) (lexed : Lexed) : Type 0 where
   pub former : List ℕ
   pub lexed_of : IsLexed code callback former lexed

@@ -1,4 +1,4 @@
-//! Lexes from a border on until a former border is met, or the input ends. Called by `Lexed`.
+//! Lexes from a border until a former border is met, or the input ends. Called by `Lexed`.
 
 ghost use Rattle.std.specs.Prelude.{◌≤◌, ◌<◌, ◌^◌, IfOk, drop, length};
 ghost use Rattle.logos_relex.specs.Views.{answers_of, bytes_of, IsAnew, IsBorder, IsMade, TakesMatches};
@@ -11,13 +11,13 @@ use logos_hir::leaf::LeafId;
 use logos_machine::machine::Action;
 use std::alloc::Global;
 
-/// The length of the window of a chunk, unless a former chunk determines it.
+/// The length in bytes of the window of a chunk, unless a former chunk determines it.
 const WINDOW: usize = 4096;
 
 /// The chunks or the items after the new chunks.
 #[derive(Drop)]
 pub(crate) enum After {
-    /// The former chunks from this one on, with the items after them.
+    /// The former chunks from this index, and the items after them.
     Former(usize),
     /// The last items of the input.
     Last(Vec<ItemAt>),
@@ -56,8 +56,9 @@ pub(crate) fn make<C: Fn(LeafId, &[u8]) -> Action>(
     Ok((chunks, last))
 }
 
-/// Returns how many of the `left` remaining bytes to examine: up to where the former chunk that
-/// ends at the border looked, so that its border is met if the items stay unchanged.
+/// Returns the number of the `left` remaining bytes to examine. They reach as far as the former
+/// chunk that ends at the border examined bytes, so that the border is met if the items stay
+/// unchanged. If the number would be 0 or more than twice `WINDOW`, it is `WINDOW`.
 fn window(former: &Lexed, border: Border, left: usize) -> usize
     ensures { 0 < result }
 {
@@ -74,8 +75,8 @@ fn window(former: &Lexed, border: Border, left: usize) -> usize
     }
 }
 
-/// Lexes an input from a former border on, until another one after the edit is met, or the input
-/// ends.
+/// Lexes an edited input from the border `start` until a former border after the edit is met, or
+/// the input ends.
 ///
 /// # Errors
 ///
@@ -101,8 +102,8 @@ pub(crate) fn make_anew<C: Fn(LeafId, &[u8]) -> Action>(
     let mut rest = &edit.input[start.at..];
     let mut border = start;
     loop {
-        // The same point in the former input, or the end of the replaced span if the point is
-        // before it.
+        // The point of the former input that has as many bytes after it as `rest`, or the end of
+        // the replaced span if that is later.
         let left = rest.len();
         let target = former.length().saturating_sub(left).max(edit.replaced.to);
         border = border_from(former.chunks(), border, target);

@@ -65,8 +65,8 @@ fn offset_of(item: Item<'_>) -> ItemAt
     }
 }
 
-/// Returns the first items of a lexer's part that are found whatever follows it, and the offset at
-/// which they end.
+/// Returns the first items of a lexer's input that do not depend on the bytes after it, and the
+/// offset at which they end.
 ///
 /// # Errors
 ///
@@ -88,8 +88,8 @@ fn settled<C: Fn(LeafId, &[u8]) -> Action + Drop>(
     Ok((items, lexer.span().to))
 }
 
-/// Returns the longest prefix of a part that a lexer of the code takes: in UTF-8 mode, without an
-/// incomplete character at the end.
+/// Returns the longest prefix of `part` that a lexer of the code accepts: in UTF-8 mode, its
+/// longest prefix that is UTF-8.
 fn characters<'p>(code: &Code, part: &'p [u8]) -> &'p [u8]
     ensures front { result.now ≡ take (length result.now) part.now }
     ensures within { length result.now ≤ length part.now }
@@ -103,7 +103,7 @@ fn characters<'p>(code: &Code, part: &'p [u8]) -> &'p [u8]
     }
 }
 
-/// Returns a chunk that is determined by a part alone, if there is one.
+/// Returns the first chunk of the input, if `part`, a prefix of the input, determines it.
 ///
 /// # Errors
 ///
@@ -133,8 +133,8 @@ fn chunk_of<C: Fn(LeafId, &[u8]) -> Action + Drop>(
     }))
 }
 
-/// Returns the first chunk of `bytes`, found in a window of at least this size. Returns `None` if
-/// the first item depends on the end of the bytes.
+/// Returns the first chunk of `bytes`, found in a window of at least `size` bytes. Returns `None`
+/// if the first item depends on the end of the bytes.
 ///
 /// # Errors
 ///
@@ -164,7 +164,7 @@ pub(crate) fn next_chunk<C: Fn(LeafId, &[u8]) -> Action>(
     Ok(None)
 }
 
-/// Returns the items of some bytes up to their end.
+/// Returns all items of `bytes`, the last bytes of an input.
 ///
 /// # Errors
 ///

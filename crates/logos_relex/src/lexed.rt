@@ -12,11 +12,11 @@ use logos_machine::machine::{Action, NotUtf8};
 use logos_token::token::Span;
 use std::alloc::{AllocError, AllocFailed, Global};
 
-/// The reasons why an input cannot be lexed.
+/// The reason that an input cannot be lexed.
 #[derive(Clone, Copy, Debug, PartialEq, Eq)]
 pub enum RelexError {
     /// The input is not UTF-8, and the code is in UTF-8 mode. `valid_up_to` is the length in bytes
-    /// of its longest prefix that is.
+    /// of the longest prefix of the input that is UTF-8.
     NotUtf8 { valid_up_to: usize },
     /// Memory ran out.
     Memory,
@@ -68,8 +68,8 @@ pub struct Lexed {
 }
 
 impl Lexed {
-    /// Lexes an input. For a match of a leaf with a callback, `callback` decides by the leaf and
-    /// the slice.
+    /// Lexes `input`. For each match of a leaf that has a callback, `callback` receives the leaf
+    /// and the slice, and returns the action.
     ///
     /// # Errors
     ///
@@ -158,12 +158,12 @@ impl Lexed {
         }
     }
 
-    /// Lexes an input as a whole.
+    /// Lexes `input` as a whole, without chunks, and replaces all items.
     ///
     /// # Errors
     ///
     /// Returns `NotUtf8` if the code is in UTF-8 mode and the input is not UTF-8, and `Memory` if
-    /// memory runs out.
+    /// memory runs out. The former items then stay unchanged.
     fn relex_whole<C: Fn(LeafId, &[u8]) -> Action>(
         &mut self,
         code: &Code,
@@ -184,7 +184,8 @@ impl Lexed {
         Ok(())
     }
 
-    /// Replaces the former chunks from index `from` on with the new ones.
+    /// Replaces the former chunks from index `from` with the new ones, up to the former chunk or
+    /// the last items that follow them. The edited input has `length` bytes.
     ///
     /// # Errors
     ///

@@ -22,12 +22,12 @@ use Rattle.logos_records.specs.Matches.{AreMatchRecords}
 use Rattle.logos_replies.specs.declared.replies.Agreement.{Agreement}
 use Rattle.logos_replies.specs.declared.replies.Agreement.TheVariants.{Different, Same}
 
--- The line with a point.
+-- The line with the location of a point.
 abbrev pub location_line : Location → List ℕ
 location_line location = codes "from " ++ (decimal location.line ++ (codes ":" ++ (decimal location.column ++ codes "\n")))
 
 -- The lines about all matches from a point of an input were written to standard output: after the
--- line of the match or the error around the point, and before those about how far leaves read.
+-- line of the match or the error around the point, and before the lines of partial matches.
 pub record PrintsMatches (leaves : List Leaf) (code : CodeValue) (input : List ℕ) (location : Location) (old new : Option (List ℕ)) : Type 0 where
   pub from : ℕ
   pub at : IsOffsetOf input location from

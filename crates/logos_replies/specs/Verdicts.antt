@@ -15,7 +15,7 @@ use Rattle.logos_records.specs.Comparing.{finding_member, mode_member}
 use Rattle.logos_replies.specs.declared.replies.Agreement.{Agreement}
 use Rattle.logos_replies.specs.declared.replies.Agreement.TheVariants.{Different, Same}
 
--- The outcome of a comparison: only lexers that find the same everywhere agree.
+-- The outcome of a comparison: two lexers agree if they find equal matches and errors everywhere.
 abbrev pub agreement_of : Compared → Agreement
 agreement_of compared.Same = Same
 agreement_of (compared.Differ input) = Different
@@ -34,7 +34,7 @@ module _ (one other : GraphValue) where
   IsVerdictObject (compared.Differ input) tokens = (found found_by_other : Finding) × (tokens ≡ difference_object input.items found found_by_other)
   IsVerdictObject compared.OtherMode tokens = tokens ≡ object (bool_member (codes "same") false ++ (mode_member (codes "old") one.utf8 ++ mode_member (codes "new") other.utf8))
 
-  -- The line of the verdict.
+  -- The text is the line of JSON with the verdict.
   abbrev pub IsVerdictRecord : Compared → List ℕ → Type 0
   IsVerdictRecord verdict text = (tokens : List Token) × IsVerdictObject verdict tokens × AreLines (tokens ∷ []) text
 

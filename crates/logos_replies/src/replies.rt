@@ -1,4 +1,5 @@
-//! Answers to questions about lexers. Used by `inputs`, `matches` and `program`.
+//! Answers to questions about lexers. Used by the modules `inputs`, `matches` and `program` of
+//! `logos_show`.
 
 ghost use Rattle.std.specs.Prelude.{◌≡◌, IfErr, IfOk, OnOk};
 ghost use Rattle.logos_replies.specs.Views.{AllStart, Gains, IsBytes, IsGraphOf, rules_of, IsNoMisuse, PrintsAgreement, PrintsInputRecords, PrintsInputs, PrintsMatchRecords, PrintsMatches, location_line};
@@ -21,7 +22,7 @@ pub enum Agreement {
     Different,
 }
 
-/// A point of an input: the path and the bytes of the input, and the point.
+/// A point of an input: the path and the bytes of the input, and the location of the point.
 #[derive(Clone, Copy)]
 pub struct InputPoint<'w, 'i> {
     pub path: &'w str,
@@ -30,7 +31,7 @@ pub struct InputPoint<'w, 'i> {
 }
 
 /// Writes the matches from a point of an input, as lines of text. Before them is the match or the
-/// error around the point, if there is one, and after them how far leaves read, if none matches.
+/// error around the point, if there is one; after them are the partial matches, if no leaf matches.
 ///
 /// # Errors
 ///
@@ -86,7 +87,7 @@ pub fn write_match_records<O: Write>(
     print_bytes(&bytes, out)
 }
 
-/// Appends the line with a point.
+/// Appends the line with the location of a point.
 fn push_location(page: &mut Page, location: Location)
     ensures { Gains (location_line location) page.old page.new }
 {
@@ -173,8 +174,8 @@ fn note_of_cut(alloc: Global, most: usize, count: usize) -> Result<String, Alloc
     page.finish()
 }
 
-/// Writes whether an answer equals the stored one at a path, and returns that. If not, writes the
-/// first difference.
+/// Writes the outcome of comparing an answer with the one that is stored at a path, and returns it.
+/// If they differ, writes the first difference.
 ///
 /// # Errors
 ///
@@ -200,7 +201,7 @@ pub fn write_agreement<O: Write>(
     Ok(Agreement::Different)
 }
 
-/// Returns the refusal with a text, or `Memory` if memory ran out for it.
+/// Returns a refusal with a text, or `Memory` if memory ran out for the text.
 pub fn refusal_of<E: Drop>(text: Result<String, E>) -> Failure<'static>
     ensures { IsNoMisuse result }
 {

@@ -1,4 +1,4 @@
-//! The verdict on two lexers. Used by `comparison`.
+//! The verdict on two lexers. Used by the module `comparison` of `logos_show`.
 
 ghost use Rattle.std.specs.Prelude.{◌≡◌, ◌∷◌, [], IfErr, IfOk, OnOk, string_bytes};
 ghost use Rattle.logos_replies.specs.Views.{Finding, IsGraphOf, IsNoMisuse, IsVerdictRecord, IsVerdictText, PrintsVerdict, Puts, PutsVerdict, ShowsVerdict, ShowsVerdictText, agreement_of, difference_object, status_of};
@@ -29,8 +29,8 @@ pub struct Judgment {
     pub note: String,
 }
 
-/// Writes whether two lexers are equivalent, and returns that. If they differ, writes a shortest
-/// input at whose beginning their findings differ, and both findings.
+/// Writes the verdict on two lexers, and returns it. If they differ, writes a shortest input at
+/// whose beginning their findings differ, and both findings.
 ///
 /// # Errors
 ///

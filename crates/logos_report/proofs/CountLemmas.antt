@@ -1,4 +1,4 @@
--- How many faults have a code, from the last one on.
+-- The number of faults that have a code, counted from the last fault.
 use Rattle.std.proofs.Common.{◌≡◌, ◌≤◌, ◌<◌, ◌+◌, ℕ, zero, suc, Bool, List, [], ◌∷◌, length, get_or, drop, min, ap, ◌∙◌, arith}
 use Rattle.std.specs.List.{count_by}
 use Rattle.std.proofs.lemmas.List.Sums.{sum_by-cons}
@@ -23,7 +23,7 @@ pub one_counted : (p : Fault → Bool) (faults : List SpannedError) (i : ℕ) (d
 one_counted p faults i d l =
     ap (λ list. count_by p (faults_of list)) (next_left faults i d l) ∙ sum_by-cons (λ y. cond (p y) 1 0) (fault_of (get_or faults i d)) (faults_of (drop (i + 1) faults))
 
--- all were looked at, or enough of them had the code
+-- all faults were examined, or enough of them had the code
 pub all_seen : (p : Fault → Bool) (faults : List SpannedError) (left count : ℕ) → count ≡ count_by p (faults_of (drop left faults)) → count ≤ 51 → (1 ≤ left → 51 ≤ count) →
     count ≡ min (count_by p (faults_of faults)) 51
 all_seen p faults zero count is few past = omega (arith, is, few)

@@ -45,7 +45,7 @@ around parts i one l e =
     let all = subst (λ n. all_faults parts ≡ all_faults (take i parts) ++ ((get_or parts i one).errors ++ all_faults (drop n parts))) k (around_next parts i one l) in
     all ∙ ap (λ (x : Refused). all_faults (take i parts) ++ (x.errors ++ all_faults (drop (i + 1) parts))) (sym e)
 
--- how many of two lists
+-- the number of faults in two lists that pass a test
 pub both_counted : (p : Fault → Bool) (one other : List Fault) → count_by p (one ++ other) ≡ count_by p one + count_by p other
 both_counted p one other = sum_by-append (λ y. cond (p y) 1 0) one other
 
@@ -73,7 +73,7 @@ seen_more p parts front left next d count seen new e l a b c =
     let all = both_counted p (all_faults (drop next parts)) front in
     omega (arith, was, afterward, here, all, b, c)
 
--- all parts were looked at, or enough faults had the code
+-- all parts were examined, or enough faults had the code
 pub seen_all : (p : Fault → Bool) (parts : List Refused) (front : List Fault) (left count : ℕ) → count ≡ min (count_by p (all_faults (drop left parts) ++ front)) 51 → (1 ≤ left → 51 ≤ count) →
     count ≡ min (count_by p (all_faults parts ++ front)) 51
 seen_all p parts front zero count is past = is

@@ -53,7 +53,7 @@ line_at (byte ∷ bytes) h = line_byte byte bytes (h 0 (omega arith)) (line_at b
 line_encoded : (c : ℕ) → (c ≡ 10 → ⊥) → IsInLine (encode_utf8 c)
 line_encoded c h = line_at (encode_utf8 c) (λ k l e. h (inside_one c [] (encode_utf8 c) k (sym (append-nil (encode_utf8 c))) l (omega (arith, e)) ∙ e))
 
--- a character that is shown is none
+-- a character that is shown is not a line feed
 occurs : (c : ℕ) → occur_in c ≡ 10 → ⊥
 occurs c = go (nat_lt c 32) (c == 127) (is_unsafe c) refl
   where

@@ -1,4 +1,4 @@
--- Which codes are errors.
+-- The codes of errors, of ambiguities, and of faults that patterns explain.
 use Rattle.std.specs.Prelude.{Bool, true, false}
 use Rattle.logos_token.specs.declared.error.fault_code.FaultCode.{FaultCode}
 use Rattle.logos_token.specs.declared.error.fault_code.FaultCode.TheVariants.{Disambiguation, NoUniversalStart, Previous}

@@ -28,11 +28,11 @@ abbrev pub head_line : Bool → Fault → List ℕ
 head_line is_colored fault =
     code_text is_colored fault.code ++ (painted is_colored Strong (codes ": " ++ shown_text (first_line fault.message)) ++ codes "\n")
 
--- The line of a fault, and the one that names its position in the file.
+-- The line of a fault, and the one that names its location in the file.
 abbrev pub fault_texts : Bool → SourceValue → ℕ → Fault → List (List ℕ)
 fault_texts is_colored source begin fault = head_line is_colored fault ∷ location_line is_colored source begin fault.span.from ∷ []
 
--- The same lines, and for a fault that patterns explain those that name the positions of these
+-- The lines of a fault, and, if patterns explain it, the lines that name the locations of these
 -- patterns.
 abbrev pub explained_texts : Bool → SourceValue → ℕ → List ℕ → Fault → List (List ℕ)
 explained_texts is_colored source begin starts fault =
@@ -42,7 +42,8 @@ explained_texts is_colored source begin starts fault =
 abbrev pub has_name : List ℕ → Fault → Bool
 has_name name fault = bytes_eq (name_of fault.code) name
 
--- How many of these faults have this code, but at most one more than the number that is shown.
+-- The number of these faults that have this code, but at most one more than the number that is
+-- shown.
 abbrev pub seen_of : FaultCode → List Fault → ℕ
 seen_of code faults = min (count_by (has_name (name_of code)) faults) 51
 
@@ -54,19 +55,19 @@ rest_text count = codes ": " ++ (decimal count ++ codes " more are not shown")
 abbrev pub rest_line : Bool → FaultCode → ℕ → List ℕ
 rest_line is_colored code count = code_text is_colored code ++ (painted is_colored Strong (rest_text count) ++ codes "\n")
 
--- The lines of the next fault of a list. One that belongs to an earlier report is only a position
--- of it.
+-- The lines of the next fault of a list. A fault that belongs to an earlier report has only the
+-- line that names its location.
 abbrev pub listed_texts : Bool → SourceValue → ℕ → List ℕ → NextValue → Fault → List (List ℕ)
 listed_texts is_colored source begin starts next fault =
     if follows next fault then location_line is_colored source begin fault.span.from ∷ [] else explained_texts is_colored source begin starts fault
 
--- How many of all faults are left out: their number, saturating at the greatest one, less those
--- that are shown.
+-- The number of faults with a code that are left out: of all of them, saturating at the greatest
+-- number, without those that are shown.
 abbrev pub left_out : FaultCode → List Fault → ℕ
 left_out code all = min (count_by (has_name (name_of code)) all) (2 ^ 64 - 1) - 50
 
 -- The text of a fault of a list, after those before it: its lines, if fewer than 50 earlier ones
--- have its code; instead of the next one, how many of all are left out.
+-- have its code; the number of those that are left out, if 50 have it; otherwise nothing.
 abbrev pub counted_texts : Bool → SourceValue → ℕ → List ℕ → List Fault → List Fault → NextValue → Fault → List (List ℕ)
 counted_texts is_colored source begin starts all front next fault =
     if nat_lt (seen_of fault.code front) 50 then listed_texts is_colored source begin starts next fault

@@ -11,7 +11,7 @@ pub record SourceValue : Type 0 where
   pub path : List ℕ
   pub text : List ℕ
 
--- A position as `path:line:column`.
+-- A location as `path:line:column`.
 abbrev pub shown_line_column : List ℕ → Location → List ℕ
 shown_line_column path location = shown_text path ++ (codes ":" ++ (decimal location.line ++ (codes ":" ++ decimal location.column)))
 
@@ -20,15 +20,15 @@ shown_line_column path location = shown_text path ++ (codes ":" ++ (decimal loca
 abbrev pub in_file : ℕ → ℕ → ℕ
 in_file begin offset = min (offset + begin) (2 ^ 64 - 1)
 
--- The position of an offset in the part of a file that begins at another offset.
+-- The location of an offset in the part of a file that begins at another offset.
 abbrev pub shown_location : SourceValue → ℕ → ℕ → List ℕ
 shown_location source begin offset = shown_line_column source.path (location_at source.text (in_file begin offset))
 
--- The line that names the position of a fault, after the blanks of its margin.
+-- The line that names the location of a fault, after the blanks of its margin.
 abbrev pub arrow_line : Bool → List ℕ → Location → List ℕ
 arrow_line is_colored path location = painted is_colored Frame (codes "-->") ++ (codes " " ++ (shown_line_column path location ++ codes "\n"))
 
--- The line that names the position of an offset in a part of a file, after the blanks of its
+-- The line that names the location of an offset in a part of a file, after the blanks of its
 -- margin.
 abbrev pub location_line : Bool → SourceValue → ℕ → ℕ → List ℕ
 location_line is_colored source begin offset = arrow_line is_colored source.path (location_at source.text (in_file begin offset))

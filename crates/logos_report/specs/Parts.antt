@@ -17,8 +17,8 @@ all_faults parts = flat_map (λ part. part.errors) parts
 abbrev pub listed_faults : FaultListing → List Fault
 listed_faults listing = all_faults listing.earlier.now ++ (faults_of listing.faults.now ++ all_faults listing.later.now)
 
--- The texts of the faults of a part. The first list has the faults of all parts, and the second one
--- those of the parts before it.
+-- The texts of the faults of a part. `all` are the faults of all parts, and `front` those of the
+-- parts before it.
 abbrev pub part_texts : Bool → SourceValue → List Fault → List Fault → Refused → List (List ℕ)
 part_texts is_colored source all front part = texts_after is_colored source part.offset (starts_of part.clues) all front (first_faults (sizes_of part.clues)) part.errors
 
@@ -27,11 +27,11 @@ abbrev pub parts_texts : Bool → SourceValue → List Fault → List Fault → 
 parts_texts is_colored source all front [] = []
 parts_texts is_colored source all front (part ∷ rest) = part_texts is_colored source all front part ++ parts_texts is_colored source all (front ++ part.errors) rest
 
--- The texts of the faults of all parts of a file, in order: at most 50 of one code, and how many
--- more there are.
+-- The texts of the faults of all parts of a file, in order: at most 50 of one code, and the number
+-- of the others.
 abbrev pub refused_texts : Bool → SourceValue → List Refused → List (List ℕ)
 refused_texts is_colored source parts = parts_texts is_colored source (all_faults parts) [] parts
 
--- The texts of the faults of the parts from the one with this number on.
+-- The texts of the faults of the parts, beginning with the part `number`.
 abbrev pub texts_from : Bool → SourceValue → List Refused → ℕ → List (List ℕ)
 texts_from is_colored source parts number = parts_texts is_colored source (all_faults parts) (all_faults (take number parts)) (drop number parts)

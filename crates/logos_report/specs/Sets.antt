@@ -7,8 +7,8 @@ use Rattle.logos_report.specs.declared.clues.Meeting.{Meeting}
 use Rattle.logos_report.specs.declared.clues.NextFaults.{NextFaults}
 use Rattle.logos_report.specs.declared.clues.Start.{Start}
 
--- The next faults of a list: the numbers of leaves of the sets that have faults left, and how many
--- faults of the first set were passed.
+-- The next faults of a list: the numbers of leaves of the sets that have faults left, and the
+-- number of passed faults of the first set.
 pub record NextValue : Type 0 where
   pub sizes : List ℕ
   pub passed : ℕ
@@ -67,7 +67,7 @@ follows next fault = is_ambiguity fault.code && is_begun next.passed next.sizes
 abbrev pub begins_error : NextValue → Fault → Bool
 begins_error next fault = is_error fault.code && not (follows next fault)
 
--- How many reports of errors these faults have.
+-- The number of error reports for faults.
 abbrev pub errors_after : NextValue → List Fault → ℕ
 errors_after next [] = 0
 errors_after next (fault ∷ faults) = cond (begins_error next fault) 1 0 + errors_after (next_after next fault) faults

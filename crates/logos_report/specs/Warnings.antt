@@ -11,7 +11,7 @@ use Rattle.logos_page.specs.Shown.{shown_text}
 abbrev pub warning_head : Bool → List ℕ → List ℕ
 warning_head is_colored message = painted is_colored Warning (codes "warning") ++ (painted is_colored Strong (codes ": " ++ shown_text message) ++ codes "\n")
 
--- The line of a warning, and the one that names its position in the file.
+-- The line of a warning, and the one that names its location in the file.
 abbrev pub warning_texts : Bool → SourceValue → ℕ → Shown → List (List ℕ)
 warning_texts is_colored source begin warning =
     warning_head is_colored (string_bytes warning.message) ∷ location_line is_colored source begin warning.span.from ∷ []
@@ -28,7 +28,7 @@ shown_of warnings = if nat_lt 50 (length warnings) then take 50 warnings else wa
 abbrev pub left_out_line : Bool → ℕ → List ℕ
 left_out_line is_colored count = painted is_colored Warning (codes "warning") ++ (codes ": " ++ (decimal count ++ codes " more warnings are not shown\n"))
 
--- The same line, if there are any.
+-- The line with the number of warnings that are left out, if there are any.
 abbrev pub left_out_texts : Bool → ℕ → List (List ℕ)
 left_out_texts is_colored count = if count == 0 then [] else left_out_line is_colored count ∷ []
 

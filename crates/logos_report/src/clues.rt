@@ -24,16 +24,16 @@ pub struct Clues {
 pub struct Meeting {
     /// The names of the leaves, in the order of their faults.
     pub names: Vec<String>,
-    /// A text on which they meet, and the priority that would decide.
+    /// A text on which the leaves meet, and the priority that would decide between them.
     pub note: String,
 }
 
 /// A pattern that can examine the bytes before its start.
 #[derive(Debug, Drop)]
 pub struct Start {
-    /// The name of its leaf.
+    /// The name of the leaf.
     pub name: String,
-    /// The span of its literal.
+    /// The span of the literal, in bytes of the source.
     pub span: Span,
 }
 
@@ -56,7 +56,7 @@ impl Clues {
 pub struct NextFaults<'c> {
     /// The clues about the sets that have faults left.
     meetings: &'c [Meeting],
-    /// The number of passed faults of the first of them.
+    /// The number of passed faults of the first of these sets.
     passed: usize,
     /// The patterns that can examine the bytes before their start.
     starts: &'c [Start],
@@ -68,7 +68,7 @@ pub struct NextFaults<'c> {
 #[derive(Clone, Copy)]
 pub struct Member<'c> {
     pub meeting: &'c Meeting,
-    /// The number of faults of the set before it.
+    /// The number of faults in the set before this fault.
     pub number: usize,
 }
 
@@ -85,7 +85,7 @@ pub fn first_faults(clues: &Clues) -> NextFaults<'_>
     }
 }
 
-/// Returns whether a fault with this code is one of a set of ambiguous leaves.
+/// Returns whether a fault with this code belongs to a set of ambiguous leaves.
 fn is_ambiguity(code: FaultCode) -> bool
     ensures { result ≡ is_ambiguity code }
 {
@@ -137,8 +137,8 @@ impl<'c> NextFaults<'c> {
         *self.helps.first()?
     }
 
-    /// Returns which member of its ambiguous set the next fault reports, if there is a clue about
-    /// the set.
+    /// Returns `fault`, which is the next fault, as a member of its set of ambiguous leaves, if
+    /// there is a clue about the set.
     pub fn member(self, fault: &SpannedError) -> Option<Member<'c>>
         ensures { MatchOption result (follows (next_value self.entry) (fault_of fault.now) ≡ false)
             (λ member. (follows (next_value self.entry) (fault_of fault.now)
@@ -163,8 +163,8 @@ impl<'c> NextFaults<'c> {
         }
     }
 
-    /// Returns the patterns that explain a fault with this code: those that can examine the bytes
-    /// before their start.
+    /// Returns the patterns that explain a fault with this code: for `NoUniversalStart` those that
+    /// can examine the bytes before their start, otherwise none.
     pub fn starts(self, code: FaultCode) -> &'c [Start]
         ensures { result.now ≡ (if is_explained code then self.entry.starts.now else []) }
     {
@@ -176,7 +176,7 @@ impl<'c> NextFaults<'c> {
 }
 
 impl Member<'_> {
-    /// Returns the name of its leaf.
+    /// Returns the name of the leaf, or an empty text if the set does not have the fault.
     pub fn name(&self) -> &str {
         match self.meeting.names.get(self.number) {
             Some(name) => name.as_str(),
@@ -184,7 +184,7 @@ impl Member<'_> {
         }
     }
 
-    /// Returns whether it is the last fault of its set.
+    /// Returns whether the fault is the last one of its set.
     pub(crate) fn is_last(&self) -> bool {
         self.number >= self.meeting.names.len().saturating_sub(1)
     }

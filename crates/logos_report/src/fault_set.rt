@@ -1,5 +1,5 @@
 //! The faults of sets of ambiguous leaves. Reports and messages of a fault name the other leaves of
-//! its set with the positions of their faults. Used by `faults` and `logos_messages`.
+//! its set with the locations of their faults. Used by `faults` and `logos_messages`.
 
 use logos_token::error::{Detail, SpannedError};
 
@@ -40,7 +40,7 @@ pub fn set_at(faults: &[SpannedError], number: usize) -> FaultSet<'_> {
     }
 }
 
-/// Returns whether a fault is one of a set, and not the first one.
+/// Returns whether a fault belongs to a set of ambiguous leaves, and is not its first fault.
 fn continues_set(fault: &SpannedError) -> bool {
     match fault.detail {
         Detail::Ambiguous { leaf, first } => leaf != first,
@@ -48,7 +48,8 @@ fn continues_set(fault: &SpannedError) -> bool {
     }
 }
 
-/// Returns whether the fault with this number is one of a set, and not the first one.
+/// Returns whether the fault with this number belongs to a set of ambiguous leaves, and is not its
+/// first fault.
 fn continues_at(faults: &[SpannedError], number: usize) -> bool {
     match faults.get(number) {
         Some(fault) => continues_set(fault),
@@ -65,8 +66,8 @@ fn begin_of_set(faults: &[SpannedError], number: usize) -> usize {
     from
 }
 
-/// Returns the number after the last fault of the set of a fault; the number of the fault itself if
-/// it is not of an ambiguous leaf.
+/// Returns the number after the last fault of the set of a fault, or the number of the fault itself
+/// if the fault is not of an ambiguous leaf.
 fn end_of_set(faults: &[SpannedError], number: usize) -> usize {
     let Some(fault) = faults.get(number) else {
         return number;

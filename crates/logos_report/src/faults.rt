@@ -1,4 +1,5 @@
-//! The faults of a file.
+//! Appends faults to a report, with their notes and helps, and counts errors. Called by
+//! `file_report`, `sets` and other crates.
 
 ghost use Rattle.std.specs.Prelude.{◌≡◌, ◌≤◌, ◌++◌, ◌==◌, ◌∷◌, [], codes, if◌then◌else◌, length, take};
 ghost use Rattle.logos_report.specs.Views.{count_by, name_of, fault_of, faults_of, is_error, shown_text, code_text, count_text, counted_texts, fault_texts, faults_texts, texts_after, first_line, has_name, head_line, rest_line, rest_text, seen_of, summary_line, all_faults, listed_faults, begins_error, errors_after, first_faults, sizes_of, next_value, Gains, Shows, painted, location_line, starts_in, starts_of};
@@ -21,16 +22,16 @@ pub const MOST: usize = 50;
 #[derive(Clone, Copy)]
 pub struct KnownFault<'f> {
     pub fault: &'f SpannedError,
-    /// The faults of its set, if it is of an ambiguous leaf.
+    /// The faults of the set of the fault, if the fault is of an ambiguous leaf.
     pub set: FaultSet<'f>,
-    /// The help for it, if there is one.
+    /// The help for the fault, if there is one.
     pub help: Option<&'static str>,
 }
 
 /// Appends the faults of a part of a file, in order. For each, the appended text has a line with
-/// the name of its code and the first line of its message, and one with its position in the file.
+/// the name of its code and the first line of its message, and one with its location in the file.
 /// In a set of ambiguous leaves with a clue the first fault has the line, and all have their
-/// positions under it.
+/// locations under it.
 pub fn push_faults(page: &mut Page, part: Part<'_, '_>, errors: &Errors, clues: &Clues)
     ensures { Shows (faults_texts page.old.is_colored part.entry.source.now part.entry.offset
         (starts_of clues.now) (sizes_of clues.now) errors.now) page.old page.new }
@@ -43,7 +44,7 @@ pub fn push_faults(page: &mut Page, part: Part<'_, '_>, errors: &Errors, clues: 
     push_all(page, part, listing, first_faults(clues));
 }
 
-/// Appends the faults of a part, beginning with the first one.
+/// Appends the faults of a part. `first` is the state before the first of them.
 pub(crate) fn push_all(
     page: &mut Page,
     part: Part<'_, '_>,
@@ -63,8 +64,8 @@ pub(crate) fn push_all(
     }
 }
 
-/// Appends the fault of a part with this number. At most 50 faults of one code are shown. In place
-/// of the next one is the number of those that are left out.
+/// Appends the fault of a part with this number. At most 50 faults of one code are shown. Instead
+/// of the next one, the number of faults that are left out is appended.
 fn push_counted(
     page: &mut Page,
     part: Part<'_, '_>,
@@ -157,15 +158,15 @@ fn has_code(fault: &SpannedError, code: FaultCode) -> bool
     fault.code.name() == code.name()
 }
 
-/// Returns the number of error reports for these faults. `Previous` is an earlier definition to
-/// which an error refers, and a set of ambiguous leaves with a clue has one report.
+/// Returns the number of error reports for these faults. `Previous`, an earlier definition to which
+/// an error refers, is not an error, and a set of ambiguous leaves with a clue has one report.
 pub fn count_errors(errors: &Errors, clues: &Clues) -> usize
     ensures { result ≡ errors_after (first_faults (sizes_of clues.now)) errors.now }
 {
     count_all(errors.list(), first_faults(clues))
 }
 
-/// Returns how many reports of errors these faults have.
+/// Returns the number of error reports for `faults`. `first` is the state before the first of them.
 fn count_all(faults: &[SpannedError], first: NextFaults<'_>) -> usize
     ensures { result ≡ errors_after (next_value first.entry) (faults_of faults.now) }
 {
@@ -212,7 +213,7 @@ fn push_count(page: &mut Page, count: usize)
     page.push(errors_text(count));
 }
 
-/// Returns the word for `count` errors.
+/// Returns the text after the number of errors.
 fn errors_text(count: usize) -> &'static str
     ensures { result.now ≡ (if count == 1 then codes " previous error" else codes " previous errors") }
 {
@@ -233,7 +234,7 @@ pub fn push_fault(page: &mut Page, part: Part<'_, '_>, known: KnownFault<'_>)
     push_notes(page, ShownFault { part, known, width });
 }
 
-/// Appends the position of a fault, and its lines with carets, unless the source is too long.
+/// Appends the location of a fault, and its lines with carets, unless the source is too long.
 /// Returns the width of the column of line numbers.
 fn push_span(page: &mut Page, part: Part<'_, '_>, fault: &SpannedError) -> usize
     ensures { Shows (location_line page.old.is_colored part.entry.source.now part.entry.offset
@@ -246,7 +247,7 @@ fn push_span(page: &mut Page, part: Part<'_, '_>, fault: &SpannedError) -> usize
     push_marked(page, part, fault, "")
 }
 
-/// Appends the position of a fault, and its lines with carets and a label. Returns the width of the
+/// Appends the location of a fault, and its lines with carets and a label. Returns the width of the
 /// column of line numbers.
 pub(crate) fn push_marked(
     page: &mut Page,
@@ -274,7 +275,7 @@ pub(crate) fn push_head(page: &mut Page, fault: &SpannedError)
     page.push("\n");
 }
 
-/// Appends the first line of a message, and the separator between it and the code.
+/// Appends the separator after the code of a fault, and the first line of its message.
 fn push_message(page: &mut Page, line: &str)
     ensures { Gains (painted page.old.is_colored Style.Strong (codes ": " ++ shown_text line.now))
         page.old page.new }

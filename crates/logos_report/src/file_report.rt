@@ -16,20 +16,20 @@ use logos_token::error::{Errors, FaultCode, SpannedError};
 pub struct Refused {
     /// The byte offset of the part in the file.
     pub offset: usize,
-    /// Its faults.
+    /// The faults of the part.
     pub errors: Errors,
-    /// The clues about the faults of its graph.
+    /// The clues about the faults of the part.
     pub clues: Clues,
 }
 
 /// The faults of a part of a file, and the parts around it.
 #[derive(Clone, Copy)]
 pub struct FaultListing<'f> {
-    /// The parts before it.
+    /// The parts before this one.
     pub earlier: &'f [Refused],
-    /// Its faults.
+    /// The faults of this part.
     pub faults: &'f [SpannedError],
-    /// The parts after it.
+    /// The parts after this one.
     pub later: &'f [Refused],
 }
 
@@ -94,7 +94,8 @@ pub fn count_in(listing: FaultListing<'_>, code: FaultCode) -> usize
         .saturating_add(count_parts(listing.later, code))
 }
 
-/// Returns how many faults of these parts have this code, saturating at the greatest number.
+/// Returns the number of faults of these parts that have this code, saturating at the greatest
+/// number.
 fn count_parts(parts: &[Refused], code: FaultCode) -> usize
     ensures { result ≡ min (count_by (has_name (name_of code)) (all_faults parts.now)) (2 ^ 64 - 1) }
 {

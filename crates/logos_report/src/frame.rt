@@ -1,4 +1,4 @@
-//! A span of a file: its lines, and carets under it.
+//! The frame of a span of a file: its lines, and carets under it. Called for faults and warnings.
 
 ghost use Rattle.std.specs.Prelude.{◌∷◌, []};
 ghost use Rattle.logos_report.specs.Views.{Begins, Continues, shown_text, Gains, Shows, arrow_line, location_line, shown_location, shown_line_column};
@@ -36,8 +36,9 @@ pub(crate) struct Marks<'l> {
     pub(crate) label: &'l str,
 }
 
-/// Appends the start of a span, the lines at which it begins and ends, and carets of this style
-/// under it. Long lines are cut around it. Returns the number of digits of the last line's number.
+/// Appends the location of a span's start, the lines at which the span begins and ends, and carets
+/// of this style under it. Long lines are cut around it. Returns the number of digits of the last
+/// line's number.
 pub fn push_frame(page: &mut Page, part: Part<'_, '_>, span: Span, style: Style) -> usize
     ensures { Shows (location_line page.old.is_colored part.entry.source.now part.entry.offset span.from
         ∷ []) page.old page.new }
@@ -50,8 +51,8 @@ pub fn push_frame(page: &mut Page, part: Part<'_, '_>, span: Span, style: Style)
     push_frame_with(page, part, span.from, marks)
 }
 
-/// Appends an offset of a part of a file, the lines at which a span begins and ends, and carets
-/// under the span. Returns the number of digits of the last line's number.
+/// Appends the location of an offset of a part of a file, the lines at which a span begins and
+/// ends, and carets under the span. Returns the number of digits of the last line's number.
 pub(crate) fn push_frame_with(
     page: &mut Page,
     part: Part<'_, '_>,
@@ -102,7 +103,7 @@ fn last_shown(source: &Source<'_>, first: FileSpot, end: FileSpot) -> FileSpot {
     }
 }
 
-/// Appends the line that names an offset of a part of a file, after a margin.
+/// Appends the line that names the location of an offset of a part of a file, after a margin.
 pub(crate) fn push_offset(page: &mut Page, part: Part<'_, '_>, offset: usize, width: usize)
     ensures { Shows (location_line page.old.is_colored part.entry.source.now part.entry.offset offset
         ∷ []) page.old page.new }
@@ -111,14 +112,14 @@ pub(crate) fn push_offset(page: &mut Page, part: Part<'_, '_>, offset: usize, wi
     push_arrow(page, part.source, part.location(offset));
 }
 
-/// Appends an offset of a part of a file as `path:line:column`.
+/// Appends the location of an offset of a part of a file as `path:line:column`.
 pub fn push_location(page: &mut Page, part: Part<'_, '_>, offset: usize)
     ensures { Gains (shown_location part.entry.source.now part.entry.offset offset) page.old page.new }
 {
     push_line_column(page, part.source, part.location(offset));
 }
 
-/// Appends a position as `path:line:column`.
+/// Appends a location as `path:line:column`.
 fn push_line_column(page: &mut Page, source: &Source<'_>, location: Location)
     ensures { Gains (shown_line_column source.now.path location) page.old page.new }
 {
@@ -164,7 +165,7 @@ fn push_only_line(page: &mut Page, frame: Frame<'_, '_>)
     push_carets(page, frame, window, column, frame.last.location.column);
 }
 
-/// Appends the line at which a span begins that ends on a later one.
+/// Appends the first line of a span that ends on a later line.
 fn push_first_line(page: &mut Page, frame: Frame<'_, '_>)
     ensures { Shows [] page.old page.new }
 {
@@ -185,12 +186,12 @@ fn push_dots(page: &mut Page, frame: Frame<'_, '_>)
     }
 }
 
-/// Returns how many lines `last` is below `first`.
+/// Returns the number of lines from `first` down to `last`.
 fn lines_after(first: FileSpot, last: FileSpot) -> usize {
     last.location.line.saturating_sub(first.location.line)
 }
 
-/// Appends the line at which a span ends that began on an earlier one.
+/// Appends the last line of a span that begins on an earlier line.
 fn push_last_line(page: &mut Page, frame: Frame<'_, '_>)
     ensures { Shows [] page.old page.new }
 {
@@ -238,8 +239,7 @@ fn push_line_number(page: &mut Page, line: usize, width: usize)
     page.end();
 }
 
-/// Appends carets under the shown part of a line, from a column up to another one, exclusive. There
-/// is at least one.
+/// Appends carets under the shown part of a line, in the columns `from..to`, but at least one.
 fn push_carets(
     page: &mut Page,
     frame: Frame<'_, '_>,

@@ -7,7 +7,7 @@ use crate::clues::Clues;
 use crate::source::Part;
 use logos_token::error::{Errors, Memory};
 
-/// Helps for faults.
+/// An interface to the helps for faults.
 pub trait Helps {
     /// Adds to `clues` the help for each of the faults of a part of a file, in order. Reports show
     /// it under the fault.

@@ -11,7 +11,7 @@ use crate::source::Part;
 use logos_page::{Page, Style};
 use logos_token::error::SpannedError;
 
-/// A fault whose position was shown. Its notes and its help follow.
+/// A fault whose location was shown. Its notes and its help follow.
 #[derive(Clone, Copy)]
 pub(crate) struct ShownFault<'f, 'p, 't> {
     pub(crate) part: Part<'p, 't>,
@@ -31,8 +31,8 @@ pub(crate) fn push_notes(page: &mut Page, shown: ShownFault<'_, '_, '_>)
     page.push("\n");
 }
 
-/// Appends the name of the substituted subpattern, if the byte of a fault is counted after its
-/// substitution.
+/// Appends the name of the subpattern whose substitution shifts the byte of a fault, if there is
+/// one.
 fn push_put_in_note(page: &mut Page, shown: ShownFault<'_, '_, '_>)
     ensures { Shows [] page.old page.new }
 {
@@ -43,7 +43,7 @@ fn push_put_in_note(page: &mut Page, shown: ShownFault<'_, '_, '_>)
     }
 }
 
-/// Appends the name of the subpattern that was substituted before the faulty byte, and the position
+/// Appends the name of the subpattern that was substituted before the faulty byte, and the location
 /// of its definition.
 pub fn push_put_in(page: &mut Page, part: Part<'_, '_>, put: PutIn<'_>)
     ensures { Continues page.old page.new }
@@ -74,7 +74,7 @@ fn push_note_mark(page: &mut Page, width: usize)
     page.push(" ");
 }
 
-/// Appends the position of the second span of a fault, if it has one.
+/// Appends the location of the second span of a fault, if it has one.
 fn push_other_location(page: &mut Page, shown: ShownFault<'_, '_, '_>)
     ensures { Shows [] page.old page.new }
 {
@@ -96,7 +96,7 @@ pub(crate) fn push_help(page: &mut Page, shown: ShownFault<'_, '_, '_>)
 }
 
 /// Appends the lines of a message after its first one. Those of a set of ambiguous leaves begin
-/// with the names of the other leaves, to which their positions are added.
+/// with the names of the other leaves, to which their locations are added.
 fn push_other_lines(page: &mut Page, shown: ShownFault<'_, '_, '_>)
     ensures { Shows [] page.old page.new }
 {
@@ -119,7 +119,7 @@ fn push_other_line(page: &mut Page, shown: ShownFault<'_, '_, '_>, line: &str, n
     push_leaf_location(page, shown.part, shown.known.set.other(number));
 }
 
-/// Appends the position of the fault of another leaf, if there is one, and ends the line.
+/// Appends the location of the fault of another leaf, if there is one, and ends the line.
 fn push_leaf_location(page: &mut Page, part: Part<'_, '_>, other: Option<&SpannedError>)
     ensures { Ends page.old page.new }
 {
@@ -127,7 +127,7 @@ fn push_leaf_location(page: &mut Page, part: Part<'_, '_>, other: Option<&Spanne
     page.push("\n");
 }
 
-/// Appends the position of the fault of another leaf, if there is one.
+/// Appends the location of the fault of another leaf, if there is one.
 fn push_leaf_at(page: &mut Page, part: Part<'_, '_>, other: Option<&SpannedError>)
     ensures { Continues page.old page.new }
 {

@@ -34,7 +34,7 @@ fn pattern_span(part: Part<'_, '_>, literal: Span, detail: PatternDetail) -> Spa
 #[derive(Clone, Copy)]
 pub struct PutIn<'t> {
     pub name: &'t str,
-    /// The byte offset of its name, at its definition, in the part of the file.
+    /// The byte offset in the part of the file of the name in the definition of the subpattern.
     pub definition: usize,
 }
 
@@ -51,7 +51,8 @@ pub fn put_in<'t>(part: Part<'_, 't>, fault: &SpannedError) -> Option<PutIn<'t>>
     })
 }
 
-/// Returns the piece of a literal that spells the byte with this number of its pattern's text.
+/// Returns the piece of a literal that spells the byte at the index `byte` of the literal's value,
+/// if there is one.
 fn piece_at(literal: &str, byte: usize) -> Option<Span> {
     let (prefix, rest) = literal.split_once('"')?;
     let (inner, _) = rest.rsplit_once('"')?;
@@ -94,7 +95,8 @@ struct Reader {
     piece: Span,
 }
 
-/// Returns the piece that spells the byte with this number. `inner` is the text between the quotes.
+/// Returns the piece that spells the byte at the index `byte`, if there is one. `inner` is the text
+/// between the quotes.
 fn find(start: Reader, inner: &str, byte: usize) -> Option<Span> {
     let mut reader = start;
     let mut left = byte;
@@ -110,8 +112,8 @@ fn find(start: Reader, inner: &str, byte: usize) -> Option<Span> {
 }
 
 impl Reader {
-    /// Returns the reader after a character, and the number of bytes that the piece spells which
-    /// ends with it, or 0 if none ends.
+    /// Returns the reader after a character. If a piece ends with the character, also returns the
+    /// number of bytes that the piece spells, otherwise 0.
     fn after(self, character: char) -> (Reader, usize) {
         let from = match self.state {
             LiteralState::Plain => self.piece.to,
@@ -133,8 +135,8 @@ impl Reader {
         )
     }
 
-    /// Returns the state after this character, and the number of bytes that the piece spells which
-    /// ends with it, or 0 if none ends.
+    /// Returns the state after a character. If a piece ends with the character, also returns the
+    /// number of bytes that the piece spells, otherwise 0.
     fn step(self, character: char) -> (LiteralState, usize) {
         match self.state {
             LiteralState::Plain => self.begin(character),

@@ -44,7 +44,7 @@ fn push_member(page: &mut Page, part: Part<'_, '_>, known: KnownFault<'_>, membe
     push_end(page, ShownFault { part, known, width }, member);
 }
 
-/// Appends the position of a fault of a set of ambiguous leaves, and before the first one the line
+/// Appends the location of a fault of a set of ambiguous leaves, and before the first one the line
 /// of the report. Returns the width of the column of line numbers.
 fn push_location_of(
     page: &mut Page,
@@ -65,7 +65,7 @@ fn push_location_of(
     }
 }
 
-/// Appends the line of a report and the position of its fault, with a label. Returns the width of
+/// Appends the line of a report and the location of its fault, with a label. Returns the width of
 /// the column of line numbers.
 fn push_begin(page: &mut Page, part: Part<'_, '_>, fault: &SpannedError, label: &str) -> usize
     ensures { Shows (fault_texts page.old.is_colored part.entry.source.now part.entry.offset
@@ -123,7 +123,7 @@ fn push_explained(page: &mut Page, part: Part<'_, '_>, known: KnownFault<'_>, st
     push_notes(page, ShownFault { part, known, width });
 }
 
-/// Appends these patterns.
+/// Appends each of these patterns, with its location.
 fn push_starts(page: &mut Page, part: Part<'_, '_>, starts: &[Start])
     ensures { Shows (map (location_line page.old.is_colored part.entry.source.now part.entry.offset)
         (map from_of starts.now)) page.old page.new }

@@ -1,4 +1,4 @@
-//! Files whose positions are shown.
+//! Files and their parts, with the locations of their offsets. Used by all reports.
 
 ghost use Rattle.std.specs.Prelude.{◌≡◌, ◌≤◌, ◌⊎◌, IfOk, MatchOption, length};
 ghost use Rattle.logos_report.specs.Views.{IsLineOf, IsLongLine, IsNoLine, location_at, in_file};
@@ -8,7 +8,7 @@ use logos_token::token::Span;
 use std::alloc::{AllocError, Global};
 use std::marker::Model;
 
-/// A part of a file. Its offsets are bytes from its beginning.
+/// A part of a file. Offsets in it are bytes from its beginning.
 #[derive(Clone, Copy)]
 pub struct Part<'p, 't> {
     /// The whole file.
@@ -28,14 +28,16 @@ impl Part<'_, '_> {
 }
 
 impl<'t> Part<'_, 't> {
-    /// Returns the text of the part at a span, or an empty one if the file has no such span.
+    /// Returns the text of the part at a span in bytes, or an empty one if the file has no such
+    /// span.
     pub fn text_at(self, span: Span) -> &'t str {
         let from = span.from.saturating_add(self.offset);
         let to = span.to.saturating_add(self.offset);
         self.source.text().get(from..to).unwrap_or("")
     }
 
-    /// Returns the text of the file from an offset of the part on, or an empty one after its end.
+    /// Returns the text of the file from a byte offset of the part to the end of the file, or an
+    /// empty one past that end.
     pub fn text_from(self, offset: usize) -> &'t str {
         let from = offset.saturating_add(self.offset);
         self.source.text().get(from..).unwrap_or("")

@@ -1,4 +1,5 @@
-//! Warnings: probable mistakes that are not faults.
+//! Warnings: probable mistakes that are not faults. Used by `logos_file_warnings`, `logos_messages`
+//! and the crates that find warnings.
 
 ghost use Rattle.std.specs.Prelude.{◌≡◌, ◌++◌, ◌∷◌, [], codes, string_bytes};
 ghost use Rattle.logos_report.specs.Views.{IsInLine, shown_text, Gains, Shows, painted, location_line, all_texts, left_out_line, left_out_texts, shown_of, warning_head, warning_texts, warnings_texts};
@@ -19,16 +20,16 @@ pub struct Warning {
     pub message: String,
     /// The span of the mistake, in bytes of the part.
     pub span: Span,
-    /// A further explanation, on one line.
+    /// A further explanation on one line, if there is one.
     pub note: Option<String>,
-    /// The help.
+    /// The help, if there is one.
     pub help: Option<&'static str>,
-    /// A second span of the mistake.
+    /// A second span of the mistake, in bytes of the part, if there is one.
     pub also: Option<Span>,
 }
 
 /// Appends at most 50 warnings of a part of a file, in order, and the number of those that are left
-/// out. For each, the appended text has a line with its message and one with its position.
+/// out. For each, the appended text has a line with its message and one with its location.
 pub fn push_warnings(page: &mut Page, part: Part<'_, '_>, warnings: &[Warning])
     ensures { Shows (warnings_texts page.old.is_colored part.entry.source.now part.entry.offset
         warnings.now) page.old page.new }
@@ -37,7 +38,7 @@ pub fn push_warnings(page: &mut Page, part: Part<'_, '_>, warnings: &[Warning])
     push_left_out(page, warnings.len().saturating_sub(MOST));
 }
 
-/// Returns the warnings that are shown.
+/// Returns the warnings that are shown, which are the first 50.
 pub fn first_of(warnings: &[Warning]) -> &[Warning]
     ensures { result.now ≡ shown_of warnings.now }
 {
@@ -78,7 +79,7 @@ fn push_left_out_line(page: &mut Page, count: usize)
     page.push(" more warnings are not shown\n");
 }
 
-/// Appends a warning.
+/// Appends a warning: its message, the lines of its span, and its notes.
 pub fn push_warning(page: &mut Page, part: Part<'_, '_>, warning: &Warning)
     ensures { Shows (warning_texts page.old.is_colored part.entry.source.now part.entry.offset
         warning.now) page.old page.new }
@@ -97,7 +98,7 @@ fn push_head(page: &mut Page, message: &str)
     page.push("\n");
 }
 
-/// Appends a message, and the separator between it and the word before it.
+/// Appends the separator after the word `warning`, and a message.
 fn push_message(page: &mut Page, message: &str)
     ensures { Gains (painted page.old.is_colored Style.Strong (codes ": " ++ shown_text message.now))
         page.old page.new }
@@ -145,7 +146,7 @@ fn push_line(page: &mut Page, width: usize, kind: &str, text: &str)
     page.push("\n");
 }
 
-/// Appends the position of a second span, if there is one.
+/// Appends the location of a second span, if there is one.
 fn push_other(page: &mut Page, part: Part<'_, '_>, width: usize, also: Option<Span>)
     ensures { Shows [] page.old page.new }
 {

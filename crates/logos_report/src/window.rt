@@ -10,12 +10,12 @@ use logos_page::{Page, columns_of};
 
 /// The width of the shown part of a line, in columns.
 const COLUMNS: usize = 140;
-/// The columns before the first caret that are always shown.
+/// The number of columns before the first caret up to which none is left out.
 const NEAR: usize = 100;
-/// The columns before the first caret that are shown if more are left out.
+/// The number of columns before the first caret that are shown if others are left out.
 const FRONT: usize = 60;
-/// How many bytes on either side of a location are examined. The shown columns have fewer, except
-/// for characters that take no column.
+/// The number of bytes that are examined on either side of a location. The shown columns have
+/// fewer, except for characters that take no column.
 const FAR: usize = 800;
 
 /// A location in a file: its offset, line and column.
@@ -26,7 +26,7 @@ pub(crate) struct FileSpot {
     pub(crate) location: Location,
 }
 
-/// The text near a location in a line, and how much of it is left out.
+/// The text near a location in a line, and the numbers of characters that are left out.
 #[derive(Clone, Copy)]
 pub(crate) struct LineWindow<'t> {
     /// The text near the location.
@@ -99,7 +99,7 @@ fn ends_at(bytes: &[u8], at: usize) -> bool {
     }
 }
 
-/// Returns the first offset at or after this one at which a character begins or the text ends.
+/// Returns the first offset, at least `offset`, at which a character begins or the text ends.
 fn character_at(text: &str, offset: usize) -> usize {
     let mut at = offset;
     while at < text.len() {
@@ -111,8 +111,8 @@ fn character_at(text: &str, offset: usize) -> usize {
     at
 }
 
-/// Returns how many leading characters of a window are left out for a location with `before`
-/// characters before it.
+/// Returns the number of leading characters that a window leaves out, if `before` characters of its
+/// text are before the location.
 fn skipped_of(window: LineWindow<'_>, before: usize) -> usize {
     let width = columns(window.text, 0, before);
     let is_whole = (window.front == 0) & !window.continues;
@@ -124,7 +124,8 @@ fn skipped_of(window: LineWindow<'_>, before: usize) -> usize {
     }
 }
 
-/// Returns the width in columns of `count` characters of a text, from number `from` on.
+/// Returns the width in columns of `count` characters of a text, starting with the one at the index
+/// `from`.
 fn columns(text: &str, from: usize, count: usize) -> usize {
     let mut total: usize = 0;
     for character in text.chars().skip(from).take(count) {
@@ -133,7 +134,8 @@ fn columns(text: &str, from: usize, count: usize) -> usize {
     total
 }
 
-/// Returns how many leading characters of a text fit into `columns` columns.
+/// Returns the least number of leading characters of a text that take at least `columns` columns,
+/// or the number of all characters.
 fn characters_in(text: &str, columns: usize) -> usize {
     let mut total: usize = 0;
     let mut count: usize = 0;
@@ -157,7 +159,7 @@ fn push_cut(page: &mut Page, is_cut: bool)
 }
 
 impl LineWindow<'_> {
-    /// Returns whether nothing is shown.
+    /// Returns whether the shown part is empty.
     pub(crate) fn is_empty(self) -> bool {
         self.text.is_empty()
     }
@@ -191,7 +193,7 @@ impl LineWindow<'_> {
         self.continues
     }
 
-    /// Returns how many characters of the window are before a column of the line.
+    /// Returns the number of characters of the window before a column of the line.
     fn characters_before(self, column: usize) -> usize {
         column.saturating_sub(1).saturating_sub(self.front)
     }
@@ -203,7 +205,7 @@ impl LineWindow<'_> {
         columns(self.text, self.skipped, shown).saturating_add(dots)
     }
 
-    /// Returns the number of columns that are shown from a column to another one.
+    /// Returns the number of shown columns from the column `from` to the column `to`, exclusive.
     pub(crate) fn columns_between(self, from: usize, to: usize) -> usize {
         let first = self.characters_before(from).max(self.skipped);
         let count = self.characters_before(to).saturating_sub(first);

@@ -1,11 +1,12 @@
-//! An output that is a terminal only where colors are allowed. Used by `logos_cli`.
+//! An output that counts as a terminal only if colors are allowed. Used by `logos_cli`.
 
 use crate::screen::allows_colors;
 use std::env::Env;
 use std::io;
 use std::io::{IsTerminal, Write};
 
-/// An output that passes for a terminal if it is one, and the variable `NO_COLOR` allows colors.
+/// An output that reports itself as a terminal if it is one, and the variable `NO_COLOR` allows
+/// colors.
 #[derive(Drop)]
 pub struct ColorOutput<W> {
     writer: W,
@@ -13,7 +14,7 @@ pub struct ColorOutput<W> {
 }
 
 impl<W> ColorOutput<W> {
-    /// Returns an output with the setting of the environment.
+    /// Returns an output for which the environment determines whether colors are allowed.
     pub fn new<V: Env>(variables: &V, writer: W) -> ColorOutput<W> {
         ColorOutput {
             writer,

@@ -9,14 +9,14 @@ use std::alloc::AllocError;
 /// The mark at the end of a line that is cut. It takes one column.
 const CUT: &str = "…";
 
-/// The shown part of a line, and the mark after it, which is empty if that is the whole line.
+/// The shown part of a line, and the mark after it, which is empty if the line is shown whole.
 #[derive(Clone, Copy)]
 pub(crate) struct ShownLine<'l> {
     pub(crate) text: &'l str,
     pub(crate) mark: &'static str,
 }
 
-/// Appends a text with each of its lines cut to a width, if there is one.
+/// Appends a text. If there is a width, each line is cut to it.
 ///
 /// # Errors
 ///
@@ -55,7 +55,8 @@ pub(crate) fn push_end(block: &mut Vec<u8>, mark: &str) -> Result<(), AllocError
     block.extend_from_slice(b"\n")
 }
 
-/// Returns the shown part of a line: the whole line if it fits the width or there is none.
+/// Returns the shown part of a line: the whole line if it fits into the width, or if there is no
+/// width.
 pub(crate) fn front_of<'l>(line: &'l str, width: Option<usize>) -> ShownLine<'l>
     ensures { IsFront line.now width result.text.now result.mark.now }
 {
@@ -68,7 +69,7 @@ pub(crate) fn front_of<'l>(line: &'l str, width: Option<usize>) -> ShownLine<'l>
     }
 }
 
-/// Returns the front of a line up to a byte, with the mark after it.
+/// Returns the first `end` bytes of a line, with the mark of a cut.
 fn cut_front<'l>(line: &'l str, end: usize) -> ShownLine<'l>
     ensures { IsCutFront line.now result.text.now result.mark.now }
 {
@@ -90,7 +91,8 @@ fn columns_in(line: &str) -> usize {
     columns
 }
 
-/// Returns the length in bytes of the longest front of a line that leaves one column of a width.
+/// Returns the length in bytes of the longest prefix of a line that leaves one of `width` columns
+/// free.
 fn end_of(line: &str, width: usize) -> usize {
     let mut columns: usize = 1;
     let mut end: usize = 0;

@@ -28,7 +28,7 @@ struct ItemParts<'l> {
 /// The kinds of parts that have a color of their own.
 #[derive(Clone, Copy, Debug, PartialEq, Eq)]
 pub(crate) enum ItemPart {
-    /// The location: bold and blue, as the frame of a report.
+    /// The location: bold and blue, like the frame of a report.
     Location,
     /// The variant: bold.
     Variant,
@@ -38,7 +38,7 @@ pub(crate) enum ItemPart {
     Error,
 }
 
-/// Appends the line of an item with its end, in colors and cut as the screen requires it.
+/// Appends the line of an item and a line end, with the colors and the width of the screen.
 ///
 /// # Errors
 ///
@@ -77,7 +77,8 @@ fn location_length(line: &str) -> usize {
     }
 }
 
-/// Returns a text up to a byte, and the rest, which is empty if the text is shorter.
+/// Splits a text at the byte offset `at`. The second part is empty if the text cannot be split
+/// there.
 fn split<'l>(text: &'l str, at: usize) -> (&'l str, &'l str)
     ensures { result.0.now ++ result.1.now ≡ text.now }
 {
@@ -87,7 +88,8 @@ fn split<'l>(text: &'l str, at: usize) -> (&'l str, &'l str)
     }
 }
 
-/// Appends the parts of a line.
+/// Appends the parts of a line. Those of an error have the color of errors, except for the
+/// location.
 fn push_parts(
     block: &mut Vec<u8>,
     is_colored: bool,

@@ -11,20 +11,20 @@ use std::time::{Clock, Duration};
 /// The milliseconds after which the line is shown first.
 const PATIENCE: u64 = 1000;
 
-/// The milliseconds after which the line is shown again.
+/// The milliseconds after which the line is shown again with the current number.
 const PAUSE: u64 = 200;
 
-/// Clears the line, which is at most this long.
+/// The text that overwrites the line with blanks.
 const CLEAR: &[u8] = b"\r                                \r";
 
-/// Whether the line is shown. The outputs of a program share it.
+/// The state of the progress line, which the outputs of a program share: whether the line is shown.
 #[derive(Drop)]
 pub struct ProgressLine {
     is_shown: Cell<bool>,
 }
 
 impl ProgressLine {
-    /// Returns a line that is not shown.
+    /// Returns the state of a line that is not shown.
     pub fn new() -> ProgressLine {
         ProgressLine {
             is_shown: Cell::new(false),
@@ -41,12 +41,12 @@ impl ProgressLine {
     }
 }
 
-/// Standard error, which clears the line before it is written.
+/// Standard error, as an output that clears the progress line before each write.
 #[derive(Drop)]
 pub struct MessageOutput<'l, E> {
     line: &'l ProgressLine,
     writer: E,
-    /// A second handle on standard error, by which the progress line is cleared, so that only
+    /// A second handle on standard error, with which the progress line is cleared, so that only
     /// messages count as written to `writer`.
     err: E,
 }
@@ -82,7 +82,7 @@ impl<E: IsTerminal> IsTerminal for MessageOutput<'_, E> {
     }
 }
 
-/// Standard output, which shows the number of its bytes on standard error.
+/// Standard output, as an output that shows the number of written bytes on standard error.
 #[derive(Drop)]
 pub struct CountedOutput<'l, S, O, E> {
     writer: O,
@@ -96,12 +96,13 @@ struct Progress<'l, S, E> {
     line: &'l ProgressLine,
     err: E,
     written: usize,
-    /// The time from which on the number is shown, unless it never is.
+    /// The time from which the number is shown, or `None` if it is never shown.
     due: Option<Duration>,
 }
 
 impl<'l, S: Clock, O: IsTerminal, E: IsTerminal> CountedOutput<'l, S, O, E> {
-    /// Returns standard output with no bytes.
+    /// Returns standard output of which no bytes were written. Their number is shown only if `err`
+    /// is a terminal and `writer` is not.
     pub fn new(
         system: &'l S,
         line: &'l ProgressLine,
@@ -126,7 +127,7 @@ impl<'l, S: Clock, O: IsTerminal, E: IsTerminal> CountedOutput<'l, S, O, E> {
     }
 }
 
-/// Returns the time in some milliseconds, if there is a clock.
+/// Returns the time `milliseconds` from now, if there is a clock.
 fn time_in<S: Clock>(system: &S, milliseconds: u64) -> Option<Duration> {
     match system.monotonic() {
         Ok(time) => time.checked_add(Duration::from_millis(milliseconds)),
@@ -135,7 +136,7 @@ fn time_in<S: Clock>(system: &S, milliseconds: u64) -> Option<Duration> {
 }
 
 impl<S: Clock, E: Write> Progress<'_, S, E> {
-    /// Counts written bytes, and shows their number if that is due.
+    /// Adds `length` to the number of written bytes, and shows that number if it is due.
     fn count(&mut self, length: usize) {
         self.written = self.written.saturating_add(length);
         if self.is_due() {

@@ -1,4 +1,4 @@
-//! Finds out in which form an output is shown. Called by `logos_cli` and `logos_show`.
+//! The form in which an output is shown. Called by `logos_cli` and `logos_show`.
 
 ghost use Rattle.std.specs.Prelude.{◌≡◌};
 ghost use Rattle.logos_screen.specs.Views.{IsScreenOf, is_plain};
@@ -14,7 +14,7 @@ pub struct Screen {
     pub width: Option<usize>,
 }
 
-/// The form of an output that is compared, or that only programs read.
+/// The form without colors and without a width, for an output that is compared or read by programs.
 pub const PLAIN: Screen = Screen {
     is_colored: false,
     width: None,
@@ -75,7 +75,7 @@ fn width_in<V: Env>(variables: &V) -> Option<usize> {
     }
 }
 
-/// Returns the number above 0 with these digits, if there are no other bytes.
+/// Returns the number that decimal digits spell, if it is above 0 and there are no other bytes.
 fn number_of(digits: &[u8]) -> Option<usize> {
     let mut number: usize = 0;
     for digit in digits {
@@ -84,7 +84,8 @@ fn number_of(digits: &[u8]) -> Option<usize> {
     if number == 0 { None } else { Some(number) }
 }
 
-/// Returns a number with one more digit, if this is a digit.
+/// Returns a number with one more decimal digit, unless `digit` is not one or the result is too
+/// large.
 fn with_digit(number: usize, digit: u8) -> Option<usize> {
     if !digit.is_ascii_digit() {
         return None;

@@ -22,18 +22,19 @@ HasPath name candidate = path_in candidate ≡ name
 abbrev pub EndsWith : List ℕ → Candidate → Type 0
 EndsWith name candidate = EndsWithPath (path_in candidate) name
 
--- The path of a candidate ends with the name, and differs from this one.
+-- The path of a candidate ends with the name, and differs from `path`.
 abbrev pub IsOther : List ℕ → List ℕ → Candidate → Type 0
 IsOther name path candidate = EndsWith name candidate × (path_in candidate ≢ path)
 
--- These are the enums of a text that derive `Logos`, in order, each with its path.
+-- The enums of a text that derive `Logos`, in order, each with its path.
 pub data AreCandidates (text : List ℕ) : List FoundEnum → List Candidate → Type 0 where
   no_enum : AreCandidates text [] []
   passed : {one : FoundEnum} {found : List FoundEnum} {candidates : List Candidate} → one.derives ≡ false → AreCandidates text found candidates → AreCandidates text (one ∷ found) candidates
   added : {found : List FoundEnum} {candidate : Candidate} {candidates : List Candidate} →
       candidate.found.derives ≡ true → IsPathOf text candidate.found (path_in candidate) → AreCandidates text found candidates → AreCandidates text (candidate.found ∷ found) (candidate ∷ candidates)
 
--- One more enum was considered: with those of the other enums, these are the candidates of all.
+-- The enum `one` was considered: followed by the candidates of other enums, the added ones are the
+-- candidates of all.
 pub record AddsCandidate (text : List ℕ) (one : FoundEnum) (old new : List Candidate) : Type 0 where
   pub added : List Candidate
   pub is : new ≡ old ++ added

@@ -85,11 +85,11 @@ no_lexer_text file name = codes "error: no enum " ++ (name_text name ++ (codes "
 abbrev pub several_text : List ℕ → List ℕ → List ℕ
 several_text file name = codes "error: several enums " ++ (name_text (Some name) ++ (codes "in " ++ (shown_text file ++ codes " derive `Logos`: ")))
 
--- The path of the second enum in this message.
+-- The path of the second enum, in the message about a name that two enums have.
 abbrev pub other_text : List ℕ → List ℕ
 other_text path = codes "and `" ++ (shown_text path ++ codes "`\n")
 
--- The help in this message.
+-- The help, in the message about a name that two enums have.
 abbrev pub help_text : List ℕ → List ℕ
 help_text path = codes "help: give the path of one, as in `--enum " ++ (shown_text path ++ codes "`\n")
 
@@ -101,12 +101,13 @@ pub record IsSeveralText (source : SourceValue) (name : List ℕ) (one other : F
   pub of_second : IsPathOf source.text other second
   pub is : shown ≡ several_text source.path name ++ (name_text (Some first) ++ (other_text second ++ help_text first))
 
--- Something is refused with a text of which this holds, or memory ran out.
+-- The failure is a refusal with a text that satisfies `Shown`, or a file, an output or memory
+-- failed.
 abbrev pub RefusesBy : (List ℕ → Type 0) → Failure → Type 0
 RefusesBy Shown (failures.Refused text) = Shown (string_bytes text)
 RefusesBy Shown failure = status_of failure ≡ 3
 
--- Something is refused, or memory ran out.
+-- The failure is a refusal, or a file, an output or memory failed.
 abbrev pub IsRefusal : Failure → Type 0
 IsRefusal = RefusesBy (λ shown. Unit {0})
 

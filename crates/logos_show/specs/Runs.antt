@@ -1,5 +1,5 @@
--- The effects of a run of the program, determined by the content of its files. `yields` holds of
--- files, a path, the bytes that are read there, and the files after the read.
+-- The effects of a run of the program, determined by the content of its files. `yields` relates the
+-- files before a read, the path, the bytes that are read, and the files after it.
 use Rattle.std.specs.Prelude.{◌≡◌, ℕ, Bool, true, false, List, [], Option, Some, None}
 use Rattle.logos_code.specs.Code.{CodeValue}
 use Rattle.logos_code.specs.declared.code.Config.{Config}
@@ -60,8 +60,8 @@ abbrev pub PrintsInputsAs : Bool → GraphValue → ℕ → Option (List ℕ) �
 PrintsInputsAs true graph most old new = PrintsInputRecords graph.states graph.utf8 most old new
 PrintsInputsAs false graph most old new = PrintsInputs graph.states graph.utf8 most old new
 
--- A file has a requested lexer, and the verdict on another lexer and this one was written to
--- standard output.
+-- A file has a requested lexer, and the verdict on the lexer `first` and on that lexer was written
+-- to standard output.
 pub record ComparesTo (order : OrderValue) (first : GraphValue) (path : List ℕ) (other : SourceValue) (agreement : Agreement) (old new : Option (List ℕ)) : Type 0 where
   pub second : GraphValue
   pub of_second : IsLexerIn other.text (name_in order) second

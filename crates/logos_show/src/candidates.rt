@@ -12,12 +12,12 @@ use std::alloc::Global;
 #[derive(Drop)]
 struct Candidate {
     found: FoundEnum,
-    /// Its path in the file.
+    /// The path of the enum in the file.
     path: String,
 }
 
-/// Returns the enum of a file with this text that a name selects: the one with this path, or the
-/// only one whose path ends with it.
+/// Returns the selection of a name among the enums of a file with this text: the enum with this
+/// path, or otherwise the enums whose path ends with it.
 pub(crate) fn named_enum(
     alloc: Global,
     text: &str,
@@ -59,7 +59,8 @@ fn add_candidate(
     Ok(())
 }
 
-/// Returns the candidate that a name selects.
+/// Returns the selection of a name among candidates: the one whose path is the name, or otherwise
+/// those whose path ends with the name.
 fn selected(candidates: &[Candidate], name: &str) -> Chosen
     ensures { IsSelected candidates.now name.now result }
 {
@@ -75,7 +76,7 @@ fn selected(candidates: &[Candidate], name: &str) -> Chosen
     }
 }
 
-/// Returns the first candidate whose path is the name.
+/// Returns the first candidate whose path is the name, if there is one.
 fn with_path<'c>(candidates: &'c [Candidate], name: &str) -> Option<&'c Candidate>
     ensures { MatchOption result (All (λ candidate. ¬ HasPath name.now candidate) candidates.now)
         (λ found. Contains candidates.now found.now × HasPath name.now found.now) }
@@ -88,7 +89,7 @@ fn with_path<'c>(candidates: &'c [Candidate], name: &str) -> Option<&'c Candidat
     None
 }
 
-/// Returns the first candidate whose path ends with the name.
+/// Returns the first candidate whose path ends with the name, if there is one.
 fn with_end<'c>(candidates: &'c [Candidate], name: &str) -> Option<&'c Candidate>
     ensures { MatchOption result (All (λ candidate. ¬ EndsWith name.now candidate) candidates.now)
         (λ found. Contains candidates.now found.now × EndsWith name.now found.now) }
@@ -101,7 +102,8 @@ fn with_end<'c>(candidates: &'c [Candidate], name: &str) -> Option<&'c Candidate
     None
 }
 
-/// Returns the first candidate whose path ends with the name and differs from another path.
+/// Returns the first candidate whose path ends with the name and differs from `path`, if there is
+/// one.
 fn other_with_end<'c>(candidates: &'c [Candidate], name: &str, path: &str) -> Option<&'c Candidate>
     ensures { MatchOption result
         (All (λ candidate. ¬ IsOther name.now path.now candidate) candidates.now)

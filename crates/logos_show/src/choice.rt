@@ -1,4 +1,4 @@
-//! Selects the enum of a file by its name.
+//! Selects the enum of a file by its name. Used by the modules that need a lexer.
 
 ghost use Rattle.std.specs.Prelude.{◌≡◌, ◌↔◌, ℕ, List, IfErr, IfOk, IfSome, IsTrue, None, Some, option_map, string_bytes};
 ghost use Rattle.logos_show.specs.Views.{Fault, Gains, HasName, IsCause, IsChosen, IsChosenIn, IsLexerOf, IsNextChoice, IsNoMisuse, IsPathOf, IsSeveralText, IsUnreadable, Refuses, RefusesBy, chosen_first, first_deriving, help_text, name_requested, name_text, no_lexer_text, other_text, several_text};
@@ -20,23 +20,23 @@ use std::io::Write;
 /// Two enums of a file that derive `Logos`.
 #[derive(Clone, Copy)]
 struct Choice {
-    /// The first one.
+    /// The first of the enums.
     first: Option<FoundEnum>,
-    /// The first one after it with another path.
+    /// The first enum after `first` that has another path.
     second: Option<FoundEnum>,
 }
 
-/// The enum that is selected, by a name if one is given.
+/// The selection of an enum by its name, or of the first enum if no name is given.
 #[derive(Clone, Copy)]
 pub(crate) enum Chosen {
     Nothing,
     One(FoundEnum),
-    /// These two, which have different paths, and possibly others.
+    /// Several enums, of which these two have different paths.
     Several(FoundEnum, FoundEnum),
 }
 
-/// Returns the requested enum of a file, which is the first one if no name is given. If the file
-/// then has several, writes a note to standard error.
+/// Returns the requested enum of a file, which is the first one if no name is given. If no name is
+/// given and there are several enums, writes a note to standard error.
 pub(crate) fn lexer_in<'w, E: Write>(
     alloc: Global,
     task: Task<'w>,
@@ -61,6 +61,7 @@ pub(crate) fn lexer_in<'w, E: Write>(
 }
 
 /// Returns the first of several enums and writes a note to standard error, if no name is given.
+/// With a name, refuses the file.
 fn one_of<'w, E: Write>(
     task: Task<'w>,
     source: &Source<'_>,
@@ -102,7 +103,8 @@ fn first_text(
     Ok(page.finish()?)
 }
 
-/// Returns the requested enums of a file. There is at least one.
+/// Returns the selection of the requested enum of a file. It is never `Nothing`: without such an
+/// enum the file is refused.
 pub(crate) fn found_in<'w>(
     alloc: Global,
     task: Task<'w>,
@@ -214,7 +216,7 @@ fn several_text(
     Ok(page.finish()?)
 }
 
-/// Appends that several enums of a file have a name.
+/// Appends the beginning of the message that several enums of a file have a name.
 fn push_several(page: &mut Page, file: &str, name: &str)
     ensures { Gains (several_text file.now name.now) page.old page.new }
 {
@@ -254,8 +256,9 @@ fn push_name(page: &mut Page, name: Option<&str>)
     }
 }
 
-/// Returns the enum that derives `Logos` and that a name selects: the one with this path, or the
-/// only one whose path ends with it. Without a name each is a candidate.
+/// Returns the selection among the enums that derive `Logos`. A name selects the one with this
+/// path, or otherwise those whose path ends with it. Without a name, the first one is selected, and
+/// another one if there is one.
 fn enum_meant(
     alloc: Global,
     source: &Source<'_>,
@@ -271,7 +274,7 @@ fn enum_meant(
     }
 }
 
-/// Returns the first enum that derives `Logos`.
+/// Returns the first enum that derives `Logos`, and another one with another path if there is one.
 fn first_enum(alloc: Global, source: &Source<'_>, found: &[FoundEnum]) -> Result<Chosen, Memory>
     ensures { IfOk result (λ chosen. chosen_first chosen ≡ first_deriving found.now) }
 {
@@ -285,7 +288,7 @@ fn first_enum(alloc: Global, source: &Source<'_>, found: &[FoundEnum]) -> Result
     Ok(chosen_of(choice))
 }
 
-/// Returns the selected enum, with another one if there is one.
+/// Returns the selection of the enums of a choice.
 fn chosen_of(choice: Choice) -> Chosen
     ensures { chosen_first result ≡ choice.first }
 {
@@ -328,7 +331,8 @@ fn choice_with(
     })
 }
 
-/// Returns whether an enum has the name, if one is given: whether its path ends with it.
+/// Returns whether a name selects an enum: whether the path of the enum is the name or ends with
+/// it. Without a name, returns `true`.
 pub(crate) fn has_name(
     alloc: Global,
     source: &Source<'_>,

@@ -16,7 +16,7 @@ use logos_rust_file::FoundEnum;
 use std::alloc::AllocError;
 use std::io::Write;
 
-/// Writes whether the lexer of another file is equivalent, and returns that.
+/// Writes the verdict on the requested lexers of a file and of another file, and returns it.
 pub(crate) fn compare<'w, F: Files, O: Write, E: Write>(
     task: Task<'w>,
     source: &Source<'_>,
@@ -42,8 +42,8 @@ pub(crate) fn compare<'w, F: Files, O: Write, E: Write>(
     compare_sources(task, source, &other_source, err, out)
 }
 
-/// Writes whether the lexers of two files are equivalent, and a note to standard error, and returns
-/// that.
+/// Writes the verdict on the lexers of two files, and a note to standard error. Returns the
+/// verdict.
 fn compare_sources<'w, O: Write, E: Write>(
     task: Task<'w>,
     source: &Source<'_>,
@@ -60,7 +60,7 @@ fn compare_sources<'w, O: Write, E: Write>(
     Ok(judgment.agreement)
 }
 
-/// Writes whether the lexers of two files are equivalent, and returns that with a note.
+/// Writes the verdict on the lexers of two files, and returns it with a note.
 fn compare_files<'w, O: Write, E: Write>(
     task: Task<'w>,
     source: &Source<'_>,
@@ -98,7 +98,7 @@ fn named_lexer<'m, 's>(
     }
 }
 
-/// Writes whether a lexer and that of another file are equivalent, and returns that with a note.
+/// Writes the verdict on a lexer and that of another file, and returns the verdict with a note.
 fn compare_to<'w, O: Write, E: Write>(
     task: Task<'w>,
     one: NamedLexer<'_, '_>,

@@ -55,7 +55,7 @@ fn inputs_by_file<'w, O: Write, E: Write>(
     }
 }
 
-/// Writes inputs for the lexer of a graph, and returns the note about them.
+/// Writes inputs for the lexer of a graph, as JSON or as text, and returns the note about them.
 fn inputs_by_graph<O: Write>(
     alloc: Global,
     graph: &Graph<'_>,

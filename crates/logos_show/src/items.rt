@@ -30,7 +30,7 @@ pub(crate) fn lex<'w, F: Files, C: Clock, O: Write, E: Write>(
     lex_by_file(task, source, &bytes, clock, err, out)
 }
 
-/// Returns the path of the input of a question, or no path.
+/// Returns the path of the input of a question, or an empty path if it has none.
 fn input_of<'w>(question: Question<'w>) -> &'w str {
     match question {
         Question::Items(input) => input,

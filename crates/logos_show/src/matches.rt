@@ -72,7 +72,7 @@ fn matches_by_file<'w, O: Write, E: Write>(
     }
 }
 
-/// Writes the matches from a point of an input, found with a lexer.
+/// Writes the matches from a point of an input, found with a lexer, as JSON or as text.
 fn matches_by_lexer<O: Write>(
     alloc: Global,
     made: &Generated<'_>,

@@ -28,11 +28,11 @@ use std::mem;
 /// The output for a file.
 #[derive(Drop)]
 pub(crate) struct Shown {
-    /// The tables of its lexers, or their examples.
+    /// The tables of the lexers of the file, or their examples.
     pub(crate) tables: String,
     /// The tables or examples as lines of JSON. Either this or `tables` is empty.
     pub(crate) records: Vec<u8>,
-    /// The text of its warnings.
+    /// The text of the warnings of the file.
     pub(crate) warnings: Vec<u8>,
 }
 
@@ -57,7 +57,7 @@ struct Pages {
 ///
 /// # Errors
 ///
-/// Returns `Refused` with the faults of the file, or of the first enum that has some. Returns
+/// Returns `Refused` with the faults of the file, or of the first enum that has any. Returns
 /// `Memory` if memory runs out.
 pub(crate) fn shown_of(
     alloc: Global,
@@ -231,7 +231,7 @@ fn push_made(
     Ok(())
 }
 
-/// Returns the tokens of an enum that has a lexer: there are some.
+/// Returns the tokens of an enum that has a lexer. Such an enum can always be read into tokens.
 fn tokens_of<'s>(alloc: Global, text: &'s str) -> Result<TokenStream<'s>, Memory> {
     match tokenize(alloc, text) {
         Ok(stream) => Ok(stream),

@@ -101,7 +101,7 @@ pub(crate) fn run<
 >(alloc: Global, arguments: &[String], files: &mut F, clock: &C, err: &mut E, out: &mut O) -> u8
     ensures usage { (result ≡ 2) ↔ (requested (map string_bytes arguments.now) ≡ None) }
     // At exit status 0 the question was answered as requested. Two lexers that are compared find
-    // the same on all inputs, and an answer is the stored one.
+    // the same items in all inputs, and an answer that is compared equals the stored one.
     ensures fulfilled { result ≡ 0 → IfSome (requested (map string_bytes arguments.now))
         (λ request. IsFulfilled F.read_yields request files.old files.new Agreement.Same
         (O.contents out.old) (O.contents out.new)) }
@@ -224,7 +224,8 @@ fn answer_or_compare<'w, F: Files, C: Clock + StandardInput, O: Write, E: Write>
     }
 }
 
-/// Compares the answer to the question about the lexers of a file with the stored one at a path.
+/// Compares the answer to the question about the lexers of a file with the stored one at a path,
+/// writes the outcome, and returns it.
 fn expect<'w, F: Files, C: Clock + StandardInput, O: Write, E: Write>(
     task: Task<'w>,
     path: &'w str,
@@ -304,7 +305,7 @@ fn answer_about<'w, F: Files, C: Clock + StandardInput, O: Write, E: Write>(
     }
 }
 
-/// Writes the items of an input. Those of standard input are written as they are found, unless as
+/// Writes the items of an input. Those of standard input are written as they are found, except as
 /// JSON.
 fn lex_any<'w, F: Files, C: Clock + StandardInput, O: Write, E: Write>(
     task: Task<'w>,
@@ -324,7 +325,7 @@ fn lex_any<'w, F: Files, C: Clock + StandardInput, O: Write, E: Write>(
     }
 }
 
-/// Writes the tables of a file or examples, and its warnings.
+/// Writes the tables or the examples of a file, and its warnings.
 fn show<'w, O: Write, E: Write>(
     task: Task<'w>,
     source: &Source<'_>,
@@ -352,7 +353,8 @@ fn show<'w, O: Write, E: Write>(
     print_bytes(&records, out)
 }
 
-/// Writes the tables of a file, with lines that fit the screen, or examples.
+/// Writes the tables or the examples of a file. The lines of tables are cut to the width of the
+/// screen.
 fn print_tables<'w, O: Write>(task: Task<'w>, tables: &str, out: &mut O) -> Result<(), Failure<'w>>
     ensures { IfErr result IsNoMisuse }
 {

@@ -1,4 +1,4 @@
-//! The texts of enums, and the refusals of files.
+//! The texts of enums, and the refusals of files. Used by most modules of this crate.
 
 ghost use Rattle.std.specs.Prelude.{IfErr};
 ghost use Rattle.logos_show.specs.Views.{IsNoMisuse, IsPartAt, IsRefusal};
@@ -90,7 +90,7 @@ pub(crate) fn write_note<E: Write>(err: &mut E, note: &[u8]) {
     let _ = err.flush();
 }
 
-/// Returns the text of faults, after the warnings.
+/// Returns the text of faults, with the warnings before them.
 fn refusal_text(
     part: Part<'_, '_>,
     showing: Showing,
@@ -116,7 +116,8 @@ fn refusal_text(
     }
 }
 
-/// Returns the text of the enum at the beginning of a part of a file, or an empty one.
+/// Returns the text of the enum at the beginning of a part of a file, or an empty text if there is
+/// none.
 fn enum_at<'t>(alloc: Global, part: Part<'_, 't>) -> Result<&'t str, Memory> {
     let found = match enums_in(alloc, part.source.text()) {
         Ok(found) => found,

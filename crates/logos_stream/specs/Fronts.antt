@@ -25,7 +25,7 @@ abbrev pub item_with : StreamItem → List ℕ → Item
 item_with (Token leaf span) slice = token leaf.0 span.from span.to slice
 item_with (Error leaf span) slice = error (option_map (λ l. l.0) leaf) span.from span.to slice
 
--- An item of these bytes.
+-- The item with the bytes at its span in `bytes`.
 abbrev pub item_in : StreamItem → List ℕ → Item
 item_in item bytes = item_with item (slice_range bytes (start_of item) (end_of item))
 
@@ -36,21 +36,22 @@ IsWithout (error leaf from to slice) (Error l span) = (leaf ≡ option_map (λ l
 IsWithout (token leaf from to slice) (Error l span) = ⊥
 IsWithout (error leaf from to slice) (Token l span) = ⊥
 
--- Under a code, a callback and some bytes, which are the last ones, or which more may follow.
+-- For a code, a callback, and bytes that are the last ones of an input or that more may follow.
 module _ (code : CodeValue) (callback : Callback) (bytes : List ℕ) where
-  -- This is the next item up to `to`: in the last bytes, or whatever follows.
+  -- `item` is the next item, found up to `to`: in the last bytes alone, in others whatever follows
+  -- them.
   abbrev pub FindsUpTo : Bool → Item → ℕ → Type 0
   FindsUpTo true item to = RunsOn code callback bytes 0 item to
   FindsUpTo false item to = (more : List ℕ) → MayFollow code more → RunsOn code callback (bytes ++ more) 0 item to
 
-  -- The item comes first.
+  -- The first event is the item.
   pub record IsFirst (is_last : Bool) (item : StreamItem) : Type 0 where
     pub finds : FindsUpTo is_last (item_in item bytes) (end_of item)
     pub nonempty : start_of item < end_of item
     pub within : end_of item ≤ length bytes
 
-  -- No item comes first up to this offset, whatever follows, and the bytes end before the next
-  -- match attempt is decided.
+  -- There is no item up to this offset, whatever follows, and the bytes end before the next match
+  -- attempt is decided.
   pub record IsWaiting (is_last : Bool) (to : ℕ) : Type 0 where
     pub unsettled : is_last ≡ false
     pub within : to ≤ length bytes

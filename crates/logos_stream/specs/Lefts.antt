@@ -26,7 +26,7 @@ abbrev pub MayRead : {R : Type 0} → (R → Option (List ℕ)) → WindowValue 
 MayRead remaining old new = ReadsOn remaining old new ⊎ StaysUnread remaining old new
 
 module _ {R : Type 0} (remaining : R → Option (List ℕ)) (code : CodeValue) (callback : Callback) where
-  -- A stream continues: it reads, passes bytes, and returns these items.
+  -- A stream continues: it reads, passes bytes, and returns the items `found`.
   pub record Continues (old new : WindowValue R) (found : List Item) : Type 0 where
     pub added : List ℕ
     pub consumed : Consumes (remaining old.reader) (remaining new.reader) added
@@ -42,8 +42,8 @@ module _ {R : Type 0} (remaining : R → Option (List ℕ)) (code : CodeValue) (
   Steps old new former items false = (found : List Item) × Continues old new found × (items ≡ former ++ map placed found)
   Steps old new former items true = FinishesNext code callback old new × (new.after ≡ []) × IsTrue new.is_over × (items ≡ former)
 
-  -- These are all remaining items: together with those returned before, they are the items of a run
-  -- of the code on all bytes up to the end.
+  -- All remaining items: together with those returned before, they are the items of a run of the
+  -- code on all bytes up to the end.
   pub record AreLeft (window : WindowValue R) (items : List StreamItem) : Type 0 where
     -- The bytes that were not read yet.
     pub unread : List ℕ

@@ -1,4 +1,4 @@
--- How the window of a stream moves.
+-- The moves of the window of a stream.
 use Rattle.std.specs.Prelude.{◌≡◌, ◌⊎◌, ℕ, ◌+◌, ◌*◌, ◌<◌, ◌≤◌, ◌^◌, Bool, List, [], length, IsTrue, IsCharBoundary}
 use Rattle.logos_machine.specs.Streams.{item_later}
 use Rattle.logos_stream.specs.Fronts.{end_of, item_in, item_with}
@@ -12,7 +12,7 @@ use Rattle.logos_stream.specs.declared.item.Streamed.TheVariants.{Item as Given,
 abbrev pub IsInside : Bool → List ℕ → ℕ → Type 0
 IsInside utf8 bytes to = IsTrue utf8 × ¬ IsCharBoundary bytes to
 
--- In a text, the bytes after the lexable ones are not a character, or not a whole one.
+-- In a text, the bytes after the lexable ones begin no character, or are an incomplete one.
 pub record IsTorn {R : Type 0} (window : WindowValue R) : Type 0 where
   pub at_fault : Bool
   pub none : IsNoText at_fault window.after
@@ -32,7 +32,7 @@ pub record IsPutOff (unread wanted : ℕ) : Type 0 where
   pub twice : wanted ≤ 2 * unread
 
 -- The window waits after the first `to` bytes. The next match attempt is delayed no longer than
--- before, or by how many bytes are left.
+-- before, or as the number of remaining bytes requires.
 pub record WaitsAt {R : Type 0} (old new : WindowValue R) (to : ℕ) : Type 0 where
   pub past : GoesPast to old new
   pub wanted : (new.wanted ≡ old.wanted) ⊎ IsPutOff (unread_length new) new.wanted
@@ -55,7 +55,7 @@ module _ {R : Type 0} (old new : WindowValue R) where
   Waits to NotUtf8 = IsStuck to
   Waits to other = ⊥
 
-  -- The event if nothing is left.
+  -- The event if the lexable bytes have no further item.
   abbrev pub Finishes : Streamed → Type 0
   Finishes NotUtf8 = GoesPast (length old.lexed) old new × IsTorn new
   Finishes End = GoesPast (length old.lexed) old new × (new.after ≡ []) × IsTrue new.is_over

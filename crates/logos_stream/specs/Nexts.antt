@@ -29,7 +29,7 @@ module _ {R : Type 0} (code : CodeValue) (callback : Callback) (old new : Window
 
   -- No item is returned, since the next event depends on bytes that were not read.
   pub record WaitsNext : Type 0 where
-    -- How many bytes were passed, which have no item whatever follows.
+    -- The number of bytes that were passed, which have no item whatever follows.
     pub passed : ℕ
     pub waits : WaitsAt old new passed
     pub unsettled : old.is_last ≡ false

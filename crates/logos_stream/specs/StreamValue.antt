@@ -9,7 +9,7 @@ pub record StreamValue (R C : Type 0) : Type 0 where
   pub callback : C
   pub window : WindowValue R
 
--- A stream before its first byte.
+-- A stream of which nothing was read.
 abbrev pub at_start : {R C : Type 0} → CodeValue → R → ℕ → C → StreamValue R C
 at_start code reader bound callback = record { code = code; callback = callback; window = nothing_read code.utf8 reader bound }
 

@@ -10,9 +10,9 @@ use Rattle.logos_stream.specs.Nexts.{FinishesNext, YieldsNext, WaitsNext}
 use Rattle.logos_stream.specs.WindowValue.{ReadsOn, WindowValue, nothing_read}
 use Rattle.logos_stream.specs.declared.item.StreamItem.{StreamItem}
 
--- These items were found in the bytes up to a point: the items that complete a run from there on
--- complete, after them, the whole run; in these bytes if they are the last ones, otherwise whatever
--- follows them.
+-- `items` are the items of `bytes` up to `to`: together with the items of a run from `to`, they are
+-- the items of a run from the first byte. If the bytes are the last ones, this holds for them,
+-- otherwise for every continuation of them.
 abbrev pub AreFound : Bool → CodeValue → Callback → List ℕ → List Item → ℕ → Type 0
 AreFound true code callback bytes items to = (later : List Item) → Runs code callback bytes to later → Runs code callback bytes 0 (items ++ later)
 AreFound false code callback bytes items to = AreBegun code callback bytes items to

@@ -10,27 +10,27 @@ pub record WindowValue (R : Type 0) : Type 0 where
   -- The bytes that the last move passed without an item, and those at the span of its item.
   pub skipped : List ℕ
   pub slice : List ℕ
-  -- The lexable bytes after these.
+  -- The lexable bytes after `skipped` and `slice`.
   pub lexed : List ℕ
-  -- The bytes that were read after them: in a text, an incomplete character, or bytes that are not
-  -- UTF-8.
+  -- The bytes that were read after `lexed`: in a text, an incomplete character, or bytes that are
+  -- not UTF-8.
   pub after : List ℕ
   -- Whether `lexed` are the last bytes that are lexed.
   pub is_last : Bool
   -- Whether the reader reached its end.
   pub is_over : Bool
-  -- How many bytes of the stream are before `lexed`, saturating at the greatest number.
+  -- The number of bytes of the stream before `lexed`, saturating at the greatest number.
   pub offset : ℕ
-  -- How many bytes may be in memory.
+  -- The greatest number of bytes in memory.
   pub bound : ℕ
-  -- How many bytes the next match attempt needs.
+  -- The number of bytes that the next match attempt needs.
   pub wanted : ℕ
 
--- How many bytes were read after the last item.
+-- The number of bytes that were read after the last move.
 abbrev pub unread_length : {R : Type 0} → WindowValue R → ℕ
 unread_length window = length window.lexed + length window.after
 
--- A stream before its first byte.
+-- A window on a stream of which nothing was read.
 abbrev pub nothing_read : {R : Type 0} → Bool → R → ℕ → WindowValue R
 nothing_read utf8 reader bound = record {
   reader = reader;
@@ -86,7 +86,7 @@ pub record ReadsOn {R : Type 0} (remaining : R → Option (List ℕ)) (old new :
   pub added : List ℕ
   pub consumed : Consumes (remaining old.reader) (remaining new.reader) added
   pub bytes : new.lexed ++ new.after ≡ (old.lexed ++ old.after) ++ added
-  -- The lexable bytes grow by these.
+  -- The bytes by which the lexable bytes grow.
   pub grown : List ℕ
   pub lexed : new.lexed ≡ old.lexed ++ grown
   pub text : IsTrue new.utf8 → IsUtf8 grown

@@ -12,7 +12,8 @@ use logos_machine::machine::{Item, Lexer, Within};
 /// The first event in some bytes.
 #[derive(Clone, Copy)]
 pub(crate) enum Front {
-    /// An item, after matches without items. Its span is relative to the bytes.
+    /// An item, possibly after matches without items. Its span is relative to the start of the
+    /// bytes.
     Item(StreamItem),
     /// No item up to this offset. The next item depends on the bytes that follow.
     Waits(usize),
@@ -20,7 +21,8 @@ pub(crate) enum Front {
     Ends,
 }
 
-/// Returns the first event in `bytes`. Unless they are the last ones, more may follow.
+/// Returns the first event in `bytes`. If `is_last` is set, they are the last bytes of the input;
+/// otherwise more may follow.
 pub(crate) fn front_of<C: Fn(LeafId, &[u8]) -> Action + Copy>(
     code: &Code<'_>,
     bytes: &[u8],

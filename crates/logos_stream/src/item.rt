@@ -1,4 +1,4 @@
-//! Items of a stream. Used by `logos_items`.
+//! Events and items of a stream, as `Stream::next` returns them. Used by `logos_items`.
 
 ghost use Rattle.std.specs.Prelude.{◌≡◌, ◌+◌, ◌<◌, ◌^◌, List, ℕ};
 ghost use Rattle.logos_stream.specs.Views.{item_later, end_of, item_with, start_of};
@@ -20,7 +20,7 @@ pub enum StreamItem {
 /// The next event of a stream.
 #[derive(Clone, Copy, Debug, PartialEq, Eq)]
 pub enum Streamed {
-    /// An item. It is the next one whatever bytes follow.
+    /// The next item, whatever bytes follow.
     Item(StreamItem),
     /// The next event depends on bytes that were not read: call `Stream::read`.
     More,
@@ -34,7 +34,7 @@ pub enum Streamed {
 }
 
 impl StreamItem {
-    /// Returns the span of the item.
+    /// Returns the span of the item in the stream, in bytes.
     pub fn span(self) -> Span
         ensures from { result.from ≡ start_of self }
         ensures to { result.to ≡ end_of self }

@@ -1,4 +1,4 @@
-//! All items of a stream in one call.
+//! `Stream::items`, which returns all items of a stream in one call.
 
 ghost use Rattle.std.specs.Prelude.{◌<◌, IfOk, OnOk};
 ghost use Rattle.logos_stream.specs.Views.{answers_of, unread_length, AreLeft, KeepsCode, MayRead, Steps, TakesMatches};
@@ -12,7 +12,7 @@ use std::io;
 use std::io::{ErrorKind, Read};
 
 impl<'c, 's, R: Read + Drop, C: Fn(LeafId, &[u8]) -> Action + Copy> Stream<'c, 's, R, C> {
-    /// Reads to the end. Returns all items that are left, in order, with their spans in the stream.
+    /// Reads to the end, and returns the remaining items in order, with their spans in the stream.
     ///
     /// # Errors
     ///
@@ -56,7 +56,7 @@ impl<'c, 's, R: Read + Drop, C: Fn(LeafId, &[u8]) -> Action + Copy> Stream<'c, '
         }
     }
 
-    /// Reads once. If the reader is interrupted, nothing is read, which is not an error.
+    /// Reads once. An interrupted read is not an error, and reads nothing.
     fn read_again(&mut self) -> io::Result<()>
         requires { unread_length self.old.window < self.old.window.bound }
         ensures keeps { KeepsCode self.old self.new }

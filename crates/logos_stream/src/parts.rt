@@ -47,7 +47,8 @@ impl<R> Model for Parts<R> {
 }
 
 impl<R: Read + Drop> Parts<R> {
-    /// Makes an input before its first byte. At most `bound` bytes of it are in memory at a time.
+    /// Creates an input from a reader, before anything is read. At most `bound` bytes of it are in
+    /// memory at a time.
     ///
     /// # Errors
     ///
@@ -78,7 +79,7 @@ impl<R: Read + Drop> Parts<R> {
         &self.buffer[..self.held]
     }
 
-    /// Returns the offset of the part in the input.
+    /// Returns the offset of the part in the input, in bytes.
     pub fn before(&self) -> u64
         ensures { result ≡ self.now.before }
     {
@@ -101,7 +102,7 @@ impl<R: Read + Drop> Parts<R> {
         self.held == self.buffer.len()
     }
 
-    /// Passes the first `bytes` bytes of the part.
+    /// Passes the first `bytes` bytes of the part: they leave memory, and `before` counts them.
     pub fn pass(&mut self, bytes: usize)
         requires { bytes ≤ length self.old.part }
         ensures { self.new ≡ without bytes self.old }

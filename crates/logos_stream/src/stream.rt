@@ -51,8 +51,8 @@ impl<'c, 's, R, C> Model for Stream<'c, 's, R, C> {
 }
 
 impl<'c, 's, R: Read + Drop, C: Fn(LeafId, &[u8]) -> Action + Copy> Stream<'c, 's, R, C> {
-    /// Makes a stream before its first byte. At most `bound` bytes of it are in memory at a time.
-    /// The callback is called for each match of a leaf that has one.
+    /// Creates a stream from a reader, before anything is read. At most `bound` bytes of it are in
+    /// memory at a time. The callback is called for each match of a leaf that has one.
     ///
     /// # Errors
     ///
@@ -93,8 +93,8 @@ impl<'c, 's, R: Read + Drop, C: Fn(LeafId, &[u8]) -> Action + Copy> Stream<'c, '
         }
     }
 
-    /// Reads once, unless the last bytes were already read. After `More` there is room for more
-    /// bytes.
+    /// Reads once from the reader, unless the last bytes were already read. After `More`, the bound
+    /// leaves room for at least one byte.
     ///
     /// # Errors
     ///

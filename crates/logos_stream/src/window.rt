@@ -11,9 +11,9 @@ use std::io;
 use std::io::Read;
 use std::marker::Model;
 
-/// Up to this many bytes that a match attempt leaves are lexed again after each read. If it leaves
-/// more, they are lexed again once there are twice as many, so that the time stays linear in the
-/// length of the stream.
+/// The greatest number of undecided bytes that are lexed again after each read. More are lexed
+/// again only once there are twice as many, so that the time stays linear in the length of the
+/// stream.
 const SHORT: usize = 4096;
 
 /// The bytes of a stream that are in memory. Offsets and lengths count bytes.
@@ -34,7 +34,7 @@ pub(crate) struct Window<R> {
     /// The offset in the stream at which the next match attempt begins.
     offset: usize,
     bound: usize,
-    /// How many bytes must be available before the next match attempt is made.
+    /// The number of bytes that must be in memory after `at` before the next match attempt.
     wanted: usize,
 }
 
@@ -63,7 +63,8 @@ impl<R> Model for Window<R> {
 }
 
 impl<R: Read + Drop> Window<R> {
-    /// Makes a window before the first byte of a stream, which is text if `is_utf8` is set.
+    /// Creates a window on a stream of which nothing was read. The stream is text if `is_utf8` is
+    /// set.
     ///
     /// # Errors
     ///
@@ -166,7 +167,7 @@ impl<R: Read + Drop> Window<R> {
         self.unread() < self.wanted
     }
 
-    /// Returns how many bytes were read after the last item.
+    /// Returns the number of bytes in memory after the last move.
     fn unread(&self) -> usize
         ensures { result ≡ unread_length self.now }
     {
@@ -174,7 +175,7 @@ impl<R: Read + Drop> Window<R> {
     }
 
     /// Passes an item that was found in the lexable bytes, and returns it with its span in the
-    /// stream.
+    /// stream. Returns `NotUtf8`, and passes nothing, if the item ends inside a character.
     pub(crate) fn emit(&mut self, item: StreamItem) -> Streamed
         requires order { start_of item < end_of item }
         requires within { end_of item ≤ length self.old.lexed }
@@ -191,7 +192,9 @@ impl<R: Read + Drop> Window<R> {
         Streamed::Item(later(item, before))
     }
 
-    /// Passes the first `to` bytes, which have no item, and waits for more.
+    /// Passes the first `to` lexable bytes, which have no item, and returns `More`, or `TooLong` if
+    /// the bound leaves no room. Returns `NotUtf8`, and passes nothing, if `to` is inside a
+    /// character.
     pub(crate) fn wait(&mut self, to: usize) -> Streamed
         requires { to ≤ length self.old.lexed }
         ensures { Waits self.old self.new to result }
@@ -209,7 +212,7 @@ impl<R: Read + Drop> Window<R> {
         Streamed::More
     }
 
-    /// Waits for more bytes without a match attempt.
+    /// Returns `More` without a match attempt, and passes nothing.
     pub(crate) fn wait_longer(&mut self) -> Streamed
         requires { unread_length self.old < self.old.bound }
         ensures { Waits self.old self.new 0 result }
@@ -272,7 +275,8 @@ fn pass_front<R: Read + Drop>(parts: &mut Parts<R>, bytes: usize)
     }
 }
 
-/// Returns how many bytes the next match attempt needs, after one that has left `unread` bytes.
+/// Returns the number of bytes that the next match attempt needs, after one that left `unread`
+/// bytes undecided.
 fn wanted_after(unread: usize, bound: usize) -> usize
     ensures most { result ≤ bound }
     ensures put_off { IsPutOff unread result }

@@ -18,7 +18,7 @@ spread runs = flat_map (λ run. times run.0 run.1) runs
 pub record Tables : Type 0 where
   -- The class of each symbol.
   pub classes : List ℕ
-  -- These classes as runs: pairs of a count and a class.
+  -- The classes of all symbols as runs: pairs of a count and a class.
   pub class_runs : List (ℕ × ℕ)
   -- Rows of steps, each with one step for each class.
   pub rows : List (List ℕ)
@@ -53,7 +53,7 @@ pub record Hold (code : CodeValue) (tables : Tables) : Type 0 where
   pub class_runs : spread tables.class_runs ≡ tables.classes
   pub runs : spread tables.runs ≡ flat_map (λ row. row) tables.rows
 
--- These are the rows of all states of a code.
+-- The rows of all states of a code.
 pub record AreRows (code : CodeValue) (rows : List (List ℕ)) : Type 0 where
   pub count : length rows ≡ length code.states
   pub are : (state : ℕ) → state < length code.states → HasSteps code (state_at code state) (slice_index_or rows state [])
@@ -62,7 +62,7 @@ pub record AreRows (code : CodeValue) (rows : List (List ℕ)) : Type 0 where
 abbrev pub HaveSameSteps : List (List ℕ) → ℕ → ℕ → Type 0
 HaveSameSteps rows one other = (i : ℕ) → i < length rows → slice_index (slice_index_or rows i []) one ≡ slice_index (slice_index_or rows i []) other
 
--- The class exists, and its symbol has the same steps as the one that is in the class.
+-- The class `number` exists, and its symbol has the same steps as `symbol`.
 abbrev pub IsClassOf : List (List ℕ) → List ℕ → ℕ → ℕ → Type 0
 IsClassOf rows symbols symbol number = (number < length symbols) × HaveSameSteps rows (slice_index symbols number) symbol
 

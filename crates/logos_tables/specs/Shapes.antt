@@ -35,13 +35,14 @@ abbrev pub IsShown : Shape → AroundValue → CodeValue → List ℕ → Type 0
 IsShown (Code config) around code shown = IsCodeText around code shown
 IsShown Tables around code shown = HoldsTables around code shown
 
--- The tokens of a source that a code repeats in a shape, with this around its function.
+-- The tokens of a source that are printed for a code in a shape, with these texts around its
+-- function.
 abbrev pub shape_runs : Shape → AroundValue → CodeValue → List TokenList
 shape_runs (Code config) around code = text_runs around code
 shape_runs Tables around code = front_runs around code
 
--- This is the code of a lexer of a source without faults, in this shape, and this is printed around
--- its function by the options of the source.
+-- `code` is the code of the lexer of a source without faults, in this shape, and `around` are the
+-- texts around its function, as the options of the source determine them.
 pub record IsLexerOf (shape : Shape) (source : List ℕ) (around : AroundValue) (code : CodeValue) : Type 0 where
   pub graph : GraphValue
   pub name : Slice
@@ -49,7 +50,7 @@ pub record IsLexerOf (shape : Shape) (source : List ℕ) (around : AroundValue) 
   pub given : IsGiven source (config_of shape) graph code name export
   pub is_around : IsAroundOf source graph around
 
--- This is the text of a lexer of a source without faults, in this shape.
+-- The text of a lexer of a source without faults, in this shape.
 pub record IsLexerText (shape : Shape) (source shown : List ℕ) : Type 0 where
   pub around : AroundValue
   pub code : CodeValue

@@ -17,7 +17,7 @@ step_number code state symbol =
     if symbol == 256 then led_number state.at_end
     else (if stays code state.fast_loop symbol then 1 else led_number (target code state.fork symbol))
 
--- These are the steps of a state, for each symbol.
+-- The steps of a state, for each symbol.
 pub record HasSteps (code : CodeValue) (state : CodeState) (steps : List ℕ) : Type 0 where
   pub wide : length steps ≡ 257
   pub are : (symbol : ℕ) → symbol < 257 → slice_index steps symbol ≡ step_number code state symbol

@@ -39,7 +39,7 @@ field_head name size = name ++ codes ": (" ++ decimal size ++ codes ", b\""
 abbrev pub field_text : List ℕ → List ℕ → List ℕ
 field_text name numbers = field_head name (size_number numbers) ++ entries_text (size_number numbers) numbers ++ codes "\"), "
 
--- Two fields with runs: the lengths, and the number of each.
+-- Two fields with runs: their lengths, and the numbers that they repeat.
 abbrev pub runs_texts : List ℕ → List ℕ → List (ℕ × ℕ) → List (List ℕ)
 runs_texts lengths numbers runs = field_text lengths (map (λ run. run.0) runs) ∷ field_text numbers (map (λ run. run.1) runs) ∷ []
 
@@ -50,7 +50,7 @@ step_texts class_runs runs slots =
     runs_texts (codes "class_lengths") (codes "classes") class_runs
     ++ (runs_texts (codes "lengths") (codes "steps") runs ++ (field_text (codes "rows") slots ∷ []))
 
--- The mark of each state, and the leaves that are skipped.
+-- The field with the mark of each state.
 abbrev pub marks_text : CodeValue → List ℕ
 marks_text code = field_text (codes "marks") (map (λ state. mark_number state.mark) code.states)
 
@@ -97,14 +97,14 @@ end_text =
     ++ codes "fn error(lex: &mut _Lexer<'s>) -> <Self as Logos<'s>>::Error { _make_error(lex) }\n"
     ++ codes "}\n_Tables::run(lex)\n} }\n"
 
--- The numbers of entries and masks that the runtime computes from the tables. When the text is
--- compiled, it rejects wrong numbers.
+-- The numbers of entries and masks that the runtime computes from the tables. The compiler of the
+-- generated code rejects wrong numbers.
 pub record Sizes : Type 0 where
   pub entries : ℕ
   pub masks : ℕ
   pub folded : ℕ
 
--- The texts of these constants, for these numbers of states and of runs.
+-- The texts of the constants that the runtime computes, for these numbers of states and of runs.
 abbrev pub numbers_texts : ℕ → ℕ → Sizes → List (List ℕ)
 numbers_texts states runs sizes =
     unpacked_text states runs ∷ entries_size_text sizes.entries ∷ masks_text sizes.masks ∷ folded_text sizes.folded ∷ []
@@ -117,7 +117,7 @@ made_texts code tables sizes =
     ++ ((marks_text code ∷ skips_text code ∷ [])
     ++ numbers_texts (length tables.slots) (length tables.runs) sizes))
 
--- Texts, one right after another.
+-- The concatenation of texts.
 abbrev pub joined : List (List ℕ) → List ℕ
 joined texts = flat_map (λ text. text) texts
 

@@ -6,8 +6,8 @@ ghost use Rattle.logos_tables.specs.Imports.{flat_map, are_at_most, byte_text, e
 use logos_byte_class::text::{is_printable, letter_of, lower_digit};
 use logos_token::error::Memory;
 
-/// Returns the number of bytes for each of the numbers: 1, 2, 4 or 8, the least that holds all of
-/// them.
+/// Returns the number of bytes for each of the numbers: the least of 1, 2, 4 and 8 that is enough
+/// for all of them.
 pub(crate) fn size_of(numbers: &[usize]) -> usize
     ensures { result ≡ size_number numbers.now }
 {

@@ -20,7 +20,7 @@ pub(crate) struct SymbolClasses {
 ///
 /// # Errors
 ///
-/// Returns an error if memory runs out.
+/// Returns `AllocError` if memory runs out.
 pub(crate) fn classes_of(alloc: Global, rows: &[Steps]) -> Result<SymbolClasses, AllocError>
     ensures { IfOk result (λ classes. AreClasses rows.now classes.numbers.items classes.symbols.items) }
 {
@@ -49,7 +49,7 @@ fn add_symbol(rows: &[Steps], classes: &mut SymbolClasses, symbol: usize) -> Res
     Ok(())
 }
 
-/// Returns the class whose symbol has the same step as this one in each of the rows, if there is
+/// Returns the class whose symbol has the same step as `symbol` in each of the rows, if there is
 /// one.
 fn class_of(rows: &[Steps], symbols: &[usize], symbol: usize) -> Option<usize>
     ensures { IfSome result (IsClassOf rows.now symbols.now symbol) }
@@ -74,7 +74,7 @@ fn have_same_steps(rows: &[Steps], one: usize, other: usize) -> bool
     true
 }
 
-/// Returns the step of a symbol.
+/// Returns the step of a symbol, or 0 if the symbol does not exist.
 pub(crate) fn step_at(row: &Steps, symbol: usize) -> usize
     ensures { result ≡ slice_index row.now symbol }
 {

@@ -8,7 +8,7 @@ use crate::runs::{Run, lengths_of, steps_in};
 use logos_token::error::Memory;
 use std::alloc::Global;
 
-/// Appends a field with numbers.
+/// Appends a field with the name `name` and the numbers `numbers`.
 pub(crate) fn push_field(text: &mut String, name: &str, numbers: &[usize]) -> Result<(), Memory>
     ensures { OnOk result (Appends (field_text name.now numbers.now ∷ []) (string_bytes text.old)
         (string_bytes text.new)) }
@@ -17,7 +17,7 @@ pub(crate) fn push_field(text: &mut String, name: &str, numbers: &[usize]) -> Re
     Ok(())
 }
 
-/// Appends a field with numbers, and nothing else.
+/// Appends the text of a field: its name, the size of its numbers in bytes, and their bytes.
 fn push_whole_field(text: &mut String, name: &str, numbers: &[usize]) -> Result<(), Memory>
     ensures { OnOk result (string_bytes text.new
         ≡ string_bytes text.old ++ field_text name.now numbers.now) }
@@ -38,7 +38,7 @@ fn push_head(text: &mut String, name: &str, size: usize) -> Result<(), Memory>
     Ok(())
 }
 
-/// Appends two fields with runs: their lengths, and the number of each.
+/// Appends two fields: the lengths of runs, and the number that each run repeats.
 pub(crate) fn push_runs(
     alloc: Global,
     text: &mut String,
@@ -63,7 +63,7 @@ fn push_lengths(alloc: Global, text: &mut String, name: &str, runs: &[Run]) -> R
     push_field(text, name, &lengths)
 }
 
-/// Appends a field with the number of each run.
+/// Appends a field with the number that each run repeats.
 fn push_steps(alloc: Global, text: &mut String, name: &str, runs: &[Run]) -> Result<(), Memory>
     ensures { OnOk result (Appends (field_text name.now (map (λ run. run.1) runs.now) ∷ [])
         (string_bytes text.old) (string_bytes text.new)) }
@@ -72,7 +72,7 @@ fn push_steps(alloc: Global, text: &mut String, name: &str, runs: &[Run]) -> Res
     push_field(text, name, &steps)
 }
 
-/// Appends a part.
+/// Appends a text.
 pub(crate) fn push_str(text: &mut String, part: &str) -> Result<(), Memory>
     ensures { OnOk result (string_bytes text.new ≡ string_bytes text.old ++ part.now) }
 {

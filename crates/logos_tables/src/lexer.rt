@@ -62,7 +62,7 @@ fn push_code(alloc: Global, text: &mut String, code: &Code<'_>) -> Result<(), Me
     Ok(())
 }
 
-/// Appends the tables of steps.
+/// Appends the tables of steps: the runs of classes, the runs of rows, and the row of each state.
 fn push_steps(alloc: Global, text: &mut String, made: &PrintedTables) -> Result<(), Memory>
     ensures { OnOk result (Appends (step_texts made.now.class_runs.items made.now.runs.items
         made.now.rows.slots.items) (string_bytes text.old) (string_bytes text.new)) }
@@ -73,7 +73,7 @@ fn push_steps(alloc: Global, text: &mut String, made: &PrintedTables) -> Result<
     Ok(())
 }
 
-/// Appends the mark of each state.
+/// Appends the table with the mark of each state.
 fn push_marks(alloc: Global, text: &mut String, code: &Code<'_>) -> Result<(), Memory>
     ensures { OnOk result (Appends (marks_text code.now ∷ []) (string_bytes text.old)
         (string_bytes text.new)) }

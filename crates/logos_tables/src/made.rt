@@ -14,9 +14,9 @@ use std::alloc::{AllocError, Global};
 pub(crate) struct PrintedTables {
     /// The rows of all states.
     pub(crate) rows: StepRows,
-    /// The classes of the symbols.
+    /// The classes of all symbols.
     pub(crate) classes: SymbolClasses,
-    /// The runs of these classes.
+    /// The classes of all symbols, as runs.
     pub(crate) class_runs: Vec<Run>,
     /// The runs of the distinct rows, with one step for each class.
     pub(crate) runs: Vec<Run>,
@@ -26,7 +26,7 @@ pub(crate) struct PrintedTables {
 ///
 /// # Errors
 ///
-/// Returns an error if memory runs out.
+/// Returns `AllocError` if memory runs out.
 pub(crate) fn tables_of(alloc: Global, code: &Code<'_>) -> Result<PrintedTables, AllocError>
     ensures { IfOk result (λ made. AreMade code.now made.classes.numbers.items
         made.classes.symbols.items made.rows.slots.items made.rows.distinct.keys

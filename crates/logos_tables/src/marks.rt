@@ -12,7 +12,7 @@ use std::alloc::{AllocError, Global};
 ///
 /// # Errors
 ///
-/// Returns an error if memory runs out.
+/// Returns `AllocError` if memory runs out.
 pub(crate) fn marks_of(alloc: Global, states: &[CodeState]) -> Result<Vec<usize>, AllocError>
     requires { All (λ state. IfSome state.mark (λ mark. mark.leaf.0 < leaf_limit)) states.now }
     ensures { IfOk result (λ marks. marks.items
@@ -26,7 +26,7 @@ pub(crate) fn marks_of(alloc: Global, states: &[CodeState]) -> Result<Vec<usize>
 }
 
 /// Returns the number of a mark: 0 for none, otherwise 2 plus twice the number of its leaf, plus 1
-/// if it is late.
+/// if the mark is late.
 fn mark_number(mark: Option<Mark>) -> usize
     requires { IfSome mark (λ mark. mark.leaf.0 < leaf_limit) }
     ensures { result ≡ mark_number (option_map mark_of mark) }
@@ -42,7 +42,7 @@ fn mark_number(mark: Option<Mark>) -> usize
 ///
 /// # Errors
 ///
-/// Returns an error if memory runs out.
+/// Returns `AllocError` if memory runs out.
 pub(crate) fn skips_of(alloc: Global, leaves: &[CodeLeaf<'_>]) -> Result<Vec<usize>, AllocError>
     ensures { IfOk result (λ skips. skips.items ≡ map (λ leaf. skip_number (use_of leaf)) leaves.now) }
 {

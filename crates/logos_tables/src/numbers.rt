@@ -7,10 +7,10 @@ use crate::steps::Steps;
 /// The maximum number of states for which the rows of the runtime have an entry for each byte.
 const FEW: usize = 300;
 
-/// The columns of such rows.
+/// The number of columns of a row that has an entry for each byte.
 const BYTES: usize = 272;
 
-/// The maximum number of entries, and of leaves, of folded tables with rows.
+/// The maximum numbers of entries and of leaves with which folded tables have rows.
 const MOST_ENTRIES: usize = 1048575;
 
 const MOST_LEAVES: usize = 1023;
@@ -18,8 +18,8 @@ const MOST_LEAVES: usize = 1023;
 /// The number of entries of folded tables before and after their rows.
 const BESIDE: usize = 1024;
 
-/// Returns the number of columns of a row. A row by classes has `more` columns beside those of the
-/// classes.
+/// Returns the number of columns of a row. A row by classes has `more` columns in addition to those
+/// of the classes.
 fn columns(tables: &PrintedTables, more: usize) -> usize {
     if tables.rows.slots.len() <= FEW {
         BYTES
@@ -42,7 +42,8 @@ pub(crate) fn entry_count(tables: &PrintedTables) -> usize {
     row_entries(tables, 0).saturating_add(256)
 }
 
-/// Returns the number of entries that `scan` reads, for a number of leaves.
+/// Returns the number of entries of the folded tables, which `scan` reads. If there are too many
+/// entries or leaves, the tables have no rows.
 pub(crate) fn folded_count(tables: &PrintedTables, leaves: usize) -> usize {
     let entries = row_entries(tables, 1);
     if (entries > MOST_ENTRIES) | (leaves > MOST_LEAVES) {

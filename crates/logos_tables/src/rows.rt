@@ -8,7 +8,7 @@ use indexmap::IndexSet;
 use logos_code::code::Code;
 use std::alloc::{AllocError, Global};
 
-/// A list of rows.
+/// A list of rows, with each distinct row stored once.
 #[derive(Drop)]
 pub(crate) struct StepRows {
     /// The number of each row among the distinct ones.
@@ -22,7 +22,7 @@ pub(crate) struct StepRows {
 impl StepRows {
     ghost use Rattle.logos_tables.specs.Views.{rows_of};
 
-    /// Returns no rows.
+    /// Returns an empty list of rows.
     fn new(alloc: Global) -> StepRows
         ensures { rows_of result ≡ [] }
     {
@@ -42,7 +42,7 @@ impl StepRows {
     }
 }
 
-/// Returns how many states a code has.
+/// Returns the number of states of a code.
 fn state_count(code: &Code<'_>) -> usize
     ensures { result ≡ length code.now.states }
 {
@@ -53,7 +53,7 @@ fn state_count(code: &Code<'_>) -> usize
 ///
 /// # Errors
 ///
-/// Returns an error if memory runs out.
+/// Returns `AllocError` if memory runs out.
 pub(crate) fn rows_of(alloc: Global, code: &Code<'_>) -> Result<StepRows, AllocError>
     ensures { IfOk result (λ rows. AreRows code.now
         (rows_at rows.slots.items rows.distinct.keys)) }

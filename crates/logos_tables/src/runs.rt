@@ -11,14 +11,14 @@ use std::alloc::{AllocError, Global};
 /// The maximum length of a run.
 const LONGEST: usize = 65535;
 
-/// A run: the number of equal numbers, and that number.
+/// A run of equal numbers: its length, and the number.
 pub(crate) type Run = (usize, usize);
 
-/// Returns the runs of numbers.
+/// Returns the runs of equal numbers of which `numbers` consists, in order.
 ///
 /// # Errors
 ///
-/// Returns an error if memory runs out.
+/// Returns `AllocError` if memory runs out.
 pub(crate) fn runs_of(alloc: Global, numbers: &[usize]) -> Result<Vec<Run>, AllocError>
     ensures { IfOk result (λ runs. spread runs.items ≡ numbers.now) }
 {
@@ -33,7 +33,7 @@ pub(crate) fn runs_of(alloc: Global, numbers: &[usize]) -> Result<Vec<Run>, Allo
 ///
 /// # Errors
 ///
-/// Returns an error if memory runs out.
+/// Returns `AllocError` if memory runs out.
 pub(crate) fn row_runs(
     alloc: Global,
     rows: &[Steps],
@@ -48,7 +48,7 @@ pub(crate) fn row_runs(
     Ok(runs)
 }
 
-/// Appends the steps of a row.
+/// Appends the steps of a row, one for each class.
 fn push_row(runs: &mut Vec<Run>, row: &Steps, symbols: &[usize]) -> Result<(), AllocError>
     ensures { OnOk result (spread runs.new.items
         ≡ spread runs.old.items ++ by_classes symbols.now row.now) }
@@ -59,7 +59,7 @@ fn push_row(runs: &mut Vec<Run>, row: &Steps, symbols: &[usize]) -> Result<(), A
     Ok(())
 }
 
-/// Appends a step.
+/// Appends a step: extends the last run by it, or begins a new run.
 fn push_step(runs: &mut Vec<Run>, step: usize) -> Result<(), AllocError>
     ensures { OnOk result (spread runs.new.items ≡ spread runs.old.items ++ step ∷ []) }
 {
@@ -85,7 +85,7 @@ fn continues(run: Run, step: usize) -> bool
 ///
 /// # Errors
 ///
-/// Returns an error if memory runs out.
+/// Returns `AllocError` if memory runs out.
 pub(crate) fn lengths_of(alloc: Global, runs: &[Run]) -> Result<Vec<usize>, AllocError>
     ensures { IfOk result (λ lengths. lengths.items ≡ map (λ run. run.0) runs.now) }
 {
@@ -100,7 +100,7 @@ pub(crate) fn lengths_of(alloc: Global, runs: &[Run]) -> Result<Vec<usize>, Allo
 ///
 /// # Errors
 ///
-/// Returns an error if memory runs out.
+/// Returns `AllocError` if memory runs out.
 pub(crate) fn steps_in(alloc: Global, runs: &[Run]) -> Result<Vec<usize>, AllocError>
     ensures { IfOk result (λ steps. steps.items ≡ map (λ run. run.1) runs.now) }
 {

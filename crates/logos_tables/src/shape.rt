@@ -14,7 +14,7 @@ use std::alloc::Global;
 /// The shape of generated code.
 #[derive(Clone, Copy)]
 pub enum Shape {
-    /// Code, in one of its shapes.
+    /// Generated code in a shape of `Config`: a loop over a state, or a function for each state.
     Code(Config),
     /// Tables for the loop of the runtime.
     Tables,

@@ -15,7 +15,7 @@ const SYMBOLS: usize = 257;
 /// The steps of a state, for each symbol.
 pub(crate) type Steps = [usize; SYMBOLS];
 
-/// Returns the steps of a state.
+/// Returns the step of each symbol in a state.
 pub(crate) fn steps_of(code: &Code<'_>, state: usize) -> Steps
     requires { state < length code.now.states }
     ensures { HasSteps code.now (state_at code.now state) result }
@@ -55,7 +55,7 @@ fn stays(code: &Code<'_>, state: usize, byte: u8) -> bool
     }
 }
 
-/// Returns the number of the step to the target of the end of the input.
+/// Returns the number of the step that a state takes at the end of the input.
 fn number_at_end(code: &Code<'_>, state: usize) -> usize
     requires { state < length code.now.states }
     ensures { result ≡ led_number (state_at code.now state).at_end }
@@ -63,7 +63,7 @@ fn number_at_end(code: &Code<'_>, state: usize) -> usize
     led_number(code.parts(), code.at_end(state))
 }
 
-/// Returns the number of the step to the target of the byte.
+/// Returns the number of the step that a state takes by the byte.
 fn number_of_target(code: &Code<'_>, state: usize, byte: u8) -> usize
     requires { state < length code.now.states }
     ensures { result ≡ led_number (target code.now (state_at code.now state).fork byte) }
@@ -71,7 +71,7 @@ fn number_of_target(code: &Code<'_>, state: usize, byte: u8) -> usize
     led_number(code.parts(), code.target(state, byte))
 }
 
-/// Returns the number of the step to a state, or to none.
+/// Returns the number of the step to `target`, or of the step without a target.
 fn led_number(parts: &CodeParts<'_>, target: Option<usize>) -> usize
     requires { IfSome target (NamesState (code_of parts.now)) }
     ensures { result ≡ led_number target }

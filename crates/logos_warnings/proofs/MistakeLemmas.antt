@@ -26,7 +26,7 @@ pub no_helper : {run : TokenList} → attribute_in run ≡ None → ¬ HasHelper
 no_helper is (here {split = other} e h) = let gone : None ≡ Some other = sym is ∙ e in cc
 no_helper is (later {split = other} e h) = let gone : None ≡ Some other = sym is ∙ e in cc
 
--- the facts about the rest is known of the run
+-- the fact about the rest implies the fact about the run
 pub helper_turn : {run : TokenList} (split : SplitAttribute) → attribute_in run ≡ Some split → ¬ IsHelper split.attribute → HasHelper run ↔ HasHelper split.rest
 helper_turn {run} split is other = (λ h. go (split_helper split is h), λ h. later is h)
   where

@@ -155,13 +155,15 @@ pub record NamesAdd (item : EnumValue) (before after : List MistakeValue) : Type
   pub of_enum : RunAdds OnEnum item.attributes before mid
   pub of_variants : VariantsAdd item.variants mid after
 
--- The mistakes in the names of an enum, and last that it does not derive `Logos`.
+-- The mistakes in the attributes of an enum and its variants, and last that it does not derive
+-- `Logos`.
 pub record ForgetsDerive (item : EnumValue) (warnings : List MistakeValue) : Type 0 where
   pub names : List MistakeValue
   pub of_names : NamesAdd item [] names
   pub are : warnings ≡ names ++ no_derive item.name.span ∷ []
 
--- The mistakes in the names of an enum, and last that none of its variants has a pattern.
+-- The mistakes in the attributes of an enum and its variants, and last that no variant has a
+-- pattern.
 pub record LacksPatterns (item : EnumValue) (mistakes : List MistakeValue) : Type 0 where
   pub names : List MistakeValue
   pub of_names : NamesAdd item [] names

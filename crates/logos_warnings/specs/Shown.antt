@@ -33,7 +33,8 @@ pub record IsAbout (name : List ℕ) (mistake : MistakeValue) (warning : Warning
   pub message : string_bytes warning.message ≡ mistake_text name mistake
   pub span : warning.span ≡ span_of mistake
 
--- A `cfg` matters in a file. Before the derive macro runs, each `cfg` was applied.
+-- Whether an enum from this origin may have a `cfg` that was not applied. Before the derive macro
+-- runs, the compiler has applied each `cfg`.
 abbrev pub has_conditions : Origin → Bool
 has_conditions File = true
 has_conditions Macro = false
@@ -47,8 +48,8 @@ is_warning (conditional span) origin = has_conditions origin
 is_warning (no_pattern span) origin = true
 is_warning (no_derive span) origin = true
 
--- These are the warnings about mistakes in the enum with this name, in order: one for each mistake
--- that is one.
+-- The warnings about mistakes in the enum with this name, in order: one for each mistake that is a
+-- warning for this origin.
 pub data AreAbout (name : List ℕ) (origin : Origin) : List MistakeValue → List Warning → Type 0 where
   no_mistake : AreAbout name origin [] []
   is_shown : {mistake : MistakeValue} {mistakes : List MistakeValue} {warning : Warning} {warnings : List Warning} →
@@ -56,8 +57,9 @@ pub data AreAbout (name : List ℕ) (origin : Origin) : List MistakeValue → Li
   passed : {mistake : MistakeValue} {mistakes : List MistakeValue} {warnings : List Warning} →
       is_warning mistake origin ≡ false → AreAbout name origin mistakes warnings → AreAbout name origin (mistake ∷ mistakes) warnings
 
--- The warning about this mistake was added, if it is one: with those about further mistakes these
--- are the warnings about all.
+-- The warning about a mistake was added, if the mistake is a warning for this origin. The added
+-- warnings, followed by the warnings about any further mistakes, are the warnings about all of
+-- these mistakes in order.
 pub record AddsAbout (name : List ℕ) (origin : Origin) (mistake : MistakeValue) (old new : List Warning) : Type 0 where
   pub added : List Warning
   pub is : new ≡ old ++ added
@@ -65,7 +67,7 @@ pub record AddsAbout (name : List ℕ) (origin : Origin) (mistake : MistakeValue
 
 -- ---- Ignored attributes
 
--- A run of attributes has this one.
+-- A run of attributes contains this one.
 pub data HasAttribute (attribute : AttributeValue) : TokenList → Type 0 where
   is_first : {run : TokenList} {split : SplitAttribute} → attribute_in run ≡ Some split → split.attribute ≡ attribute → HasAttribute attribute run
   is_later : {run : TokenList} {split : SplitAttribute} → attribute_in run ≡ Some split → HasAttribute attribute split.rest → HasAttribute attribute run
@@ -98,14 +100,14 @@ IsIgnored item warning = IsIgnoredIn item.attributes warning ⊎ IsIgnoredOn ite
 
 -- ---- Enums
 
--- Warnings were added, and this holds of each of them.
+-- Warnings were added, each of which satisfies `Holds`.
 pub record AddsEach (Holds : Warning → Type 0) (old new : List Warning) : Type 0 where
   pub added : List Warning
   pub is : new ≡ old ++ added
   pub each : All Holds added
 
--- These are the warnings for an enum, which may derive `Logos`: those about its mistakes, and then
--- those about attributes that its lexer ignores.
+-- The warnings for an enum, which may derive `Logos`: those about its mistakes, and then those
+-- about attributes that its lexer ignores.
 pub record AreOfEnum (item : EnumValue) (derives : Bool) (origin : Origin) (warnings : List Warning) : Type 0 where
   pub mistakes : List MistakeValue
   pub are : AreMistakes item derives mistakes
@@ -113,12 +115,12 @@ pub record AreOfEnum (item : EnumValue) (derives : Bool) (origin : Origin) (warn
   pub about : AreAbout item.name.text origin mistakes front
   pub ignored : AddsEach (IsIgnored item) front warnings
 
--- These are the warnings for the tokens of an enum. Tokens that do not spell one have none.
+-- The warnings for the tokens of an enum. Tokens that do not spell one have none.
 pub data AreOfTokens (tokens : TokenList) (derives : Bool) (origin : Origin) (warnings : List Warning) : Type 0 where
   of_enum : {item : EnumValue} → Reads tokens (Ok item) → AreOfEnum item derives origin warnings → AreOfTokens tokens derives origin warnings
   of_other : {error : ReadError} → Reads tokens (Err error) → warnings ≡ [] → AreOfTokens tokens derives origin warnings
 
--- These are the warnings for the text of an enum. A text without tokens has none.
+-- The warnings for the text of an enum. A text without tokens has none.
 pub data AreOfText (text : List ℕ) (derives : Bool) (origin : Origin) (warnings : List Warning) : Type 0 where
   of_tokens : {tokens : TokenList} → Spells text tokens → AreOfTokens tokens derives origin warnings → AreOfText text derives origin warnings
   of_unread : {error : TokenError} → IsRefusal text error → error ≢ Memory → warnings ≡ [] → AreOfText text derives origin warnings

@@ -28,8 +28,8 @@ fn begins_with_colon(tokens: Tokens<'_, '_>) -> bool
     }
 }
 
-/// Returns the name of an attribute whose path is one identifier, from the run between its
-/// brackets.
+/// Returns the name of an attribute, from the run between its brackets, or `None` if its path is
+/// not one identifier.
 fn name_in<'s>(tokens: Tokens<'_, 's>) -> Option<&'s str>
     ensures { MatchOption result (name_in (tokens_of tokens.entry) ≡ None)
         (λ name. name_in (tokens_of tokens.entry) ≡ Some name.now) }
@@ -40,7 +40,8 @@ fn name_in<'s>(tokens: Tokens<'_, 's>) -> Option<&'s str>
     }
 }
 
-/// Returns the name of an attribute whose path is one identifier.
+/// Returns the name of an attribute, or `None` if it has no brackets or its path is not one
+/// identifier.
 pub(crate) fn name_of<'s>(attribute: Attribute<'_, 's>) -> Option<&'s str>
     ensures { MatchOption result (name_of (attribute_value attribute.entry) ≡ None)
         (λ name. name_of (attribute_value attribute.entry) ≡ Some name.now) }

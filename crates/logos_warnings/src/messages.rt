@@ -13,10 +13,11 @@ use logos_token::error::Memory;
 use logos_token::token::{Span, TokenError, Tokens, tokenize};
 use std::alloc::{AllocError, Global};
 
-/// Returns the warnings for an enum with this text: those for its own attributes and then those for
-/// its variants' attributes, in source order; then that it has no pattern or does not derive
-/// `Logos`; and last those for attributes that its lexer ignores. An enum that cannot be read has
-/// none. An active `cfg` is not a mistake in an enum from the derive macro.
+/// Returns the warnings for the enum that `text` spells: those for its own attributes and for its
+/// variants' attributes, in source order; the warning that it has no pattern or does not derive
+/// `Logos`; and those for attributes that its lexer ignores. A text that does not spell an enum has
+/// none. `derives` is whether the enum derives `Logos`. An active `cfg` is not a mistake in an enum
+/// from the derive macro.
 ///
 /// # Errors
 ///
@@ -48,7 +49,8 @@ fn warnings_of_unread(alloc: Global, error: TokenError) -> Result<Vec<Warning>, 
     }
 }
 
-/// Returns the warnings of `enum_warnings` for an enum with these tokens.
+/// Returns the warnings of `enum_warnings` for an enum with these tokens. `derives` is whether the
+/// enum derives `Logos`.
 ///
 /// # Errors
 ///
@@ -82,7 +84,8 @@ fn warnings_of_misread(alloc: Global, error: ReadError) -> Result<Vec<Warning>, 
     }
 }
 
-/// Returns the warnings of `enum_warnings` for an enum that was read.
+/// Returns the warnings of `enum_warnings` for an enum that was read. `derives` is whether the enum
+/// derives `Logos`.
 ///
 /// # Errors
 ///
@@ -122,7 +125,8 @@ fn warnings_about(
     Ok(warnings)
 }
 
-/// Adds the warning for a mistake in the enum with this name, if it is one.
+/// Adds the warning for a mistake in the enum with this name, if the mistake is a warning for
+/// `origin`.
 fn add_about(
     name: &str,
     mistake: Mistake<'_>,

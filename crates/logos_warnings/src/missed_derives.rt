@@ -16,9 +16,9 @@ const MESSAGE: &str = "this derive of `Logos` is passed over";
 const HELP: &str =
     "write `derive(Logos)` or `derive(logos::Logos)` on an enum outside of functions and macros";
 
-/// Returns a warning for each `derive` among the tokens of a file that lists the derive macro, by
-/// any path, and that is in none of these spans: those of the enums that are found to derive it, in
-/// order.
+/// Returns a warning for each `derive` among the tokens of a file that lists the derive macro, with
+/// any path, outside of the enums that were found to derive it. `found` are the spans of these
+/// enums, in order.
 ///
 /// # Errors
 ///
@@ -81,7 +81,8 @@ fn search_run(run: Tokens<'_, '_>, found: &mut Vec<Span>) -> Result<(), AllocErr
     Ok(())
 }
 
-/// Appends the span of such a list at the beginning of a run, and the spans in a group there.
+/// Appends the span of a list of `derive` at the beginning of a run, like `add_derive`, and the
+/// spans in a group there.
 #[cycle(search)]
 fn search_first(run: Tokens<'_, '_>, found: &mut Vec<Span>) -> Result<(), AllocError> {
     add_derive(run, found)?;

@@ -11,7 +11,8 @@ use logos_enum::{Attribute, ItemEnum, Variant, split_attribute};
 use logos_token::token::{Span, Tokens};
 use std::alloc::{AllocError, Global};
 
-/// A probable mistake in an enum that is not a fault. Spans are byte offsets in its text.
+/// A probable mistake in an enum that is not a fault. Spans are byte offsets in the text of the
+/// enum.
 #[derive(Clone, Copy, Debug)]
 pub enum Mistake<'s> {
     /// The name of an attribute is near to the name of a helper attribute.
@@ -48,9 +49,9 @@ pub enum Mistake<'s> {
     },
 }
 
-/// Returns the mistakes in an enum: those of its own attributes and then those of its variants'
-/// attributes, in source order, and last that it does not derive `Logos` although it has helper
-/// attributes. An enum that does not derive `Logos` and has no helper attribute has none.
+/// Returns the mistakes in an enum: those in its own attributes and then those in its variants'
+/// attributes, in source order, and last `NoPattern` or `NoDerive`, if one applies. `derives` is
+/// whether the enum derives `Logos`. Without that and without helper attributes it has no mistakes.
 ///
 /// # Errors
 ///

@@ -81,7 +81,7 @@ fn add_attribute(
     Ok(())
 }
 
-/// Adds a warning.
+/// Adds a warning with a help.
 fn add(
     message: &str,
     help: &'static str,

@@ -7,7 +7,7 @@ use logos_report::Warning;
 use logos_token::token::Span;
 use std::alloc::{AllocError, Global};
 
-/// Returns a warning with a fixed message.
+/// Returns a warning with a fixed message. `span` is in bytes of the source.
 ///
 /// # Errors
 ///
@@ -25,7 +25,7 @@ pub fn fixed_warning(
     Ok(plain_warning(message, span, help))
 }
 
-/// Returns a warning with a message.
+/// Returns a warning with a message. `span` is in bytes of the source.
 pub fn plain_warning(message: String, span: Span, help: Option<&'static str>) -> Warning
     ensures text { result.message ≡ message }
     ensures span { result.span ≡ span }

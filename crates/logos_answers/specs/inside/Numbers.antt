@@ -17,7 +17,7 @@ abbrev pub IsNumberOf : Table → Option (List ℕ) → ℕ → Type 0
 IsNumberOf table None number = number ≡ 0
 IsNumberOf table (Some name) number = (index : ℕ) × (key : Bor (List ℕ)) × (number ≡ index + 1) × (slice_get table index ≡ Some key) × (key.now ≡ name)
 
--- These are the numbers of the variants of the first leaves.
+-- The numbers of the variants of the first `count` leaves.
 pub record AreNumbers (table : Table) (leaves : List Leaf) (count : ℕ) (numbers : List ℕ) : Type 0 where
   pub long : length numbers ≡ count
   pub each : (k : ℕ) (leaf : Leaf) → k < count → slice_get leaves k ≡ Some leaf → IsNumberOf table (variant_name leaf.kind) (slice_index numbers k)

@@ -10,15 +10,15 @@ use Rattle.logos_text.specs.Fronts.{AroundValue}
 use Rattle.logos_text.specs.declared.sink.Sink.{Sink}
 use Rattle.logos_token.specs.Faults.{Fault}
 
--- This is the derivation of a source that is accepted: it has the text of this code, with this
--- around its function.
+-- The derivation of an accepted source: the text of this code, with these texts around its
+-- function, and warnings.
 pub record IsAcceptedBy (shape : Shape) (around : AroundValue) (code : CodeValue) (derivation : Derivation) : Type 0 where
   pub made : Sink
   pub is : derivation.implementation ≡ Some made
   pub implements : IsMadeOf shape around code made
   pub warns : All IsWarning derivation.diagnostics.items
 
--- This is the derivation of a source with these faults, if it is refused for them.
+-- The derivation of a source that is refused for these faults.
 pub record IsRefusedFor (source : List ℕ) (faults : List Fault) (derivation : Derivation) : Type 0 where
   pub sizes : List ℕ
   pub none : derivation.implementation ≡ None

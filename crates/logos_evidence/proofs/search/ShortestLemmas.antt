@@ -128,7 +128,7 @@ module _ (next : PendingPoint → ℕ → Option PendingPoint) (is_goal : Pendin
       go ih (inl m) = on ih m
       go ih (inr m) = let r = tree.rising n i m (slice_get_within ks i p at) in omega (arith, r)
 
-  -- where all pending points were looked at, none is
+  -- if all pending points were examined, no input leads to a goal
   pub nowhere : (bytes : List ℕ) (i : ℕ) (p q : PendingPoint) → length ks ≤ n → All (λ x. x < 256) bytes → slice_get ks i ≡ Some p → after next p bytes ≡ Some q →
       is_goal q ≡ true → ⊥
   nowhere [] i p q l are at way goal =

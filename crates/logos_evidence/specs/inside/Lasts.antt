@@ -15,12 +15,11 @@ module _ (graph : List GraphState) where
   abbrev pub late_of : ℕ → Option ℕ
   late_of s = option_and_then (λ state. state.state_type.accept) (slice_get graph s)
 
-  -- The leaf whose match ends at a state, as a step to the next state determines it, if there is
-  -- one.
+  -- The leaf whose match ends at the state `s`, if there is one. `next` is the next state.
   abbrev pub seen_by : ℕ → Option ℕ → Option ℕ
   seen_by s next = option_or (option_and_then late_of next) (early_of s)
 
-  -- The leaf whose match ends at a state, as the step by a byte determines it, and as the end does.
+  -- The leaf whose match ends at a state before a byte, and at a state at the end of the input.
   abbrev pub mark_by : ℕ → ℕ → Option ℕ
   mark_by s b = seen_by s (next_by graph s b)
 
@@ -31,7 +30,8 @@ module _ (graph : List GraphState) where
   abbrev pub step_to : ℕ → ℕ → ℕ
   step_to s b = unwrap_or (next_by graph s b) (length graph)
 
-  -- The last match from a state on, with `n` bytes read and these left: its leaf and its length.
+  -- The last match on the way from a state, after `n` bytes and with the remaining bytes: its leaf
+  -- and its length.
   abbrev pub last_from : ℕ → ℕ → List ℕ → Option (ℕ × ℕ)
   last_from s n [] = with_size n (mark_at_end s)
   last_from s n (b ∷ bytes) = option_or (last_from (step_to s b) (n + 1) bytes) (with_size n (mark_by s b))

@@ -15,7 +15,8 @@ module _ (dfa : Automaton) (priority : ℕ → ℕ) where
   abbrev pub matches_at : ℕ → Option ℕ → List Match
   matches_at end s = matches_in end (option_and_then (slice_get dfa.matches) s)
 
-  -- The matches from a state on that end at an offset or later, with these bytes left.
+  -- The matches on the way from a state that end at the offset `end` or later, with the remaining
+  -- bytes.
   abbrev pub listed : ℕ → Option ℕ → List ℕ → List Match
   listed end s [] = matches_at end (option_and_then (slice_get dfa.at_end) s)
   listed end s (b ∷ bytes) = matches_at end (dfa_next dfa s b) ++ listed (end + 1) (dfa_next dfa s b) bytes

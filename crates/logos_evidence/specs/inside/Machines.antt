@@ -9,7 +9,8 @@ use Rattle.logos_evidence.specs.declared.search.point.Point.{Point}
 use Rattle.logos_evidence.specs.inside.Steps.{step_by, listed_at_end}
 use Rattle.logos_evidence.specs.inside.Lasts.{mark_by, mark_at_end, step_to}
 
--- Whether the last match is one of the leaf, after the match of a mark, if there is one.
+-- Whether the last match is a match of the leaf: the match of the new mark, or without one an
+-- earlier match, for which `before` is the answer.
 abbrev pub is_last : ℕ → Option ℕ → Bool → Bool
 is_last leaf None before = before
 is_last leaf (Some mark) before = mark == leaf
@@ -21,7 +22,7 @@ point_from s = record { here = s; there = 0; begun = false; met = false; last = 
 abbrev pub first_point : Point
 first_point = point_from 0
 
--- The last match is one of a leaf.
+-- The machine of examples. At a goal the last match is a match of `leaf`.
 module _ (graph : List GraphState) (leaf : ℕ) where
   abbrev pub example_next : Point → ℕ → Option Point
   example_next at b = Some (record {
@@ -35,7 +36,7 @@ module _ (graph : List GraphState) (leaf : ℕ) where
   abbrev pub example_goal : Point → Bool
   example_goal at = is_last leaf (mark_at_end graph at.here) at.last
 
--- Whether both have no name, or the same one.
+-- Whether neither leaf has a name, or both have the same name.
 abbrev pub same_option : Option ℕ → Option ℕ → Bool
 same_option None None = true
 same_option None (Some n) = false
@@ -57,16 +58,16 @@ is_cut utf8 b = not utf8 || (nat_lt b 0x80 || nat_le 0xc0 b)
 abbrev pub one_leads : Option ℕ → Option ℕ → Bool
 one_leads next twin = (is_some next && not (is_some twin)) || (not (is_some next) && is_some twin)
 
--- Whether the last matches differ after one more step with these marks. The last flag is whether
--- errors may end at different offsets.
+-- Whether the last matches differ after one more step with these marks. `parts` is whether errors
+-- may end at different offsets.
 abbrev pub differs_after : List ℕ → List ℕ → Bool → Bool → Option ℕ → Option ℕ → Bool → Bool
 differs_after names others met last None None parts = if met then last else last || parts
 differs_after names others met last None (Some k) parts = true
 differs_after names others met last (Some m) None parts = true
 differs_after names others met last (Some m) (Some k) parts = not (same_mark names (Some m) others (Some k))
 
--- The last matches of two graphs differ, or there are none, and their errors end at different
--- offsets.
+-- The machine of comparisons. At a goal the last matches of two graphs differ, or there are none,
+-- and their errors end at different offsets.
 module _ (one other : List GraphState) (names others : List ℕ) (utf8 : Bool) where
   abbrev pub parts_at : Point → ℕ → Bool
   parts_at at b = at.begun && (is_cut utf8 b && one_leads (next_by one at.here b) (next_by other at.there b))
@@ -83,18 +84,18 @@ module _ (one other : List GraphState) (names others : List ℕ) (utf8 : Bool) w
   abbrev pub pair_goal : Point → Bool
   pair_goal at = differs_after names others at.met at.last (mark_at_end one at.here) (mark_at_end other at.there) false
 
--- The edges of a graph.
+-- The machine of covering inputs, which follows the edges of a graph.
 module _ (graph : List GraphState) where
   abbrev pub edge_next : Point → ℕ → Option Point
   edge_next at b = option_map point_from (next_by graph at.here b)
 
-  -- An edge for the end of the input.
+  -- Whether there is an edge for the end of the input.
   abbrev pub edge_goal : Point → Bool
   edge_goal at = is_some (next_at_end graph at.here)
 
 -- ---- Leaves that an automaton lists
 
--- Whether the leaf is listed.
+-- Whether the leaf is among the listed ones.
 abbrev pub lists : ℕ → Option (List ℕ) → Bool
 lists leaf None = false
 lists leaf (Some leaves) = list_any (λ other. other == leaf) leaves
@@ -104,7 +105,8 @@ abbrev pub tops_are : List Rule → List ℕ → Option (List ℕ) → Bool
 tops_are rules set None = false
 tops_are rules set (Some leaves) = bytes_eq (top_of rules leaves) set
 
--- A leaf has matched, and the last match is another's.
+-- The machine of losses. At a goal `leaf` has matched, and the last match is a match of another
+-- leaf.
 module _ (dfa : Automaton) (graph : List GraphState) (leaf : ℕ) where
   abbrev pub loss_at : Point → ℕ → ℕ → Point
   loss_at at b next = record {
@@ -125,7 +127,8 @@ module _ (dfa : Automaton) (graph : List GraphState) (leaf : ℕ) where
 abbrev pub meeting_at : ℕ → Bool → Point
 meeting_at next met = record { here = if met then 0 else next; there = 0; begun = false; met = met; last = false }
 
--- The leaves of highest priority for some span are a set.
+-- The machine of meetings. At a goal exactly the leaves of a set are those of highest priority for
+-- some span.
 module _ (dfa : Automaton) (rules : List Rule) (set : List ℕ) where
   abbrev pub meeting_on : ℕ → Point
   meeting_on next = meeting_at next (tops_are rules set (slice_get dfa.matches next))

@@ -1,4 +1,4 @@
--- Steps of an automaton from any number.
+-- Steps of an automaton, from numbers that need not be states.
 use Rattle.std.specs.Prelude.{ℕ, List, length, Option, None, Some, if◌then◌else◌, nat_lt, slice_get, option_and_then}
 use Rattle.logos_automaton.specs.Automaton.{Automaton, dfa_next}
 
@@ -7,7 +7,7 @@ module _ (dfa : Automaton) where
   abbrev pub step_by : ℕ → ℕ → Option ℕ
   step_by s b = if nat_lt s (length dfa.matches) then dfa_next dfa (Some s) b else None
 
-  -- The state to which the end of the input leads.
+  -- The state to which the end of the input leads, if the number is a state.
   abbrev pub step_at_end : ℕ → Option ℕ
   step_at_end s = if nat_lt s (length dfa.matches) then slice_get dfa.at_end s else None
 

@@ -4,11 +4,11 @@ use Rattle.logos_evidence.specs.search.Machines.{IsInput}
 use Rattle.logos_evidence.specs.declared.search.point.Point.{Point}
 use Rattle.logos_evidence.specs.declared.search.steps.InputStep.{InputStep}
 
--- A byte leads from a point to another one.
+-- The step by a byte from a point to another one.
 abbrev pub step_to : Point → Point → InputStep
 step_to from to = record { from = from; to = to; ends = false }
 
--- The input ends at a point.
+-- The step at the end of an input, from the point at which the input ends.
 abbrev pub end_at : Point → InputStep
 end_at at = record { from = at; to = at; ends = true }
 

@@ -3,7 +3,7 @@ use Rattle.std.specs.Prelude.{ℕ, zero, suc, ◌-◌, Bool, ◌&&◌, List, [],
 use Rattle.simdutf8.specs.Steps.{least_after, most_after}
 use Rattle.logos_evidence.specs.declared.search.utf8.Rest.{Rest}
 
--- The rest of a character with `n` bytes to come.
+-- The rest of a character that `n` more bytes complete.
 abbrev pub more : ℕ → Rest
 more n = record { low = 0x80; high = 0xbf; count = n }
 
@@ -27,7 +27,7 @@ rest_after rest b =
 abbrev pub rest_by : Bool → Rest → ℕ → Option Rest
 rest_by utf8 rest b = if utf8 then rest_after rest b else Some rest
 
--- Like `rest_by`, after several bytes.
+-- The rest of the character after several more bytes, if `rest_by` accepts each of them.
 abbrev pub rest_over : Bool → Rest → List ℕ → Option Rest
 rest_over utf8 rest [] = Some rest
 rest_over utf8 rest (b ∷ bytes) = option_and_then (λ next. rest_over utf8 next bytes) (rest_by utf8 rest b)

@@ -67,8 +67,8 @@ fn explore<M: Machine>(
     })
 }
 
-/// Returns the bytes that lead to a pending point, one more byte, and the least bytes that then
-/// complete a character.
+/// Returns the bytes that lead to a pending point, the byte that is read there, and the least bytes
+/// that then complete a character.
 ///
 /// # Errors
 ///
@@ -111,7 +111,8 @@ fn add_input<M: Machine>(
     Ok(())
 }
 
-/// Covers the step from a pending point by a byte, if there is one.
+/// Covers the step from a pending point by a byte, if there is such a step: adds an input that
+/// takes it, unless another one does.
 ///
 /// # Errors
 ///

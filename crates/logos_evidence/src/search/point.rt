@@ -5,7 +5,7 @@
 pub struct Point {
     /// A state.
     pub here: usize,
-    /// A second state.
+    /// A second state, for machines that follow two states.
     pub there: usize,
     /// Whether a byte was read.
     pub begun: bool,
@@ -24,7 +24,7 @@ pub trait Machine {
 
     ghost goal: { Self → At → Bool };
 
-    /// Returns the point to which a byte leads.
+    /// Returns the point to which a byte leads, if there is one.
     fn next(&self, at: Point, byte: u8) -> Option<Point>
         ensures { result ≡ leads self.now at byte };
 

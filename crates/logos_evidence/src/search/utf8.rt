@@ -6,18 +6,18 @@ ghost use Rattle.simdutf8.specs.Steps as steps;
 
 use std::alloc::AllocError;
 
-/// The bytes that may complete the character begun by the bytes read so far.
+/// The bytes that may complete the character that the last bytes begin.
 #[derive(Clone, Copy, PartialEq, Eq, Hash)]
 pub struct Rest {
     /// The least byte that may come next, inside a character.
     pub low: u8,
-    /// The greatest one.
+    /// The greatest byte that may come next, inside a character.
     pub high: u8,
     /// The number of bytes until the end of the character.
     pub count: usize,
 }
 
-/// Returns the rest of a character with `count` bytes to come.
+/// Returns the rest of a character that `count` more bytes complete.
 pub(crate) fn more(count: usize) -> Rest
     ensures { result ≡ rests.more count }
 {
@@ -28,7 +28,7 @@ pub(crate) fn more(count: usize) -> Rest
     }
 }
 
-/// Returns the least byte that may follow the first one of a character.
+/// Returns the least byte that may follow `byte`, the first byte of a character.
 fn least_after(byte: u8) -> u8
     ensures { result ≡ steps.least_after byte }
 {
@@ -41,7 +41,7 @@ fn least_after(byte: u8) -> u8
     }
 }
 
-/// Returns the greatest byte that may follow the first one of a character.
+/// Returns the greatest byte that may follow `byte`, the first byte of a character.
 fn most_after(byte: u8) -> u8
     ensures { result ≡ steps.most_after byte }
 {

@@ -1,5 +1,5 @@
-//! The points that were visited, breadth first, and how each was first reached. Used by `cover` and
-//! `search`.
+//! The points that were visited, breadth first, and the step to each from its predecessor. Used by
+//! `cover` and `search`.
 
 ghost use Rattle.std.specs.Prelude.{◌≡◌, ◌+◌, ◌<◌, ◌∷◌, [], ℕ, IfOk, OnOk, Option, Some, length, slice_get};
 ghost use Rattle.logos_evidence.specs.search.Views.{more, PendingPoint as At};
@@ -12,21 +12,21 @@ use crate::search::utf8::{Rest, more, rest_by};
 use indexmap::IndexSet;
 use std::alloc::{AllocError, Global};
 
-/// A point, with the rest of the character begun by the bytes read so far.
+/// A point, with the rest of the character that the last bytes begin.
 #[derive(Clone, Copy, PartialEq, Eq, Hash)]
 pub(crate) struct PendingPoint {
     pub(crate) point: Point,
     pub(crate) rest: Rest,
 }
 
-/// How a pending point was first reached.
+/// The step by which a pending point was first reached.
 #[derive(Clone, Copy)]
 pub(crate) struct Visit {
-    /// The number of its predecessor.
+    /// The number of the predecessor.
     pub(crate) from: usize,
-    /// The byte that leads from the predecessor to it.
+    /// The byte that leads from the predecessor to the pending point.
     pub(crate) byte: u8,
-    /// The number of bytes that lead to it.
+    /// The number of bytes from the first pending point.
     pub(crate) depth: usize,
 }
 
@@ -37,7 +37,7 @@ pub(crate) struct Visits {
     pub(crate) ways: Vec<Visit>,
 }
 
-/// Returns the pending point before the first byte.
+/// Returns the pending point before the first byte, at `point`.
 pub(crate) fn first_pending(point: Point) -> PendingPoint
     ensures { result ≡ points.pending_at point (more 0) }
 {
@@ -113,7 +113,7 @@ fn meet_next<M: Machine>(
     Ok(())
 }
 
-/// Adds the pending points to which the bytes lead from the one with a number.
+/// Adds the pending points to which bytes lead from the one with the number `number`.
 ///
 /// # Errors
 ///
@@ -157,7 +157,7 @@ pub(crate) fn meet_all<M: Machine>(
     Ok(())
 }
 
-/// Returns the pending point with a number.
+/// Returns the pending point with the number `number`.
 pub(crate) fn pending_of(visits: &Visits, number: usize) -> PendingPoint
     requires { number < length visits.now.points.keys }
     ensures { slice_get visits.now.points.keys number ≡ Some result }
@@ -188,7 +188,7 @@ pub(crate) fn first_visits(alloc: Global, start: PendingPoint) -> Result<Visits,
     Ok(Visits { points, ways })
 }
 
-/// Returns the bytes that lead from the first pending point to the one with a number.
+/// Returns the bytes that lead from the first pending point to the one with the number `number`.
 ///
 /// # Errors
 ///

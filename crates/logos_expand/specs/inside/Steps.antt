@@ -41,7 +41,7 @@ pub record WarnsOne (shape : Shape) (text : List ℕ) (one : FoundEnum) (old new
   pub is : after ≡ warned ++ own
   pub completes : (rest : List FoundEnum) (worse : List Refused) (more : List Warning) → AreOfEnums shape text rest worse more → AreOfEnums shape text (one ∷ rest) (refused ++ worse) (own ++ more)
 
--- These are the faults of a refusal, unless memory ran out.
+-- The faults of a refusal, unless memory ran out.
 abbrev pub AreFaultsOf : Refusal → List Fault → Type 0
 AreFaultsOf (refusals.Errors faults) others = others ≡ faults
 AreFaultsOf refusals.Memory others = ⊥
@@ -55,8 +55,8 @@ pub record AddsRefusal (offset : ℕ) (refusal : Refusal) (clues : Clues) (old n
   pub known : sizes_of bad.clues ≡ sizes_of clues
   pub are : new ≡ old ++ bad ∷ []
 
--- These are tokens, and after LF the text of a lexer with this code, with this around its function,
--- and with attributes, laid out.
+-- The text of the remaining tokens of an enum, and after LF the generated code of this code value,
+-- with these texts around its function and with attributes, laid out.
 pub record IsPrintedWith (shape : Shape) (around : AroundValue) (code : CodeValue) (left : TokenList) (shown : List ℕ) : Type 0 where
   pub written : List ℕ
   pub lexer : List ℕ
@@ -67,7 +67,7 @@ pub record IsPrintedWith (shape : Shape) (around : AroundValue) (code : CodeValu
   pub is_laid_out : IsLaidOut (under by_name left lexer) laid
   pub is : shown ≡ written ++ 10 ∷ laid
 
--- This is the expansion of an enum whose lexer has this code, with this around its function.
+-- The expansion of an enum whose lexer has this code, with these texts around its function.
 pub record IsExpansionBy (shape : Shape) (around : AroundValue) (code : CodeValue) (source shown : List ℕ) : Type 0 where
   pub left : TokenList
   pub stripped : IsStripped source left

@@ -9,7 +9,7 @@ module _ (dfa : Automaton) where
     pub next : (b : ℕ) → b < 256 → dfa_next dfa (Some s) b ≡ Some s
     pub at_end : slice_get dfa.at_end s ≡ Some s
 
-  -- After these bytes the automaton is in such a state.
+  -- After these bytes the automaton is in a dead state.
   pub record EndsDead (bytes : List ℕ) : Type 0 where
     pub state : ℕ
     pub dead : IsDead state

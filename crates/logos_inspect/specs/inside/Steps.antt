@@ -1,4 +1,4 @@
--- Steps of the functions of this crate.
+-- The flags of the leaves that a graph marks, while they are collected.
 use Rattle.std.specs.Prelude.{◌≡◌, ◌<◌, ◌⊎◌, ◌↔◌, ℕ, Bool, List, length, Option, Some}
 use Rattle.logos_graph.specs.Graph.{GraphState}
 use Rattle.logos_inspect.specs.Marks.{IsMarkedBelow, IsSet}

@@ -1,4 +1,4 @@
--- How the bytes at an offset open a literal or a comment.
+-- The literals and the comments that the bytes at an offset open.
 use Rattle.std.proofs.Common.{◌≡◌, ◌≤◌, ◌+◌, ◌++◌, ◌∷◌, ◌==◌, ◌&&◌, ◌||◌, nat_le, not, List, None, Option, Some, ap, arith, codes, drop, false, get_or, length, refl, subst, suc, sym, true, unwrap_or, zero, ℕ, ◌∙◌, if◌then◌else◌, append_assoc}
 use Rattle.std.proofs.Math.Seq.{drop-append-add}
 use Rattle.std.proofs.lemmas.Bool.{cond-true, le-leb, ne_eqb}

@@ -217,7 +217,7 @@ module _ (bytes : List ℕ) where
     cut_one None k c = (omega arith, omega arith)
     cut_one (Some m) k c = (omega arith, omega (arith, c.1))
 
-    -- so often as has to be, and at least once
+    -- a number of times that is at least `low` and at least one, and the least such number
     often : (low : ℕ) → (n : ℕ) × (low ≤ n) × ((m : ℕ) → low ≤ m → 1 ≤ m → n ≤ m)
     often zero = (1, omega arith, λ m a b. b)
     often (suc low) = (suc low, omega arith, λ m a b. a)

@@ -60,7 +60,7 @@ ends_same : (run : TokenList) → ends_entry run ≡ ends_entry (first_entry run
 ends_same none = refl
 ends_same (also token rest) = first_by ends_entry (is_comma token) token rest (λ e. e) (λ e. refl)
 
--- a test of tokens that hangs on the first entry alone
+-- a test of tokens that depends only on the first entry
 abbrev Same : (TokenList → Bool) → Type 0
 Same test = (run : TokenList) → test run ≡ test (first_entry run)
 

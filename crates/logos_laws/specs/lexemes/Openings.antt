@@ -16,12 +16,12 @@ OpensBy text opening =
 abbrev pub OpensNumber : Type 0
 OpensNumber = (digit : ℕ) → is_ascii_digit digit ≡ true → OpensBy (digit ∷ []) Number
 
--- This many `#`.
+-- A number of `#`.
 abbrev pub hash_signs : ℕ → List ℕ
 hash_signs zero = []
 hash_signs (suc count) = 35 ∷ hash_signs count
 
--- These letters open a raw string: with at most 255 `#` and a quote after them.
+-- These letters open a raw string, if at most 255 `#` and a quote follow them.
 abbrev pub OpensRaw : Content → List ℕ → Type 0
 OpensRaw content letters = (count : ℕ) → count ≤ 255 → OpensBy (letters ++ (hash_signs count ++ codes "\"")) (Raw content count)
 

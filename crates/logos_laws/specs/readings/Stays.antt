@@ -36,7 +36,7 @@ entries_of (also token rest) =
     if is_comma token then record { tokens = none; comma = also token none } ∷ entries_of rest
     else with_first token (entries_of rest)
 
--- An entry that names the macro is removed with its comma.
+-- An entry and its comma: removed if the entry names the macro, otherwise kept.
 abbrev pub entry_stays : Entry → List (Option Token)
 entry_stays entry =
     let all = append entry.tokens entry.comma in
@@ -46,23 +46,25 @@ entry_stays entry =
 abbrev pub without_macro : TokenList → TokenList
 without_macro entries = left (flat_map entry_stays (entries_of entries))
 
--- The run begins with a list of entries in parentheses.
+-- A run without the entries that name the macro, if it begins with a list of entries in
+-- parentheses.
 abbrev pub list_without_macro : TokenList → TokenList
 list_without_macro (also (group Parenthesis span entries) rest) = also (group Parenthesis span (without_macro entries)) rest
 list_without_macro run = run
 
--- The brackets of an attribute of an enum: in a `derive`, its entries without those that name the
--- macro.
+-- The tokens in the brackets of an attribute of an enum. In a `derive`, the entries that name the
+-- macro are removed.
 abbrev pub derive_without_macro : TokenList → TokenList
 derive_without_macro (also (identifier text span) rest) =
     also (identifier text span) (if bytes_eq text (codes "derive") then list_without_macro rest else rest)
 derive_without_macro run = run
 
--- The brackets of another attribute.
+-- The tokens in the brackets of an attribute of a variant or a field.
 abbrev pub unchanged : TokenList → TokenList
 unchanged run = run
 
--- The `#` and the brackets of an attribute, which had these tokens inside.
+-- The `#` and the brackets of an attribute, which had these tokens inside. Those of a helper
+-- attribute are removed.
 abbrev pub brackets_stay : Token → Token → TokenList → List (Option Token)
 brackets_stay mark whole inside = if is_helper_path inside then None ∷ None ∷ [] else Some mark ∷ Some whole ∷ []
 
@@ -84,14 +86,14 @@ abbrev mutual
 -- ---- Parts of an enum
 
 abbrev mutual
-  -- The run is attributes: documentation comments, and `#` with brackets.
+  -- The run consists of attributes: documentation comments, and `#` with brackets.
   pub are_attributes : TokenList → Bool
   are_attributes none = true
   are_attributes (also (doc text span) rest) = are_attributes rest
   are_attributes (also (punctuation character spacing span) rest) = (character == hash) && are_bracketed rest
   are_attributes run = false
 
-  -- The run is attributes, after the `#` of the first one.
+  -- The run consists of attributes, after the `#` of the first one.
   pub are_bracketed : TokenList → Bool
   are_bracketed (also (group Bracket span inside) rest) = are_attributes rest
   are_bracketed run = false
@@ -113,7 +115,7 @@ abbrev pub has_comma : TokenList → Bool
 has_comma none = false
 has_comma (also token rest) = is_comma token || has_comma rest
 
--- The run is the number of a variant, with its `=`, or nothing.
+-- The run is empty, or it is the number of a variant, with its `=`.
 abbrev pub is_number : TokenList → Bool
 is_number none = true
 is_number (also token rest) = begins_with equals (also token rest) && not (has_comma rest)

@@ -3,7 +3,7 @@ use Rattle.std.specs.Prelude.{◌≡◌, ℕ, ◌+◌, suc, List, true, false, s
 use Rattle.logos_code.specs.declared.code.CodeLeaf.{CodeLeaf}
 use Rattle.logos_answers.specs.Counts.{next_shares_variant}
 
--- This many leaves, from a number on, are of one variant, of which the leaf `last` is the last one.
+-- `size` leaves, beginning with the leaf `from`, are of one variant, whose last leaf is `last`.
 -- `total` is the sum of their numbers of items.
 pub data AreOfVariant (leaves : List CodeLeaf) (counts : List ℕ) : (from size last total : ℕ) → Type 0 where
   ends : {leaf : ℕ} → next_shares_variant leaves leaf ≡ false → AreOfVariant leaves counts leaf 1 leaf (slice_index counts leaf)

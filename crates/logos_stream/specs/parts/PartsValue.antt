@@ -6,9 +6,9 @@ pub record PartsValue (R : Type 0) : Type 0 where
   pub reader : R
   -- The bytes that were read and not passed.
   pub part : List ℕ
-  -- How many bytes may be in memory.
+  -- The greatest number of bytes in memory.
   pub bound : ℕ
-  -- How many bytes were passed.
+  -- The number of bytes that were passed.
   pub before : ℕ
   pub is_over : Bool
 

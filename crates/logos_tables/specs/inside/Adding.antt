@@ -23,14 +23,14 @@ pub record AppendsMade (code : CodeValue) (old new : List ℕ) : Type 0 where
   pub hold : Hold code tables
   pub appends : Appends (made_texts code tables sizes) old new
 
--- Exactly the implementation with such tables is appended to a text.
+-- Exactly the implementation with tables that hold the steps of the code is appended to a text.
 pub record AppendsTables (code : CodeValue) (old new : List ℕ) : Type 0 where
   pub tables : Tables
   pub sizes : Sizes
   pub hold : Hold code tables
   pub is : new ≡ old ++ tables_text code tables sizes
 
--- These are the rows, the classes and the runs of a code.
+-- The rows, the classes and the runs of a code.
 pub record AreMade (code : CodeValue) (numbers symbols slots : List ℕ) (distinct : List (List ℕ)) (class_runs runs : List (ℕ × ℕ)) : Type 0 where
   pub rows : AreRows code (rows_at slots distinct)
   pub placed : (i : ℕ) → i < length slots → slice_index slots i < length distinct

@@ -14,13 +14,14 @@ use Rattle.logos_evidence.specs.declared.search.steps.InputStep.{InputStep}
 use Rattle.logos_evidence.specs.declared.search.visits.PendingPoint.{PendingPoint}
 use Rattle.logos_evidence.specs.declared.search.visits.Visit.{Visit}
 
--- These are all pending points to which inputs lead from a point.
+-- `points` are all pending points to which inputs lead from `start`, and `ways` are the steps to
+-- them.
 pub record IsExplored (next : Point → ℕ → Option Point) (utf8 : Bool) (start : Point) (points : List PendingPoint) (ways : List Visit) : Type 0 where
   pub first : slice_get points 0 ≡ Some (pending_at start (more 0))
   pub tree : IsTree (pending_next next utf8) points ways
   pub closed : IsClosed (pending_next next utf8) points ways (length points)
 
--- A search has visited these pending points.
+-- The explored points are all pending points to which inputs lead from the start.
 abbrev pub HasExplored : (Point → ℕ → Option Point) → Explored → Type 0
 HasExplored next explored =
     IsExplored next explored.utf8 explored.start explored.visits.points.keys explored.visits.ways.items

@@ -1,4 +1,4 @@
--- Points with the rest of the character begun by the bytes read so far.
+-- Points with the rest of the character that the last bytes begin.
 use Rattle.std.specs.Prelude.{ℕ, Bool, ◌&&◌, Option, ◌==◌, option_map, option_and_then}
 use Rattle.logos_evidence.specs.search.Rests.{rest_by}
 use Rattle.logos_evidence.specs.declared.search.point.Point.{Point}

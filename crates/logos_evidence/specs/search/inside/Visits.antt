@@ -1,4 +1,4 @@
--- The pending points that were visited, breadth first, and how each was first reached.
+-- The pending points that were visited, breadth first, and the step to each from its predecessor.
 use Rattle.std.specs.Prelude.{◌≡◌, ℕ, ◌+◌, ◌<◌, ◌≤◌, All, Bool, false, List, [], ◌∷◌, ◌++◌, length, Option, Some, slice_get, slice_index_or}
 use Rattle.logos_evidence.specs.search.Machines.{after}
 use Rattle.logos_evidence.specs.declared.search.visits.PendingPoint.{PendingPoint}
@@ -10,7 +10,7 @@ no_visit = record { from = 0; byte = 0; depth = 0 }
 abbrev pub visit_at : List Visit → ℕ → Visit
 visit_at ways i = slice_index_or ways i no_visit
 
--- How many bytes lead to the pending point with this number.
+-- The number of bytes that lead to the pending point with this number.
 abbrev pub depth_at : List Visit → ℕ → ℕ
 depth_at ways i = (visit_at ways i).depth
 
