@@ -1,7 +1,8 @@
 """Makes whole Rust files of random items, has `logos_cli` expand them, and compares with the plain
 reader: every byte outside of the enums that derive `Logos` stays, but for documentation and
 attributes of the file itself, which become plain comments; each such enum gives way to the tokens
-that the plain reader leaves of it, and to an implementation.
+that the plain reader leaves of it, and to an implementation. The file as a whole has the tokens of
+these parts: none runs on into the next one.
 
 The word is the program's path. The last line has the counts.
 """
@@ -13,7 +14,7 @@ from asking import asked, compare_all
 from earlier import earlier, keep
 from stripped import stripped
 from tables import table
-from tokens import printed, tokenize
+from tokens import Lexical, printed, tokenize
 
 FILES = 240
 SHAPES = ['tables', 'tailcall', 'state_machine']
@@ -80,7 +81,7 @@ class FileMaker:
         texts, enums = [self.items(False)], []
         for _ in range(self.random.randrange(1, 4)):
             enums.append(self.enum())
-            texts.append('\n' + self.items(False))
+            texts.append(self.pick(['\n', ' ', '']) + self.items(False))
         texts[-1] += self.items(True)
         return ''.join(text for text, _ in front), ''.join(plain for _, plain in front), texts, enums
 
@@ -114,6 +115,14 @@ def is_expansion(source, enum, text):
     return None
 
 
+def have_equal_tokens(text, other):
+    """Says whether two texts have equal tokens; one that cannot be read has none."""
+    try:
+        return printed(tokenize(text)) == printed(tokenize(other))
+    except Lexical:
+        return False
+
+
 def differences(program, seed):
     """Returns how many pieces of a file were compared, and in which the program answers otherwise.
     In a quick test an answer that was right before is right."""
@@ -143,6 +152,7 @@ def differences_of(seed, pieces, source, shape, found):
     if not out.startswith(head + plain):
         return 1, [f'seed {seed}: the front is {out[:len(head + plain)]!r}, wanted {head + plain!r}']
     at = len(head + plain)
+    apart = plain
     for number, text in enumerate(texts):
         found = out.find(text, at)
         if found < 0 or (number == 0 and found != at):
@@ -150,10 +160,14 @@ def differences_of(seed, pieces, source, shape, found):
         if number:
             what = is_expansion(source, enums[number - 1], out[at:found])
             wrong += [f'seed {seed}: {what}\n{enums[number - 1]}'] if what else []
+            apart += f'\n{printed(tokenize(out[at:found]))}\n'
+        apart += text
         at = found + len(text)
     if at != len(out):
         wrong.append(f'seed {seed}: the end is {out[at:]!r}')
-    return 2 * len(texts), wrong
+    if not have_equal_tokens(out, apart):
+        wrong.append(f'seed {seed}: the whole file has other tokens than its parts\n{source}')
+    return 2 * len(texts) + 1, wrong
 
 
 if __name__ == '__main__':
