@@ -5,7 +5,7 @@ use crate::folded::{Folded, Last};
 use crate::guess::{Guesser, AGAIN};
 use crate::internal::Tables;
 use crate::word::Word;
-use crate::{Span, Way};
+use crate::Way;
 
 /// The costs: for a walk of each byte, each undecided entry, and each repeated attempt; for
 /// `Logos::lex` of each match and each state that it enters. The numbers are not times: they were
@@ -87,14 +87,12 @@ pub(crate) fn new_room(way: Way) -> Room {
 }
 
 impl Walk {
-    /// Returns the leaf and the span of the first of some tokens of the word.
+    /// Returns the leaf and the end of the first of some tokens of the word.
     #[inline(always)]
-    pub(crate) fn token(&self, tokens: u64) -> Option<(usize, Span)> {
-        let word = &self.word;
-        let leaf = self
-            .chunk
-            .leaf(word.at + tokens.trailing_zeros() as usize)?;
-        Some((leaf, word.span_of(tokens)))
+    pub(crate) fn token(&self, tokens: u64) -> Option<(usize, usize)> {
+        let bit = tokens.trailing_zeros() as usize;
+        let leaf = self.chunk.leaf(self.word.at + bit)?;
+        Some((leaf, self.word.here + bit))
     }
 
     /// Moves to the next word of the chunk, if there is one, and returns its tokens.
