@@ -444,7 +444,7 @@ pub(crate) trait Run<'source>: Loops<'source> {
     #[inline(always)]
     fn attempt(lex: &mut Lexer<'source, Self>) -> Step<'source, Self, usize> {
         let bytes = Self::bytes(lex.source());
-        let mut start = lex.begun();
+        let mut start = lex.end();
         'attempts: loop {
             let Some(byte) = bytes.get(start) else {
                 return Break(None);
