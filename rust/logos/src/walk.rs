@@ -15,6 +15,9 @@ const UNDECIDED: usize = 400;
 const ATTEMPT: usize = 400;
 const MATCH: usize = 39;
 const ENTER: usize = 19;
+/// The factor of the cost of guesses. With 1, walks were chosen on texts on which many guesses
+/// fail, and were slower there.
+const GUESSES: usize = 2;
 /// If more than three of these many bytes end a match, walks are slower than match attempts:
 /// processors foresee these then.
 const ALMOST_ALL: usize = 4;
@@ -255,8 +258,8 @@ impl Walk {
             sampled * (MATCH * ends + ENTER * entered)
         };
         let undecided = UNDECIDED * self.chunk.undecided(self.len);
-        let walk =
-            sampled * STEP * bytes + self.cost + undecided + core::mem::take(&mut self.moves);
+        let moves = core::mem::take(&mut self.moves);
+        let walk = sampled * STEP * bytes + GUESSES * self.cost + undecided + moves;
         self.gain = self.gain / 8 * 7 + lexer as isize - walk as isize;
         if self.gain > 0 {
             self.plain /= 2;
