@@ -105,6 +105,12 @@ impl Ahead {
         room.map_or(end, |room| room.word.start_of(end))
     }
 
+    /// Returns whether a token of the word is left.
+    #[inline(always)]
+    pub(crate) fn has_tokens(&self) -> bool {
+        self.tokens != 0
+    }
+
     /// Returns the leaf and the end of the next token of the word.
     #[inline(always)]
     pub(crate) fn token(&self) -> Option<(usize, usize)> {

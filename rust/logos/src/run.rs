@@ -285,7 +285,7 @@ pub(crate) trait Run<'source>: Loops<'source> {
     fn lex_on(lex: &mut Lexer<'source, Self>) -> Option<Result<Self, Self::Error>> {
         loop {
             #[cfg(feature = "std")]
-            if !lex.ahead.is_plain(lex.end()) {
+            if lex.ahead.has_tokens() || !lex.ahead.is_plain(lex.end()) {
                 away();
                 match Self::look(lex) {
                     Break(item) => return item,
