@@ -98,9 +98,22 @@ impl Ahead {
         end < self.plain_to
     }
 
-    /// Returns the leaf and the span of the next token of the word.
+    /// Returns the start of the token of the word that ends at a byte offset.
     #[inline(always)]
-    pub(crate) fn token(&self) -> Option<(usize, Span)> {
+    pub(crate) fn start_of(&self, end: usize) -> usize {
+        let room = self.room.as_ref();
+        room.map_or(end, |room| room.word.start_of(end))
+    }
+
+    /// Returns whether a token of the word is left.
+    #[inline(always)]
+    pub(crate) fn has_tokens(&self) -> bool {
+        self.tokens != 0
+    }
+
+    /// Returns the leaf and the end of the next token of the word.
+    #[inline(always)]
+    pub(crate) fn token(&self) -> Option<(usize, usize)> {
         if self.tokens == 0 {
             return None;
         }

@@ -36,7 +36,7 @@ impl<'source, Token: Logos<'source>> LexerInternal<'source> for Lexer<'source, T
 
     #[inline]
     fn offset(&self) -> usize {
-        self.start()
+        self.begun()
     }
 
     #[inline]

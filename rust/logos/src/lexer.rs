@@ -25,6 +25,10 @@ pub enum Way {
     Part,
 }
 
+/// The start of a token that the lexer has found ahead: only if it is read, it is looked up.
+#[cfg(feature = "std")]
+const AHEAD: usize = usize::MAX;
+
 /// A run of a lexer over an input. As an iterator it yields each token, or an error for unmatched
 /// input.
 pub struct Lexer<'source, Token: Logos<'source>> {
@@ -62,8 +66,9 @@ impl<'source, Token: Logos<'source>> Lexer<'source, Token> {
     }
 
     /// Returns the span of the last token.
+    #[inline]
     pub fn span(&self) -> Span {
-        self.start..self.end
+        self.start()..self.end
     }
 
     /// Returns the text of the last token.
@@ -85,7 +90,8 @@ impl<'source, Token: Logos<'source>> Lexer<'source, Token> {
     pub fn bump(&mut self, n: usize) {
         let end = self.end.checked_add(n);
         let is_end = |end: &usize| *end <= self.source.len() && self.source.is_boundary(*end);
-        self.end = end.filter(is_end).expect("Invalid Lexer bump");
+        let end = end.filter(is_end).expect("Invalid Lexer bump");
+        (self.start, self.end) = (self.start(), end);
         self.ahead.forget();
     }
 
@@ -97,7 +103,7 @@ impl<'source, Token: Logos<'source>> Lexer<'source, Token> {
     {
         Lexer {
             source: self.source,
-            start: self.start,
+            start: self.start(),
             end: self.end,
             ahead: self.ahead.anew(self.end, self.source.len()),
             extras: self.extras.into(),
@@ -133,6 +139,7 @@ impl<'source, Token: Logos<'source>> Lexer<'source, Token> {
 
     /// Changes when the lexer looks ahead.
     pub(crate) fn set_way(&mut self, way: Way) {
+        self.start = self.start();
         self.ahead = match way {
             Way::ByRule => Ahead::new(self.end, self.source.len()),
             Way::Never => Ahead::NONE,
@@ -145,7 +152,19 @@ impl<'source, Token: Logos<'source>> Lexer<'source, Token> {
         self.start = self.end;
     }
 
-    pub(crate) fn start(&self) -> usize {
+    /// Returns the start of the token.
+    #[inline(always)]
+    fn start(&self) -> usize {
+        #[cfg(feature = "std")]
+        if self.start == AHEAD {
+            return self.ahead.start_of(self.end);
+        }
+        self.start
+    }
+
+    /// Returns the start of the token, which the lexer has not found ahead.
+    #[inline(always)]
+    pub(crate) fn begun(&self) -> usize {
         self.start
     }
 
@@ -156,6 +175,13 @@ impl<'source, Token: Logos<'source>> Lexer<'source, Token> {
     #[cfg(feature = "std")]
     pub(crate) fn set_span(&mut self, span: Span) {
         (self.start, self.end) = (span.start, span.end);
+    }
+
+    /// Sets the span to that of the token of the word that ends at a byte offset.
+    #[cfg(feature = "std")]
+    #[inline(always)]
+    pub(crate) fn set_end_ahead(&mut self, end: usize) {
+        (self.start, self.end) = (AHEAD, end);
     }
 
     pub(crate) fn set_end(&mut self, end: usize) {
@@ -187,7 +213,7 @@ where
     fn clone(&self) -> Self {
         Lexer {
             source: self.source,
-            start: self.start,
+            start: self.start(),
             end: self.end,
             ahead: self.ahead.anew(self.end, self.source.len()),
             extras: self.extras.clone(),

@@ -285,7 +285,7 @@ pub(crate) trait Run<'source>: Loops<'source> {
     fn lex_on(lex: &mut Lexer<'source, Self>) -> Option<Result<Self, Self::Error>> {
         loop {
             #[cfg(feature = "std")]
-            if !lex.ahead.is_plain(lex.end()) {
+            if lex.ahead.has_tokens() || !lex.ahead.is_plain(lex.end()) {
                 away();
                 match Self::look(lex) {
                     Break(item) => return item,
@@ -330,16 +330,18 @@ pub(crate) trait Run<'source>: Loops<'source> {
     #[cfg(feature = "std")]
     #[inline(always)]
     fn look(lex: &mut Lexer<'source, Self>) -> Step<'source, Self, Option<usize>> {
-        if let Some((leaf, span)) = lex.ahead.token() {
+        if let Some((leaf, end)) = lex.ahead.token() {
             let token = Self::plain(leaf);
             lex.ahead.pass();
-            lex.set_span(span);
-            return match token {
-                Some(token) => Break(Some(Ok(token))),
-                None if leaf < Self::LEAVES => Continue(Some(leaf)),
-                None if leaf == ERROR => Break(Some(Err(Self::error_ahead(lex)))),
-                None => {
-                    let end = lex.end();
+            if let Some(token) = token {
+                lex.set_end_ahead(end);
+                return Break(Some(Ok(token)));
+            }
+            lex.set_span(lex.ahead.start_of(end)..end);
+            return match leaf {
+                _ if leaf < Self::LEAVES => Continue(Some(leaf)),
+                ERROR => Break(Some(Err(Self::error_ahead(lex)))),
+                _ => {
                     lex.set_end(end - 1);
                     lex.ahead.end_before(end);
                     Self::found(lex, leaf - Self::LEAVES)
@@ -411,7 +413,7 @@ pub(crate) trait Run<'source>: Loops<'source> {
     /// there on.
     #[inline(always)]
     fn error_to(lex: &mut Lexer<'source, Self>, over: usize) -> Self::Error {
-        let end = over.max(lex.start() + 1);
+        let end = over.max(lex.begun() + 1);
         lex.set_end(lex.source().find_boundary(end));
         Self::error(lex)
     }
@@ -442,7 +444,7 @@ pub(crate) trait Run<'source>: Loops<'source> {
     #[inline(always)]
     fn attempt(lex: &mut Lexer<'source, Self>) -> Step<'source, Self, usize> {
         let bytes = Self::bytes(lex.source());
-        let mut start = lex.start();
+        let mut start = lex.end();
         'attempts: loop {
             let Some(byte) = bytes.get(start) else {
                 return Break(None);

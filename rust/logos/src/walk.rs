@@ -5,7 +5,7 @@ use crate::folded::{Folded, Last};
 use crate::guess::{Guesser, AGAIN};
 use crate::internal::Tables;
 use crate::word::Word;
-use crate::{Span, Way};
+use crate::Way;
 
 /// The costs: for a walk of each byte, each undecided entry, and each repeated attempt; for
 /// `Logos::lex` of each match and each state that it enters. The numbers are not times: they were
@@ -15,6 +15,9 @@ const UNDECIDED: usize = 400;
 const ATTEMPT: usize = 400;
 const MATCH: usize = 39;
 const ENTER: usize = 19;
+/// The factor of the cost of guesses. With 1, walks were chosen on texts on which many guesses
+/// fail, and were slower there.
+const GUESSES: usize = 2;
 /// If more than three of these many bytes end a match, walks are slower than match attempts:
 /// processors foresee these then.
 const ALMOST_ALL: usize = 4;
@@ -87,14 +90,12 @@ pub(crate) fn new_room(way: Way) -> Room {
 }
 
 impl Walk {
-    /// Returns the leaf and the span of the first of some tokens of the word.
+    /// Returns the leaf and the end of the first of some tokens of the word.
     #[inline(always)]
-    pub(crate) fn token(&self, tokens: u64) -> Option<(usize, Span)> {
-        let word = &self.word;
-        let leaf = self
-            .chunk
-            .leaf(word.at + tokens.trailing_zeros() as usize)?;
-        Some((leaf, word.span_of(tokens)))
+    pub(crate) fn token(&self, tokens: u64) -> Option<(usize, usize)> {
+        let bit = tokens.trailing_zeros() as usize;
+        let leaf = self.chunk.leaf(self.word.at + bit)?;
+        Some((leaf, self.word.here + bit))
     }
 
     /// Moves to the next word of the chunk, if there is one, and returns its tokens.
@@ -257,8 +258,8 @@ impl Walk {
             sampled * (MATCH * ends + ENTER * entered)
         };
         let undecided = UNDECIDED * self.chunk.undecided(self.len);
-        let walk =
-            sampled * STEP * bytes + self.cost + undecided + core::mem::take(&mut self.moves);
+        let moves = core::mem::take(&mut self.moves);
+        let walk = sampled * STEP * bytes + GUESSES * self.cost + undecided + moves;
         self.gain = self.gain / 8 * 7 + lexer as isize - walk as isize;
         if self.gain > 0 {
             self.plain /= 2;

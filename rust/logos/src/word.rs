@@ -1,7 +1,5 @@
 //! A word of a chunk, with a bit for each byte before which a match ends.
 
-use crate::Span;
-
 /// A word of a chunk. The tokens that end before its bytes are stored separately, since they are
 /// taken one by one.
 #[derive(Clone, Copy)]
@@ -26,11 +24,11 @@ impl Word {
         }
     }
 
-    /// Returns the span of the first of some tokens, of which there is at least one.
+    /// Returns the start of the match that ends at a byte offset of the word.
     #[inline(always)]
-    pub(crate) fn span_of(&self, tokens: u64) -> Span {
-        let end = self.here + tokens.trailing_zeros() as usize;
-        self.after(self.ends & !tokens & tokens.wrapping_sub(1))..end
+    pub(crate) fn start_of(&self, end: usize) -> usize {
+        let bit = 1 << (end.wrapping_sub(self.here) & 63);
+        self.after(self.ends & (bit - 1))
     }
 
     /// Returns whether a match of the word ends at a byte offset.
