@@ -20,6 +20,7 @@ if [ "${1-}" = --from ] && [ $# -ge 2 ]; then
     mkdir -p "$root/out"
     room=$(mktemp -d "$root/out/libraries.XXXXXX")
     trap 'rm -rf "$room"' EXIT
+    echo "unpacks $2"
     tar -xzf "$2" -C "$room"
     for library in "$room"/crates/*/out/rlib; do
         to=$root/${library#"$room"/}
