@@ -31,8 +31,8 @@ WIDTH = 100
 HEAD = """\
 # The crates
 
-Each crate has one purpose and is proved by itself. The rooms read from front to back: a crate uses
-those of earlier rooms and those above it in its own. `docs/MAP.md` shows the flow of data
+Each crate has one purpose and is proved by itself. The sections are in order: a crate uses only
+those of earlier sections and those above it in its own. `docs/MAP.md` shows the flow of data
 through them, and the files of each thing.
 
 In each crate `src/` is the code with its contracts, `specs/` the definitions that contracts cite,
