@@ -14,11 +14,12 @@ use Rattle.logos_graph.specs.Mermaid.{mermaid_of}
 use Rattle.logos_code.specs.Code.{CodeValue}
 use Rattle.logos_code.specs.Items.{Item, Items}
 use Rattle.logos_code.specs.declared.code.Config.{Config}
+use Rattle.logos_codegen.specs.Around.{IsAroundOf}
 use Rattle.logos_codegen.specs.Given.{IsGiven}
 use Rattle.logos_codegen.specs.Source.{IsAccepted, IsRefused}
 use Rattle.logos_host.specs.Reading.{Reads}
-use Rattle.logos_text.specs.Occurrence.{OccurInOrder}
-use Rattle.logos_text.specs.Texts.{texts_of}
+use Rattle.logos_tables.specs.Shapes.{IsCodeText}
+use Rattle.logos_text.specs.Fronts.{AroundValue}
 use Rattle.logos_host.specs.declared.failure.Failure.{Failure}
 use Rattle.logos_host.specs.declared.failure.Failure.TheVariants.{NotUtf8}
 use Rattle.logos_commands.specs.declared.refusals.ExportRefusal.{ExportRefusal}
@@ -42,14 +43,13 @@ shape_of (Text shape) = shape
 shape_of Diagram = record { use_state_machine_codegen = true }
 shape_of Export = record { use_state_machine_codegen = true }
 
--- A part of a lexer: its generated code, and LF; its state diagram; or its state diagram for the
--- file that the source names. The texts of all tables of the code, and those of all its conditions,
--- occur in the generated code.
-abbrev pub IsPart : Part → GraphValue → CodeValue → Slice → Option (List ℕ) → Effect → Type 0
-IsPart (Text shape) graph code name export (prints shown) = (text : List ℕ) × OccurInOrder (texts_of code) text × (shown ≡ text ++ 10 ∷ [])
-IsPart Diagram graph code name export (prints shown) = shown ≡ mermaid_of graph.states
-IsPart Export graph code name export (makes_file path shown) = (file_at path ≡ export_destination export name.text) × (shown ≡ mermaid_of graph.states)
-IsPart part graph code name export effect = ⊥
+-- A part of a lexer with this around its function: its generated code, and LF; its state diagram;
+-- or its state diagram for the file that the source names.
+abbrev pub IsPart : Part → AroundValue → GraphValue → CodeValue → Slice → Option (List ℕ) → Effect → Type 0
+IsPart (Text shape) around graph code name export (prints shown) = (text : List ℕ) × IsCodeText around code text × (shown ≡ text ++ 10 ∷ [])
+IsPart Diagram around graph code name export (prints shown) = shown ≡ mermaid_of graph.states
+IsPart Export around graph code name export (makes_file path shown) = (file_at path ≡ export_destination export name.text) × (shown ≡ mermaid_of graph.states)
+IsPart part around graph code name export effect = ⊥
 
 -- The source has no faults, and the effect shows a part of its lexer.
 pub record IsPartOf (part : Part) (source : List ℕ) (effect : Effect) : Type 0 where
@@ -61,7 +61,9 @@ pub record IsPartOf (part : Part) (source : List ℕ) (effect : Effect) : Type 0
   pub name : Slice
   pub export : Option (List ℕ)
   pub given : IsGiven source (shape_of part) graph code name export
-  pub is : IsPart part graph code name export effect
+  pub around : AroundValue
+  pub is_around : IsAroundOf source graph around
+  pub is : IsPart part around graph code name export effect
 
 -- The source spells an enum, and the text is the rest of the enum after stripping, and LF.
 abbrev pub IsLeft : List ℕ → Effect → Type 0

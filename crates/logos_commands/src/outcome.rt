@@ -1,7 +1,7 @@
 //! The outcomes of commands. Each is complete before any of it is written. Used by `program`.
 
 ghost use Rattle.std.specs.Prelude.{◌≡◌, ◌≢◌, ◌++◌, ◌∷◌, [], IfErr, IfOk, option_map, string_bytes};
-ghost use Rattle.logos_commands.specs.Views.{ident_slice, mermaid_of, OccurInOrder, texts_of, export_destination, file_at, EndsWithLine, FailsAt, IsNoMisuse, effect_of, status_of, IsLeft, IsPart, IsPartOf, ReadsSource, prints, shape_of, RefusesExport, RefusesLexer, RefusesStripping};
+ghost use Rattle.logos_commands.specs.Views.{IsCodeText, around_made, ident_slice, mermaid_of, export_destination, file_at, EndsWithLine, FailsAt, IsNoMisuse, effect_of, status_of, IsLeft, IsPart, IsPartOf, ReadsSource, prints, shape_of, RefusesExport, RefusesLexer, RefusesStripping};
 
 use crate::diagram_path::diagram_path;
 use crate::refusals::{ExportRefusal, refused_export, refused_source};
@@ -89,8 +89,8 @@ fn of_lexer(
     made: &Generated<'_>,
     requested: Requested,
 ) -> Result<CommandOutcome, Failure<'static>>
-    ensures part { IfOk result (λ outcome. IsPart requested made.now.graph made.now.code
-        (ident_slice made.now.name) (option_map string_bytes made.now.export_path)
+    ensures part { IfOk result (λ outcome. IsPart requested (around_made made.now) made.now.graph
+        made.now.code (ident_slice made.now.name) (option_map string_bytes made.now.export_path)
         (effect_of outcome)) }
     ensures plain { requested ≢ Requested.Export → IfErr result (λ failure. status_of failure ≡ 3) }
     ensures export { IfErr result (λ failure. status_of failure ≡ 1 → RefusesExport
@@ -107,8 +107,8 @@ fn of_lexer(
 
 /// Returns the generated code of a lexer, followed by LF.
 fn text_of_lexer(alloc: Global, made: &Generated<'_>) -> Result<String, Failure<'static>>
-    ensures text { IfOk result (λ text. EndsWithLine (OccurInOrder (texts_of made.now.code))
-        (string_bytes text)) }
+    ensures text { IfOk result (λ text. EndsWithLine
+        (IsCodeText (around_made made.now) made.now.code) (string_bytes text)) }
     ensures failed { IfErr result (λ failure. status_of failure ≡ 3) }
     ensures known { IfErr result IsNoMisuse }
 {
@@ -156,9 +156,9 @@ fn stripped_source(alloc: Global, source: &str) -> Result<String, Failure<'stati
 
 /// Returns the state diagram of a lexer, for the file that its source names.
 fn export_of_lexer(alloc: Global, made: &Generated<'_>) -> Result<CommandOutcome, Failure<'static>>
-    ensures diagram { IfOk result (λ outcome. IsPart Requested.Export made.now.graph made.now.code
-        (ident_slice made.now.name) (option_map string_bytes made.now.export_path)
-        (effect_of outcome)) }
+    ensures diagram { IfOk result (λ outcome. IsPart Requested.Export (around_made made.now)
+        made.now.graph made.now.code (ident_slice made.now.name)
+        (option_map string_bytes made.now.export_path) (effect_of outcome)) }
     ensures denied { IfErr result (λ failure. status_of failure ≡ 1 → RefusesExport
         (export_destination (option_map string_bytes made.now.export_path) made.now.name.text.now)
         failure) }

@@ -1,3 +1,4 @@
+use Rattle.logos_codegen.specs.Fronts.{around_made}
 use Rattle.logos_codegen.specs.Source.{IsRefused}
 use Rattle.logos_graph.specs.View.{rules_of}
 use Rattle.logos_commands.proofs.RefusalLemmas.{faults_shown, lexer_refused, part_refused}
@@ -7,8 +8,8 @@ use Rattle.logos_commands.proofs.outcome.of_source.Goals as goal
 
 pub returns-in-Ok-clause-done : goal.returns-in-Ok-clause-done
 returns-in-Ok-clause-done c =
-    part_of effect_of c.args.requested c.args.source.now (rules_of c.in-Ok.made.graph.leaves) c.in-Ok.made.graph.utf8 _ _ _ _ c.in-Ok.ensures.accepted
-    (rw c.shape_of.ensures at c.in-Ok.ensures.given) c.of_lexer.result c.of_lexer.ensures.part
+    part_of effect_of c.args.requested c.args.source.now (rules_of c.in-Ok.made.graph.leaves) c.in-Ok.made.graph.utf8 _ _ _ _ (around_made c.in-Ok.made) c.in-Ok.ensures.accepted
+    (rw c.shape_of.ensures at c.in-Ok.ensures.given) c.in-Ok.ensures.around c.of_lexer.result c.of_lexer.ensures.part
 
 pub returns-in-Ok-clause-denied : goal.returns-in-Ok-clause-denied
 returns-in-Ok-clause-denied c =
