@@ -25,7 +25,8 @@ own `Lexer` and its run by chunks are measured on the same whole texts, but for 
 examples, and which of them the programs choose is shown.
 
 The variable OTHER names the folder `src` of another version of rust/logos to measure beside this
-one, whose lexers are then `other`. KEEP names a folder in which texts and programs are kept for the
+one, whose lexers are then `other`; OTHER_CLI is the `logos_cli` that prints them, if it is another
+one. KEEP names a folder in which texts and programs are kept for the
 next time, CLI a `logos_cli`, SIZE the bytes of a text, and BEFORE words in front of each program
 that is measured, such as `chrt -f 1 taskset -c 3`. JOBS is how many compilers run at once, two
 without it.
@@ -105,12 +106,14 @@ def compiled(room, kind, cli, library, other):
     name, found = kind.replace("/", "_"), {}
     for shape in ["tables", *SHAPES]:
         parts = lay_out(f"{room.folder}/{name}.{shape}.source", cli, kind, shape)
-        ways = [(way, words, library) for way, words in (TABLES if shape == "tables" else {shape: ()}).items()]
-        if other and shape == "tables":
-            ways += [(way, words, other) for way, words in OTHER.items()]
-        for way, words, of in ways:
+        for way, words in (TABLES if shape == "tables" else {shape: ()}).items():
             main = f"{BENCH}/held/main.rs"
-            found[way] = scanners.in_rust(room, f"{name}.{way}", parts, main, of, SECONDS, words)
+            found[way] = scanners.in_rust(room, f"{name}.{way}", parts, main, library, SECONDS, words)
+    if other:
+        parts = lay_out(f"{room.folder}/{name}.other.source", os.environ.get("OTHER_CLI", cli), kind, "tables")
+        for way, words in OTHER.items():
+            main = f"{BENCH}/held/main.rs"
+            found[way] = scanners.in_rust(room, f"{name}.{way}", parts, main, other, SECONDS, words)
     for tool in (it for it in FLAGS if kind in RULES.KINDS and shutil.which(it)):
         source = f"{room.folder}/{name}.{tool}.source"
         write(source, RULES.source(kind, tool))

@@ -23,7 +23,7 @@ pub record ArgumentsValue : Type 0 where
   pub text : Option OptionName
   pub progress : ArgumentProgress
 
--- An empty command line: none of the seventeen options of the table is given.
+-- An empty command line: no option of the table is given.
 abbrev pub nothing_given : ArgumentsValue
 nothing_given = record { first = None; second = None; settings = replicate 17 None; question = None; text = None; progress = not_begun }
 
