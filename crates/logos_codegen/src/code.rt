@@ -1,4 +1,4 @@
-//! Re-exports the types of code values, for users' code. Generated code is printed from the
+//! Re-exports the types of code values, for users' code. The printers of generated code read the
 //! `CodeParts` of a code.
 
 pub use logos_generator::code::{

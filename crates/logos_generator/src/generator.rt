@@ -67,9 +67,9 @@ impl<'g, 's> Model for Generator<'g, 's> {
 
 impl<'g, 's> Generator<'g, 's> {
     /// Returns a generator for a graph without faults, of the enum with this name and type. The
-    /// code calls the error callback for input that no leaf matches. The generator has made no node
-    /// yet. This call does not allocate; the tests and jump tables take their memory from `alloc`
-    /// when nodes are made.
+    /// code calls `error_callback`, if there is one, for bytes that no leaf matches. The generator
+    /// has made no node yet. This call does not allocate; the tests and jump tables take their
+    /// memory from `alloc` when nodes are made.
     pub fn new(
         alloc: Global,
         config: Config,
@@ -96,7 +96,7 @@ impl<'g, 's> Generator<'g, 's> {
         }
     }
 
-    /// Makes the code: from each point of each input it has the result of the graph, and each
+    /// Returns the code: from each point of each input it has the result of the graph, and each
     /// attempt enters at most two states more than there are bytes left. The code has copies of the
     /// arguments of `new`, and of the kinds and callbacks of the graph's leaves. Its tests and its
     /// jump tables are numbered by first use, with states ascending and the fast loop before the
@@ -129,7 +129,7 @@ impl<'g, 's> Generator<'g, 's> {
         }
     }
 
-    /// Makes the code. Its tests and jump tables are added to empty tables.
+    /// Returns the code, and adds its tests and jump tables to `tables`, which must be empty.
     fn code(&self, alloc: Global, tables: &mut NodeTables) -> Result<Code<'s>, AllocError>
         requires tests { tables.old.tests.keys ≡ [] }
         requires jumps { tables.old.jumps.keys ≡ [] }
@@ -149,7 +149,7 @@ impl<'g, 's> Generator<'g, 's> {
         }
     }
 
-    /// Returns copies of the arguments of `new`, for the code.
+    /// Returns the header of the code, with copies of the arguments of `new` besides the graph.
     fn header(&self) -> Result<Header<'s>, AllocError>
         ensures { IfOk result (IsCopy self.now.given) }
     {

@@ -1,12 +1,12 @@
-//! The tables that the nodes of a code share. `fork` adds to them, and `states` puts them into the
-//! code.
+//! The tests and jump tables that the nodes of a code share. `fork` adds to these tables, and
+//! `states` puts them into the code.
 
 ghost use Rattle.std.specs.Prelude.{◌≡◌, []};
 
 use indexmap::IndexSet;
 use std::alloc::Global;
 
-/// The tables that the nodes of a code share.
+/// The tests and the jump tables that the nodes of a code share.
 #[derive(Drop)]
 pub(super) struct NodeTables {
     /// The byte sets that nodes test by bits, by the numbers of their tests.
@@ -16,8 +16,8 @@ pub(super) struct NodeTables {
 }
 
 impl NodeTables {
-    /// Returns tables without a test and without a jump table. They take their memory from `alloc`
-    /// when they grow; this call takes none.
+    /// Returns tables without a test and without a jump table. The tables take their memory from
+    /// `alloc` when they grow; this call takes none.
     pub(super) fn new(alloc: Global) -> NodeTables
         ensures tests { result.tests.keys ≡ [] }
         ensures jumps { result.jumps.keys ≡ [] }

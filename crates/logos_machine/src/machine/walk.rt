@@ -14,8 +14,8 @@ use logos_code::code::rows::{
 };
 use logos_hir::leaf::LeafId;
 
-/// The outcome of an attempt. The numbers after leaves are the end of the match and the number of
-/// states that were entered.
+/// The outcome of an attempt. The numbers after a leaf are the end of the match and the number of
+/// states that the attempt entered.
 #[derive(Clone, Copy)]
 pub enum Outcome {
     /// A skipped match up to this offset.
@@ -27,11 +27,12 @@ pub enum Outcome {
     /// No match. The error ends at this offset, and the second number is the number of states that
     /// were entered.
     Fails(usize, usize),
-    /// The end of the input, and the number of states that were entered.
+    /// The attempt began at the end of the input. The number is the number of states that were
+    /// entered.
     Ends(usize),
 }
 
-/// Returns the outcome of an attempt from a point of the input on.
+/// Returns the outcome of an attempt from the offset `start` of the input on.
 #[inline(always)]
 pub fn attempt(code: &Code, input: &[u8], start: usize) -> Outcome
     requires { start ≤ length input.now }
@@ -51,9 +52,9 @@ pub fn attempt(code: &Code, input: &[u8], start: usize) -> Outcome
     end_of(code, input, start, last)
 }
 
-/// Returns the outcome of an attempt from a point on that records the marks passed. Only this
-/// attempt is called out of line: its result is in memory, and the outcome is created from it, so
-/// that the compiler can keep the outcome in registers.
+/// Returns the outcome of an attempt from `start` on that records the marks passed. Only
+/// `attempt_with_marks` is called out of line: its result is in memory, and the outcome is created
+/// from that result, so that the compiler can keep the outcome in registers.
 #[inline(always)]
 fn attempt_slowly(code: &Code, input: &[u8], start: usize) -> Outcome
     requires { start ≤ length input.now }
@@ -66,9 +67,9 @@ fn attempt_slowly(code: &Code, input: &[u8], start: usize) -> Outcome
     }
 }
 
-/// Returns the outcome of an attempt that ends at entry `last`. The numbers of `last` are the
-/// entry, the offset of its byte, the number of states that were entered before its state, and the
-/// row offset of the state.
+/// Returns the outcome of an attempt that ends at the entry `last.0`. The other numbers of `last`
+/// are the offset of the entry's byte, the number of states that were entered before the entry's
+/// state, and the row offset of that state.
 #[inline(always)]
 fn end_of(code: &Code, input: &[u8], start: usize, last: (u32, usize, usize, usize)) -> Outcome
     requires sound { IsSound code.now }
@@ -108,8 +109,9 @@ fn end_of(code: &Code, input: &[u8], start: usize, last: (u32, usize, usize, usi
     attempt_slowly(code, input, start)
 }
 
-/// Returns the outcome of an attempt that ends before a byte that leads nowhere. If the last mark
-/// passed is known for its last state, the attempt need not be repeated.
+/// Returns the outcome of an attempt that ends before a byte that leads nowhere. `last` is as for
+/// `end_of`. If the last mark passed is known for the state of `last`, the attempt need not be
+/// repeated.
 #[inline(always)]
 fn stuck(code: &Code, input: &[u8], start: usize, last: (u32, usize, usize, usize)) -> Outcome
     requires sound { IsSound code.now }
@@ -127,8 +129,8 @@ fn stuck(code: &Code, input: &[u8], start: usize, last: (u32, usize, usize, usiz
     }
 }
 
-/// Returns the leaf of a match that ends before the byte, and the number of states that were
-/// entered after the state of the entry, given the entry without its kind.
+/// Returns the leaf of a match that ends before the byte of an entry, and the number of states that
+/// were entered after the entry's state. `entry` is the operand of the entry.
 #[inline(always)]
 fn halted(entry: u32) -> (LeafId, usize)
     ensures leaf { result.0.0 ≡ entry % LATE }
@@ -137,8 +139,9 @@ fn halted(entry: u32) -> (LeafId, usize)
     (LeafId((entry % LATE) as usize), (entry / LATE) as usize)
 }
 
-/// Returns the last entry of an attempt, the offset of its byte, the number of states that were
-/// entered before its state, and the row offset of this state.
+/// Returns the last entry of an attempt from `start`, the offset of the entry's byte, the number of
+/// states that were entered before the entry's state, and the row offset of that state. `first` is
+/// the entry of the first byte, which leads to a state.
 #[inline(always)]
 fn walk(code: &Code, input: &[u8], start: usize, first: u32) -> (u32, usize, usize, usize)
     requires sound { IsSound code.now }
@@ -173,7 +176,9 @@ fn walk(code: &Code, input: &[u8], start: usize, first: u32) -> (u32, usize, usi
     (code.last_entry(row_start), at, before, row_start)
 }
 
-/// Returns the entry after a fast loop, and the offset of its byte.
+/// Returns the entry after a fast loop, and the offset of that entry's byte. `entry` is the entry
+/// of the byte at the offset `at`, which stays in the state. At the end of the input the result is
+/// the state's entry for the end.
 #[inline(always)]
 fn look_far(code: &Code, input: &[u8], row_start: usize, at: usize, entry: u32) -> (u32, usize)
     requires sound { IsSound code.now }
