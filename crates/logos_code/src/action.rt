@@ -1,6 +1,7 @@
-//! The actions that callbacks return. Callers of a lexer return them from their callbacks.
+//! The actions that callbacks return. Used by users' callbacks and by `logos_machine`, which acts
+//! on them.
 
-/// The action for a match that a callback returns.
+/// The result of a callback: whether its match becomes a token, no item, or an error.
 #[derive(Clone, Copy, Debug, PartialEq, Eq)]
 pub enum Action {
     /// The match is a token. For a leaf that skips, `Emit` is equivalent to `Skip`.

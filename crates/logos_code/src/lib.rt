@@ -1,4 +1,5 @@
-//! Code values, which define the steps of a lexer in each state, and the definition of their runs.
+//! Code values, which define the steps of a lexer in each state. `logos_generator` makes them, and
+//! `logos_machine` runs them.
 
 #![tactic(auto)]
 

@@ -50,7 +50,8 @@ pub(super) fn last_marks_of(alloc: Global, parts: &CodeParts) -> Result<Vec<Last
     Ok(Vec::new(alloc))
 }
 
-/// Searches for the last marks of all states.
+/// Returns the last marks of all states, as a search along their forks finds them. The result has
+/// not been checked.
 ///
 /// # Errors
 ///
@@ -72,7 +73,8 @@ fn find(alloc: Global, parts: &CodeParts) -> Result<Vec<LastMark>, AllocError> {
 }
 
 impl Search {
-    /// Updates all states to which the fork of a state leads.
+    /// Updates the last marks of all states to which the fork of `state` leads. Does nothing if
+    /// there is no such state.
     fn update_targets(&mut self, parts: &CodeParts, state: usize) -> Result<(), AllocError> {
         let mark = last_mark_at(&self.found, state);
         let Some(state) = parts.states.get(state) else {
@@ -84,7 +86,8 @@ impl Search {
         }
     }
 
-    /// Updates all states to which the branches lead, given the last mark before them.
+    /// Updates the last marks of all states to which the branches lead. `mark` is the last mark in
+    /// the state of the branches.
     fn update_by_conditions(
         &mut self,
         parts: &CodeParts,
@@ -97,7 +100,8 @@ impl Search {
         Ok(())
     }
 
-    /// Updates all states to which the jump table leads, given the last mark before them.
+    /// Updates the last marks of all states to which jump table `k` leads. `mark` is the last mark
+    /// in the state of the table.
     fn update_by_table(
         &mut self,
         parts: &CodeParts,
@@ -113,7 +117,8 @@ impl Search {
         Ok(())
     }
 
-    /// Updates the state `to`, if it exists, given the last mark before it.
+    /// Updates the last mark of the state `to`, if the state exists. `mark` is the last mark in a
+    /// state that leads to it.
     fn update_target(
         &mut self,
         parts: &CodeParts,
@@ -126,7 +131,8 @@ impl Search {
         }
     }
 
-    /// Records that an attempt can end in the state with this last mark.
+    /// Records that an attempt can end in the state with this last mark, and opens the state if its
+    /// last mark changes. Does nothing if there is no such state.
     fn find_more(&mut self, state: usize, mark: LastMark) -> Result<(), AllocError> {
         if state >= self.found.len() {
             return Ok(());
@@ -141,7 +147,8 @@ impl Search {
     }
 }
 
-/// Returns the last mark of a state for which both `one` and `other` were found.
+/// Returns the last mark of a state for which `one` and then `other` was found: `other` if `one` is
+/// `Unseen` or equal to it, and `Varies` otherwise.
 fn either(one: LastMark, other: LastMark) -> LastMark {
     if one == LastMark::Unseen || one == other {
         other
@@ -150,7 +157,8 @@ fn either(one: LastMark, other: LastMark) -> LastMark {
     }
 }
 
-/// Returns the last mark in a state, given the last mark in the state that leads to it on a byte.
+/// Returns the last mark in a state, where `before` is the last mark in a state that leads to it on
+/// a byte.
 fn entered(state: &CodeState, before: LastMark) -> LastMark {
     match (state.mark, before) {
         (Some(mark), _) => LastMark::Back(mark.leaf, bytes_back(mark)),
@@ -169,7 +177,7 @@ fn bytes_back(mark: Mark) -> usize
     if mark.late { 1 } else { 0 }
 }
 
-/// Returns the last mark in the state with this number.
+/// Returns the last mark in the state with this number, or `Unseen` if `marks` has no such element.
 pub(super) fn last_mark_at(marks: &[LastMark], state: usize) -> LastMark
     ensures { result ≡ last_mark_at marks.now state }
 {
@@ -179,7 +187,8 @@ pub(super) fn last_mark_at(marks: &[LastMark], state: usize) -> LastMark
     }
 }
 
-/// Returns whether the last marks agree with each other along all paths.
+/// Returns whether the last marks agree with the marks of states, and with each other along all
+/// transitions, so that they are correct.
 fn agree(parts: &CodeParts, marks: &[LastMark]) -> bool
     requires { IsSound (code_of parts.now) }
     ensures { IsTrue result → Agree (code_of parts.now) marks.now }
@@ -261,7 +270,7 @@ fn table_agrees(parts: &CodeParts, marks: &[LastMark], from: LastMark, table: &[
     true
 }
 
-/// Returns whether a last mark in a state agrees with the state's mark.
+/// Returns whether `last`, the last mark in a state, agrees with `mark`, the state's mark.
 fn is_own(last: LastMark, mark: Option<Mark>) -> bool
     ensures { IsTrue result → IsOwn last (option_map mark_of mark) }
 {
@@ -275,8 +284,8 @@ fn is_own(last: LastMark, mark: Option<Mark>) -> bool
     }
 }
 
-/// Returns whether the last mark in the state to which an entry of a jump table leads follows from
-/// `from`, if it leads to one.
+/// Returns whether the entry of a jump table leads nowhere, or `target_agrees` holds for the state
+/// to which it leads.
 fn entry_agrees(parts: &CodeParts, marks: &[LastMark], from: LastMark, entry: u32) -> bool
     ensures { IsTrue result → IfSome (entry_of entry) (FollowsAt (code_of parts.now) marks.now
         from) }
@@ -287,8 +296,8 @@ fn entry_agrees(parts: &CodeParts, marks: &[LastMark], from: LastMark, entry: u3
     }
 }
 
-/// Returns whether the last mark in the state `to` follows from `from`, if the state has no mark of
-/// its own.
+/// Returns whether the state `to` exists, and has a mark of its own or a last mark that follows
+/// from `from`, the last mark in a state that leads to it.
 fn target_agrees(parts: &CodeParts, marks: &[LastMark], from: LastMark, to: usize) -> bool
     ensures { IsTrue result → FollowsAt (code_of parts.now) marks.now from to }
 {
@@ -301,8 +310,9 @@ fn target_agrees(parts: &CodeParts, marks: &[LastMark], from: LastMark, to: usiz
     follows(from, next.fast_loop, last_mark_at(marks, to))
 }
 
-/// Returns whether the last mark in a state without a mark of its own follows from `from`, the last
-/// mark in a state that leads to it on a byte.
+/// Returns whether `to`, the last mark in a state without a mark of its own, follows from `from`,
+/// the last mark in a state that leads to it on a byte. `fast_loop` is the fast loop of the first
+/// state.
 fn follows(from: LastMark, fast_loop: Option<usize>, to: LastMark) -> bool
     ensures { IsTrue result → Follows to from fast_loop }
 {
@@ -313,7 +323,7 @@ fn follows(from: LastMark, fast_loop: Option<usize>, to: LastMark) -> bool
     }
 }
 
-/// Returns whether `from` is the last mark of this leaf, one byte earlier.
+/// Returns whether `from` is a match of `leaf` that ends one byte less than `bytes` before.
 fn follows_back(from: LastMark, leaf: LeafId, bytes: usize) -> bool
     ensures { IsTrue result → FollowsBack from leaf.0 bytes }
 {

@@ -20,7 +20,7 @@ pub enum Sign {
     Before(LeafId),
 }
 
-/// Returns the signs of all states.
+/// Returns the signs of all states, in the order of their numbers.
 ///
 /// # Errors
 ///
@@ -35,7 +35,7 @@ pub(super) fn signs_of(alloc: Global, parts: &CodeParts) -> Result<Vec<Sign>, Al
     Ok(signs)
 }
 
-/// Returns the sign of a mark.
+/// Returns the sign of a mark, or `Nothing` for `None`.
 fn sign_of(mark: Option<Mark>) -> Sign
     ensures { mark_by result ≡ option_map mark_of mark }
 {
