@@ -1,4 +1,4 @@
-//! Chunks: the items of a few thousand bytes, determined by the bytes of a window alone. Used by
+//! Chunks: the items of a few thousand bytes, which the bytes of a window alone determine. Used by
 //! `anew`, `borders` and `lexed`.
 
 ghost use Rattle.std.specs.Prelude.{◌≡◌, ◌<◌, ◌≤◌, length, map, take, IfOk, IfErr, IfSome};
@@ -14,10 +14,10 @@ use std::alloc::{AllocError, Global};
 /// An item without its bytes: its kind, its leaf and its span.
 #[derive(Clone, Copy, Debug, PartialEq, Eq)]
 pub enum ItemAt {
-    /// A match.
+    /// A match of `leaf`.
     Token { leaf: LeafId, span: Span },
-    /// Bytes that no leaf matches, if `leaf` is `None`, or a match that the callback of `leaf`
-    /// refused.
+    /// An error: bytes that no leaf matches if `leaf` is `None`, and otherwise a match of `leaf`
+    /// for which the callback returned `Error`.
     Error { leaf: Option<LeafId>, span: Span },
 }
 
@@ -46,7 +46,7 @@ impl Chunk {
         self.length
     }
 
-    /// Returns the number of bytes, counted from the chunk's first one, that were examined to find
+    /// Returns the number of bytes, counted from the chunk's first byte, that were examined to find
     /// its items.
     pub fn window(&self) -> usize
         ensures { result ≡ self.now.window }
@@ -65,8 +65,8 @@ fn offset_of(item: Item<'_>) -> ItemAt
     }
 }
 
-/// Returns the first items of a lexer's input that do not depend on the bytes after it, and the
-/// offset at which they end.
+/// Returns the first items of a lexer's input that do not depend on the bytes after the input, and
+/// the offset at which the next match attempt begins. The lexer must be at the start of the input.
 ///
 /// # Errors
 ///
@@ -103,7 +103,8 @@ fn characters<'p>(code: &Code, part: &'p [u8]) -> &'p [u8]
     }
 }
 
-/// Returns the first chunk of the input, if `part`, a prefix of the input, determines it.
+/// Returns the first chunk of an input, or `None` if `part`, a prefix of the input, determines no
+/// chunk.
 ///
 /// # Errors
 ///
@@ -133,8 +134,8 @@ fn chunk_of<C: Fn(LeafId, &[u8]) -> Action + Drop>(
     }))
 }
 
-/// Returns the first chunk of `bytes`, found in a window of at least `size` bytes. Returns `None`
-/// if the first item depends on the end of the bytes.
+/// Returns the first chunk of `bytes`. The window has `size` bytes, and is doubled until it
+/// determines a chunk. Returns `None` if no window that is shorter than `bytes` does.
 ///
 /// # Errors
 ///

@@ -7,13 +7,13 @@ use logos_hir::leaf::LeafId;
 use logos_token::token::Span;
 
 /// An item of a stream, with its span in the stream, in bytes. `Stream::slice` returns the bytes at
-/// its span.
+/// the span.
 #[derive(Clone, Copy, Debug, PartialEq, Eq)]
 pub enum StreamItem {
-    /// A match.
+    /// A match of `leaf`.
     Token { leaf: LeafId, span: Span },
-    /// Bytes that no leaf matches, if `leaf` is `None`, or a match that the callback of `leaf`
-    /// refused.
+    /// An error: bytes that no leaf matches if `leaf` is `None`, and otherwise a match of `leaf`
+    /// for which the callback returned `Error`.
     Error { leaf: Option<LeafId>, span: Span },
 }
 
@@ -24,10 +24,10 @@ pub enum Streamed {
     Item(StreamItem),
     /// The next event depends on bytes that were not read: call `Stream::read`.
     More,
-    /// The next event depends on more bytes than may be in memory.
+    /// The next event depends on more bytes than may be in memory at a time.
     TooLong,
-    /// The bytes at `Stream::offset` are not UTF-8, and the lexer reads text. All items of the
-    /// text before them were returned.
+    /// The bytes at `Stream::offset` are not UTF-8, and the code is in UTF-8 mode. All items of the
+    /// text before these bytes have been returned.
     NotUtf8,
     /// The end of the stream.
     End,
@@ -46,7 +46,7 @@ impl StreamItem {
     }
 }
 
-/// Returns the item with its span moved by `by` bytes.
+/// Returns the item with its span moved by `by` bytes, saturating at the greatest number.
 pub(crate) fn later(item: StreamItem, by: usize) -> StreamItem
     ensures { by + start_of item < 2 ^ 64 → by + end_of item < 2 ^ 64 → (slice : List ℕ) →
         item_with result slice ≡ item_later by (item_with item slice) }
@@ -63,7 +63,7 @@ pub(crate) fn later(item: StreamItem, by: usize) -> StreamItem
     }
 }
 
-/// Returns the span moved by `by` bytes.
+/// Returns the span moved by `by` bytes, saturating at the greatest number.
 fn span_later(span: Span, by: usize) -> Span
     ensures from { by + span.from < 2 ^ 64 → result.from ≡ by + span.from }
     ensures to { by + span.to < 2 ^ 64 → result.to ≡ by + span.to }

@@ -1,4 +1,5 @@
-//! Prints the parts of the implementation of `Tables`. Called by `lexer` for each part in turn.
+//! Prints the parts of the implementation of `Tables`. Called by `lexer` for one part after
+//! another.
 
 ghost use Rattle.std.specs.Prelude.{◌≡◌, ◌++◌, ◌∷◌, [], OnOk, string_bytes};
 ghost use Rattle.logos_tables.specs.Imports.{Appends, data_text, end_text, entries_size_text, folded_text, head_text, masks_text, unpacked_text};
@@ -19,7 +20,7 @@ _Tables::run(lex)
 } }
 ";
 
-/// Appends the head of the implementation for a type.
+/// Appends the head of the implementation for the type `this`.
 pub(crate) fn push_head(text: &mut String, this: &str) -> Result<(), Memory>
     ensures { OnOk result (string_bytes text.new ≡ string_bytes text.old ++ head_text this.now) }
 {
@@ -30,8 +31,8 @@ pub(crate) fn push_head(text: &mut String, this: &str) -> Result<(), Memory>
     Ok(())
 }
 
-/// Appends the beginning of the tables: the state in which match attempts begin, and the number of
-/// classes.
+/// Appends the beginning of the tables: `root`, the number of the state in which match attempts
+/// begin, and `width`, the number of classes.
 pub(crate) fn push_data(text: &mut String, root: usize, width: usize) -> Result<(), Memory>
     ensures { OnOk result (string_bytes text.new
         ≡ string_bytes text.old ++ data_text root width) }
@@ -43,7 +44,8 @@ pub(crate) fn push_data(text: &mut String, root: usize, width: usize) -> Result<
     Ok(())
 }
 
-/// Appends the end of the tables, and the type of the unpacked tables.
+/// Appends the end of the tables, and the type and the value of the unpacked tables, for these
+/// numbers of states and runs.
 pub(crate) fn push_unpacked(text: &mut String, states: usize, runs: usize) -> Result<(), Memory>
     ensures { OnOk result (string_bytes text.new
         ≡ string_bytes text.old ++ unpacked_text states runs) }
@@ -55,7 +57,8 @@ pub(crate) fn push_unpacked(text: &mut String, states: usize, runs: usize) -> Re
     Ok(())
 }
 
-/// Appends the constants that the loop reads.
+/// Appends the constants that the loop reads: the rows, which have `entries` entries, and the
+/// entries of the end of the input.
 pub(crate) fn push_entries_size(text: &mut String, entries: usize) -> Result<(), Memory>
     ensures { OnOk result (string_bytes text.new
         ≡ string_bytes text.old ++ entries_size_text entries) }
@@ -67,7 +70,7 @@ pub(crate) fn push_entries_size(text: &mut String, entries: usize) -> Result<(),
     Ok(())
 }
 
-/// Appends the constants of the loops over bytes that stay.
+/// Appends the constants of the loops over bytes that stay: `masks` masks, and their ranges.
 pub(crate) fn push_masks(text: &mut String, masks: usize) -> Result<(), Memory>
     ensures { OnOk result (string_bytes text.new ≡ string_bytes text.old ++ masks_text masks) }
 {
@@ -78,7 +81,7 @@ pub(crate) fn push_masks(text: &mut String, masks: usize) -> Result<(), Memory>
     Ok(())
 }
 
-/// Appends the constant that `scan` reads.
+/// Appends the constant that `scan` reads: the folded tables, which have `entries` entries.
 pub(crate) fn push_folded(text: &mut String, entries: usize) -> Result<(), Memory>
     ensures { OnOk result (string_bytes text.new ≡ string_bytes text.old ++ folded_text entries) }
 {
