@@ -142,7 +142,7 @@ pub struct CodeParts<'s> {
     pub utf8: bool,
 }
 
-/// The code of a lexer. Each state, table, test and leaf that it refers to exists, and no two of
+/// The code of a lexer. Each state, table, test and leaf to which it refers exists, and no two of
 /// its jump tables are equal. `Generator::generate` makes it.
 #[derive(Drop)]
 pub struct Code<'s> {
@@ -156,7 +156,8 @@ pub struct Code<'s> {
     masks: Vec<[u8; 32]>,
     /// The accept sign of each state, which is its mark.
     signs: Vec<Sign>,
-    /// The last mark that an attempt has passed, for each state in which it can end.
+    /// The last mark that an attempt has passed if it ends in a state, for each state, or an empty
+    /// list if this is not known.
     last_marks: Vec<LastMark>,
     /// The use of the matches of each leaf.
     uses: Vec<LeafUse>,
@@ -201,8 +202,8 @@ impl<'s> Code<'s> {
         &self.parts.header.this
     }
 
-    /// Returns the parts of the code: its nodes and its tables. Each state, table, test and leaf
-    /// that they refer to exists, and no two jump tables are equal.
+    /// Returns the parts of the code. Each state, table, test and leaf to which they refer exists,
+    /// and no two jump tables are equal.
     pub fn parts(&self) -> &CodeParts<'s>
         ensures is { code_of result.now ≡ self.now }
         ensures valid { IsValid result.now }

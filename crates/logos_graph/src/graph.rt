@@ -29,7 +29,7 @@ pub struct Config {
 pub struct State(pub(crate) usize);
 
 impl State {
-    /// Returns the number of the state. The root's is 0.
+    /// Returns the number of the state, which is 0 for the root.
     pub fn index(self) -> usize
         ensures { result ≡ self.0 }
     {
@@ -57,7 +57,7 @@ pub struct StateData {
     /// The target of the end of the input, or `None` if the end leads nowhere.
     pub eoi: Option<State>,
     /// The states from which a byte or the end leads to this state, ascending and without
-    /// duplicates. Equality ignores them.
+    /// duplicates. The equality of states ignores this field.
     pub backward: Vec<State>,
 }
 

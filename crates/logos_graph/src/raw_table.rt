@@ -1,5 +1,5 @@
-//! Makes the table of an automaton, with only late marks. `graph::construction` calls it between
-//! the automaton and the reduction.
+//! Makes the table of an automaton, with only late marks. Called by `graph::construction`, which
+//! reduces the table.
 
 ghost use Rattle.std.specs.Prelude.{◌≡◌, ℕ, ◌+◌, ◌<◌, ◌^◌, Some, IfOk, IfSome, List, [], length, vec_len, slice_index, slice_get};
 ghost use Rattle.logos_graph.specs.Imports.{All, dfa_of, AreFaults, NamesLeaves, priority_of, first_of, best_with, IsRawMark, IsMarkOf, AreRawRows, rules_of, IsTotal, ReadsOneByteLate, MarksOneByteLate, size, mark, type_of, edges, mark_in, IsRaw, target_by, IsClosed, rows_of};

@@ -21,9 +21,10 @@ pub enum ItemAt {
     Error { leaf: Option<LeafId>, span: Span },
 }
 
-/// Neighboring items, and the bytes from the first of them to the next chunk.
+/// The items of consecutive bytes of an input, with the number of these bytes and of those that
+/// determine the items.
 ///
-/// Spans count from the chunk's first byte, so an edit before a chunk leaves it unchanged.
+/// Spans count from the chunk's first byte, so an edit before a chunk does not change the chunk.
 #[derive(Debug, Drop)]
 pub struct Chunk {
     items: Vec<ItemAt>,

@@ -49,7 +49,7 @@ pub struct TrialCounts {
     pub bytes: usize,
     /// The number of bytes before which a match ends.
     pub ends: usize,
-    /// The number of bytes that lead to another row.
+    /// The number of bytes that lead to another row than the byte before.
     pub entered: usize,
     /// The number of bytes that need a repeated attempt.
     pub repeated: usize,

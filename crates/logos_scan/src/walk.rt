@@ -24,8 +24,8 @@ pub const ENDED: u32 = 1 << 31;
 /// The flag of a pending entry, which the scan must process.
 pub const TOKEN: u32 = 1 << 30;
 
-/// Returns the entry of a byte in a row. The byte is added first: the offset of the row, which
-/// comes from the entry before, is known last.
+/// Returns the entry of a byte in a row. Adds the byte first: the row offset, which comes from the
+/// entry before, is known last.
 #[inline(always)]
 pub(crate) fn entry_of(rows: &[u32], byte: u8, row_start: usize) -> u32
     requires { IsRowStart rows.now row_start }

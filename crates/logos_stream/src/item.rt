@@ -22,7 +22,7 @@ pub enum StreamItem {
 pub enum Streamed {
     /// The next item, whatever bytes follow.
     Item(StreamItem),
-    /// The next event depends on bytes that were not read: call `Stream::read`.
+    /// The next event depends on bytes that have not been read: call `Stream::read`.
     More,
     /// The next event depends on more bytes than may be in memory at a time.
     TooLong,

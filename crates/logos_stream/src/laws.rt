@@ -7,7 +7,8 @@ use logos_code::action::Action;
 use logos_hir::leaf::LeafId;
 use std::io::Read;
 
-/// The items of a stream, however it is read, are the items of all bytes that were read.
+/// The items of a stream are those of a run on all bytes that were read, regardless of the lengths
+/// of the reads.
 pub fn streams_are_of_the_whole<R: Read, C: Fn(LeafId, &[u8]) -> Action>(_reader: &R, callback: &C)
     ensures { StreamsAreOfTheWhole R.remaining (answers_of C.Fn callback.now) }
 {}

@@ -170,7 +170,8 @@ fn entered(state: &CodeState, before: LastMark) -> LastMark {
     }
 }
 
-/// Returns the number of bytes by which the match of a mark ends before the state.
+/// Returns the number of bytes between the end of a mark's match and the state: 1 if the mark is
+/// late, and 0 otherwise.
 fn bytes_back(mark: Mark) -> usize
     ensures { result ≡ (if mark.late then 1 else 0) }
 {
@@ -204,7 +205,8 @@ fn agree(parts: &CodeParts, marks: &[LastMark]) -> bool
     true
 }
 
-/// Returns whether this can be the last mark in the state in which match attempts begin.
+/// Returns whether `mark` can be the last mark in the state in which match attempts begin, which is
+/// not `Back`.
 fn begins_unmarked(mark: LastMark) -> bool
     ensures { IsTrue result → BeginsUnmarked mark }
 {
@@ -239,7 +241,8 @@ fn fork_agrees(parts: &CodeParts, marks: &[LastMark], from: LastMark, fork: &For
     }
 }
 
-/// Returns whether the last marks in the states to which the branches lead follow from `from`.
+/// Returns whether the last marks in the states to which the branches lead follow from `from`, the
+/// last mark in the state of the branches.
 fn branches_agree(
     parts: &CodeParts,
     marks: &[LastMark],
@@ -257,7 +260,8 @@ fn branches_agree(
     true
 }
 
-/// Returns whether the last marks in the states to which the jump table leads follow from `from`.
+/// Returns whether the last marks in the states to which the jump table leads follow from `from`,
+/// the last mark in the state of the table.
 fn table_agrees(parts: &CodeParts, marks: &[LastMark], from: LastMark, table: &[u32; 256]) -> bool
     ensures { IsTrue result → ForkAgrees (code_of parts.now) marks.now from
         (by_table (jumps_of table.now)) }

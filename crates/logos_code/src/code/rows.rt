@@ -8,7 +8,7 @@
 //!
 //! | Kind | Operand | The byte |
 //! |---|---|---|
-//! | 0 | the offset of a state | leads to this state |
+//! | 0 | the row offset of a state | leads to this state |
 //! | 1, `STAYS` | a test | stays in the state, whose fast loop has this test |
 //! | 2, `LEAVES` | a leaf, `LATE` | ends a match before it, which is skipped without a callback |
 //! | 3, `HALTS` | a leaf, `LATE` | ends a match before it, which is a token without a callback |
@@ -37,9 +37,9 @@ use std::alloc::{AllocError, Global};
 /// entry are its operand.
 const NAMED: u32 = 1 << 28;
 
-/// The number of entries of a row: one for each byte, and 16 unused ones. With them, the entries of
-/// one byte in many states are not a power of two apart, where they would evict each other from a
-/// processor's cache.
+/// The number of entries of a row: one for each byte, and 16 unused ones. Without the unused ones,
+/// the entries of one byte in many states would be a power of two apart, and would evict each other
+/// from a processor's cache.
 pub const WIDTH: usize = 272;
 
 /// The maximum number of states that entries can represent.

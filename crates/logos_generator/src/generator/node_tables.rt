@@ -9,9 +9,9 @@ use std::alloc::Global;
 /// The tests and the jump tables that the nodes of a code share.
 #[derive(Drop)]
 pub(super) struct NodeTables {
-    /// The byte sets that nodes test by bits, by the numbers of their tests.
+    /// The sets of bytes that nodes test by bits, in the order of the numbers of the tests.
     pub tests: IndexSet<[bool; 256]>,
-    /// The jump tables of nodes, by their numbers.
+    /// The jump tables of nodes, in the order of their numbers.
     pub jumps: IndexSet<[u32; 256]>,
 }
 

@@ -1,5 +1,5 @@
-//! The fast path of an attempt: one load of an entry for each byte. `Lexer::next` calls it for each
-//! attempt.
+//! The fast path of an attempt: one load of an entry for each byte. Called by `Lexer::next` and
+//! `logos_scan`.
 
 ghost use Rattle.std.specs.Prelude.{◌≡◌, ◌<◌, ◌≤◌, ◌/◌, ◌%◌, length, slice_index_or};
 ghost use Rattle.logos_machine.specs.Views.{state_at, IsSound, IsEntry, IsRowStart, Reaches, LooksAhead, IsOutcome};
@@ -20,12 +20,11 @@ use logos_hir::leaf::LeafId;
 pub enum Outcome {
     /// A skipped match up to this offset.
     Skips(usize),
-    /// A match that is a token.
+    /// A match of this leaf that is a token.
     Emits(LeafId, usize, usize),
-    /// A match whose leaf may have a callback.
+    /// A match of this leaf, which may have a callback.
     CallsBack(LeafId, usize, usize),
-    /// No match. The error ends at this offset, and the second number is the number of states that
-    /// were entered.
+    /// No match. The numbers are the end of the error, and the number of states that were entered.
     Fails(usize, usize),
     /// The attempt began at the end of the input. The number is the number of states that were
     /// entered.
