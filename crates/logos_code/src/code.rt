@@ -58,8 +58,8 @@ pub const NOWHERE: u32 = u32::MAX;
 /// input, the step to `at_end`. States are identified by their numbers.
 #[derive(Drop)]
 pub struct CodeState {
-    /// The number of the test of the bytes on which the state does not change, or `None` if it
-    /// changes on each byte.
+    /// The number of the test of the bytes on which the state does not change, or `None` if the
+    /// state has no fast loop.
     pub fast_loop: Option<usize>,
     pub mark: Option<Mark>,
     pub fork: Fork,
@@ -242,8 +242,8 @@ impl Code<'_> {
         self.parts.utf8
     }
 
-    /// Returns the entry of `byte` as the first byte of an attempt. It is that of the root's row,
-    /// or `UNDESCRIBED` if the row has an entry of the kinds `STAYS`, `LEAVES` and `HALTS`.
+    /// Returns the entry of `byte` as the first byte of an attempt: that of the root's row, or
+    /// `UNDESCRIBED` if that one is of the kind `STAYS`, `LEAVES` or `HALTS`.
     #[inline(always)]
     pub fn first_entry(&self, byte: u8) -> u32
         ensures first { IsFirst self.now byte result }
@@ -315,7 +315,8 @@ impl Code<'_> {
         entry_of_step(self.parts.halting_step(state.mark))
     }
 
-    /// Returns the number of the test of the state's fast loop, or `None` if it has no fast loop.
+    /// Returns the number of the test of the state's fast loop, or `None` if the state has no fast
+    /// loop.
     pub fn fast_loop(&self, state: usize) -> Option<usize>
         requires { state < length self.now.states }
         ensures is { result ≡ (state_at self.now state).fast_loop }

@@ -73,7 +73,7 @@ pub struct ExprToken<'i> {
 /// The reason that there is no tokenizer, or that an input has no tokens.
 #[derive(Clone, Copy, Debug, PartialEq, Eq)]
 pub enum ExprError {
-    /// The source of the tokenizer has faults. A test shows that it has none.
+    /// The source of the tokenizer has faults. This does not occur, as a test shows.
     Refused,
     /// The input has an error. `span` is the span of its first error in the input, in bytes.
     Bad { span: Span },
@@ -161,8 +161,8 @@ impl Language {
     /// # Errors
     ///
     /// Returns `Bad` with the span of the first error, if the text has one: at its start begins
-    /// neither a token nor a blank, and it spans the longest prefix of a token, or one character.
-    /// Returns `Memory` if memory runs out.
+    /// neither a token nor a blank, and it spans the longest prefix that could still have become a
+    /// token, or one character. Returns `Memory` if memory runs out.
     pub fn tokens<'i>(&self, alloc: Global, input: &'i str) -> Result<Vec<ExprToken<'i>>, ExprError>
         // The items of maximal munch from the start of the text determine the outcome.
         ensures reads { Answers (Tokenizes input.now) result }

@@ -83,10 +83,10 @@ fn lex_input<'i, C: Fn(LeafId, &[u8]) -> Action + Drop>(
 /// The source is read as `generate` reads it. From each point of the input the longest match is
 /// taken, and of several matches of that length the one whose leaf has the highest priority. Its
 /// item is a token of its leaf; matches of a `skip` have no item. If no leaf matches, the item is
-/// an error that spans the longest prefix of a match, and at least one byte, or in UTF-8 mode one
-/// character. For each match of a leaf that has a callback, `callbacks` receives the leaf and the
-/// slice, and returns the action; `Emit` for a `skip` means `Skip`. `callbacks` is not called for
-/// other leaves. The items are the same in both shapes of `config`.
+/// an error that spans the longest prefix that could still have become a match, at least one byte,
+/// and in UTF-8 mode whole characters. For each match of a leaf that has a callback, `callbacks`
+/// receives the leaf and the slice, and returns the action; `Emit` for a `skip` means `Skip`.
+/// `callbacks` is not called for other leaves. The items are the same in both shapes of `config`.
 ///
 /// # Errors
 ///

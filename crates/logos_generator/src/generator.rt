@@ -100,9 +100,9 @@ impl<'g, 's> Generator<'g, 's> {
     /// attempt enters at most two states more than there are bytes left. The code has copies of the
     /// arguments of `new`, and of the kinds and callbacks of the graph's leaves. Its tests and its
     /// jump tables are numbered by first use, with states ascending and the fast loop before the
-    /// fork; equal ones share a number. Afterwards the generator's tests and jump tables are those
-    /// of the code, regardless of the nodes that it made before, so `render_luts` and
-    /// `render_jump_tables` return the code's tables.
+    /// fork; equal tests share a number, and so do equal jump tables. Afterwards the generator's
+    /// tests and jump tables are those of the code, regardless of the nodes that it made before, so
+    /// `render_luts` and `render_jump_tables` return the code's tables.
     ///
     /// # Errors
     ///

@@ -74,7 +74,7 @@ fn ordered(a: usize, b: usize) -> (usize, usize)
     if a < b { (a, b) } else { (b, a) }
 }
 
-/// Returns the number of the block whose split separated the states `s` and `t`.
+/// Returns the number of the block that a split made when it separated the states `s` and `t`.
 fn parted_at(reduced: &Reduction, s: usize, t: usize) -> usize
     requires evidence { YieldsEvidence reduced.now }
     requires s_in { s < size reduced.now.table }

@@ -1,5 +1,5 @@
-//! Lexers, each of which is a code value on an input and returns its items one at a time. Used by
-//! `logos_scan`, `logos_stream`, `logos_relex` and users of the library.
+//! Lexers, each of which is a code value on an input and returns the input's items one at a time.
+//! Used by `logos_scan`, `logos_stream`, `logos_relex` and users of the library.
 
 ghost use Rattle.std.specs.Prelude.{◌≡◌, ◌<◌, ◌≤◌, length, option_map, slice_range, MatchBool, MatchOption, IfOk, IfErr, IsTrue, IsUtf8, drop, None};
 ghost use Rattle.logos_machine.specs.Views.{IsValidUpTo, calls_back_for, token, error, answers_of, begun, item_of, Yields, Ends, Keeps, MatchYields, Takes, TakesMatches};
@@ -293,9 +293,10 @@ pub fn error<'i>(input: &'i [u8], span: Span) -> Item<'i>
     }
 }
 
-/// Returns the item of a match of `leaf` at `span` of the input: a token or an error. Returns
-/// `None` if the leaf or its callback skips the match. Calls the callback only for a leaf that has
-/// one.
+/// Returns the item of a match of `leaf` at `span` of the input: a token if the action is `Emit`,
+/// and an error if it is `Error`. Returns `None` if the action is `Skip`, or if it is `Emit` and
+/// the leaf is a skip. Calls the callback only for a leaf that has a callback; otherwise the action
+/// is `Emit`.
 #[inline(always)]
 pub fn matched_item<'i, C: Fn(LeafId, &[u8]) -> Action>(
     code: &Code,
@@ -324,8 +325,8 @@ pub fn matched_item<'i, C: Fn(LeafId, &[u8]) -> Action>(
     }
 }
 
-/// Returns the action for a match. The action of a leaf without a callback is `Emit`, and the
-/// callback is called only for leaves that have one.
+/// Returns the action for a match of `leaf`, whose bytes are `slice`: the result of the callback if
+/// the leaf has a callback, and `Emit` otherwise.
 #[inline(always)]
 fn answer<C: Fn(LeafId, &[u8]) -> Action>(
     code: &Code,

@@ -21,8 +21,8 @@ pub enum ItemAt {
     Error { leaf: Option<LeafId>, span: Span },
 }
 
-/// The items of consecutive bytes of an input, with the number of these bytes and of those that
-/// determine the items.
+/// The items of consecutive bytes of an input, with the number of these bytes, and the number of
+/// bytes that determine the items.
 ///
 /// Spans count from the chunk's first byte, so an edit before a chunk does not change the chunk.
 #[derive(Debug, Drop)]

@@ -68,8 +68,8 @@ fn are_bytes(input: &[u8])
 {}
 
 /// Writes into `entries` the entries of the input's bytes from the offset `base` on, at most one
-/// chunk. The walk begins in the row `row_start`. Returns the number of these bytes, and the row
-/// after them.
+/// chunk, and 0 for the other entries. The walk begins in the row `row_start`. Returns the number
+/// of these bytes, and the row after them.
 fn step_over(reading: &Reading, base: usize, row_start: usize, entries: &mut [u32; 4608]) -> Loaded
     requires reading { IsReading reading.now }
     requires base { base ≤ length reading.now.input.now }
@@ -91,8 +91,8 @@ fn step_over(reading: &Reading, base: usize, row_start: usize, entries: &mut [u3
     }
 }
 
-/// Makes the chunk of the input's bytes from the offset `base` on: their entries, as in
-/// `step_over`, and the flags of the entries.
+/// Writes the chunk of the input's bytes from the offset `base` on: the entries, as `step_over`
+/// does, and their flags. Returns the number of these bytes, and the row after them.
 #[inline(never)]
 fn load(reading: &Reading, base: usize, row_start: usize, chunk: &mut ChunkEntries) -> Loaded
     requires reading { IsReading reading.now }
@@ -177,8 +177,8 @@ fn repaired_from(reading: &Reading, run: Run, chunk: &mut ChunkEntries, from: us
     }
 }
 
-/// Returns the scan with a new chunk, which begins at the offset `base` of the input. At `base`,
-/// the attempt that begins at `start` is in the state of the row `row_start`.
+/// Returns the scan after a new chunk is written, which begins at the offset `base` of the input.
+/// At `base`, the attempt that begins at `start` is in the state of the row `row_start`.
 #[inline(always)]
 fn filled(
     reading: &Reading,
@@ -208,7 +208,7 @@ fn filled(
 }
 
 impl Run {
-    /// Returns a scan at the start of an input, and makes its first chunk.
+    /// Returns a scan at the start of an input, after its first chunk is written.
     #[inline(always)]
     pub fn new(reading: &Reading, chunk: &mut ChunkEntries) -> Run
         requires reading { IsReading reading.now }

@@ -38,8 +38,8 @@ const MATCH: usize = 400;
 /// The cost of each state that is entered, for a lexer.
 const ENTRY: usize = 325;
 
-/// The number of bytes of which more than three end a match where a lexer is faster, since
-/// processors predict such matches.
+/// The number of bytes such that a lexer is faster if matches end before more than three of them,
+/// since processors predict such matches.
 const ALMOST_ALL: usize = 4;
 
 /// The counts of walks over chunks of an input.
@@ -68,7 +68,7 @@ const NOTHING: TrialCounts = TrialCounts {
 };
 
 /// Returns the counts of walks over chunks at regular distances in an input, each from the root on.
-/// Without two chunks of bytes for each walk, all counts are 0.
+/// All counts are 0 if the input has fewer than two chunks of bytes for each walk.
 pub fn trial_counts(reading: &Reading) -> TrialCounts
     requires { IsReading reading.now }
 {
@@ -87,8 +87,8 @@ pub fn trial_counts(reading: &Reading) -> TrialCounts
     counts
 }
 
-/// Returns the counts of a walk over one chunk of bytes. It begins after the first line end in the
-/// chunk of bytes from `at` on, or at `at` if they have no line end.
+/// Returns the counts of a walk over one chunk of bytes, which begins after the first line end
+/// among the `CHUNK` bytes from `at` on, or at `at` if there is none.
 fn chunk_counts(reading: &Reading, at: usize) -> TrialCounts
     requires reading { IsReading reading.now }
     requires at { at + 2 * CHUNK ≤ length reading.now.input.now }

@@ -1,4 +1,4 @@
-//! Prints lists of numbers as fields of the tables. Called by `lexer`.
+//! Prints lists of numbers as fields of the tables. Called by `lexer` and `parts`.
 
 ghost use Rattle.std.specs.Prelude.{◌≡◌, ◌++◌, ◌∷◌, [], OnOk, map, string_bytes};
 ghost use Rattle.logos_tables.specs.Imports.{Appends, field_head, field_text, runs_texts};

@@ -29,7 +29,8 @@ fn columns(tables: &PrintedTables, more: usize) -> usize {
     }
 }
 
-/// Returns the number of entries of all rows. `more` is as for `columns`.
+/// Returns the number of entries of all rows, where a row by classes has `more` columns in addition
+/// to those of the classes.
 fn row_entries(tables: &PrintedTables, more: usize) -> usize {
     tables
         .rows

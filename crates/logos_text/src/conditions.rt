@@ -48,7 +48,7 @@ fn push_quoted(text: &mut String, character: char) -> Result<(), Memory>
     Ok(())
 }
 
-/// Appends `&&` and the condition that the byte is not `byte`.
+/// Appends `&&` and the condition that the byte of the input is not `byte`.
 fn push_exception(text: &mut String, byte: u8) -> Result<(), Memory>
     ensures { OnOk result (string_bytes text.new ≡ string_bytes text.old ++ exception_text byte) }
 {
@@ -56,7 +56,8 @@ fn push_exception(text: &mut String, byte: u8) -> Result<(), Memory>
     Ok(())
 }
 
-/// Appends for each of `bytes` `&&` and the condition that the byte is not this one.
+/// Appends for each byte of `bytes` `&&` and the condition that the byte of the input is not this
+/// one.
 fn push_exceptions(text: &mut String, bytes: &[u8]) -> Result<(), Memory>
     ensures { OnOk result (string_bytes text.new
         ≡ string_bytes text.old ++ flat_map exception_text bytes.now) }
@@ -67,7 +68,8 @@ fn push_exceptions(text: &mut String, bytes: &[u8]) -> Result<(), Memory>
     Ok(())
 }
 
-/// Appends a comparison: of the byte with one byte, or with the ends of a range and its exceptions.
+/// Appends a comparison of the byte of the input: with one byte, or with the ends of a range and
+/// its exceptions.
 fn push_comparison(text: &mut String, comparison: &Comparisons) -> Result<(), Memory>
     ensures { OnOk result (string_bytes text.new
         ≡ string_bytes text.old ++ comparison_text (comparison_of comparison.now)) }
@@ -80,7 +82,7 @@ fn push_comparison(text: &mut String, comparison: &Comparisons) -> Result<(), Me
     push_between(text, first, last, &comparison.except)
 }
 
-/// Appends the condition that the byte is `byte`.
+/// Appends the condition that the byte of the input is `byte`.
 fn push_single(text: &mut String, byte: u8) -> Result<(), Memory>
     ensures { OnOk result (string_bytes text.new ≡ string_bytes text.old ++ single_text byte) }
 {
@@ -90,7 +92,8 @@ fn push_single(text: &mut String, byte: u8) -> Result<(), Memory>
     Ok(())
 }
 
-/// Appends the condition that the byte is from `first` to `last` and is not one of `except`.
+/// Appends the condition that the byte of the input is from `first` to `last` and is not one of
+/// `except`.
 fn push_between(text: &mut String, first: u8, last: u8, except: &[u8]) -> Result<(), Memory>
     ensures { OnOk result (string_bytes text.new
         ≡ string_bytes text.old ++ between_text first last except.now) }

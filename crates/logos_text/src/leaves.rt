@@ -63,7 +63,7 @@ pub(crate) fn push_get_action(
     Ok(())
 }
 
-/// Appends the match arms of all leaves.
+/// Appends the match arms of all leaves, or the arm of a lexer without leaves.
 fn push_arms(
     alloc: Global,
     sink: &mut Sink,

@@ -23,7 +23,7 @@ fn push_fast_loop(text: &mut String, fast_loop: Option<usize>) -> Result<(), Mem
     push(text, " == 0 } _fast_loop ! ( lex , loop_test , offset ) ; ")
 }
 
-/// Returns the text that computes the end of a match from `offset`: one byte less if its mark is
+/// Returns the text that is subtracted from `offset` in the end of a match: one byte if its mark is
 /// late, and nothing otherwise.
 fn distance(late: bool) -> &'static str {
     if late { " - 1" } else { "" }
@@ -84,7 +84,8 @@ fn push_head(text: &mut String, s: usize, names: Names<'_>) -> Result<(), Memory
     Ok(())
 }
 
-/// Appends the steps of the state `s` before it has read a byte.
+/// Appends the steps of the state `s` before its fork: its fast loop, its mark, and the read of a
+/// byte.
 fn push_before(
     text: &mut String,
     s: usize,

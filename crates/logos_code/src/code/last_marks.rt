@@ -158,7 +158,7 @@ fn either(one: LastMark, other: LastMark) -> LastMark {
 }
 
 /// Returns the last mark in a state, where `before` is the last mark in a state that leads to it on
-/// a byte.
+/// a byte. The result is `Varies` if a fast loop makes the number of bytes unknown.
 fn entered(state: &CodeState, before: LastMark) -> LastMark {
     match (state.mark, before) {
         (Some(mark), _) => LastMark::Back(mark.leaf, bytes_back(mark)),
@@ -205,8 +205,8 @@ fn agree(parts: &CodeParts, marks: &[LastMark]) -> bool
     true
 }
 
-/// Returns whether `mark` can be the last mark in the state in which match attempts begin, which is
-/// not `Back`.
+/// Returns whether `mark` can be the last mark in the state in which match attempts begin: whether
+/// it is not `Back`.
 fn begins_unmarked(mark: LastMark) -> bool
     ensures { IsTrue result → BeginsUnmarked mark }
 {
@@ -327,7 +327,7 @@ fn follows(from: LastMark, fast_loop: Option<usize>, to: LastMark) -> bool
     }
 }
 
-/// Returns whether `from` is a match of `leaf` that ends one byte less than `bytes` before.
+/// Returns whether `from` is `Back` with this leaf and one byte fewer than `bytes`.
 fn follows_back(from: LastMark, leaf: LeafId, bytes: usize) -> bool
     ensures { IsTrue result → FollowsBack from leaf.0 bytes }
 {

@@ -221,7 +221,7 @@ pub(super) fn first_row(rows: &[u32], root: usize) -> [u32; 256]
 }
 
 /// Returns the entry in the row for first bytes: `entry`, which is that in the root's row, or
-/// `UNDESCRIBED` if `entry` is of the kinds `STAYS`, `LEAVES` and `HALTS`.
+/// `UNDESCRIBED` if `entry` is of the kind `STAYS`, `LEAVES` or `HALTS`.
 fn first_entry(entry: u32) -> u32
     ensures { IsFirstEntry entry result }
 {

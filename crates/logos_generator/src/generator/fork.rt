@@ -44,8 +44,8 @@ fn edge_back<'e>(edges: &'e [(ByteClass, State)], state: usize) -> Option<&'e By
 }
 
 /// Returns the fork of `state`, without the edge back to it: a jump table if there are more than
-/// two edges with that one, and conditions otherwise. Adds the tests and the jump table to `tables`
-/// if they are new.
+/// two edges, that one included, and conditions otherwise. Adds the tests and the jump table to
+/// `tables` if they are new.
 pub(super) fn impl_fork(
     alloc: Global,
     tables: &mut NodeTables,

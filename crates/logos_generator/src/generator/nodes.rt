@@ -148,9 +148,9 @@ impl<'s> Generator<'_, 's> {
         Ok(tables_of(alloc, self.tables.tests.as_slice())?)
     }
 
-    /// Returns the jump tables of all forks made so far, by their numbers. After `generate`, these
-    /// are the jump tables of the code. An entry is the number of the state to which the byte
-    /// leads, or `NOWHERE`. `Fork::Table(k)` refers to table `k`.
+    /// Returns the jump tables of all forks made so far, in the order of their numbers. After
+    /// `generate`, these are the jump tables of the code. An entry is the number of the state to
+    /// which the byte leads, or `NOWHERE`. `Fork::Table(k)` refers to table `k`.
     ///
     /// # Errors
     ///

@@ -28,8 +28,8 @@ fn push_character(text: &mut String, character: char) -> Result<(), AllocError>
     }
 }
 
-/// Appends a byte to a label: the byte itself if it is printable, and otherwise an escape such as
-/// `\n` or `\x1f`, each character as `push_character` spells it.
+/// Appends a byte to a label, as it is printed: an escape such as `\n`, `\"` or `\x1f`, or the byte
+/// itself if it needs no escape. Spells each character as `push_character` does.
 fn push_byte(text: &mut String, byte: u8) -> Result<(), AllocError>
     ensures { OnOk result (string_bytes text.new
         ≡ string_bytes text.old ++ label_text (byte_text byte)) }

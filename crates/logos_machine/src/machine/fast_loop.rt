@@ -8,7 +8,8 @@ use logos_code::code::Code;
 use std::simd::prelude::*;
 
 /// Returns the index of the first byte at `from` or after it that does not pass the test, or the
-/// length of the input if there is none. Tests sixteen bytes at once, without a branch for each.
+/// length of the input if there is none. Tests sixteen bytes at once, without a branch for each
+/// byte.
 #[inline(always)]
 pub(super) fn stop(code: &Code, test: usize, input: &[u8], from: usize) -> usize
     requires test { NamesTest code.now test }

@@ -88,7 +88,8 @@ enum Move {
     /// The attempt ends at this offset, which is the second field. The first field is the last mark
     /// passed.
     Acts(Option<(LeafId, usize)>, usize),
-    /// The attempt has reached the end of the part, and bytes after the part can continue it.
+    /// The attempt has reached the end of the part, and more bytes or the end of the input can
+    /// continue it.
     Waits,
 }
 
