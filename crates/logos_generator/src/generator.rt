@@ -32,7 +32,7 @@ pub struct Generator<'g, 's> {
     this: &'g TypeExpr<'s>,
     graph: &'g Graph<'s>,
     error_callback: Option<&'g Callback<'s>>,
-    /// The tables of the nodes that have been made.
+    /// The tables of the nodes that have been made, or after `generate` those of the code.
     tables: NodeTables,
 }
 

@@ -191,7 +191,8 @@ impl<'c, 's, 'i, C: Fn(LeafId, &[u8]) -> Action> Lexer<'c, 's, 'i, C> {
     }
 
     /// Returns the span of the last item, in bytes of the input. It is `0..0` before the first
-    /// item, and empty at the end of the input once `next` has returned `None`.
+    /// item. Once `next` has returned `None` it is empty at the end of the input, and after `More`
+    /// of `next_within` it is empty at the start of the next match attempt.
     pub fn span(&self) -> Span
         ensures { result ≡ record { from = self.now.from; to = self.now.to } }
     {

@@ -127,10 +127,11 @@ impl Lexed {
         })
     }
 
-    /// Replaces the items by those of the edited input. Items that do not depend on the edit stay:
-    /// those before it, and those from the first border after it that the new items also reach.
-    /// `callback` is called only for bytes that are lexed again, so its action must depend on the
-    /// leaf and the slice alone.
+    /// Replaces the items by those of the edited input. `code` and `callback` must be those of the
+    /// former items, and the input must be unchanged outside of the replaced span. Items that do
+    /// not depend on the edit stay: those before it, and those from the first border after it that
+    /// the new items also reach. `callback` is called only for bytes that are lexed again, so its
+    /// action must depend on the leaf and the slice alone.
     ///
     /// # Errors
     ///

@@ -49,7 +49,8 @@ pub struct Loaded {
 }
 
 /// A scan of an input: its point in a chunk, and the start of the next attempt. The chunk is stored
-/// separately, so that the compiler can keep the scan in registers.
+/// separately, so that the compiler can keep the scan in registers. Calls take the reading and the
+/// chunk with which the scan was made.
 #[derive(Clone, Copy, Drop)]
 pub struct Run {
     pub cursor: ChunkCursor,

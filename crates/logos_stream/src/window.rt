@@ -156,7 +156,8 @@ impl<R: Read + Drop> Window<R> {
         &self.parts.part()[self.at..self.ready]
     }
 
-    /// Returns whether fewer bytes were read than the next match attempt needs.
+    /// Returns whether fewer bytes are in memory than the next match attempt needs, and more bytes
+    /// can still become lexable.
     pub(crate) fn is_short(&self) -> bool
         ensures short { IsTrue result → unread_length self.now < self.now.wanted }
         ensures room { IsTrue result → unread_length self.now < self.now.bound }

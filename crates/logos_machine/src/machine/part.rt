@@ -24,9 +24,9 @@ pub enum Within<'i> {
 
 impl<'c, 's, 'i, C: Fn(LeafId, &[u8]) -> Action> Lexer<'c, 's, 'i, C> {
     /// Returns the next item of an input of which the lexer has a part. If `last` is `true`, the
-    /// part is the last one, and the function is equivalent to `next`. Otherwise more bytes may
-    /// follow, and the function returns an item only if no byte after the part can change it, and
-    /// `More` otherwise.
+    /// part is the last one, and the function returns the result of `next`, with `End` for `None`.
+    /// Otherwise more bytes may follow, and the function returns an item only if no byte after the
+    /// part can change it, and `More` otherwise.
     ///
     /// After `More`, the lexer is after the matches without an item, with an empty span. The next
     /// match attempt has reached the end of the part, and more bytes or the end of the input can

@@ -57,8 +57,8 @@ fn walk_blocks(rows: &[u32], text: &[u8], row_starts: &mut [usize; 6], trace: &m
 }
 
 /// Steps over a chunk from the row `row_start` on: writes the entries of its bytes into `trace`,
-/// and returns the row after it. All blocks but the first begin in guessed rows. A block whose
-/// guess was wrong is repaired.
+/// and returns the row after it. All blocks but the first begin in rows that are guessed with the
+/// row `root` of new attempts. A block whose guess was wrong is repaired.
 pub fn walk_chunk(
     rows: &[u32],
     text: &[u8],
