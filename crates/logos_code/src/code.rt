@@ -34,20 +34,20 @@ pub struct Mark {
 /// A condition on a byte.
 #[derive(Drop)]
 pub enum Condition {
-    /// At least one of these comparisons holds for the byte.
+    /// Comparisons, at least one of which holds for the byte.
     Comparisons(Vec<Comparisons>),
-    /// The byte passes the test with this number.
+    /// The number of a test that the byte passes.
     Test(usize),
 }
 
 /// The transitions of a state on bytes.
 #[derive(Drop)]
 pub enum Fork {
-    /// A byte leads to the state of the first condition that holds for it, or nowhere if none
-    /// holds.
+    /// Conditions with their targets. A byte leads to the target of the first condition that holds
+    /// for it, or nowhere if none holds.
     Conditions(Vec<(Condition, usize)>),
-    /// A byte leads to the state in its entry of the jump table with this number, or nowhere if the
-    /// entry is `NOWHERE`.
+    /// The number of a jump table. A byte leads to the state in its entry of the table, or nowhere
+    /// if the entry is `NOWHERE`.
     Table(usize),
 }
 

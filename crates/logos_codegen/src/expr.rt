@@ -73,9 +73,9 @@ pub struct ExprToken<'i> {
 /// The reason that there is no tokenizer, or that an input has no tokens.
 #[derive(Clone, Copy, Debug, PartialEq, Eq)]
 pub enum ExprError {
-    /// The source of the tokenizer has faults. This does not occur, as a test shows.
+    /// Faults of the tokenizer's source. They do not occur, as a test shows.
     Refused,
-    /// The input has an error. `span` is the span of its first error in the input, in bytes.
+    /// An error in the input. `span` is the span of the first error in the input, in bytes.
     Bad { span: Span },
     /// Memory ran out.
     Memory,

@@ -49,7 +49,7 @@ struct EnumHead<'s> {
     name: Ident<'s>,
     /// The type of the enum: its name, and the generic arguments that follow it.
     this: TypeExpr<'s>,
-    /// The options of the source. The skips, which are leaves, and the faults have been taken out.
+    /// The options of the source, without the skips, which are leaves, and without the faults.
     options: Parser<'s>,
 }
 

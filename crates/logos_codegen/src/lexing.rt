@@ -18,7 +18,8 @@ use std::alloc::{AllocError, AllocFailed, Global};
 pub enum LexSourceError {
     /// The faults of the source, among them the limits that it exceeds.
     Refused(Errors),
-    /// The input is not UTF-8. `valid_up_to` is the length in bytes of its longest UTF-8 prefix.
+    /// An input that is not UTF-8. `valid_up_to` is the length in bytes of its longest UTF-8
+    /// prefix.
     NotUtf8 { valid_up_to: usize },
     /// Memory ran out.
     Memory,

@@ -40,10 +40,11 @@ impl State {
 /// The marks of a state: the leaves whose matches end at the state, or one byte before it.
 #[derive(Clone, Copy, Debug, PartialEq, Eq)]
 pub struct StateType {
-    /// The leaf of the late mark: its match ends one byte before the state. `None` if there is no
-    /// late mark.
+    /// The leaf of the late mark, whose match ends one byte before the state, or `None` if there is
+    /// no late mark.
     pub accept: Option<LeafId>,
-    /// The leaf of the early mark: its match ends at the state. `None` if there is no early mark.
+    /// The leaf of the early mark, whose match ends at the state, or `None` if there is no early
+    /// mark.
     pub early: Option<LeafId>,
 }
 

@@ -15,7 +15,7 @@ use std::alloc::{AllocError, AllocFailed, Global};
 /// The reason that an input cannot be lexed.
 #[derive(Clone, Copy, Debug, PartialEq, Eq)]
 pub enum RelexError {
-    /// The input is not UTF-8, and the code is in UTF-8 mode. `valid_up_to` is the length in bytes
+    /// An input that is not UTF-8, for a code in UTF-8 mode. `valid_up_to` is the length in bytes
     /// of the longest prefix of the input that is UTF-8.
     NotUtf8 { valid_up_to: usize },
     /// Memory ran out.

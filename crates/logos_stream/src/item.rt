@@ -22,11 +22,11 @@ pub enum StreamItem {
 pub enum Streamed {
     /// The next item, whatever bytes follow.
     Item(StreamItem),
-    /// The next event depends on bytes that have not been read: call `Stream::read`.
+    /// A request for more bytes, on which the next event depends: call `Stream::read`.
     More,
-    /// The next event depends on more bytes than may be in memory at a time.
+    /// No event: the next one depends on more bytes than may be in memory at a time.
     TooLong,
-    /// The bytes at `Stream::offset` are not UTF-8, and the code is in UTF-8 mode. All items of the
+    /// Bytes at `Stream::offset` that are not UTF-8, for a code in UTF-8 mode. All items of the
     /// text before these bytes have been returned.
     NotUtf8,
     /// The end of the stream.

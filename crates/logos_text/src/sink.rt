@@ -32,7 +32,7 @@ pub struct Call {
 /// A text of printed tokens, with the pieces of the source in it.
 #[derive(Debug, Drop)]
 pub struct Sink {
-    /// The text.
+    /// The printed text.
     pub text: String,
     /// The pieces, in the order of the text. No two overlap.
     pub pieces: Vec<Piece>,

@@ -15,13 +15,13 @@ use std::alloc::{AllocError, Global};
 /// The last mark that a match attempt has passed if it ends in a given state.
 #[derive(Clone, Copy, PartialEq, Eq)]
 pub enum LastMark {
-    /// No path to the state was found.
+    /// An unknown last mark: no path to the state was found.
     Unseen,
-    /// The paths to the state have different last marks.
+    /// Different last marks on different paths to the state.
     Varies,
-    /// No mark was passed.
+    /// No last mark: no mark was passed.
     Never,
-    /// The match of this leaf ends this number of bytes before the end of the attempt.
+    /// A match of this leaf that ends this number of bytes before the end of the attempt.
     Back(LeafId, usize),
 }
 

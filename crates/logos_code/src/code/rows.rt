@@ -86,32 +86,32 @@ pub const UNDESCRIBED: u32 = 9 * NAMED;
 /// The use of the matches of a leaf, as far as entries describe it.
 #[derive(Clone, Copy)]
 pub enum MatchUse {
-    /// The matches are tokens, without a callback.
+    /// Tokens, without a callback.
     Emits,
-    /// The matches are skipped, without a callback.
+    /// No items, without a callback.
     Skips,
-    /// A callback may determine the use of the matches.
+    /// A use that a callback may determine.
     CallsBack,
 }
 
 /// The step for a byte in a state.
 #[derive(Clone, Copy)]
 pub enum Step {
-    /// The byte leads to this state.
+    /// A transition to this state.
     Leads(usize),
-    /// The byte does not change the state, whose fast loop has this test.
+    /// No change of the state, whose fast loop has this test.
     Stays(usize),
-    /// The byte leads nowhere, and a match of this leaf ends before it.
+    /// No transition, after a match of this leaf that ends before the byte.
     Halts(LeafId, MatchUse),
-    /// The byte leads to a state that marks a match of this leaf late, which ends before the byte.
+    /// A transition to a state that marks a match of this leaf late, which ends before the byte.
     /// The state has no other step.
     Looks(LeafId, MatchUse),
-    /// The byte leads to a state that marks a match of this leaf early, which ends after the byte.
+    /// A transition to a state that marks a match of this leaf early, which ends after the byte.
     /// The state has no other step.
     Closes(LeafId, MatchUse),
-    /// The byte leads nowhere, and no match ends before it in this state.
+    /// No transition, and no match in this state that ends before the byte.
     Stuck,
-    /// The step cannot be described by an entry.
+    /// A step that an entry cannot describe.
     Undescribed,
 }
 

@@ -12,11 +12,11 @@ use std::alloc::{AllocError, Global};
 /// for the leaf.
 #[derive(Clone, Copy)]
 pub enum Sign {
-    /// The state has no mark.
+    /// No mark.
     Nothing,
-    /// A match of this leaf ends at the state.
+    /// The leaf of an early mark, whose match ends at the state.
     Here(LeafId),
-    /// A match of this leaf ends one byte before the state.
+    /// The leaf of a late mark, whose match ends one byte before the state.
     Before(LeafId),
 }
 

@@ -30,10 +30,10 @@ pub(super) struct Status {
 #[derive(Clone, Copy)]
 pub(super) enum Turn {
     Enters(Status),
-    /// The attempt ends at this offset, which is the second field. The first field is the last mark
-    /// passed.
+    /// The end of the attempt. The first field is the last mark passed, and the second the offset
+    /// at which the attempt ends.
     Acts(Option<(LeafId, usize)>, usize),
-    /// The attempt began at the end of the input, and has read no byte.
+    /// The end of the input, at which the attempt began.
     Returns,
 }
 

@@ -15,8 +15,8 @@ use logos_token::token::Span;
 pub enum Within<'i> {
     /// The next item, regardless of the bytes after the part.
     Item(Item<'i>),
-    /// The next match attempt has reached the end of the part, in a state from which more bytes, or
-    /// the end of the input, can continue it.
+    /// A request for more bytes: the next match attempt has reached the end of the part, in a state
+    /// from which more bytes, or the end of the input, can continue it.
     More,
     /// The end of the input. Only a call for the last part returns it.
     End,
@@ -85,11 +85,10 @@ impl<'c, 's, 'i, C: Fn(LeafId, &[u8]) -> Action> Lexer<'c, 's, 'i, C> {
 #[derive(Clone, Copy)]
 enum Move {
     Enters(Status),
-    /// The attempt ends at this offset, which is the second field. The first field is the last mark
-    /// passed.
+    /// The end of the attempt. The first field is the last mark passed, and the second the offset
+    /// at which the attempt ends.
     Acts(Option<(LeafId, usize)>, usize),
-    /// The attempt has reached the end of the part, and more bytes or the end of the input can
-    /// continue it.
+    /// The end of the part, from which more bytes or the end of the input can continue the attempt.
     Waits,
 }
 
@@ -101,7 +100,7 @@ enum Settled {
     Matched(LeafId, usize, usize),
     /// No match. The error ends at this offset.
     Failed(usize, usize),
-    /// The attempt has reached the end of the part, and its result is open.
+    /// No result: the attempt has reached the end of the part, and can continue.
     Open,
 }
 

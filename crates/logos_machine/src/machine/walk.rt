@@ -26,7 +26,7 @@ pub enum Outcome {
     CallsBack(LeafId, usize, usize),
     /// No match. The numbers are the end of the error, and the number of states that were entered.
     Fails(usize, usize),
-    /// The attempt began at the end of the input. The number is the number of states that were
+    /// The end of the input, at which the attempt began, and the number of states that were
     /// entered.
     Ends(usize),
 }
