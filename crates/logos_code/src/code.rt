@@ -1,5 +1,5 @@
-//! Code values, which define the steps of a lexer in each state. `logos_generator` makes them, and
-//! `logos_machine` and the printers of generated code read them.
+//! Code values, which define the steps of a lexer in each state. Made by `logos_generator`, and
+//! read by `logos_machine` and the printers of generated code.
 
 ghost use Rattle.std.specs.Prelude.{◌≡◌, ◌*◌, ◌<◌, ◌/◌, length, option_map, option_copied, IfSome};
 ghost use Rattle.logos_code.specs.Views.{passes_test, IsSound, NamesTest, entry_of, state_at, calls_back_for, skips_over, code_of, IsValid, target, IsLastMark, IsMask, IsEntry, IsFirst, IsLastEntry, IsRowStart, shape_named, mark_by};

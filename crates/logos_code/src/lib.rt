@@ -1,5 +1,5 @@
-//! Code values, which define the steps of a lexer in each state. `logos_generator` makes them, and
-//! `logos_machine` runs them.
+//! Code values, which define the steps of a lexer in each state. Made by `logos_generator`, and run
+//! by `logos_machine`.
 
 #![tactic(auto)]
 

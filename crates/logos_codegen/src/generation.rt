@@ -72,8 +72,8 @@ impl Generated<'_> {
         Ok(self.printed(alloc)?.text)
     }
 
-    /// Returns the generated code, which is the text that `text` returns, with the pieces of the
-    /// source in it.
+    /// Returns the generated code, which is the text that `text` returns, and the pieces of the
+    /// source in this text.
     ///
     /// # Errors
     ///
@@ -93,10 +93,10 @@ impl Generated<'_> {
         )
     }
 
-    /// Returns the front of the generated code in the shape `tables`, with the pieces of the source
-    /// in it: the implementation of `Logos` for the enum, as printed tokens. The front ends with
-    /// the functions for errors, matches and tokens in the body of the lexing function. In the
-    /// generated code, the tables follow the front.
+    /// Returns the front of the generated code in the shape `tables`, and the pieces of the source
+    /// in this text: the beginning of the implementation of `Logos` for the enum, as printed
+    /// tokens. The front ends with the functions for errors, matches and tokens in the body of the
+    /// lexing function. In the generated code, the tables follow the front.
     ///
     /// # Errors
     ///

@@ -1,5 +1,5 @@
-//! Runs of equal numbers. `made` makes them from the classes of symbols and from the rows by
-//! classes, and `fields` prints them.
+//! Finds the runs of equal numbers in the classes of symbols and in the rows by classes. Called by
+//! `made`; `fields` prints the runs.
 
 ghost use Rattle.std.specs.Prelude.{◌≡◌, ◌<◌, ◌++◌, ◌∷◌, [], IfOk, OnOk, IsTrue, map};
 ghost use Rattle.logos_tables.specs.Imports.{flat_map, by_classes, spread};

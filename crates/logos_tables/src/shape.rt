@@ -1,5 +1,4 @@
-//! The shapes in which lexers are printed. Called by `logos_derive`, `logos_expand` and
-//! `logos_cli`.
+//! Prints lexers in each shape. Called by `logos_derive`, `logos_expand` and `logos_cli`.
 
 ghost use Rattle.std.specs.Prelude.{◌≡◌, IfOk, string_bytes};
 ghost use Rattle.logos_tables.specs.Views.{ArePrinted, IsShown, around_made, config_of, shape_runs};

@@ -56,8 +56,7 @@ fn push_exception(text: &mut String, byte: u8) -> Result<(), Memory>
     Ok(())
 }
 
-/// Appends for each byte of `bytes` `&&` and the condition that the byte of the input is not this
-/// one.
+/// Appends `&&` and the condition that the byte of the input is not `b`, for each `b` of `bytes`.
 fn push_exceptions(text: &mut String, bytes: &[u8]) -> Result<(), Memory>
     ensures { OnOk result (string_bytes text.new
         ≡ string_bytes text.old ++ flat_map exception_text bytes.now) }

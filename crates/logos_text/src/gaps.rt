@@ -1,5 +1,5 @@
-//! Determines the gap between printed tokens and the token that follows them. `sink` and
-//! `implementation` call it.
+//! Determines the gap between printed tokens and the token that follows them. Called by `sink` and
+//! `implementation`.
 
 ghost use Rattle.std.specs.Prelude.{◌≡◌, []};
 ghost use Rattle.logos_text.specs.Imports.{gap_after, gap_of, tokens_of, tree_of};

@@ -106,8 +106,8 @@ fn push_arm(
     Ok(())
 }
 
-/// Appends the body of a leaf's match arm: the call of its callback, if it has one, and the result
-/// of a match.
+/// Appends the body of a leaf's match arm: the call of the leaf's callback, if there is one, and
+/// the result of a match.
 pub(crate) fn push_leaf(
     alloc: Global,
     sink: &mut Sink,

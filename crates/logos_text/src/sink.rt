@@ -1,5 +1,5 @@
-//! The output of printers: a text, and the pieces of the source in it. Made by `code`; all printers
-//! of a user's tokens write into it.
+//! The output of printers: a text, and the pieces of the source in this text. Made by `code`, and
+//! written by all printers of a user's tokens.
 
 ghost use Rattle.std.specs.Prelude.{[], OnOk};
 ghost use Rattle.logos_text.specs.Views.{IsEmptySink, Prints, PrintsPiece, name_runs, noted_runs, printed, run_after, tokens_of};

@@ -1,5 +1,5 @@
-//! Last marks: the last mark that a match attempt has passed if it ends in a given state.
-//! `construction` computes them, and the fast path of an attempt reads them.
+//! Finds last marks: the last mark that a match attempt has passed if it ends in a given state.
+//! Called by `construction`; the fast path of an attempt reads the last marks.
 //!
 //! If all paths to a state agree on the last mark, a lexer need not record the marks that it
 //! passes. The last marks are searched along the forks of all states, and then checked. Only the

@@ -1,5 +1,5 @@
-//! Masks: the tests of fast loops, for sixteen bytes at once. `construction` computes them, and the
-//! fast loops of lexers look them up.
+//! Computes the masks of tests, with which a fast loop tests sixteen bytes at once. Called by
+//! `construction`; the fast loops of lexers read the masks.
 
 ghost use Rattle.std.specs.Prelude.{◌≡◌, ◌+◌, ◌*◌, ◌<◌, ◌≤◌, ◌^◌, ◌==◌, ℕ, if◌then◌else◌, IfOk};
 ghost use Rattle.logos_code.specs.Views.{bit_at, passes_test, code_of, IsMask, AreMasks, NamesTest};

@@ -1,5 +1,5 @@
-//! Rows: the step for each byte in each state, as one number. `construction` computes them, and
-//! `logos_machine` and `logos_scan` read them.
+//! Computes rows: the step for each byte in each state, as one number. Called by `construction`;
+//! `logos_machine` and `logos_scan` read the rows.
 //!
 //! The rows of all states are in one table, one after another, with `WIDTH` entries each: the step
 //! for byte `b` in state `s` is entry `WIDTH * s + b`. The row offset of a state is the index of

@@ -1,5 +1,5 @@
-//! Accept signs: the marks of states, read with one load. `construction` computes them, and the
-//! slow path of an attempt reads them.
+//! Computes accept signs: the marks of states, each read with one load. Called by `construction`;
+//! the slow path of an attempt reads the signs.
 
 ghost use Rattle.std.specs.Prelude.{◌≡◌, IfOk, map, option_map};
 ghost use Rattle.logos_code.specs.Views.{mark_of, code_of, mark_by, AreSigns};

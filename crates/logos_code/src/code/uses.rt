@@ -1,5 +1,5 @@
-//! The uses of the matches of leaves, each read with one load. `construction` computes them, and a
-//! lexer reads them at the end of a match.
+//! Computes the uses of the matches of leaves, each read with one load. Called by `construction`; a
+//! lexer reads a use at the end of a match.
 
 ghost use Rattle.std.specs.Prelude.{◌≡◌, IfOk, map};
 ghost use Rattle.logos_code.specs.Views.{use_of, use_by};

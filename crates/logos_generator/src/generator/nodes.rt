@@ -33,8 +33,8 @@ pub struct FastLoopMacro {
     pub unroll_factor: usize,
 }
 
-/// Returns the macro of fast loops over blocks of `unroll_factor` bytes, which must be at least
-/// one.
+/// Returns the macro of fast loops over blocks of `unroll_factor` bytes. `unroll_factor` must be at
+/// least 1.
 pub fn fast_loop_macro(unroll_factor: usize) -> FastLoopMacro
     requires { 1 ≤ unroll_factor }
     ensures { result ≡ record { unroll_factor = unroll_factor } }

@@ -1,5 +1,5 @@
-//! The graph of a lexer, and its methods. `construction` makes graphs, and the generator of codes
-//! and users of the library read them.
+//! The graph of a lexer, and its methods. Made by `construction`, and read by the generator of
+//! codes and users of the library.
 
 ghost use Rattle.std.specs.Prelude.{◌≡◌, ◌≢◌, ℕ, ◌-◌, ◌<◌, ◌↔◌, [], IsTrue, IfOk, Some, length, map, slice_get, string_bytes};
 ghost use Rattle.logos_graph.specs.Views.{range_with_len, dfa_of, fault_of, IsFit, IsFinished, mermaid_of, Shows, YieldsEvidence, YieldsFirstBy, item_count, AreBackward, graph_state_of, state_number, states_left};
