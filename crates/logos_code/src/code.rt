@@ -275,8 +275,8 @@ impl Code<'_> {
         self.parts.passes_test(test, byte)
     }
 
-    /// Returns the mask of the test with the number `test`. Bit `b / 16 % 8` of entry `16 * (b /
-    /// 128) + b % 16` is set if byte `b` passes the test.
+    /// Returns the mask of the test with the number `test`. Bit `b / 16 % 8` of entry
+    /// `16 * (b / 128) + b % 16` is set if byte `b` passes the test.
     #[inline(always)]
     pub fn mask(&self, test: usize) -> &[u8; 32]
         requires { NamesTest self.now test }

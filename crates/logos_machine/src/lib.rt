@@ -1,5 +1,5 @@
-//! Lexers, which run code values on inputs, also part by part. Used by `logos_scan` and
-//! `logos_stream`.
+//! Lexers, which run code values on inputs, also part by part. Used by `logos_scan`, `logos_stream`
+//! and `logos_relex`.
 
 #![tactic(auto)]
 

@@ -1,4 +1,5 @@
-//! Events and items of a stream, as `Stream::next` returns them. Used by `logos_items`.
+//! Events and items of a stream, as `Stream::next` returns them. Used by `stream` and
+//! `logos_items`.
 
 ghost use Rattle.std.specs.Prelude.{◌≡◌, ◌+◌, ◌<◌, ◌^◌, List, ℕ};
 ghost use Rattle.logos_stream.specs.Views.{item_later, end_of, item_with, start_of};

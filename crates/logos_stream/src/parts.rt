@@ -1,5 +1,5 @@
 //! Reads an input in parts: only the bytes that were read and not yet passed are in memory. Used by
-//! `Stream`, which holds one `Parts`.
+//! `window`, which holds one `Parts` for each stream.
 
 ghost use Rattle.std.specs.Prelude.{◌≡◌, ◌+◌, ◌<◌, ◌≤◌, [], length, take, false, IfOk, OnErr, MatchBool, min};
 ghost use Rattle.logos_stream.specs.parts.Imports.{ReadsAfter, Reads, Stays, without};

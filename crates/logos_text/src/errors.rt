@@ -1,4 +1,4 @@
-//! Prints the function that makes errors. `code` calls it once.
+//! Prints the function that makes errors. Called once for each lexer, by `code` or by `actions`.
 
 ghost use Rattle.std.specs.Prelude.{OnOk, option_copied, option_map};
 ghost use Rattle.logos_text.specs.Views.{Notes, called_runs, callback_runs, callback_value, inline_runs, noted_runs, stream_tokens, tokens_of};

@@ -1,5 +1,5 @@
-//! Makes tests of bytes by the bits of tables. `fork` adds tests, and `states` makes the tables
-//! once all tests are known.
+//! Makes tests of bytes by the bits of tables. `fork` and `nodes` add tests, and `states` and
+//! `nodes` make the tables of the tests.
 
 ghost use Rattle.std.specs.Prelude.{◌≡◌, ◌+◌, ◌*◌, ◌<◌, ◌≤◌, ◌/◌, ◌∷◌, [], ℕ, Some, IfOk, OnOk, OnErr, length, slice_get, if◌then◌else◌};
 ghost use Rattle.logos_generator.specs.Imports.{beq, pointwise, insert_key, ranges_of, passes_test, Extends, IsTest, tests_byte, numbered, bits_from, bit_table, bit_tables_of};
