@@ -10,7 +10,8 @@ use logos_token::error::Memory;
 // rustc evaluates a reference to the value of a call when it checks a package, unless the constant
 // can end before the call. Therefore each constant of the text begins with an assertion.
 
-/// The text after the tables.
+/// The text after the tables: the functions that the loop of the runtime calls, and the call of the
+/// loop.
 const END: &str = "fn bytes(source: &'s <Self as Logos<'s>>::Source) -> &'s [u8] { source.as_ref() }
 fn plain(leaf: usize) -> _Option<Self> { _token(leaf) }
 fn act(lex: &mut _Lexer<'s>, leaf: usize) -> CallbackResult<'s, Self> { _get_action(lex, leaf) }
@@ -92,7 +93,8 @@ pub(crate) fn push_folded(text: &mut String, entries: usize) -> Result<(), Memor
     Ok(())
 }
 
-/// Appends the text after the tables.
+/// Appends the text after the tables: the functions that the loop of the runtime calls, and the
+/// call of the loop.
 pub(crate) fn push_end(text: &mut String) -> Result<(), Memory>
     ensures { OnOk result (string_bytes text.new ≡ string_bytes text.old ++ end_text) }
 {

@@ -29,7 +29,7 @@ pub struct Call {
     pub from: usize,
 }
 
-/// A text of printed tokens, with the pieces of the source in it.
+/// A text of printed tokens, with the pieces of the source and the calls of callbacks in it.
 #[derive(Debug, Drop)]
 pub struct Sink {
     /// The printed text.
