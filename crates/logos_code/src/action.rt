@@ -1,12 +1,13 @@
-//! The actions that callbacks return. Callers of a lexer return them from their callbacks.
+//! The actions that callbacks return. Used by users' callbacks and by `logos_machine`, which acts
+//! on them.
 
-/// The action for a match that a callback returns.
+/// The result of a callback: whether its match becomes a token, no item, or an error.
 #[derive(Clone, Copy, Debug, PartialEq, Eq)]
 pub enum Action {
-    /// The match is a token. For a leaf that skips, `Emit` is equivalent to `Skip`.
+    /// A token. For the leaf of a `skip`, `Emit` is equivalent to `Skip`.
     Emit,
-    /// The match is skipped.
+    /// No item: the match is skipped.
     Skip,
-    /// The match is an error of its leaf.
+    /// An error, with the leaf of the match.
     Error,
 }

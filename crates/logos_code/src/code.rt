@@ -1,5 +1,5 @@
-//! Code values, which define the steps of a lexer in each state. `logos_generator` makes them, and
-//! `logos_machine` and the printers of generated code read them.
+//! Code values, which define the steps of a lexer in each state. Made by `logos_generator`, and
+//! read by `logos_machine` and the printers of generated code.
 
 ghost use Rattle.std.specs.Prelude.{◌≡◌, ◌*◌, ◌<◌, ◌/◌, length, option_map, option_copied, IfSome};
 ghost use Rattle.logos_code.specs.Views.{passes_test, IsSound, NamesTest, entry_of, state_at, calls_back_for, skips_over, code_of, IsValid, target, IsLastMark, IsMask, IsEntry, IsFirst, IsLastEntry, IsRowStart, shape_named, mark_by};
@@ -31,21 +31,23 @@ pub struct Mark {
     pub late: bool,
 }
 
-/// A test of a byte.
+/// A condition on a byte.
 #[derive(Drop)]
 pub enum Condition {
-    /// One of these comparisons holds.
+    /// Comparisons, at least one of which holds for the byte.
     Comparisons(Vec<Comparisons>),
-    /// The byte passes the test with this number.
+    /// The number of a test that the byte passes.
     Test(usize),
 }
 
 /// The transitions of a state on bytes.
 #[derive(Drop)]
 pub enum Fork {
-    /// A byte leads to the state of the first condition that holds for it.
+    /// Conditions with their targets. A byte leads to the target of the first condition that holds
+    /// for it, or nowhere if none holds.
     Conditions(Vec<(Condition, usize)>),
-    /// A byte leads to the state in its entry of the jump table with this number.
+    /// The number of a jump table. A byte leads to the state in its entry of the table, or nowhere
+    /// if the entry is `NOWHERE`.
     Table(usize),
 }
 
@@ -53,14 +55,15 @@ pub enum Fork {
 pub const NOWHERE: u32 = u32::MAX;
 
 /// The steps of a state: first its fast loop, then its mark, then its fork or, at the end of the
-/// input, its end branch. States are identified by their numbers.
+/// input, the step to `at_end`. States are identified by their numbers.
 #[derive(Drop)]
 pub struct CodeState {
-    /// The number of the test of the bytes on which the state does not change.
+    /// The number of the test of the bytes on which the state does not change, or `None` if the
+    /// state has no fast loop.
     pub fast_loop: Option<usize>,
     pub mark: Option<Mark>,
     pub fork: Fork,
-    /// The target of the end of the input.
+    /// The target of the end of the input, or `None` if the end leads nowhere.
     pub at_end: Option<usize>,
 }
 
@@ -68,25 +71,25 @@ pub struct CodeState {
 #[derive(Drop)]
 pub struct CodeLeaf<'s> {
     pub kind: VariantKind<'s>,
-    /// The callback for matches, if there is one.
+    /// The callback for matches, or `None` if the leaf has none.
     pub callback: Option<Callback<'s>>,
 }
 
-/// The code shape, an option of a generator.
+/// The shape of generated code, an option of a generator.
 #[derive(Clone, Copy, Debug, PartialEq, Eq)]
 pub struct Config {
-    /// One loop over a state variable, instead of a function for each state. Both shapes yield the
-    /// same items.
+    /// Whether the generated code is one loop over a state variable, instead of a function for each
+    /// state. Both shapes yield the same items.
     pub use_state_machine_codegen: bool,
 }
 
 impl Config {
-    /// One loop over a state variable.
+    /// The shape with one loop over a state variable.
     pub const STATE_MACHINE: Config = Config {
         use_state_machine_codegen: true,
     };
 
-    /// A function for each state.
+    /// The shape with a function for each state.
     pub const TAILCALL: Config = Config {
         use_state_machine_codegen: false,
     };
@@ -106,7 +109,8 @@ impl Config {
     }
 }
 
-/// The header of the generated code. The generator copies it from its arguments besides the graph.
+/// The header of a code: the arguments of its generator besides the graph, which the generator
+/// copies.
 #[derive(Drop)]
 pub struct Header<'s> {
     /// The shape of the generated code.
@@ -115,42 +119,45 @@ pub struct Header<'s> {
     pub name: Ident<'s>,
     /// The type of the enum: its name with its generic arguments.
     pub this: TypeExpr<'s>,
-    /// The callback for errors, if there is one.
+    /// The callback for errors, or `None` if there is none.
     pub error_callback: Option<Callback<'s>>,
 }
 
-/// The parts of a code value: its nodes, and the tables that they index.
+/// The parts of a code value: its header, its states, the tables that the states use, and its
+/// leaves.
 #[derive(Drop)]
 pub struct CodeParts<'s> {
     pub header: Header<'s>,
     pub states: Vec<CodeState>,
-    /// Test number `k` is bit `k % 8` of the entries of table `k / 8`.
+    /// The bit tables: test `k` is bit `k % 8` of the entries of table `k / 8`.
     pub bit_tables: Vec<[u8; 256]>,
-    /// An entry for each byte: the state to which it leads, or `NOWHERE`.
+    /// The jump tables. A table has an entry for each byte: the number of the state to which the
+    /// byte leads, or `NOWHERE`.
     pub jump_tables: Vec<[u32; 256]>,
     /// The use of the matches of each leaf, in the order of the numbers of the leaves.
     pub leaves: Vec<CodeLeaf<'s>>,
-    /// The state in which each attempt begins.
+    /// The number of the state in which each match attempt begins.
     pub root: usize,
     /// Whether errors end between characters and the input has to be UTF-8.
     pub utf8: bool,
 }
 
-/// The code of a lexer. Each state, table, test and leaf that it refers to exists, and no two of
+/// The code of a lexer. Each state, table, test and leaf to which it refers exists, and no two of
 /// its jump tables are equal. `Generator::generate` makes it.
 #[derive(Drop)]
 pub struct Code<'s> {
     parts: CodeParts<'s>,
-    /// The step for each byte at the start of a match attempt.
+    /// The entry of each byte at the start of a match attempt.
     first: [u32; 256],
-    /// The step for each byte in each state, so that running the code takes one load for each byte.
-    /// `rows` describes the layout.
+    /// The entries of all bytes in all states, so that a lexer needs one load for each byte. The
+    /// module `rows` describes the layout.
     rows: Vec<u32>,
-    /// The tests, for sixteen bytes at once.
+    /// The mask of each test, with which a lexer tests sixteen bytes at once.
     masks: Vec<[u8; 32]>,
-    /// The mark of each state.
+    /// The accept sign of each state, which is its mark.
     signs: Vec<Sign>,
-    /// The last mark that an attempt has passed, for each state in which it can end.
+    /// The last mark that an attempt has passed if it ends in a state, for each state, or an empty
+    /// list if this is not known.
     last_marks: Vec<LastMark>,
     /// The use of the matches of each leaf.
     uses: Vec<LeafUse>,
@@ -195,8 +202,8 @@ impl<'s> Code<'s> {
         &self.parts.header.this
     }
 
-    /// Returns the parts of the code: its nodes and its tables. Each state, table, test and leaf
-    /// that they refer to exists, and no two jump tables are equal.
+    /// Returns the parts of the code. Each state, table, test and leaf to which they refer exists,
+    /// and no two jump tables are equal.
     pub fn parts(&self) -> &CodeParts<'s>
         ensures is { code_of result.now ≡ self.now }
         ensures valid { IsValid result.now }
@@ -204,14 +211,14 @@ impl<'s> Code<'s> {
         &self.parts
     }
 
-    /// Returns the callback for errors, if there is one.
+    /// Returns the callback for errors, or `None` if there is none.
     pub fn error_callback(&self) -> Option<&Callback<'s>>
         ensures { option_copied result ≡ self.now.header.error_callback }
     {
         self.parts.header.error_callback.as_ref()
     }
 
-    /// Returns the leaves, in the order of their numbers, with the use of the matches of each.
+    /// Returns the use of the matches of each leaf, in the order of the numbers of the leaves.
     pub fn leaves(&self) -> &[CodeLeaf<'s>]
         ensures { result.now ≡ self.now.code_leaves }
     {
@@ -220,7 +227,7 @@ impl<'s> Code<'s> {
 }
 
 impl Code<'_> {
-    /// Returns the number of the state in which each attempt begins.
+    /// Returns the number of the state in which each match attempt begins.
     pub fn root(&self) -> usize
         ensures root { result ≡ self.now.root }
         ensures sound { IsSound self.now }
@@ -235,8 +242,8 @@ impl Code<'_> {
         self.parts.utf8
     }
 
-    /// Returns the entry of the first byte of an attempt. It leads to a state, ends a match, or is
-    /// `UNDESCRIBED`.
+    /// Returns the entry of `byte` as the first byte of an attempt: that of the root's row, or
+    /// `UNDESCRIBED` if that one is of the kind `STAYS`, `LEAVES` or `HALTS`.
     #[inline(always)]
     pub fn first_entry(&self, byte: u8) -> u32
         ensures first { IsFirst self.now byte result }
@@ -260,7 +267,7 @@ impl Code<'_> {
         column[row_start]
     }
 
-    /// Returns whether the byte passes the test.
+    /// Returns whether the byte passes the test with the number `test`.
     pub fn passes_test(&self, test: usize, byte: u8) -> bool
         requires { NamesTest self.now test }
         ensures { result ≡ passes_test self.now.bit_tables test byte }
@@ -268,8 +275,8 @@ impl Code<'_> {
         self.parts.passes_test(test, byte)
     }
 
-    /// Returns the mask of the test. Bit `b / 16 % 8` of entry `16 * (b / 128) + b % 16` is set if
-    /// byte `b` passes it.
+    /// Returns the mask of the test with the number `test`. Bit `b / 16 % 8` of entry
+    /// `16 * (b / 128) + b % 16` is set if byte `b` passes the test.
     #[inline(always)]
     pub fn mask(&self, test: usize) -> &[u8; 32]
         requires { NamesTest self.now test }
@@ -278,7 +285,8 @@ impl Code<'_> {
         &self.masks[test]
     }
 
-    /// Returns the state to which `byte` leads from this state, or `None` if it leads nowhere.
+    /// Returns the state to which `byte` leads from `state` by its fork, or `None` if the byte
+    /// leads nowhere.
     pub fn target(&self, state: usize, byte: u8) -> Option<usize>
         requires { state < length self.now.states }
         ensures { result ≡ target self.now (state_at self.now state).fork byte }
@@ -307,7 +315,8 @@ impl Code<'_> {
         entry_of_step(self.parts.halting_step(state.mark))
     }
 
-    /// Returns the number of the test of the state's fast loop, if it has one.
+    /// Returns the number of the test of the state's fast loop, or `None` if the state has no fast
+    /// loop.
     pub fn fast_loop(&self, state: usize) -> Option<usize>
         requires { state < length self.now.states }
         ensures is { result ≡ (state_at self.now state).fast_loop }
@@ -326,7 +335,8 @@ impl Code<'_> {
     }
 
     /// Returns the last mark that an attempt has passed if it ends in the state with this row
-    /// offset. It saves a lexer a second pass, and may be `Unseen` or `Varies` for any state.
+    /// offset. The result saves a lexer a second pass, and may be `Unseen` or `Varies` for any
+    /// state.
     #[cold]
     #[inline(never)]
     pub fn last_mark(&self, row_start: usize) -> LastMark
@@ -344,8 +354,8 @@ impl Code<'_> {
         WIDTH * self.parts.root
     }
 
-    /// Returns the state to which the end of the input leads from this state, or `None` if it leads
-    /// nowhere.
+    /// Returns the state to which the end of the input leads from `state`, or `None` if the end
+    /// leads nowhere.
     #[inline(always)]
     pub fn at_end(&self, state: usize) -> Option<usize>
         requires { state < length self.now.states }
@@ -363,7 +373,7 @@ impl Code<'_> {
         self.uses[leaf.0].calls_back
     }
 
-    /// Returns whether the leaf's matches are skipped.
+    /// Returns whether the leaf is a skip, whose matches are no tokens.
     #[inline(always)]
     pub fn skips(&self, leaf: LeafId) -> bool
         requires { leaf.0 < length self.now.leaves }

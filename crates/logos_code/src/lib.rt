@@ -1,4 +1,5 @@
-//! Code values, which define the steps of a lexer in each state, and the definition of their runs.
+//! Code values, which define the steps of a lexer in each state. Made by `logos_generator`, and run
+//! by `logos_machine`.
 
 #![tactic(auto)]
 

@@ -1,5 +1,5 @@
-//! A tokenizer of expressions, built on the library: a front end that uses only the contracts of
-//! `generate` and `Lexer`. Called by the tests.
+//! A tokenizer of expressions: an example whose proof uses only the contracts of `generate` and
+//! `Lexer`. Called by the tests.
 
 ghost use Rattle.std.specs.Prelude.{◌≡◌, IfOk, IfErr, map};
 ghost use Rattle.logos_codegen.specs.Views.{item_of, kind_value, IsLanguage, kind_at, kind_given, kind_named, IsToken, IsErrorAt, Tokenizes, IsOutcome, Answers, IsRefusalOf, IsThatError};
@@ -16,7 +16,8 @@ use logos_token::token::Span;
 use std::alloc::{AllocError, AllocFailed, Global};
 use std::marker::Model;
 
-/// The enum of the tokenizer: a skip for blanks, and a variant for each `ExprKind`, under its name.
+/// The source of the tokenizer: an enum with a skip for blanks, and with a variant for each variant
+/// of `ExprKind`, of equal name.
 pub const SOURCE: &str = r#"#[logos(skip r"[ \t\n]+")]
 enum Expr {
     #[regex("[0-9]+")]
@@ -44,7 +45,7 @@ enum Expr {
 }
 "#;
 
-/// The kinds of tokens, each with the name of its variant in the enum.
+/// The kind of a token: the variant of equal name in the enum of `SOURCE`.
 #[derive(Clone, Copy, Debug, PartialEq, Eq)]
 pub enum ExprKind {
     Number,
@@ -60,7 +61,8 @@ pub enum ExprKind {
     Close,
 }
 
-/// A token of an expression. The span counts in bytes, and the slice is the input at the span.
+/// A token of an expression: its kind, its span in the input, in bytes, and the input's bytes at
+/// the span.
 #[derive(Clone, Copy, Debug)]
 pub struct ExprToken<'i> {
     pub kind: ExprKind,
@@ -68,12 +70,12 @@ pub struct ExprToken<'i> {
     pub slice: &'i [u8],
 }
 
-/// The errors of the tokenizer.
+/// The reason that there is no tokenizer, or that an input has no tokens.
 #[derive(Clone, Copy, Debug, PartialEq, Eq)]
 pub enum ExprError {
-    /// The enum of the tokenizer is refused. This never happens: a test constructs the tokenizer.
+    /// Faults of the tokenizer's source. They do not occur, as a test shows.
     Refused,
-    /// The start of the span is the first offset at which no token begins.
+    /// An error in the input. `span` is the span of the first error in the input, in bytes.
     Bad { span: Span },
     /// Memory ran out.
     Memory,
@@ -110,7 +112,8 @@ impl From<Refusal> for ExprError {
 #[derive(Drop)]
 pub struct Language {
     code: Code<'static>,
-    /// The kind of the tokens of each leaf, chosen by the name of the leaf's variant.
+    /// The kind of the tokens of each leaf, in the order of the numbers of the leaves. The entry of
+    /// a skip is not used.
     kinds: Vec<ExprKind>,
 }
 
@@ -129,11 +132,12 @@ impl Model for Language {
 }
 
 impl Language {
-    /// Generates the code of the tokenizer's enum, and returns the tokenizer.
+    /// Generates the code of `SOURCE`, and returns the tokenizer.
     ///
     /// # Errors
     ///
-    /// Returns `Memory` if memory runs out. `Refused` is never returned.
+    /// Returns `Refused` if the source has faults, which a test excludes, and `Memory` if memory
+    /// runs out.
     pub fn new(alloc: Global) -> Result<Language, ExprError>
         ensures ok { IfOk result IsLanguage }
         // An error means that the enum is refused or that memory ran out; it never depends on an
@@ -156,8 +160,9 @@ impl Language {
     ///
     /// # Errors
     ///
-    /// Returns `Bad` with the span of the first error if no token begins at an offset: the longest
-    /// prefix of a token, or one character. Returns `Memory` if memory runs out.
+    /// Returns `Bad` with the span of the first error, if the text has one: at its start begins
+    /// neither a token nor a blank, and it spans the longest prefix that could still have become a
+    /// token, or one character. Returns `Memory` if memory runs out.
     pub fn tokens<'i>(&self, alloc: Global, input: &'i str) -> Result<Vec<ExprToken<'i>>, ExprError>
         // The items of maximal munch from the start of the text determine the outcome.
         ensures reads { Answers (Tokenizes input.now) result }
@@ -177,7 +182,7 @@ impl Language {
 }
 
 impl Language {
-    /// Returns the token for an item, or the span of an error.
+    /// Returns the token of an item, or the span of the item if it is an error.
     fn token_from<'i>(&self, item: Item<'i>) -> Result<ExprToken<'i>, Span>
         ensures ok { IfOk result (IsToken self.now.kinds (item_of item.entry)) }
         ensures err { IfErr result (IsErrorAt (item_of item.entry)) }
@@ -192,7 +197,7 @@ impl Language {
         }
     }
 
-    /// Returns the kind of the tokens of a leaf, or `Close` if the leaf does not exist.
+    /// Returns the kind of the tokens of `leaf`, or `Close` if no leaf has this number.
     fn kind_at(&self, leaf: LeafId) -> ExprKind
         ensures { result ≡ kind_at self.now.kinds leaf.0 }
     {
@@ -203,7 +208,7 @@ impl Language {
     }
 }
 
-/// Returns the code of a generated lexer.
+/// Returns the code of a generated lexer, and drops the graph.
 fn code_in(made: Generated<'static>) -> Code<'static>
     ensures { result ≡ made.entry.code }
 {
@@ -224,7 +229,8 @@ fn kinds_of(alloc: Global, leaves: &[Leaf<'_>]) -> Result<Vec<ExprKind>, AllocEr
     Ok(kinds)
 }
 
-/// Returns the kind of the tokens of a leaf, determined by the name of its variant.
+/// Returns the kind of the tokens of a leaf: that with the name of its variant, or `Close` for a
+/// skip.
 fn kind_given(kind: &VariantKind<'_>) -> ExprKind
     ensures { result ≡ kind_given (kind_value kind.now) }
 {

@@ -10,17 +10,18 @@ use logos_token::token::{TokenStream, Tokens};
 use logos_token::util::MaybeVoid;
 use logos_type::TypeExpr;
 
-/// The options of a source on which the texts around its code depend.
+/// The options of a source on which the text around the body of its lexer depends.
 #[derive(Drop)]
 pub(crate) struct AroundOptions<'s> {
-    /// The path of the library, if the source has one.
+    /// The path of the crate `logos`, or `None` if the source has no option for it.
     pub(crate) library: Option<TokenStream<'s>>,
     pub(crate) error_type: Option<ErrorType<'s>>,
     pub(crate) extras: MaybeVoid<'s>,
 }
 
 impl<'s> AroundOptions<'s> {
-    /// Returns the text around a code with these options.
+    /// Returns the parts of the text around a body that these options determine. `utf8_mode` is
+    /// whether inputs are UTF-8.
     pub(crate) fn around(&self, utf8_mode: bool) -> Around<'_, 's>
         ensures { around_value result ≡ around_options self.now utf8_mode }
     {
@@ -41,7 +42,7 @@ fn input_text(utf8_mode: bool) -> &'static str
     if utf8_mode { "str " } else { "[ u8 ] " }
 }
 
-/// Returns the tokens of a path, if there is one.
+/// Returns the tokens of a path, or `None` if there is no path.
 fn run_of<'t, 's>(path: Option<&'t TokenStream<'s>>) -> Option<Tokens<'t, 's>>
     ensures { option_map tokens_of result ≡ option_map stream_tokens (option_copied path.entry) }
 {
@@ -51,7 +52,7 @@ fn run_of<'t, 's>(path: Option<&'t TokenStream<'s>>) -> Option<Tokens<'t, 's>>
     }
 }
 
-/// Returns the tokens of a type, or `None` if it is `Void`.
+/// Returns the tokens of a type, or `None` for `Void`.
 fn run_in<'t, 's>(tokens: &'t MaybeVoid<'s>) -> Option<Tokens<'t, 's>>
     ensures { option_map tokens_of result ≡ run_in tokens.now }
 {
@@ -61,7 +62,8 @@ fn run_in<'t, 's>(tokens: &'t MaybeVoid<'s>) -> Option<Tokens<'t, 's>>
     }
 }
 
-/// Returns the tokens of the type of errors, if the source has one.
+/// Returns the tokens of the type of errors, or `None` if the source does not set the type or sets
+/// it to `Void`.
 fn error_run<'t, 's>(error: Option<&'t ErrorType<'s>>) -> Option<Tokens<'t, 's>>
     ensures { option_map tokens_of result
         ≡ error_run (option_map error_view (option_copied error.entry)) }
@@ -72,7 +74,8 @@ fn error_run<'t, 's>(error: Option<&'t ErrorType<'s>>) -> Option<Tokens<'t, 's>>
     }
 }
 
-/// Returns the parsed type of errors, or `None` if there is none or it could not be parsed.
+/// Returns the parsed type of errors, or `None` if the source sets no type or the type was not
+/// parsed.
 fn read_type<'t, 's>(error: Option<&'t ErrorType<'s>>) -> Option<&'t TypeExpr<'s>>
     ensures { option_map type_tree (option_copied result)
         ≡ error_tree (option_map error_view (option_copied error.entry)) }

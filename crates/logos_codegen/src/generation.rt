@@ -1,5 +1,5 @@
-//! `generate`, which makes the code of a lexer from its source. Called by `lex_source`, the
-//! programs and users' code.
+//! Generates the code of a lexer from its source: `generate`, and its result `Generated`. Called by
+//! `lex_source`, the programs and users' code.
 
 ghost use Rattle.std.specs.Prelude.{◌≡◌, ◌<◌, ◌↔◌, ◌∷◌, ◌++◌, Bool, List, [], length, map, flat_map, option_map, IfOk, IfErr, IsErrAnd, OnOk, IsTrue, string_bytes, option_copied};
 ghost use Rattle.logos_codegen.specs.Views.{Rule, fault_of, ident_slice, callback_view, parser_view, kind_value, utf8_mode, IsGraphOf, rules_of, KeepsGiven, IsLexer, HeadHasItsType, IsHeadOf, analysis_view, too_long, Refuses, IsMemory, OccurInOrder, texts_of, named_leaf, reported_as, IsGiven, KeepsEnum, error_callback, variant_at, RunsAreCut, IsAccepted, IsRefused, IsWithinSizes, IsWithinLimits, IsLimit, ReportsGraph, IsFaultless, AreGraphFaults, IsGraphMade, BeginsImplementation, IsFrontOf};
@@ -25,7 +25,8 @@ use std::mem;
 /// The maximum length of a source, in bytes.
 pub const MAX_SOURCE: usize = 16_777_216;
 
-/// A source's lexer, as `generate` returns it.
+/// The result of `generate`: the code of a source's lexer, its graph, and the options of the source
+/// that determine the text around the code.
 #[derive(Drop)]
 pub struct Generated<'s> {
     /// The code of the lexer.
@@ -34,10 +35,10 @@ pub struct Generated<'s> {
     pub graph: Graph<'s>,
     /// The name of the enum.
     pub name: Ident<'s>,
-    /// The path in `export_dir`, to which the state diagram of the graph is written, if the source
-    /// has one.
+    /// The path of the option `export_dir`, to which a program writes the state diagram of the
+    /// graph, or `None` if the source does not have this option.
     pub export_path: Option<String>,
-    /// The options that determine the text.
+    /// The options of the source that determine the text around the body of its lexer.
     options: AroundOptions<'s>,
 }
 
@@ -48,14 +49,15 @@ struct EnumHead<'s> {
     name: Ident<'s>,
     /// The type of the enum: its name, and the generic arguments that follow it.
     this: TypeExpr<'s>,
-    /// The options, without skips and faults.
+    /// The options of the source, without the skips, which are leaves, and without the faults.
     options: Parser<'s>,
 }
 
 impl Generated<'_> {
     /// Returns the generated code: the implementation of `Logos` for the enum, as printed tokens.
-    /// It contains the texts of all bit tables, in the order of their numbers, and after them the
-    /// conditions of all forks, in the order of the states and within a fork, without overlap.
+    /// The code contains the texts of all bit tables, in the order of their numbers, and after them
+    /// the conditions of all forks, in the order of the states and of the conditions of a fork. No
+    /// two of these texts overlap.
     ///
     /// # Errors
     ///
@@ -70,7 +72,8 @@ impl Generated<'_> {
         Ok(self.printed(alloc)?.text)
     }
 
-    /// Returns the generated code, like `text`, with the pieces of the source in it.
+    /// Returns the generated code, which is the text that `text` returns, and the pieces of the
+    /// source in this text.
     ///
     /// # Errors
     ///
@@ -90,10 +93,10 @@ impl Generated<'_> {
         )
     }
 
-    /// Returns the front of the generated code in the shape `tables`, with the pieces of the source
-    /// in it: the implementation of `Logos` for the enum, as printed tokens. It ends with the
-    /// functions for errors, matches and tokens in the body of the lexing function. The tables
-    /// follow it.
+    /// Returns the front of the generated code in the shape `tables`, and the pieces of the source
+    /// in this text: the beginning of the implementation of `Logos` for the enum, as printed
+    /// tokens. The front ends with the functions for errors, matches and tokens in the body of the
+    /// lexing function. In the generated code, the tables follow the front.
     ///
     /// # Errors
     ///
@@ -112,8 +115,8 @@ impl Generated<'_> {
 }
 
 impl<'s> Generated<'s> {
-    /// Returns the name of the variant for the matches of a leaf, with its span in the source.
-    /// Returns `None` for a skip, and if no leaf has this number.
+    /// Returns the name of the variant for the matches of `leaf`, with the span of the name in the
+    /// source. Returns `None` for a skip, and if no leaf has this number.
     ///
     /// An item of `Lexer` names its leaf by number, so `variant` leads from an item to the enum.
     pub fn variant(&self, leaf: LeafId) -> Option<Ident<'s>>
@@ -126,7 +129,7 @@ impl<'s> Generated<'s> {
     }
 }
 
-/// Reports the faults of a graph.
+/// Adds `faults`, the faults of the graph of `leaves`, to `errors`. `item` is the span of the enum.
 fn report_faults(
     leaves: &[Leaf<'_>],
     item: Span,
@@ -142,7 +145,8 @@ fn report_faults(
     Ok(())
 }
 
-/// Reports the limit that `error` names, or fails if memory ran out.
+/// Reports the limit that `error` names, at `item`, the span of the enum. Fails if `error` is
+/// `Memory`, or if memory runs out for the report.
 fn report_limit(error: BuildError, item: Span, errors: &mut Errors) -> Result<(), Memory>
     ensures { OnOk result (IsLimit error item errors.old errors.new) }
 {
@@ -157,8 +161,8 @@ fn report_limit(error: BuildError, item: Span, errors: &mut Errors) -> Result<()
     }
 }
 
-/// Builds the graph of the leaves, unless a limit is exceeded. Reports the faults of the graph, or
-/// the exceeded limit.
+/// Returns the graph of the leaves, or `None` if a limit is exceeded. Adds the faults of the graph,
+/// or the exceeded limit, to `errors`. `item` is the span of the enum.
 fn graph_of<'s>(
     leaves: Vec<Leaf<'s>>,
     utf8_mode: bool,
@@ -182,19 +186,19 @@ fn graph_of<'s>(
     }
 }
 
-/// Returns whether the list has no fault.
+/// Returns whether `errors` has no fault.
 fn is_faultless(errors: &Errors) -> bool
     ensures { IsTrue result ↔ (errors.now ≡ []) }
 {
     errors.list().is_empty()
 }
 
-/// Builds the graph of the leaves, if neither the graph nor `errors` has a fault.
+/// Returns the graph of the leaves if neither the graph nor `errors` has a fault.
 ///
 /// # Errors
 ///
-/// Returns `Errors` if the graph has faults or the list already has some, and `Memory` if memory
-/// runs out.
+/// Returns `Errors` with the faults of `errors` and those of the graph if there are any, where an
+/// exceeded limit is a fault, and `Memory` if memory runs out.
 fn faultless_graph<'s>(
     leaves: Vec<Leaf<'s>>,
     utf8_mode: bool,
@@ -216,11 +220,12 @@ fn faultless_graph<'s>(
     }
 }
 
-/// Takes an analysis apart, and builds the graph of its leaves.
+/// Returns the graph of the leaves of an analysis, and the head of its enum.
 ///
 /// # Errors
 ///
-/// Returns `Errors` if the analysis or the graph has faults, and `Memory` if memory runs out.
+/// Returns `Errors` if the analysis or the graph has faults or a limit is exceeded, and `Memory` if
+/// memory runs out.
 fn accept_analysis<'s>(analysis: Analysis<'s>) -> Result<(Graph<'s>, EnumHead<'s>), Refusal>
     ensures ok { IfOk result (λ made. IsFaultless analysis.entry.leaves.items
         (utf8_mode (parser_view analysis.entry.parser)) analysis.entry.span
@@ -258,7 +263,7 @@ fn accept_analysis<'s>(analysis: Analysis<'s>) -> Result<(Graph<'s>, EnumHead<'s
     }
 }
 
-/// Returns the callback for errors, if there is one.
+/// Returns the callback for errors, or `None` if the options have none.
 fn callback_in<'p, 's>(parser: &'p Parser<'s>) -> Option<&'p Callback<'s>>
     ensures { option_map callback_view (option_copied result)
         ≡ error_callback (parser_view parser.now) }
@@ -269,7 +274,7 @@ fn callback_in<'p, 's>(parser: &'p Parser<'s>) -> Option<&'p Callback<'s>>
     }
 }
 
-/// Generates the code of a graph for the enum with this head. The code finds the longest matches.
+/// Returns the code of a graph for the enum with this head. The code finds the longest matches.
 fn code_of<'s>(
     alloc: Global,
     config: Config,
@@ -288,7 +293,7 @@ fn code_of<'s>(
     generator.generate(alloc)
 }
 
-/// Analyzes a source, and builds the graph of its leaves.
+/// Analyzes a source, and returns the graph of its leaves and the head of its enum.
 ///
 /// # Errors
 ///
@@ -307,7 +312,7 @@ fn accept<'s>(alloc: Global, src: &'s str) -> Result<(Graph<'s>, EnumHead<'s>), 
     }
 }
 
-/// Returns the path of a state diagram, if the source exports one.
+/// Returns the path of a state diagram, or `None` if the source exports none.
 fn path_of(export: Option<ExportPath>) -> Option<String>
     ensures { option_map string_bytes result
         ≡ option_map (λ e. string_bytes e.path) export }
@@ -318,7 +323,8 @@ fn path_of(export: Option<ExportPath>) -> Option<String>
     }
 }
 
-/// Assembles the value that `generate` returns.
+/// Returns the result of `generate` that has this code and graph, and the name and options of
+/// `head`.
 fn put_together<'s>(code: Code<'s>, graph: Graph<'s>, head: EnumHead<'s>) -> Generated<'s>
     ensures parts { (result.code ≡ code.entry) × (result.graph ≡ graph.entry)
         × (result.name ≡ head.entry.name) }
@@ -351,17 +357,18 @@ fn put_together<'s>(code: Code<'s>, graph: Graph<'s>, head: EnumHead<'s>) -> Gen
 /// Generates the code of a lexer from its source.
 ///
 /// The source is an enum with the attributes `token` and `regex` on its variants and `logos` in
-/// front of it. Leaves are numbered in the order of the source, skips first. The code finds the
-/// same items in both shapes of `config`.
+/// front of it. Leaves are numbered from 0, first the skips and then those of the variants, both in
+/// the order of the source. The code finds the same items in both shapes of `config`.
 ///
 /// # Errors
 ///
-/// Returns `Errors` with all faults of the source, in order, or with the one that ends its reading:
-/// faults of the generic parameters, of the attributes of the enum, of parameters that contain
-/// themselves, of subpatterns, of skips, of variants in source order, of leaves that can match
-/// invalid UTF-8 when inputs are UTF-8, of parameters without a type, and of the graph. Limits are
-/// among them: on the source's bytes, on the nesting of its delimiters, types and patterns, on the
-/// size of all trees, and on the number of states. Returns `Memory` if memory runs out.
+/// Returns `Errors` with all faults of the source, in order, or with the one fault at which the
+/// source is read no further: faults of the generic parameters, of the attributes of the enum, of
+/// parameters that contain themselves, of subpatterns, of skips, of variants in source order, of
+/// leaves that can match invalid UTF-8 when inputs are UTF-8, of parameters without a type, and of
+/// the graph. Limits are among them: on the source's bytes, on the nesting of its delimiters, types
+/// and patterns, on the size of all trees, and on the number of states. Returns `Memory` if memory
+/// runs out.
 pub fn generate<'s>(alloc: Global, src: &'s str, config: Config) -> Result<Generated<'s>, Refusal>
     // The source has no faults, and these are its rules and its mode.
     ensures accepted { IfOk result (λ made. IsAccepted src.now

@@ -1,5 +1,5 @@
-//! Laws of the definitions, with those of the crates below. The contract of each function is a law.
-//! To use one in a proof, call its function: the call does nothing.
+//! Laws of the definitions, and re-exports of the laws of the crates below. The contract of each
+//! function is a law. A proof uses a law by calling its function, which does nothing.
 
 ghost use Rattle.std.specs.Prelude.{◌≡◌, ℕ, ◌↔◌, Bool, true, List};
 ghost use Rattle.logos_codegen.specs.Imports.{All, Rule, IsInput, CodeValue, IsCut, IsLexer, Item, answers_of, Runs, IsAccepted};
@@ -20,7 +20,7 @@ pub use logos_machine::laws::{
 pub use logos_relex::laws::lexed_is_run;
 pub use logos_stream::laws::{all_items_are_of_the_whole, streams_are_of_the_whole};
 
-/// A source without faults determines one list of rules and one mode.
+/// A source without faults determines exactly one list of rules and one mode.
 pub fn a_source_has_one_list_of_rules()
     ensures { (source : List ℕ) (rules others : List Rule) (utf8 other : Bool) →
         IsAccepted source rules utf8 → IsAccepted source others other → (rules ≡ others)

@@ -10,7 +10,7 @@ use logos_token::error::{Detail, Errors, FaultCode, Memory};
 use logos_token::token::Span;
 use std::alloc::{AllocError, Global};
 
-/// Returns the leaf with this number, if there is one.
+/// Returns the leaf with this number, or `None` if no leaf has it.
 fn leaf_at<'l, 's>(leaves: &'l [Leaf<'s>], number: LeafId) -> Option<&'l Leaf<'s>>
     ensures { option_map (λ leaf. named_leaf leaf.now) result
         ≡ slice_get (map named_leaf leaves.now) number.0 }
@@ -18,7 +18,8 @@ fn leaf_at<'l, 's>(leaves: &'l [Leaf<'s>], number: LeafId) -> Option<&'l Leaf<'s
     leaves.get(number.0)
 }
 
-/// Appends the line of `other`, a leaf of an ambiguous set, unless it is `leaf`.
+/// Appends a line for the leaf `other` to the message of a fault, unless `other` is `leaf` or no
+/// leaf has its number.
 fn push_line(
     text: &mut String,
     leaves: &[Leaf<'_>],
@@ -38,7 +39,8 @@ fn push_line(
     }
 }
 
-/// Appends the lines of the leaves of an ambiguous set, without that of `leaf`.
+/// Appends a line for each leaf of the ambiguous `set`, except for `leaf`, to the message of a
+/// fault.
 fn push_lines(
     text: &mut String,
     leaves: &[Leaf<'_>],
@@ -54,7 +56,7 @@ fn push_lines(
     Ok(())
 }
 
-/// Returns the message for a leaf of an ambiguous set.
+/// Returns the message about `leaf`, whose number is `number`, as a leaf of the ambiguous `set`.
 fn disambiguation_text(
     alloc: Global,
     leaves: &[Leaf<'_>],
@@ -74,7 +76,7 @@ fn disambiguation_text(
     Ok(text)
 }
 
-/// Returns the number of the first leaf of a set, or `number` if the set has none.
+/// Returns the number of the first leaf of a set, or `number` if the set is empty.
 fn first_of(set: &[LeafId], number: LeafId) -> usize
     ensures { result ≡ first_of (numbers set.now) number.0 }
 {
@@ -84,7 +86,7 @@ fn first_of(set: &[LeafId], number: LeafId) -> usize
     }
 }
 
-/// Reports `leaf` as one of an ambiguous set.
+/// Reports `leaf`, whose number is `number`, as one of the leaves of the ambiguous `set`.
 fn report_ambiguous(
     leaves: &[Leaf<'_>],
     set: &[LeafId],
@@ -103,7 +105,8 @@ fn report_ambiguous(
     errors.err_with(FaultCode::Disambiguation, text.as_str(), leaf.span, detail)
 }
 
-/// Reports the leaf with this number as one of an ambiguous set, if there is one.
+/// Reports the leaf with this number as one of the leaves of the ambiguous `set`. Adds nothing if
+/// no leaf has the number.
 fn report_numbered(
     leaves: &[Leaf<'_>],
     set: &[LeafId],
@@ -119,7 +122,7 @@ fn report_numbered(
     }
 }
 
-/// Reports all leaves of an ambiguous set.
+/// Reports each leaf of the ambiguous `set`, in a fault of its own.
 fn report_set(leaves: &[Leaf<'_>], set: &[LeafId], errors: &mut Errors) -> Result<(), Memory>
     ensures { OnOk result (errors.new ≡ errors.old ++ flat_map (disambiguation_faults
         (map named_leaf leaves.now) (numbers set.now)) (numbers set.now)) }
@@ -141,7 +144,8 @@ fn report_empty(leaf: &Leaf<'_>, errors: &mut Errors) -> Result<(), Memory>
     errors.err(FaultCode::EmptyMatch, text.as_str(), leaf.span)
 }
 
-/// Reports the leaf with this number as one that can match the empty string, if there is one.
+/// Reports the leaf with this number as one that can match the empty string. Adds nothing if no
+/// leaf has the number.
 fn report_empty_match(
     leaves: &[Leaf<'_>],
     number: LeafId,
@@ -156,7 +160,7 @@ fn report_empty_match(
     }
 }
 
-/// Reports a fault of the graph of these leaves. `item` is the span of the whole enum.
+/// Reports a fault of the graph of `leaves`. `item` is the span of the whole enum.
 pub(crate) fn report_fault(
     leaves: &[Leaf<'_>],
     item: Span,

@@ -32,7 +32,7 @@ pub struct Generator<'g, 's> {
     this: &'g TypeExpr<'s>,
     graph: &'g Graph<'s>,
     error_callback: Option<&'g Callback<'s>>,
-    /// The tables of the nodes that have been made.
+    /// The tables of the nodes that have been made, or after `generate` those of the code.
     tables: NodeTables,
 }
 
@@ -67,9 +67,9 @@ impl<'g, 's> Model for Generator<'g, 's> {
 
 impl<'g, 's> Generator<'g, 's> {
     /// Returns a generator for a graph without faults, of the enum with this name and type. The
-    /// code calls the error callback for input that no leaf matches. The generator has made no node
-    /// yet. This call does not allocate; the tests and jump tables take their memory from `alloc`
-    /// when nodes are made.
+    /// code calls `error_callback`, if there is one, for bytes that no leaf matches. The generator
+    /// has made no node yet. This call does not allocate; the tests and jump tables take their
+    /// memory from `alloc` when nodes are made.
     pub fn new(
         alloc: Global,
         config: Config,
@@ -96,13 +96,13 @@ impl<'g, 's> Generator<'g, 's> {
         }
     }
 
-    /// Makes the code: from each point of each input it has the result of the graph, and each
+    /// Returns the code: from each point of each input it has the result of the graph, and each
     /// attempt enters at most two states more than there are bytes left. The code has copies of the
     /// arguments of `new`, and of the kinds and callbacks of the graph's leaves. Its tests and its
     /// jump tables are numbered by first use, with states ascending and the fast loop before the
-    /// fork; equal ones share a number. Afterwards the generator's tests and jump tables are those
-    /// of the code, regardless of the nodes that it made before, so `render_luts` and
-    /// `render_jump_tables` return the code's tables.
+    /// fork; equal tests share a number, and so do equal jump tables. Afterwards the generator's
+    /// tests and jump tables are those of the code, regardless of the nodes that it made before, so
+    /// `render_luts` and `render_jump_tables` return the code's tables.
     ///
     /// # Errors
     ///
@@ -129,7 +129,7 @@ impl<'g, 's> Generator<'g, 's> {
         }
     }
 
-    /// Makes the code. Its tests and jump tables are added to empty tables.
+    /// Returns the code, and adds its tests and jump tables to `tables`, which must be empty.
     fn code(&self, alloc: Global, tables: &mut NodeTables) -> Result<Code<'s>, AllocError>
         requires tests { tables.old.tests.keys ≡ [] }
         requires jumps { tables.old.jumps.keys ≡ [] }
@@ -149,7 +149,7 @@ impl<'g, 's> Generator<'g, 's> {
         }
     }
 
-    /// Returns copies of the arguments of `new`, for the code.
+    /// Returns the header of the code, with copies of the arguments of `new` besides the graph.
     fn header(&self) -> Result<Header<'s>, AllocError>
         ensures { IfOk result (IsCopy self.now.given) }
     {

@@ -7,7 +7,7 @@ ghost use Rattle.logos_generator.specs.Imports.{IsInput, Rule, Item, Items, AreI
 use logos_code::action::Action;
 use logos_hir::leaf::LeafId;
 
-/// The items of maximal munch are not empty, they are in order, and they are within the input.
+/// The spans of the items of maximal munch are not empty, in order, and within the input.
 pub fn items_are_in_order<C: Fn(LeafId, &[u8]) -> Action>(callback: &C)
     ensures { (rules : List Rule) (utf8 : Bool) (bytes : List ℕ) (from : ℕ) (items : List Item) →
         from ≤ length bytes → Items rules (answers_of C.Fn callback.now) utf8 bytes from items →
@@ -56,8 +56,8 @@ pub fn an_input_has_one_list_of_items<C: Fn(LeafId, &[u8]) -> Action>(callback: 
     ensures { ItemsAreOnce (answers_of C.Fn callback.now) }
 {}
 
-/// The items with a callback are items with each callback whose possible actions include those of
-/// the first.
+/// Items with a callback are also items with every callback whose possible actions include those of
+/// the first callback.
 pub fn items_go_over<C: Fn(LeafId, &[u8]) -> Action, D: Fn(LeafId, &[u8]) -> Action>(
     callback: &C,
     other: &D,

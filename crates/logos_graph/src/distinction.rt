@@ -1,5 +1,5 @@
-//! Distinguishes two states of a reduced table by bytes. `Graph` calls it for two states that a
-//! caller names.
+//! Distinguishes two states of a reduced table by bytes. Called by `Graph::telling` and
+//! `Graph::checks`.
 
 ghost use Rattle.std.specs.Prelude.{◌≡◌, ◌≢◌, ◌⊎◌, ◌↔◌, ◌<◌, ℕ, IsTrue, IfOk, IfSome, MatchOption, Some, None};
 ghost use Rattle.logos_reduce.specs.Views.{size, to, YieldsEvidence, mark_with_end, mark_after, Distinguishes, IsEvidence, state_after, ArePartedAt};
@@ -9,7 +9,7 @@ use logos_reduce::rows::{END, WIDTH};
 use logos_reduce::table::{StateMarks, Table};
 use std::alloc::{AllocError, Global};
 
-/// Returns the state to which bytes lead from a state, or `None` if they lead to none.
+/// Returns the state to which `bytes` lead from the state `s`, or `None` if they lead to no state.
 fn state_after(table: &Table, s: usize, bytes: &[u8]) -> Option<usize>
     requires { s < size table.now }
     ensures state { result ≡ state_after table.now (Some s) bytes.now }
@@ -22,8 +22,8 @@ fn state_after(table: &Table, s: usize, bytes: &[u8]) -> Option<usize>
     Some(at)
 }
 
-/// Returns the mark of a state, or of the state to which the end leads from it if `at_end` is
-/// `true`. Returns `None` if there is no such state.
+/// Returns the mark of the state `s`, or, if `at_end` is `true`, that of the state to which the end
+/// leads from `s`. Returns `None` if the end leads to no state.
 fn mark_with_end(table: &Table, s: usize, at_end: bool) -> Option<StateMarks>
     requires { s < size table.now }
     ensures { result ≡ mark_with_end table.now s at_end }
@@ -35,8 +35,8 @@ fn mark_with_end(table: &Table, s: usize, at_end: bool) -> Option<StateMarks>
     Some(table.mark(t))
 }
 
-/// Returns the mark to which bytes lead from a state, with or without the end after them. Returns
-/// `None` if they lead to no state.
+/// Returns the mark of the state to which `bytes` lead from the state `s`, with the end after them
+/// if `at_end` is `true`. Returns `None` if they lead to no state.
 fn mark_after(table: &Table, s: usize, bytes: &[u8], at_end: bool) -> Option<StateMarks>
     requires { s < size table.now }
     ensures { result ≡ mark_after table.now s bytes.now at_end }
@@ -52,7 +52,8 @@ fn differ(one: Option<StateMarks>, other: Option<StateMarks>) -> bool
     one != other
 }
 
-/// Returns the states to which two states lead on the symbol `k`, if both lead to one.
+/// Returns the targets of the states `s` and `t` on the symbol `k`, or `None` if one of the states
+/// has no target on it.
 fn both_targets(table: &Table, s: usize, t: usize, k: usize) -> Option<(usize, usize)>
     requires s_in { s < size table.now }
     requires t_in { t < size table.now }
@@ -73,7 +74,7 @@ fn ordered(a: usize, b: usize) -> (usize, usize)
     if a < b { (a, b) } else { (b, a) }
 }
 
-/// Returns the block whose split separated two states.
+/// Returns the number of the block that a split made when it separated the states `s` and `t`.
 fn parted_at(reduced: &Reduction, s: usize, t: usize) -> usize
     requires evidence { YieldsEvidence reduced.now }
     requires s_in { s < size reduced.now.table }
@@ -91,8 +92,8 @@ fn parted_at(reduced: &Reduction, s: usize, t: usize) -> usize
     }
 }
 
-/// Returns whether the bytes, with or without the end after them, distinguish the two states.
-/// Does not allocate.
+/// Returns whether `bytes`, with the end after them if `at_end` is `true`, distinguish the states
+/// `s` and `t`. Does not allocate.
 pub fn checks(reduced: &Reduction, s: usize, t: usize, bytes: &[u8], at_end: bool) -> bool
     requires s_in { s < size reduced.now.table }
     requires t_in { t < size reduced.now.table }
@@ -103,8 +104,8 @@ pub fn checks(reduced: &Reduction, s: usize, t: usize, bytes: &[u8], at_end: boo
     differ(one, other)
 }
 
-/// Returns bytes that distinguish two different states, fewer bytes than there are states, and
-/// whether the end follows them.
+/// Returns bytes that distinguish the different states `s` and `t`, and whether the end of the
+/// input follows these bytes. There are fewer bytes than states.
 ///
 /// # Errors
 ///

@@ -1,4 +1,4 @@
-//! The types of graphs: options, states and their edges. Every crate that reads a graph uses them.
+//! The types of graphs: options, states and their edges. Used by every crate that reads a graph.
 
 ghost use Rattle.std.specs.Prelude.{◌≡◌};
 ghost use Rattle.logos_graph.specs.StateEquality.{same_state, same_state_laws};
@@ -24,12 +24,12 @@ pub struct Config {
     pub utf8_mode: bool,
 }
 
-/// A state of a graph.
+/// A state of a graph, identified by its number.
 #[derive(Clone, Copy, Debug, PartialEq, Eq)]
 pub struct State(pub(crate) usize);
 
 impl State {
-    /// Returns the number of the state. The root's is 0.
+    /// Returns the number of the state, which is 0 for the root.
     pub fn index(self) -> usize
         ensures { result ≡ self.0 }
     {
@@ -37,12 +37,14 @@ impl State {
     }
 }
 
-/// The leaves whose matches end at the state, or one byte before it.
+/// The marks of a state: the leaves whose matches end at the state, or one byte before it.
 #[derive(Clone, Copy, Debug, PartialEq, Eq)]
 pub struct StateType {
-    /// The match ends one byte before.
+    /// The leaf of the late mark, whose match ends one byte before the state, or `None` if there is
+    /// no late mark.
     pub accept: Option<LeafId>,
-    /// The match ends at the state.
+    /// The leaf of the early mark, whose match ends at the state, or `None` if there is no early
+    /// mark.
     pub early: Option<LeafId>,
 }
 
@@ -50,16 +52,17 @@ pub struct StateType {
 #[derive(Debug, Drop)]
 pub struct StateData {
     pub state_type: StateType,
-    /// For each target, the bytes that lead to it, ascending by the number of the target.
+    /// The edges on bytes: the bytes that lead to a target, and the target, ascending by its
+    /// number.
     pub normal: Vec<(ByteClass, State)>,
-    /// The target of the end of the input.
+    /// The target of the end of the input, or `None` if the end leads nowhere.
     pub eoi: Option<State>,
     /// The states from which a byte or the end leads to this state, ascending and without
-    /// duplicates. Equality ignores them.
+    /// duplicates. The equality of states ignores this field.
     pub backward: Vec<State>,
 }
 
-/// States are equal regardless of the states that lead to them.
+/// Compares the types and the edges of states, but not the states that lead to them.
 impl PartialEq for StateData {
     ghost eq = { same_state };
 

@@ -10,7 +10,8 @@ use logos_automaton::rule::RuleView;
 use logos_pattern::leaf::{Leaf, VariantKind};
 use std::alloc::{AllocError, Global};
 
-/// Returns whether the size of all trees is at most 1,048,576. Does not allocate.
+/// Returns whether the trees of all leaves together have a size of at most 1,048,576. Does not
+/// allocate.
 pub(crate) fn is_size_within(leaves: &[Leaf<'_>]) -> bool
     ensures { IsTrue result ↔ (size_of (rules_of leaves.now) ≤ 2 ^ 20) }
 {
@@ -21,7 +22,7 @@ pub(crate) fn is_size_within(leaves: &[Leaf<'_>]) -> bool
     sum.is_some()
 }
 
-/// Returns the rule that a leaf represents.
+/// Returns the rule of a leaf, which borrows the leaf's tree.
 fn rule_view<'l>(leaf: &'l Leaf<'_>) -> RuleView<'l>
     ensures { views.rule_of result ≡ rule_of leaf.now }
 {
@@ -33,7 +34,7 @@ fn rule_view<'l>(leaf: &'l Leaf<'_>) -> RuleView<'l>
     }
 }
 
-/// Returns the rules that leaves represent.
+/// Returns the rules of leaves, in the order of the leaves.
 pub(crate) fn rule_views<'l>(
     alloc: Global,
     leaves: &'l [Leaf<'_>],

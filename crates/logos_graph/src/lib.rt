@@ -1,4 +1,4 @@
-//! Builds the graph of a lexer from its leaves. `logos_codegen` builds one for each source.
+//! Builds the graph of a lexer from its leaves. `logos_codegen` builds a graph for each source.
 
 #![tactic(auto)]
 

@@ -1,5 +1,5 @@
-//! Makes the table of an automaton, with only late marks. `graph::construction` calls it between
-//! the automaton and the reduction.
+//! Makes the table of an automaton, with only late marks. Called by `graph::construction`, which
+//! reduces the table.
 
 ghost use Rattle.std.specs.Prelude.{◌≡◌, ℕ, ◌+◌, ◌<◌, ◌^◌, Some, IfOk, IfSome, List, [], length, vec_len, slice_index, slice_get};
 ghost use Rattle.logos_graph.specs.Imports.{All, dfa_of, AreFaults, NamesLeaves, priority_of, first_of, best_with, IsRawMark, IsMarkOf, AreRawRows, rules_of, IsTotal, ReadsOneByteLate, MarksOneByteLate, size, mark, type_of, edges, mark_in, IsRaw, target_by, IsClosed, rows_of};
@@ -21,8 +21,8 @@ fn priority_at(leaves: &[Leaf<'_>], leaf: usize) -> usize
     }
 }
 
-/// Returns the leaf with the higher priority of `best` and `leaf`, and `best` if their priorities
-/// are equal.
+/// Returns the leaf with the higher priority of `best` and `leaf`. Returns `best` if their
+/// priorities are equal, and `leaf` if `best` is `None`.
 fn best_with(leaves: &[Leaf<'_>], best: Option<usize>, leaf: usize) -> usize
     ensures { result ≡ best_with (rules_of leaves.now) (length leaves.now) best leaf }
 {
@@ -49,7 +49,8 @@ fn first_leaf(leaves: &[Leaf<'_>], listed: &[usize]) -> Option<usize>
     best
 }
 
-/// Returns the mark of a state that lists these leaves.
+/// Returns the late mark of a state that lists the leaves `listed`: the first leaf with the highest
+/// priority, or no leaf if none is listed.
 fn raw_mark(leaves: &[Leaf<'_>], listed: &[usize]) -> StateMarks
     ensures { IsRawMark (rules_of leaves.now) (length leaves.now) listed.now result }
 {
@@ -63,7 +64,7 @@ fn raw_mark(leaves: &[Leaf<'_>], listed: &[usize]) -> StateMarks
     }
 }
 
-/// Returns the marks of all states.
+/// Returns the marks of all states of the automaton, in the order of their numbers.
 fn raw_marks(alloc: Global, leaves: &[Leaf<'_>], dfa: &Dfa) -> Result<Vec<StateMarks>, AllocError>
     ensures len { IfOk result (λ marks. vec_len marks ≡ length (dfa_of dfa.now).matches) }
     ensures marks { IfOk result (λ marks. (s : ℕ) → s < length (dfa_of dfa.now).matches →
@@ -77,7 +78,7 @@ fn raw_marks(alloc: Global, leaves: &[Leaf<'_>], dfa: &Dfa) -> Result<Vec<StateM
     Ok(marks)
 }
 
-/// Returns the row of a state: its targets for bytes and for the end.
+/// Returns the row of a state with the targets `row` for bytes and `end` for the end of the input.
 fn raw_row(row: &ByteRow, end: u32) -> Row
     requires few { (k : ℕ) → k < 256 → slice_index row.now k + 1 < 2 ^ 32 }
     requires end { end + 1 < 2 ^ 32 }
@@ -91,7 +92,7 @@ fn raw_row(row: &ByteRow, end: u32) -> Row
     made
 }
 
-/// Returns the rows of all states.
+/// Returns the rows of all states of the automaton, in the order of their numbers.
 fn raw_rows(alloc: Global, dfa: &Dfa) -> Result<Rows, AllocError>
     requires total { IsTotal (dfa_of dfa.now) }
     requires few { length (dfa_of dfa.now).matches + 1 < 2 ^ 32 }
@@ -105,8 +106,9 @@ fn raw_rows(alloc: Global, dfa: &Dfa) -> Result<Rows, AllocError>
     Ok(rows)
 }
 
-/// Returns the table of the automaton, in which each state accepts the leaf with the highest
-/// priority that it lists. The states keep their numbers, and the first is the start.
+/// Returns the table of the automaton, in which each state marks the first leaf with the highest
+/// priority among those that it lists, if it lists any. The states keep their numbers, and the
+/// first is the start.
 pub(crate) fn raw_table(alloc: Global, leaves: &[Leaf<'_>], dfa: &Dfa) -> Result<Table, AllocError>
     requires total { IsTotal (dfa_of dfa.now) }
     requires few { length (dfa_of dfa.now).matches + 1 < 2 ^ 32 }

@@ -1,4 +1,4 @@
-//! Returns all items of an input at once. `logos_scan` and `logos_relex` call it.
+//! Collects all items of a lexer. Called by `logos_scan` and `logos_relex`.
 
 ghost use Rattle.std.specs.Prelude.{map, IfOk};
 ghost use Rattle.logos_machine.specs.Views.{Runs, TakesMatches, answers_of, item_of};

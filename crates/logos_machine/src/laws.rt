@@ -6,18 +6,20 @@ ghost use Rattle.logos_machine.specs.Views.{answers_of, EndIsRun, NextAddsItem, 
 use crate::machine::Action;
 use logos_hir::leaf::LeafId;
 
-/// In a loop over `next`, each item is appended to the items that the lexer has returned.
+/// If `next` returns an item, the items that the lexer has returned are the earlier ones and then
+/// this item.
 pub fn next_adds_its_item<C: Fn(LeafId, &[u8]) -> Action>(_callback: &C)
     ensures { NextAddsItem C.Fn }
 {}
 
-/// After a loop over `next`, the items that the lexer has returned are a run of its code.
+/// Once `next` returns `None`, the items that the lexer has returned are those of a run of its code
+/// on the input.
 pub fn items_given_are_a_run<C: Fn(LeafId, &[u8]) -> Action>(_callback: &C)
     ensures { EndIsRun C.Fn }
 {}
 
-/// The runs with a callback are runs with each callback whose possible actions include those of the
-/// first.
+/// A run with a callback is also a run with every callback whose possible actions include those of
+/// the first callback.
 pub fn runs_go_over<C: Fn(LeafId, &[u8]) -> Action, D: Fn(LeafId, &[u8]) -> Action>(
     callback: &C,
     other: &D,
@@ -31,14 +33,14 @@ pub fn attempts_agree()
     ensures { AttemptsAgree }
 {}
 
-/// Runs do not depend on the bytes before them: with more bytes in front, each yields the same
-/// items, moved by the number of these bytes.
+/// A run does not depend on the bytes before it: with more bytes before the input there is a run
+/// with equal items, whose spans are moved by the number of these bytes.
 pub fn runs_go_later<C: Fn(LeafId, &[u8]) -> Action>(callback: &C)
     ensures { RunsGoLater (answers_of C.Fn callback.now) }
 {}
 
-/// The items that are found in parts of an input, regardless of the bytes that follow, are the
-/// items of the whole input.
+/// The items that a lexer finds in consecutive parts of an input, where no later byte can change
+/// them, are the items of the whole input.
 pub fn parts_are_of_the_whole<C: Fn(LeafId, &[u8]) -> Action>(callback: &C)
     ensures { PartsAreOfTheWhole (answers_of C.Fn callback.now) }
 {}

@@ -1,4 +1,5 @@
-//! The machine that runs code values: lexers, and the lexing of parts of an input.
+//! Lexers, which run code values on inputs, also part by part. Used by `logos_scan`, `logos_stream`
+//! and `logos_relex`.
 
 #![tactic(auto)]
 

@@ -1,5 +1,5 @@
-//! Lexers: runs of a code value on an input. Users of the library, `logos_scan`, `logos_stream` and
-//! `logos_relex` run code with them.
+//! Lexers, each of which is a code value on an input and returns the input's items one at a time.
+//! Used by `logos_scan`, `logos_stream`, `logos_relex` and users of the library.
 
 ghost use Rattle.std.specs.Prelude.{◌≡◌, ◌<◌, ◌≤◌, length, option_map, slice_range, MatchBool, MatchOption, IfOk, IfErr, IsTrue, IsUtf8, drop, None};
 ghost use Rattle.logos_machine.specs.Views.{IsValidUpTo, calls_back_for, token, error, answers_of, begun, item_of, Yields, Ends, Keeps, MatchYields, Takes, TakesMatches};
@@ -17,18 +17,18 @@ pub use part::Within;
 use std::marker::Model;
 use walk::{Outcome, attempt};
 
-/// An element of a lexer's output: a match of a leaf, or an error. Spans are byte offsets, and
-/// `slice` is the input at the span.
+/// An element of a lexer's output: a match of a leaf, or an error. `span` is a range of byte
+/// offsets in the input, and `slice` is the input's bytes at the span.
 #[derive(Clone, Copy, Debug)]
 pub enum Item<'i> {
-    /// A match.
+    /// A match of `leaf`.
     Token {
         leaf: LeafId,
         span: Span,
         slice: &'i [u8],
     },
-    /// Bytes that no leaf matches, if `leaf` is `None`, or a match that the callback of its leaf
-    /// refused.
+    /// An error: bytes that no leaf matches if `leaf` is `None`, and otherwise a match of `leaf`
+    /// for which the callback returned `Error`.
     Error {
         leaf: Option<LeafId>,
         span: Span,
@@ -43,7 +43,8 @@ pub struct NotUtf8 {
     pub valid_up_to: usize,
 }
 
-/// A run of a code value on an input. Items borrow only the input, so they can outlive the lexer.
+/// A lexer: a code on an input, which returns the input's items one at a time. Items borrow only
+/// the input, so they can outlive the lexer.
 #[derive(Drop)]
 pub struct Lexer<'c, 's, 'i, C> {
     code: &'c Code<'s>,
@@ -76,15 +77,16 @@ impl<'c, 's, 'i, C> Model for Lexer<'c, 's, 'i, C> {
 }
 
 impl<'c, 's, 'i, C: Fn(LeafId, &[u8]) -> Action> Lexer<'c, 's, 'i, C> {
-    /// Makes a lexer at the start of a text. It calls the callback for each match of a leaf that
-    /// has one.
+    /// Returns a lexer at the start of a text. It calls `callback` for each match of a leaf that
+    /// has a callback.
     pub fn new_str(code: &'c Code<'s>, input: &'i str, callback: C) -> Lexer<'c, 's, 'i, C>
         ensures { result ≡ begun code.now input.now callback }
     {
         Lexer::start(code, input.as_bytes(), callback)
     }
 
-    /// Makes a lexer at the start of some bytes.
+    /// Returns a lexer at the start of an input of bytes. It calls `callback` for each match of a
+    /// leaf that has a callback.
     ///
     /// # Errors
     ///
@@ -105,8 +107,8 @@ impl<'c, 's, 'i, C: Fn(LeafId, &[u8]) -> Action> Lexer<'c, 's, 'i, C> {
         Ok(Lexer::start(code, input, callback))
     }
 
-    /// Makes a lexer at the start of some bytes that are known to be UTF-8 if the code is in UTF-8
-    /// mode. `logos_stream` calls it, since it validates bytes once, when it reads them.
+    /// Returns a lexer at the start of an input of bytes, which must be UTF-8 if the code is in
+    /// UTF-8 mode. `logos_stream` calls this function, since it validates bytes when it reads them.
     pub fn new_checked(code: &'c Code<'s>, input: &'i [u8], callback: C) -> Lexer<'c, 's, 'i, C>
         requires { IsTrue code.now.utf8 → IsUtf8 input.now }
         ensures { result ≡ begun code.now input.now callback }
@@ -114,7 +116,7 @@ impl<'c, 's, 'i, C: Fn(LeafId, &[u8]) -> Action> Lexer<'c, 's, 'i, C> {
         Lexer::start(code, input, callback)
     }
 
-    /// Makes a lexer before the first byte.
+    /// Returns a lexer before the first byte of the input.
     fn start(code: &'c Code<'s>, input: &'i [u8], callback: C) -> Lexer<'c, 's, 'i, C>
         ensures { result ≡ begun code.now input.now callback }
     {
@@ -128,8 +130,8 @@ impl<'c, 's, 'i, C: Fn(LeafId, &[u8]) -> Action> Lexer<'c, 's, 'i, C> {
         }
     }
 
-    /// Returns the next item, or `None` at the end of the input, and on every later call. Calls the
-    /// callback only for matches of leaves that have one.
+    /// Returns the next item, or `None` at the end of the input and on every later call. Calls the
+    /// callback for each match of a leaf that has a callback, and for no other match.
     #[inline(always)]
     pub fn next(&mut self) -> Option<Item<'i>>
         requires { TakesMatches C.Fn self.old.code self.old.callback }
@@ -168,7 +170,8 @@ impl<'c, 's, 'i, C: Fn(LeafId, &[u8]) -> Action> Lexer<'c, 's, 'i, C> {
         }
     }
 
-    /// Moves to the point after the item from `from` to `to`, whose attempt entered `steps` states.
+    /// Moves to the offset `to`: the span of the last item becomes `from..to`, and `steps` the
+    /// number of states that the last attempt entered.
     #[inline(always)]
     fn status_after(&mut self, from: usize, to: usize, steps: usize)
         requires order { from ≤ to }
@@ -187,8 +190,9 @@ impl<'c, 's, 'i, C: Fn(LeafId, &[u8]) -> Action> Lexer<'c, 's, 'i, C> {
         self.steps = steps;
     }
 
-    /// Returns the span of the last item. It is 0..0 before the first item, and empty at the end of
-    /// the input once `next` has returned `None`.
+    /// Returns the span of the last item, in bytes of the input. It is `0..0` before the first
+    /// item. Once `next` has returned `None` it is empty at the end of the input, and after `More`
+    /// of `next_within` it is empty at the start of the next match attempt.
     pub fn span(&self) -> Span
         ensures { result ≡ record { from = self.now.from; to = self.now.to } }
     {
@@ -198,21 +202,21 @@ impl<'c, 's, 'i, C: Fn(LeafId, &[u8]) -> Action> Lexer<'c, 's, 'i, C> {
         }
     }
 
-    /// Returns the input at the span of the last item.
+    /// Returns the input's bytes at the span of the last item.
     pub fn slice(&self) -> &'i [u8]
         ensures { result.now ≡ slice_range self.now.input self.now.from self.now.to }
     {
         &self.input[self.from..self.to]
     }
 
-    /// Returns the input after the span of the last item.
+    /// Returns the input's bytes after the span of the last item.
     pub fn remainder(&self) -> &'i [u8]
         ensures { result.now ≡ drop self.now.to self.now.input }
     {
         &self.input[self.to..]
     }
 
-    /// Returns the code.
+    /// Returns the code of the lexer.
     pub fn code(&self) -> &'c Code<'s>
         ensures { result.now ≡ self.now.code }
     {
@@ -226,7 +230,7 @@ impl<'c, 's, 'i, C: Fn(LeafId, &[u8]) -> Action> Lexer<'c, 's, 'i, C> {
         self.input
     }
 
-    /// Returns the callback.
+    /// Returns the callback of the lexer.
     pub fn callback(&self) -> &C
         ensures { result.now ≡ self.now.callback }
     {
@@ -234,6 +238,7 @@ impl<'c, 's, 'i, C: Fn(LeafId, &[u8]) -> Action> Lexer<'c, 's, 'i, C> {
     }
 
     /// Returns the number of states that the last attempt entered, or 0 before the first attempt.
+    /// `next_within` does not change it when it returns `More`.
     pub fn steps(&self) -> usize
         ensures { result ≡ self.now.steps }
     {
@@ -241,11 +246,11 @@ impl<'c, 's, 'i, C: Fn(LeafId, &[u8]) -> Action> Lexer<'c, 's, 'i, C> {
     }
 }
 
-/// Checks that the bytes are UTF-8.
+/// Checks that the input is UTF-8.
 ///
 /// # Errors
 ///
-/// Returns `NotUtf8`, with the length of the longest prefix that is UTF-8, if the bytes are not
+/// Returns `NotUtf8`, with the length of the longest prefix that is UTF-8, if the input is not
 /// UTF-8.
 fn check_utf8(input: &[u8]) -> Result<(), NotUtf8>
     ensures accepted { IfOk result (λ _. IsUtf8 input.now) }
@@ -260,7 +265,7 @@ fn check_utf8(input: &[u8]) -> Result<(), NotUtf8>
     }
 }
 
-/// Returns the token of a match.
+/// Returns the token of a match of `leaf` at `span` of the input.
 #[inline(always)]
 pub fn token<'i>(input: &'i [u8], leaf: LeafId, span: Span) -> Item<'i>
     requires order { span.from ≤ span.to }
@@ -275,7 +280,7 @@ pub fn token<'i>(input: &'i [u8], leaf: LeafId, span: Span) -> Item<'i>
     }
 }
 
-/// Returns the error of bytes that no leaf matches.
+/// Returns the error at `span` of the input, whose bytes no leaf matches.
 pub fn error<'i>(input: &'i [u8], span: Span) -> Item<'i>
     requires order { span.from ≤ span.to }
     requires within { span.to ≤ length input.now }
@@ -289,7 +294,10 @@ pub fn error<'i>(input: &'i [u8], span: Span) -> Item<'i>
     }
 }
 
-/// Returns the item of a match, if it is not skipped.
+/// Returns the item of a match of `leaf` at `span` of the input: a token if the action is `Emit`,
+/// and an error if it is `Error`. Returns `None` if the action is `Skip`, or if it is `Emit` and
+/// the leaf is a skip. Calls the callback only for a leaf that has a callback; otherwise the action
+/// is `Emit`.
 #[inline(always)]
 pub fn matched_item<'i, C: Fn(LeafId, &[u8]) -> Action>(
     code: &Code,
@@ -318,8 +326,8 @@ pub fn matched_item<'i, C: Fn(LeafId, &[u8]) -> Action>(
     }
 }
 
-/// Returns the action for a match. The action of a leaf without a callback is `Emit`, and the
-/// callback is called only for leaves that have one.
+/// Returns the action for a match of `leaf`, whose bytes are `slice`: the result of the callback if
+/// the leaf has a callback, and `Emit` otherwise.
 #[inline(always)]
 fn answer<C: Fn(LeafId, &[u8]) -> Action>(
     code: &Code,

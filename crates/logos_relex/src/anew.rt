@@ -30,7 +30,7 @@ pub(crate) struct Anew {
     pub after: After,
 }
 
-/// Returns the chunks and the last items of an input.
+/// Returns the chunks of an input, and the items after its last chunk.
 ///
 /// # Errors
 ///
@@ -56,8 +56,8 @@ pub(crate) fn make<C: Fn(LeafId, &[u8]) -> Action>(
     Ok((chunks, last))
 }
 
-/// Returns the number of the `left` remaining bytes to examine. They reach as far as the former
-/// chunk that ends at the border examined bytes, so that the border is met if the items stay
+/// Returns the number of the `left` remaining bytes to examine. The bytes reach as far as the
+/// former chunk that ends at `border` examined bytes, so that the border is met if the items stay
 /// unchanged. If the number would be 0 or more than twice `WINDOW`, it is `WINDOW`.
 fn window(former: &Lexed, border: Border, left: usize) -> usize
     ensures { 0 < result }
@@ -76,7 +76,7 @@ fn window(former: &Lexed, border: Border, left: usize) -> usize
 }
 
 /// Lexes an edited input from the border `start` until a former border after the edit is met, or
-/// the input ends.
+/// the input ends. Returns the new chunks, and the chunks or the items after them.
 ///
 /// # Errors
 ///

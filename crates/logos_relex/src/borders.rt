@@ -1,11 +1,11 @@
-//! Borders between chunks. Used by `anew` and `lexed`.
+//! Finds borders between chunks. Used by `anew` and `lexed`.
 
 ghost use Rattle.std.specs.Prelude.{◌<◌, ◌≤◌, ◌^◌, take};
 ghost use Rattle.logos_relex.specs.Views.{bytes_of, IsBorder, LookBelow};
 
 use crate::chunk::Chunk;
 
-/// A border between chunks: the number of chunks before it, and their number of bytes.
+/// A border between chunks: the number of chunks before it, and the number of their bytes.
 #[derive(Clone, Copy)]
 pub(crate) struct Border {
     pub index: usize,

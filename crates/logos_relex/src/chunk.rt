@@ -1,4 +1,4 @@
-//! Chunks: the items of a few thousand bytes, determined by the bytes of a window alone. Used by
+//! Chunks: the items of a few thousand bytes, which the bytes of a window alone determine. Used by
 //! `anew`, `borders` and `lexed`.
 
 ghost use Rattle.std.specs.Prelude.{◌≡◌, ◌<◌, ◌≤◌, length, map, take, IfOk, IfErr, IfSome};
@@ -14,16 +14,17 @@ use std::alloc::{AllocError, Global};
 /// An item without its bytes: its kind, its leaf and its span.
 #[derive(Clone, Copy, Debug, PartialEq, Eq)]
 pub enum ItemAt {
-    /// A match.
+    /// A match of `leaf`.
     Token { leaf: LeafId, span: Span },
-    /// Bytes that no leaf matches, if `leaf` is `None`, or a match that the callback of `leaf`
-    /// refused.
+    /// An error: bytes that no leaf matches if `leaf` is `None`, and otherwise a match of `leaf`
+    /// for which the callback returned `Error`.
     Error { leaf: Option<LeafId>, span: Span },
 }
 
-/// Neighboring items, and the bytes from the first of them to the next chunk.
+/// The items of consecutive bytes of an input, with the number of these bytes, and the number of
+/// bytes that determine the items.
 ///
-/// Spans count from the chunk's first byte, so an edit before a chunk leaves it unchanged.
+/// Spans count from the chunk's first byte, so an edit before a chunk does not change the chunk.
 #[derive(Debug, Drop)]
 pub struct Chunk {
     items: Vec<ItemAt>,
@@ -46,7 +47,7 @@ impl Chunk {
         self.length
     }
 
-    /// Returns the number of bytes, counted from the chunk's first one, that were examined to find
+    /// Returns the number of bytes, counted from the chunk's first byte, that were examined to find
     /// its items.
     pub fn window(&self) -> usize
         ensures { result ≡ self.now.window }
@@ -65,8 +66,8 @@ fn offset_of(item: Item<'_>) -> ItemAt
     }
 }
 
-/// Returns the first items of a lexer's input that do not depend on the bytes after it, and the
-/// offset at which they end.
+/// Returns the first items of a lexer's input that do not depend on the bytes after the input, and
+/// the offset at which the next match attempt begins. The lexer must be at the start of the input.
 ///
 /// # Errors
 ///
@@ -103,7 +104,8 @@ fn characters<'p>(code: &Code, part: &'p [u8]) -> &'p [u8]
     }
 }
 
-/// Returns the first chunk of the input, if `part`, a prefix of the input, determines it.
+/// Returns the first chunk of an input, or `None` if `part`, a prefix of the input, determines no
+/// chunk.
 ///
 /// # Errors
 ///
@@ -133,8 +135,8 @@ fn chunk_of<C: Fn(LeafId, &[u8]) -> Action + Drop>(
     }))
 }
 
-/// Returns the first chunk of `bytes`, found in a window of at least `size` bytes. Returns `None`
-/// if the first item depends on the end of the bytes.
+/// Returns the first chunk of `bytes`. The window has `size` bytes, and is doubled until it
+/// determines a chunk. Returns `None` if no window that is shorter than `bytes` does.
 ///
 /// # Errors
 ///

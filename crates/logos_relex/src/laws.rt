@@ -1,5 +1,5 @@
-//! Laws of the definitions. The contract of each function is a law. To use one in a proof, call its
-//! function: the call does nothing.
+//! Laws of the definitions. The contract of each function is a law. A proof uses a law by calling
+//! its function, which does nothing.
 
 ghost use Rattle.logos_relex.specs.Views.{answers_of, LexedIsRun};
 
@@ -8,7 +8,7 @@ use logos_hir::leaf::LeafId;
 use logos_machine::machine::Action;
 
 /// The items of an input, whether lexed as a whole or again after edits, are those of a run of the
-/// code on it.
+/// code on the input.
 pub fn lexed_is_run<C: Fn(LeafId, &[u8]) -> Action>(code: &Code, callback: &C)
     ensures { LexedIsRun code.now (answers_of C.Fn callback.now) }
 {}

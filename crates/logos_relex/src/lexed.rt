@@ -1,4 +1,4 @@
-//! The items of an input that changes. Called by users' code.
+//! Holds the items of an input that changes. Used by users' code.
 
 ghost use Rattle.std.specs.Prelude.{◌≡◌, ◌≤◌, IfOk, IfErr, OnErr, OnOk, length};
 ghost use Rattle.logos_relex.specs.Views.{answers_of, ComesAfter, IsInput, IsLexed, IsRefused, PutsAnew, Stays, TakesMatches, WasLexed, Memory as OutOfMemory, NotUtf8 as NoUtf8};
@@ -15,7 +15,7 @@ use std::alloc::{AllocError, AllocFailed, Global};
 /// The reason that an input cannot be lexed.
 #[derive(Clone, Copy, Debug, PartialEq, Eq)]
 pub enum RelexError {
-    /// The input is not UTF-8, and the code is in UTF-8 mode. `valid_up_to` is the length in bytes
+    /// An input that is not UTF-8, for a code in UTF-8 mode. `valid_up_to` is the length in bytes
     /// of the longest prefix of the input that is UTF-8.
     NotUtf8 { valid_up_to: usize },
     /// Memory ran out.
@@ -68,8 +68,8 @@ pub struct Lexed {
 }
 
 impl Lexed {
-    /// Lexes `input`. For each match of a leaf that has a callback, `callback` receives the leaf
-    /// and the slice, and returns the action.
+    /// Returns the items of `input` under `code`. For each match of a leaf that has a callback,
+    /// `callback` receives the leaf and the slice, and returns the action.
     ///
     /// # Errors
     ///
@@ -99,7 +99,7 @@ impl Lexed {
         }
     }
 
-    /// Lexes an input as a whole, without chunks.
+    /// Returns the items of an input that is lexed as a whole, without chunks.
     ///
     /// # Errors
     ///
@@ -127,14 +127,16 @@ impl Lexed {
         })
     }
 
-    /// Lexes an edited input. Items that do not depend on the edit stay: those before it, and those
-    /// from the first border after it that the new items also reach. The callback is called only
-    /// for bytes that are lexed again, so its answer must depend on the leaf and the slice alone.
+    /// Replaces the items by those of the edited input. `code` and `callback` must be those of the
+    /// former items, and the input must be unchanged outside of the replaced span. Items that do
+    /// not depend on the edit stay: those before it, and those from the first border after it that
+    /// the new items also reach. `callback` is called only for bytes that are lexed again, so its
+    /// action must depend on the leaf and the slice alone.
     ///
     /// # Errors
     ///
     /// Returns `NotUtf8` if the code is in UTF-8 mode and the input is not UTF-8, and `Memory` if
-    /// memory runs out. Then the items are those of the former input, as before.
+    /// memory runs out. The items are then still those of the former input.
     pub fn relex<C: Fn(LeafId, &[u8]) -> Action>(
         &mut self,
         code: &Code,
@@ -189,7 +191,7 @@ impl Lexed {
     ///
     /// # Errors
     ///
-    /// Returns `Memory` if memory runs out.
+    /// Returns `Memory` if memory runs out. The former items then stay unchanged.
     fn put(&mut self, from: usize, made: Anew, length: usize) -> Result<(), RelexError>
         requires { ComesAfter self.old from made.after }
         ensures puts { OnOk result (PutsAnew from made length self.old self.new) }
@@ -225,14 +227,15 @@ impl Lexed {
     }
 
     /// Returns the chunks, in order. The first begins at the input's first byte, and every other
-    /// one where its predecessor ends.
+    /// chunk where its predecessor ends.
     pub fn chunks(&self) -> &[Chunk]
         ensures { result.now ≡ self.now.chunks.items }
     {
         self.chunks.as_slice()
     }
 
-    /// Returns the items after all chunks. Their spans count from the end of the last chunk.
+    /// Returns the items after the last chunk. Their spans count from the end of this chunk, or
+    /// from the input's first byte if there are no chunks.
     pub fn last(&self) -> &[ItemAt]
         ensures { result.now ≡ self.now.last.items }
     {

@@ -1,5 +1,5 @@
-//! The items of an input that changes: after an edit, only the chunks that examined the edited
-//! bytes are lexed again.
+//! Lexes an input again after an edit: only the chunks that examined the edited bytes. Called by
+//! users' code.
 
 #![tactic(auto)]
 

@@ -1,5 +1,4 @@
-//! Makes single match attempts. The scan falls back to it where an entry does not determine the
-//! match.
+//! Makes single match attempts. Called by `run` where an entry does not determine the match.
 
 ghost use Rattle.std.specs.Prelude.{◌≤◌, length};
 ghost use Rattle.logos_scan.specs.Views.{IsTaken};
@@ -9,21 +8,22 @@ use logos_hir::leaf::LeafId;
 use logos_machine::machine::walk::{Outcome, attempt};
 use logos_token::token::Span;
 
-/// The result after matches that are skipped without a callback.
+/// The result of a match attempt whose match, if any, is not known to be skipped without a
+/// callback.
 #[derive(Clone, Copy)]
 pub enum Taken {
-    /// A match that is a token.
+    /// A match of this leaf that is a token.
     Emits(LeafId, Span),
-    /// A match that may be skipped, or may have a callback.
+    /// A match of this leaf that may be skipped, or may have a callback.
     CallsBack(LeafId, Span),
-    /// Bytes that no leaf matches.
+    /// An error: bytes that no leaf matches.
     Fails(Span),
     /// The end of the input.
     Ends,
 }
 
-/// Returns the result of a match attempt from a point of the input on, after matches that are
-/// skipped without a callback, and the start of the next attempt.
+/// Returns the result of the first match attempt from `start` on whose outcome is not `Skips`, and
+/// the start of the next attempt.
 pub(crate) fn attempted(code: &Code, input: &[u8], start: usize) -> (Taken, usize)
     requires { start ≤ length input.now }
     ensures { IsTaken code.now input.now start result.0 result.1 }

@@ -1,5 +1,5 @@
-//! Estimates whether a scan by chunks takes less time than a lexer. `logos_items` and
-//! `logos_commands` call it once for each input.
+//! Estimates whether a scan by chunks takes less time than a lexer. Called by `items`,
+//! `logos_items` and `logos_commands` once for each input.
 
 ghost use Rattle.std.specs.Prelude.{◌≡◌, IfOk, IfSome};
 
@@ -9,10 +9,11 @@ use crate::trial::trial_counts;
 use logos_code::code::Code;
 use std::alloc::{AllocError, Global};
 
-/// The number of bytes of the shortest input that is scanned.
+/// The length in bytes of the shortest input that is scanned by chunks.
 const SHORTEST: usize = 16_384;
 
-/// The number of bytes of input that justify the folded row of one state.
+/// The number of bytes that an input needs for each state of a code, so that folding the rows of
+/// the code can pay.
 const WORTH: usize = 4_096;
 
 /// Returns the folded rows of a code if a scan by chunks likely takes less time on the input than a

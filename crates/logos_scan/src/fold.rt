@@ -1,5 +1,5 @@
 //! Folded rows: the transitions of each state, where a byte that ends a match attempt also begins
-//! the next one. `choice` makes them, and scans read them.
+//! the next attempt. Made by `choice`, and read by scans.
 
 pub mod entries;
 pub mod folded;

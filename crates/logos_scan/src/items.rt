@@ -12,8 +12,8 @@ use logos_hir::leaf::LeafId;
 use logos_machine::machine::{Item, Lexer};
 use std::alloc::{AllocError, Global};
 
-/// Returns all items of the input of a lexer that is at its start, in order. The input is scanned
-/// by chunks if that likely takes less time.
+/// Returns all items of a lexer's input, in order. The lexer must be at the start of the input. The
+/// input is scanned by chunks if a scan likely takes less time than the lexer.
 ///
 /// # Errors
 ///
@@ -33,7 +33,7 @@ pub fn items<'i, C: Fn(LeafId, &[u8]) -> Action + Drop>(
     }
 }
 
-/// Returns all items of an input, in order, by scanning chunks.
+/// Returns all items of an input, in order, by a scan with the folded rows of a code.
 ///
 /// # Errors
 ///

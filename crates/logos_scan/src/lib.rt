@@ -1,5 +1,5 @@
-//! Scans of an input that process a chunk at once, and yield the results of its match attempts.
-//! `logos_codegen` and the programs lex inputs with it.
+//! Scans an input by chunks, and yields the results of its match attempts. Called by
+//! `logos_codegen` and the programs.
 
 #![tactic(auto)]
 

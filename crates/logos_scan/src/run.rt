@@ -1,5 +1,5 @@
-//! Yields the match attempts of an input, one after another, from the entries of its chunks.
-//! `items`, `logos_items` and `logos_commands` call it.
+//! Scans an input: yields the results of its match attempts, one after another, from the entries of
+//! its chunks. Called by `items`, `logos_items` and `logos_commands`.
 
 ghost use Rattle.std.specs.Prelude.{◌≡◌, ◌+◌, ◌<◌, ◌≤◌, length, MatchOption};
 ghost use Rattle.logos_scan.specs.Views.{IsBytes, IsRowStart, ComesTo, answers_of, item_of, EndsItems, YieldsItem, IsChunk, IsFlagged, IsHeld, IsLoaded, IsMarked, IsOver, IsReading, IsReady, IsRun, IsTaken, TakesMatches, start_of, with_chunk};
@@ -18,7 +18,7 @@ use logos_hir::leaf::LeafId;
 use logos_machine::machine::{Item, error, matched_item, token};
 use logos_token::token::Span;
 
-/// A code, its folded rows, and the input that is stepped over.
+/// The input of a scan, with a code and its folded rows.
 #[derive(Clone, Copy, Drop)]
 pub struct Reading<'r, 'c, 's, 'i> {
     pub code: &'c Code<'s>,
@@ -27,7 +27,7 @@ pub struct Reading<'r, 'c, 's, 'i> {
 }
 
 impl<'r, 'c, 's, 'i> Reading<'r, 'c, 's, 'i> {
-    /// Returns a reading of an input with the folded rows of a code.
+    /// Returns the reading of an input with the folded rows of a code.
     pub fn new(folded: &'r Folded<'c, 's>, input: &'i [u8]) -> Reading<'r, 'c, 's, 'i>
         ensures folded { IsReading result }
         ensures code { result.code.now ≡ folded.now.code }
@@ -41,33 +41,36 @@ impl<'r, 'c, 's, 'i> Reading<'r, 'c, 's, 'i> {
     }
 }
 
-/// The number of bytes of the input in a chunk, and the row after them.
+/// The number of bytes in a chunk, and the row after these bytes.
 #[derive(Clone, Copy, Drop)]
 pub struct Loaded {
     pub count: usize,
     pub row_start: usize,
 }
 
-/// A scan of an input: the state of its chunk, and the start of the next attempt. Its chunk is
-/// stored separately, so that the compiler can keep the scan in registers.
+/// A scan of an input: its point in a chunk, and the start of the next attempt. The chunk is stored
+/// separately, so that the compiler can keep the scan in registers. Calls take the reading and the
+/// chunk with which the scan was made.
 #[derive(Clone, Copy, Drop)]
 pub struct Run {
     pub cursor: ChunkCursor,
     /// The number of bytes in the chunk.
     pub count: usize,
-    /// The row after these bytes.
+    /// The row after the bytes of the chunk.
     pub row_start: usize,
-    /// The first entry that the last walk wrote.
+    /// The index of the first entry of the chunk that the last walk wrote.
     pub low: usize,
 }
 
-/// Does nothing. Calling it brings into the proof that the elements of a slice of bytes are bytes.
+/// Does nothing. A call brings into the proof that the elements of a slice of bytes are bytes.
 #[inline(always)]
 fn are_bytes(input: &[u8])
     ensures { IsBytes input.now }
 {}
 
-/// Steps over the next bytes of the input, up to one chunk, from a row on.
+/// Writes into `entries` the entries of the input's bytes from the offset `base` on, at most one
+/// chunk, and 0 for the other entries. The walk begins in the row `row_start`. Returns the number
+/// of these bytes, and the row after them.
 fn step_over(reading: &Reading, base: usize, row_start: usize, entries: &mut [u32; 4608]) -> Loaded
     requires reading { IsReading reading.now }
     requires base { base ≤ length reading.now.input.now }
@@ -89,7 +92,8 @@ fn step_over(reading: &Reading, base: usize, row_start: usize, entries: &mut [u3
     }
 }
 
-/// Steps over the next bytes of the input, and computes the flags of the entries.
+/// Writes the chunk of the input's bytes from the offset `base` on: the entries, as `step_over`
+/// does, and their flags. Returns the number of these bytes, and the row after them.
 #[inline(never)]
 fn load(reading: &Reading, base: usize, row_start: usize, chunk: &mut ChunkEntries) -> Loaded
     requires reading { IsReading reading.now }
@@ -104,8 +108,8 @@ fn load(reading: &Reading, base: usize, row_start: usize, chunk: &mut ChunkEntri
     loaded
 }
 
-/// Repeats the attempt that begins at `start` as a single attempt, which records the marks that it
-/// passes.
+/// Returns the result of a single attempt from `start` on, and the scan at the start of the next
+/// attempt.
 #[cold]
 #[inline(never)]
 fn attempt_again(
@@ -125,7 +129,7 @@ fn attempt_again(
     (taken, after)
 }
 
-/// Begins a match attempt at a point of the input.
+/// Returns the scan at the offset `to` of the input, where a match attempt begins.
 fn restarted(reading: &Reading, run: Run, chunk: &mut ChunkEntries, to: usize) -> Run
     requires reading { IsReading reading.now }
     requires chunk { IsChunk reading.now.rows.now reading.now.input.now (with_chunk chunk.old run) }
@@ -141,8 +145,9 @@ fn restarted(reading: &Reading, run: Run, chunk: &mut ChunkEntries, to: usize) -
     }
 }
 
-/// Begins a match attempt at an entry of the chunk that has not been passed, and steps again over
-/// the bytes from there on until a byte leads to the same row as before.
+/// Returns the scan at the index `from` of the chunk, where a match attempt begins. Steps again
+/// over the bytes from there on until a byte leads to the same row as before. The entry must not
+/// have been passed.
 fn repaired_from(reading: &Reading, run: Run, chunk: &mut ChunkEntries, from: usize) -> Run
     requires reading { IsReading reading.now }
     requires chunk { IsChunk reading.now.rows.now reading.now.input.now (with_chunk chunk.old run) }
@@ -173,8 +178,8 @@ fn repaired_from(reading: &Reading, run: Run, chunk: &mut ChunkEntries, from: us
     }
 }
 
-/// Continues with the bytes from `base` on, where the attempt that begins at `start` is in the
-/// state of the row.
+/// Returns the scan after a new chunk is written, which begins at the offset `base` of the input.
+/// At `base`, the attempt that begins at `start` is in the state of the row `row_start`.
 #[inline(always)]
 fn filled(
     reading: &Reading,
@@ -204,7 +209,7 @@ fn filled(
 }
 
 impl Run {
-    /// Begins a scan at the start of an input.
+    /// Returns a scan at the start of an input, after its first chunk is written.
     #[inline(always)]
     pub fn new(reading: &Reading, chunk: &mut ChunkEntries) -> Run
         requires reading { IsReading reading.now }
@@ -214,7 +219,8 @@ impl Run {
         filled(reading, chunk, 0, 0, reading.code.root_row_start())
     }
 
-    /// Moves to the next pending entry and returns its index, or `None` at the end of the input.
+    /// Moves past the next pending entry, and returns its index in the chunk, or `None` at the end
+    /// of the input.
     #[inline(always)]
     fn next_flag(&mut self, reading: &Reading, chunk: &mut ChunkEntries) -> Option<usize>
         requires reading { IsReading reading.now }
@@ -238,7 +244,8 @@ impl Run {
         }
     }
 
-    /// Returns the result of the next attempt, after those that are skipped.
+    /// Returns the result of the next attempt that is not skipped without a callback, or `Ends` at
+    /// the end of the input.
     #[inline(always)]
     pub fn next(&mut self, reading: &Reading, chunk: &mut ChunkEntries) -> Taken
         requires reading { IsReading reading.now }
@@ -270,9 +277,9 @@ impl Run {
         }
     }
 
-    /// Returns the result of the attempt that begins at `start`, as a single attempt. Only that
-    /// attempt is called out of line, with a copy of the scan, so that the compiler can keep the
-    /// original in registers.
+    /// Returns the result of a single attempt from `start` on, and moves to the start of the next
+    /// attempt. Only `attempt_again` is called out of line, with a copy of the scan, so that the
+    /// compiler can keep the original in registers.
     #[inline(always)]
     fn next_again(&mut self, reading: &Reading, chunk: &mut ChunkEntries, start: usize) -> Taken
         requires reading { IsReading reading.now }
@@ -286,9 +293,9 @@ impl Run {
         taken
     }
 
-    /// Returns the next item, or `None` at the end of the input, and on every later call. The items
-    /// are those of a lexer with this callback, which is called for each match of a leaf that has
-    /// one.
+    /// Returns the next item, or `None` at the end of the input and on every later call. The items
+    /// are those of a lexer with this callback, which is called for each match of a leaf that has a
+    /// callback.
     #[inline(always)]
     pub fn next_item<'i, C: Fn(LeafId, &[u8]) -> Action>(
         &mut self,

@@ -1,5 +1,5 @@
-//! Walks over samples of an input, which estimate whether a scan by chunks takes less time than a
-//! lexer. `choice` calls it once for each input that is long enough.
+//! Walks over samples of an input, to estimate whether a scan by chunks takes less time than a
+//! lexer. Called by `choice` once for each input that is long enough.
 
 ghost use Rattle.std.specs.Prelude.{◌≡◌, ◌<◌, ◌≤◌, ◌+◌, ◌*◌, length};
 ghost use Rattle.logos_scan.specs.Views.{IsReading};
@@ -38,18 +38,18 @@ const MATCH: usize = 400;
 /// The cost of each state that is entered, for a lexer.
 const ENTRY: usize = 325;
 
-/// If matches end before more than three in this number of bytes, a lexer is faster, since
-/// processors predict such matches.
+/// The number of bytes such that a lexer is faster if matches end before more than three of them,
+/// since processors predict such matches.
 const ALMOST_ALL: usize = 4;
 
-/// The counts of walks over chunks.
+/// The counts of walks over chunks of an input.
 #[derive(Clone, Copy, Drop)]
 pub struct TrialCounts {
-    /// The number of bytes.
+    /// The number of bytes that were walked over.
     pub bytes: usize,
     /// The number of bytes before which a match ends.
     pub ends: usize,
-    /// The number of bytes that lead to another row.
+    /// The number of bytes that lead to another row than the byte before.
     pub entered: usize,
     /// The number of bytes that need a repeated attempt.
     pub repeated: usize,
@@ -58,7 +58,7 @@ pub struct TrialCounts {
     pub again: usize,
 }
 
-/// The counts of no walk.
+/// The counts before any walk.
 const NOTHING: TrialCounts = TrialCounts {
     bytes: 0,
     ends: 0,
@@ -68,6 +68,7 @@ const NOTHING: TrialCounts = TrialCounts {
 };
 
 /// Returns the counts of walks over chunks at regular distances in an input, each from the root on.
+/// All counts are 0 if the input has fewer than two chunks of bytes for each walk.
 pub fn trial_counts(reading: &Reading) -> TrialCounts
     requires { IsReading reading.now }
 {
@@ -86,8 +87,8 @@ pub fn trial_counts(reading: &Reading) -> TrialCounts
     counts
 }
 
-/// Returns the counts of a walk over the chunk of an input that begins after the first line end
-/// from `at` on, or at `at` if there is none.
+/// Returns the counts of a walk over one chunk of bytes, which begins after the first line end
+/// among the `CHUNK` bytes from `at` on, or at `at` if there is none.
 fn chunk_counts(reading: &Reading, at: usize) -> TrialCounts
     requires reading { IsReading reading.now }
     requires at { at + 2 * CHUNK ≤ length reading.now.input.now }
@@ -103,8 +104,8 @@ fn chunk_counts(reading: &Reading, at: usize) -> TrialCounts
     }
 }
 
-/// Returns the start of the first line that begins in a part of an input, after the part's first
-/// byte, or 0 if there is none. Few tokens extend over a line end.
+/// Returns the index after the first line end in `part`, or 0 if there is none. Few tokens extend
+/// over a line end.
 pub(crate) fn line_start(part: &[u8]) -> usize
     ensures { result ≤ length part.now }
 {
@@ -116,7 +117,7 @@ pub(crate) fn line_start(part: &[u8]) -> usize
     0
 }
 
-/// Returns the counts of the entries of a walk.
+/// Returns the counts of the entries of a walk, where `again` is 0.
 fn trace_counts(trace: &[u32]) -> TrialCounts {
     let mut counts = TrialCounts {
         bytes: trace.len(),
@@ -137,8 +138,8 @@ fn trace_counts(trace: &[u32]) -> TrialCounts {
     counts
 }
 
-/// Returns the number of bytes of a chunk that were stepped over again, given the entries of its
-/// walk.
+/// Returns the number of bytes of a chunk that were stepped over again. `trace` has the entries of
+/// the walk over the chunk.
 fn steps_again(rows: &[u32], text: &[u8], root: usize, trace: &[u32]) -> usize
     requires closed { IsClosed rows.now }
     requires root { IsRowStart rows.now root }
@@ -153,8 +154,9 @@ fn steps_again(rows: &[u32], text: &[u8], root: usize, trace: &[u32]) -> usize
     again
 }
 
-/// Returns the number of bytes of the block that begins at `from` that lead from a guessed row to
-/// other rows than those of the walk.
+/// Returns the number of bytes that were stepped over again in the block that begins at `from`: 0
+/// if `guess` was right, and otherwise those up to the first byte that leads from the guessed row
+/// to the row of the walk, with this byte.
 fn block_steps(rows: &[u32], text: &[u8], guess: usize, trace: &[u32], from: usize) -> usize
     requires closed { IsClosed rows.now }
     requires guess { IsRowStart rows.now guess }
@@ -177,7 +179,7 @@ fn block_steps(rows: &[u32], text: &[u8], guess: usize, trace: &[u32], from: usi
 }
 
 impl TrialCounts {
-    /// Returns the sums of these counts and of `found`.
+    /// Returns the sum of these counts and `found`, count by count.
     fn and(self, found: TrialCounts) -> TrialCounts {
         TrialCounts {
             bytes: self.bytes.wrapping_add(found.bytes),
@@ -188,7 +190,7 @@ impl TrialCounts {
         }
     }
 
-    /// Returns whether a scan likely takes less time than a lexer.
+    /// Returns whether a scan likely takes less time than a lexer on an input with these counts.
     pub fn suit_scans(self) -> bool {
         let lexer = BYTE
             .wrapping_mul(self.bytes)

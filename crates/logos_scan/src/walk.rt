@@ -1,10 +1,9 @@
-//! Walks over folded rows: a chunk of bytes at once, in six parallel blocks and without a branch
-//! for each byte, and the bit masks of the entries at which attempts end. `run` and `trial` call
-//! it.
+//! Walks over a chunk of bytes by folded rows, in six parallel blocks and without a branch for each
+//! byte, and finds the entries at which attempts end. Called by `run` and `trial`.
 //!
-//! Folded rows are rows of 256 entries. A row is identified by its row offset, the index of its
-//! first entry. The lowest twenty bits of the entry of a byte are the offset of the next row. Its
-//! two highest bits are flags: `ENDED` is set if a match ends before the byte, and `TOKEN` if the
+//! A folded row has an entry for each byte. A row is identified by its row offset, the index of its
+//! first entry. The lowest twenty bits of an entry are the offset of the next row. The two highest
+//! bits of an entry are flags: `ENDED` is set if a match ends before the byte, and `TOKEN` if the
 //! entry is pending, which means that the scan must process it.
 
 ghost use Rattle.std.specs.Prelude.{◌≡◌, ◌+◌, ◌<◌, ◌≤◌, length, slice_index, slice_set};
@@ -19,14 +18,14 @@ pub mod repair;
 /// The bits of an entry that contain the offset of the next row.
 pub const OFFSET_MASK: u32 = 0xF_FFFF;
 
-/// The flag of an entry where a match ends before the byte.
+/// The flag of an entry before whose byte a match ends.
 pub const ENDED: u32 = 1 << 31;
 
 /// The flag of a pending entry, which the scan must process.
 pub const TOKEN: u32 = 1 << 30;
 
-/// Returns the entry of a byte in a row. The byte is added first: the offset of the row, which
-/// comes from the entry before, is known last.
+/// Returns the entry of a byte in a row. Adds the byte first: the row offset, which comes from the
+/// entry before, is known last.
 #[inline(always)]
 pub(crate) fn entry_of(rows: &[u32], byte: u8, row_start: usize) -> u32
     requires { IsRowStart rows.now row_start }
@@ -36,7 +35,8 @@ pub(crate) fn entry_of(rows: &[u32], byte: u8, row_start: usize) -> u32
     column[row_start]
 }
 
-/// Steps over the byte at `at`: writes its entry, and returns the row to which the entry leads.
+/// Steps over the byte at `at` from the row `row_start` on: writes the byte's entry into `trace`,
+/// and returns the row to which the entry leads.
 #[inline(always)]
 pub fn step(rows: &[u32], text: &[u8], row_start: usize, trace: &mut [u32], at: usize) -> usize
     requires closed { IsClosed rows.now }
@@ -52,7 +52,8 @@ pub fn step(rows: &[u32], text: &[u8], row_start: usize, trace: &mut [u32], at: 
     (entry & OFFSET_MASK) as usize
 }
 
-/// Steps over all bytes of the text, from the row on, and returns the row after them.
+/// Steps over all bytes of the text, from the row `row_start` on: writes their entries into
+/// `trace`, and returns the row after them.
 pub fn walk(rows: &[u32], text: &[u8], row_start: usize, trace: &mut [u32]) -> usize
     requires closed { IsClosed rows.now }
     requires row_start { IsRowStart rows.now row_start }

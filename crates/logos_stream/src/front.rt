@@ -1,4 +1,4 @@
-//! The first item in some bytes of an input. Called by `Stream::next`.
+//! Finds the first event in some bytes of an input. Called by `Stream::next`.
 
 ghost use Rattle.std.specs.Prelude.{◌≡◌, IsTrue, IsUtf8};
 ghost use Rattle.logos_stream.specs.Views.{answers_of, item_of, IsFront, IsWithout, TakesMatches};
@@ -17,12 +17,12 @@ pub(crate) enum Front {
     Item(StreamItem),
     /// No item up to this offset. The next item depends on the bytes that follow.
     Waits(usize),
-    /// No item, and nothing follows.
+    /// No item up to the end of the bytes, after which the input ends.
     Ends,
 }
 
-/// Returns the first event in `bytes`. If `is_last` is set, they are the last bytes of the input;
-/// otherwise more may follow.
+/// Returns the first event in `bytes`. If `is_last` is set, `bytes` are the last bytes of the
+/// input; otherwise more may follow.
 pub(crate) fn front_of<C: Fn(LeafId, &[u8]) -> Action + Copy>(
     code: &Code<'_>,
     bytes: &[u8],

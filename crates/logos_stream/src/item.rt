@@ -1,4 +1,5 @@
-//! Events and items of a stream, as `Stream::next` returns them. Used by `logos_items`.
+//! Events and items of a stream, as `Stream::next` returns them. Used by `stream` and
+//! `logos_items`.
 
 ghost use Rattle.std.specs.Prelude.{◌≡◌, ◌+◌, ◌<◌, ◌^◌, List, ℕ};
 ghost use Rattle.logos_stream.specs.Views.{item_later, end_of, item_with, start_of};
@@ -7,13 +8,13 @@ use logos_hir::leaf::LeafId;
 use logos_token::token::Span;
 
 /// An item of a stream, with its span in the stream, in bytes. `Stream::slice` returns the bytes at
-/// its span.
+/// the span.
 #[derive(Clone, Copy, Debug, PartialEq, Eq)]
 pub enum StreamItem {
-    /// A match.
+    /// A match of `leaf`.
     Token { leaf: LeafId, span: Span },
-    /// Bytes that no leaf matches, if `leaf` is `None`, or a match that the callback of `leaf`
-    /// refused.
+    /// An error: bytes that no leaf matches if `leaf` is `None`, and otherwise a match of `leaf`
+    /// for which the callback returned `Error`.
     Error { leaf: Option<LeafId>, span: Span },
 }
 
@@ -22,12 +23,12 @@ pub enum StreamItem {
 pub enum Streamed {
     /// The next item, whatever bytes follow.
     Item(StreamItem),
-    /// The next event depends on bytes that were not read: call `Stream::read`.
+    /// A request for more bytes, on which the next event depends: call `Stream::read`.
     More,
-    /// The next event depends on more bytes than may be in memory.
+    /// No event: the next one depends on more bytes than may be in memory at a time.
     TooLong,
-    /// The bytes at `Stream::offset` are not UTF-8, and the lexer reads text. All items of the
-    /// text before them were returned.
+    /// Bytes at `Stream::offset` that are not UTF-8, for a code in UTF-8 mode. All items of the
+    /// text before these bytes have been returned.
     NotUtf8,
     /// The end of the stream.
     End,
@@ -46,7 +47,7 @@ impl StreamItem {
     }
 }
 
-/// Returns the item with its span moved by `by` bytes.
+/// Returns the item with its span moved by `by` bytes, saturating at the greatest number.
 pub(crate) fn later(item: StreamItem, by: usize) -> StreamItem
     ensures { by + start_of item < 2 ^ 64 → by + end_of item < 2 ^ 64 → (slice : List ℕ) →
         item_with result slice ≡ item_later by (item_with item slice) }
@@ -63,7 +64,7 @@ pub(crate) fn later(item: StreamItem, by: usize) -> StreamItem
     }
 }
 
-/// Returns the span moved by `by` bytes.
+/// Returns the span moved by `by` bytes, saturating at the greatest number.
 fn span_later(span: Span, by: usize) -> Span
     ensures from { by + span.from < 2 ^ 64 → result.from ≡ by + span.from }
     ensures to { by + span.to < 2 ^ 64 → result.to ≡ by + span.to }

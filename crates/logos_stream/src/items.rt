@@ -1,4 +1,4 @@
-//! `Stream::items`, which returns all items of a stream in one call.
+//! Collects all items of a stream in one call of `Stream::items`. Called by users' code.
 
 ghost use Rattle.std.specs.Prelude.{◌<◌, IfOk, OnOk};
 ghost use Rattle.logos_stream.specs.Views.{answers_of, unread_length, AreLeft, KeepsCode, MayRead, Steps, TakesMatches};
@@ -12,13 +12,14 @@ use std::io;
 use std::io::{ErrorKind, Read};
 
 impl<'c, 's, R: Read + Drop, C: Fn(LeafId, &[u8]) -> Action + Copy> Stream<'c, 's, R, C> {
-    /// Reads to the end, and returns the remaining items in order, with their spans in the stream.
+    /// Reads to the end of the stream, and returns the remaining items in order, with their spans
+    /// in the stream.
     ///
     /// # Errors
     ///
     /// Returns `InvalidData` if `next` returns `TooLong` or `NotUtf8`, and the error of the reader,
-    /// except for `Interrupted`, after which it reads again. Returns `OutOfMemory` if memory runs
-    /// out, and `TimedOut` after 2^64 items and reads.
+    /// except for `Interrupted`, after which the function reads again. Returns `OutOfMemory` if
+    /// memory runs out, and `TimedOut` after 2^64 - 1 items and reads together.
     pub fn items(self, alloc: Global) -> io::Result<Vec<StreamItem>>
         requires { TakesMatches C.Fn self.code self.callback }
         ensures { IfOk result (λ items. AreLeft R.remaining self.entry.code
@@ -34,7 +35,8 @@ impl<'c, 's, R: Read + Drop, C: Fn(LeafId, &[u8]) -> Action + Copy> Stream<'c, '
         Err(io::Error::from(ErrorKind::TimedOut))
     }
 
-    /// Appends the next item, or reads. Returns whether the stream has ended.
+    /// Appends the next item to `items`, or reads if there is none yet. Returns whether the stream
+    /// has ended.
     fn step(&mut self, items: &mut Vec<StreamItem>) -> io::Result<bool>
         requires { TakesMatches C.Fn self.old.code self.old.callback }
         ensures keeps { KeepsCode self.old self.new }
@@ -56,7 +58,7 @@ impl<'c, 's, R: Read + Drop, C: Fn(LeafId, &[u8]) -> Action + Copy> Stream<'c, '
         }
     }
 
-    /// Reads once. An interrupted read is not an error, and reads nothing.
+    /// Reads once from the reader. An interrupted read is not an error, and reads nothing.
     fn read_again(&mut self) -> io::Result<()>
         requires { unread_length self.old.window < self.old.window.bound }
         ensures keeps { KeepsCode self.old self.new }

@@ -1,5 +1,5 @@
-//! Laws of the definitions. The contract of a function here is a law. To use it in a proof, call
-//! the function: the call does nothing.
+//! Laws of the definitions. The contract of each function is a law. A proof uses a law by calling
+//! its function, which does nothing.
 
 ghost use Rattle.logos_stream.specs.Views.{answers_of, AllAreOfTheWhole, StreamsAreOfTheWhole};
 
@@ -7,13 +7,14 @@ use logos_code::action::Action;
 use logos_hir::leaf::LeafId;
 use std::io::Read;
 
-/// The items of a stream, however it is read, are the items of all bytes that were read.
+/// The items of a stream are those of a run on all bytes that were read, regardless of the lengths
+/// of the reads.
 pub fn streams_are_of_the_whole<R: Read, C: Fn(LeafId, &[u8]) -> Action>(_reader: &R, callback: &C)
     ensures { StreamsAreOfTheWhole R.remaining (answers_of C.Fn callback.now) }
 {}
 
-/// The items from `Stream::items` are those of a run on all bytes of its reader, if these are
-/// known.
+/// The items from `Stream::items` are those of a run on all bytes of its reader, if the contract of
+/// the reader determines these bytes.
 pub fn all_items_are_of_the_whole<R: Read, C: Fn(LeafId, &[u8]) -> Action>(
     _reader: &R,
     callback: &C,

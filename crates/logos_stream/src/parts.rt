@@ -1,5 +1,5 @@
-//! Reads an input in parts: only the bytes that were read and not yet passed are in memory. Each
-//! `Stream` holds one `Parts`.
+//! Reads an input in parts: only the bytes that were read and not yet passed are in memory. Used by
+//! `window`, which holds one `Parts` for each stream.
 
 ghost use Rattle.std.specs.Prelude.{◌≡◌, ◌+◌, ◌<◌, ◌≤◌, [], length, take, false, IfOk, OnErr, MatchBool, min};
 ghost use Rattle.logos_stream.specs.parts.Imports.{ReadsAfter, Reads, Stays, without};
@@ -12,10 +12,10 @@ use std::marker::Model;
 /// An input that is read in parts: a reader, and the part, which is the bytes that were read and
 /// not passed. Offsets and lengths count bytes.
 ///
-/// At most the bound is in memory. To lex an input of any length: read, lex the part with
-/// `Lexer::next_within(parts.is_last())`, and pass the bytes before the offset at which the lexer
-/// waits. To get the span of an item in the input, add `before` to its span in the part. If the
-/// part is full and nothing can be passed, the item is longer than the bound.
+/// At most as many bytes as the bound are in memory. To lex an input of any length: read, lex the
+/// part with `Lexer::next_within(parts.is_last())`, and pass the bytes before the offset at which
+/// the lexer waits. To get the span of an item in the input, add `before` to its span in the part.
+/// If the part is full and nothing can be passed, the item is longer than the bound.
 ///
 /// In UTF-8 mode the part may end inside a character: lex its longest prefix that is UTF-8. To keep
 /// the time linear in the length of the input, read until the part is twice as long as the bytes
@@ -47,8 +47,8 @@ impl<R> Model for Parts<R> {
 }
 
 impl<R: Read + Drop> Parts<R> {
-    /// Creates an input from a reader, before anything is read. At most `bound` bytes of it are in
-    /// memory at a time.
+    /// Returns the input of a reader, of which nothing has been read. At most `bound` bytes of the
+    /// input are in memory at a time.
     ///
     /// # Errors
     ///
@@ -86,14 +86,15 @@ impl<R: Read + Drop> Parts<R> {
         self.before
     }
 
-    /// Returns whether the last call of `read` reached the end, so that the part is the last one.
+    /// Returns whether the last call of `read` without an error read no bytes, so that the part is
+    /// the last one.
     pub fn is_last(&self) -> bool
         ensures { result ≡ self.now.is_over }
     {
         self.is_over
     }
 
-    /// Returns whether the part is as long as the bound. If so, bytes have to be passed before
+    /// Returns whether the part is as long as the bound. If it is, bytes have to be passed before
     /// `read` can be called.
     pub fn is_full(&self) -> bool
         ensures { MatchBool result (length self.now.part ≡ self.now.bound)
@@ -102,7 +103,8 @@ impl<R: Read + Drop> Parts<R> {
         self.held == self.buffer.len()
     }
 
-    /// Passes the first `bytes` bytes of the part: they leave memory, and `before` counts them.
+    /// Passes the first `bytes` bytes of the part: they leave memory, and `before` counts them,
+    /// saturating at the greatest number.
     pub fn pass(&mut self, bytes: usize)
         requires { bytes ≤ length self.old.part }
         ensures { self.new ≡ without bytes self.old }
@@ -112,7 +114,8 @@ impl<R: Read + Drop> Parts<R> {
         self.before = self.before.saturating_add(bytes as u64);
     }
 
-    /// Reads once, and appends the bytes read to the part. If there are none, the input is over.
+    /// Reads once from the reader, and appends the bytes read to the part. If there are none, the
+    /// input has ended. The part must not be full.
     ///
     /// # Errors
     ///
@@ -133,7 +136,7 @@ impl<R: Read + Drop> Parts<R> {
     }
 }
 
-/// Reads once into a buffer, after its first `held` bytes.
+/// Reads once into a buffer, after its first `held` bytes. Returns the number of bytes read.
 fn read_after<R: Read>(reader: &mut R, buffer: &mut [u8], held: usize) -> io::Result<usize>
     requires { held < length buffer.old }
     ensures length { length buffer.new ≡ length buffer.old }

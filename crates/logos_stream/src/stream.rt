@@ -14,10 +14,11 @@ use std::io;
 use std::io::Read;
 use std::marker::Model;
 
-/// A run of a code value on the bytes of a reader. Offsets and lengths count bytes.
+/// A lexer on the bytes of a reader, which returns their items while it reads. Offsets and lengths
+/// count bytes.
 ///
-/// At most the bound is in memory, regardless of the length of the stream. In UTF-8 mode the bytes
-/// are validated as they are read.
+/// At most as many bytes as the bound are in memory, regardless of the length of the stream. In
+/// UTF-8 mode the bytes are validated as they are read.
 ///
 /// ```text
 /// let mut stream = Stream::new(alloc, &code, reader, bound, callback)?;
@@ -51,8 +52,9 @@ impl<'c, 's, R, C> Model for Stream<'c, 's, R, C> {
 }
 
 impl<'c, 's, R: Read + Drop, C: Fn(LeafId, &[u8]) -> Action + Copy> Stream<'c, 's, R, C> {
-    /// Creates a stream from a reader, before anything is read. At most `bound` bytes of it are in
-    /// memory at a time. The callback is called for each match of a leaf that has one.
+    /// Returns the stream of a reader, of which nothing has been read. At most `bound` bytes of the
+    /// stream are in memory at a time. `callback` is called for each match of a leaf that has a
+    /// callback.
     ///
     /// # Errors
     ///
@@ -75,7 +77,8 @@ impl<'c, 's, R: Read + Drop, C: Fn(LeafId, &[u8]) -> Action + Copy> Stream<'c, '
     }
 
     /// Returns the next event. An item is returned only if it does not depend on the bytes that
-    /// follow. After any other event, each call returns that event again until `read` has read.
+    /// follow. After any other event, each call returns that event again until `read` has read
+    /// bytes or the end.
     pub fn next(&mut self) -> Streamed
         requires { TakesMatches C.Fn self.old.code self.old.callback }
         ensures keeps { KeepsCode self.old self.new }
@@ -93,8 +96,8 @@ impl<'c, 's, R: Read + Drop, C: Fn(LeafId, &[u8]) -> Action + Copy> Stream<'c, '
         }
     }
 
-    /// Reads once from the reader, unless the last bytes were already read. After `More`, the bound
-    /// leaves room for at least one byte.
+    /// Reads once from the reader, unless the last bytes were already read. The bound must leave
+    /// room for at least one byte, as it does after `More`.
     ///
     /// # Errors
     ///
@@ -110,15 +113,16 @@ impl<'c, 's, R: Read + Drop, C: Fn(LeafId, &[u8]) -> Action + Copy> Stream<'c, '
         self.window.read()
     }
 
-    /// Returns the bytes that the last call of `next` passed without an item. `read` drops them.
+    /// Returns the bytes that the last call of `next` passed before its event, without an item. The
+    /// next read from the reader drops these bytes.
     pub fn skipped(&self) -> &[u8]
         ensures { result.now ≡ self.now.window.skipped }
     {
         self.window.skipped()
     }
 
-    /// Returns the bytes at the span of the item that the last call of `next` returned, if it
-    /// returned one. `read` drops them.
+    /// Returns the bytes at the span of the item that the last call of `next` returned, or no bytes
+    /// if it returned another event. The next read from the reader drops these bytes.
     pub fn slice(&self) -> &[u8]
         ensures { result.now ≡ self.now.window.slice }
     {

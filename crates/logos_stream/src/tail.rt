@@ -1,4 +1,4 @@
-//! The lexable prefix of the bytes that were read. Used by `window`.
+//! Finds the lexable prefix of the bytes that were read. Called by `window`.
 
 ghost use Rattle.std.specs.Prelude.{◌≡◌, ◌≤◌, ◌↔◌, length, false, IsTrue, IsCharBoundary};
 ghost use Rattle.logos_stream.specs.Views.{IsTail};
@@ -6,13 +6,15 @@ ghost use Rattle.logos_stream.specs.Views.{IsTail};
 /// The lexable prefix of some bytes that were read, and whether the bytes after it are invalid.
 #[derive(Clone, Copy)]
 pub(crate) struct Tail {
-    /// The length of the lexable prefix: all bytes, or the longest prefix that is UTF-8.
+    /// The length of the lexable prefix in bytes: all bytes, or in UTF-8 mode the longest prefix
+    /// that is UTF-8.
     pub(crate) valid: usize,
     /// Whether the bytes after the prefix cannot begin a character, whatever follows.
     pub(crate) is_at_fault: bool,
 }
 
-/// Returns the lexable prefix of `bytes`, which are text if `is_utf8` is set.
+/// Returns the lexable prefix of `bytes`: the longest that is UTF-8 if `is_utf8` is set, and all
+/// bytes otherwise.
 pub(crate) fn tail_of(is_utf8: bool, bytes: &[u8]) -> Tail
     ensures { IsTail is_utf8 bytes.now result }
 {
@@ -38,7 +40,8 @@ fn whole(bytes: &[u8]) -> Tail
     }
 }
 
-/// Returns whether offset `to` is between characters, if the bytes are text; otherwise `true`.
+/// Returns whether the offset `to` in `bytes` is between characters, or `true` if `is_utf8` is not
+/// set.
 pub(crate) fn is_cut(is_utf8: bool, bytes: &[u8], to: usize) -> bool
     requires { to ≤ length bytes.now }
     ensures { IsTrue result ↔ (IsTrue is_utf8 → IsCharBoundary bytes.now to) }

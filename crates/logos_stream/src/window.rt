@@ -23,9 +23,9 @@ pub(crate) struct Window<R> {
     is_utf8: bool,
     /// The offset in the part at which the last move began.
     before: usize,
-    /// The offset at which the item of the last move begins.
+    /// The offset in the part at which the item of the last move begins.
     from: usize,
-    /// The offset at which the last move ended and the next match attempt begins.
+    /// The offset in the part at which the last move ended and the next match attempt begins.
     at: usize,
     /// The offset in the part at which the lexable bytes end.
     ready: usize,
@@ -63,8 +63,8 @@ impl<R> Model for Window<R> {
 }
 
 impl<R: Read + Drop> Window<R> {
-    /// Creates a window on a stream of which nothing was read. The stream is text if `is_utf8` is
-    /// set.
+    /// Returns the window on a stream of which nothing has been read. The stream is text if
+    /// `is_utf8` is set.
     ///
     /// # Errors
     ///
@@ -92,7 +92,8 @@ impl<R: Read + Drop> Window<R> {
         })
     }
 
-    /// Reads once, unless the last bytes were already read.
+    /// Passes the bytes before `at` and reads once from the reader, unless the last bytes were
+    /// already read.
     ///
     /// # Errors
     ///
@@ -118,14 +119,14 @@ impl<R: Read + Drop> Window<R> {
         Ok(())
     }
 
-    /// Returns the bytes that the last move passed without an item.
+    /// Returns the bytes that the last move passed without an item, before its item if it has one.
     pub(crate) fn skipped(&self) -> &[u8]
         ensures { result.now ≡ self.now.skipped }
     {
         &self.parts.part()[self.before..self.from]
     }
 
-    /// Returns the bytes at the span of the item of the last move.
+    /// Returns the bytes at the span of the item of the last move, or no bytes if it has no item.
     pub(crate) fn slice(&self) -> &[u8]
         ensures { result.now ≡ self.now.slice }
     {
@@ -140,14 +141,14 @@ impl<R: Read + Drop> Window<R> {
         self.offset
     }
 
-    /// Returns whether nothing is lexed after the lexable bytes.
+    /// Returns whether no bytes after the lexable ones will be lexed.
     pub(crate) fn is_last(&self) -> bool
         ensures { result ≡ self.now.is_last }
     {
         self.is_last
     }
 
-    /// Returns the lexable bytes.
+    /// Returns the lexable bytes after the last move.
     pub(crate) fn lexed(&self) -> &[u8]
         ensures bytes { result.now ≡ self.now.lexed }
         ensures text { IsTrue self.now.utf8 → IsUtf8 self.now.lexed }
@@ -155,7 +156,8 @@ impl<R: Read + Drop> Window<R> {
         &self.parts.part()[self.at..self.ready]
     }
 
-    /// Returns whether fewer bytes were read than the next match attempt needs.
+    /// Returns whether fewer bytes are in memory than the next match attempt needs, and more bytes
+    /// can still become lexable.
     pub(crate) fn is_short(&self) -> bool
         ensures short { IsTrue result → unread_length self.now < self.now.wanted }
         ensures room { IsTrue result → unread_length self.now < self.now.bound }
@@ -221,7 +223,8 @@ impl<R: Read + Drop> Window<R> {
         Streamed::More
     }
 
-    /// Passes the last lexable bytes, and returns the event that follows them.
+    /// Passes the last lexable bytes, which have no item. Returns `NotUtf8` if bytes follow them,
+    /// and `End` otherwise.
     pub(crate) fn finish(&mut self) -> Streamed
         requires { self.old.is_last ≡ true }
         ensures { Finishes self.old self.new result }
@@ -246,7 +249,8 @@ impl<R: Read + Drop> Window<R> {
         false
     }
 
-    /// Moves past the span `from..to` of the lexable bytes.
+    /// Moves past the first `to` lexable bytes. The item of the move has the span `from..to` of
+    /// these bytes.
     fn go_past(&mut self, from: usize, to: usize)
         requires order { from ≤ to }
         requires within { to ≤ length self.old.lexed }
@@ -262,7 +266,7 @@ impl<R: Read + Drop> Window<R> {
     }
 }
 
-/// Passes the first `bytes` bytes of a part. If there are none, nothing is moved in memory.
+/// Passes the first `bytes` bytes of a part. If `bytes` is 0, nothing is moved in memory.
 fn pass_front<R: Read + Drop>(parts: &mut Parts<R>, bytes: usize)
     requires { bytes ≤ length parts.old.part }
     ensures part { parts.new.part ≡ drop bytes parts.old.part }
@@ -275,8 +279,9 @@ fn pass_front<R: Read + Drop>(parts: &mut Parts<R>, bytes: usize)
     }
 }
 
-/// Returns the number of bytes that the next match attempt needs, after one that left `unread`
-/// bytes undecided.
+/// Returns the number of bytes that must be in memory for the next match attempt, after an attempt
+/// that left `unread` bytes undecided: 0 for at most `SHORT` bytes, and otherwise twice as many, at
+/// most `bound`.
 fn wanted_after(unread: usize, bound: usize) -> usize
     ensures most { result ≤ bound }
     ensures put_off { IsPutOff unread result }

@@ -35,7 +35,7 @@ fn are_at_most(numbers: &[usize], most: usize) -> bool
     true
 }
 
-/// Appends numbers, each with `size` bytes.
+/// Appends numbers as the text of a byte string, each with `size` bytes.
 pub(crate) fn push_entries(text: &mut String, size: usize, numbers: &[usize]) -> Result<(), Memory>
     ensures { OnOk result (string_bytes text.new
         ≡ string_bytes text.old ++ entries_text size numbers.now) }

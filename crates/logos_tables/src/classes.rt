@@ -1,5 +1,5 @@
-//! Classes of bytes: all bytes of a class have the same step in each state. `made` computes
-//! them from the rows, and `runs` reads rows by class.
+//! Computes the classes of symbols: all symbols of a class have the same step in each state. Called
+//! by `made`, and `runs` reads rows by class.
 
 ghost use Rattle.std.specs.Prelude.{◌≡◌, ◌+◌, ◌<◌, IfOk, IfSome, OnOk, IsTrue, slice_index};
 ghost use Rattle.logos_tables.specs.Imports.{AreClasses, Classify, IsClassOf, HaveSameSteps};
@@ -7,12 +7,12 @@ ghost use Rattle.logos_tables.specs.Imports.{AreClasses, Classify, IsClassOf, Ha
 use crate::steps::Steps;
 use std::alloc::{AllocError, Global};
 
-/// The classes of symbols.
+/// The classes of symbols, which are the bytes and the end of the input.
 #[derive(Drop)]
 pub(crate) struct SymbolClasses {
     /// The class of each symbol.
     pub(crate) numbers: Vec<usize>,
-    /// A symbol of each class.
+    /// The first symbol of each class.
     pub(crate) symbols: Vec<usize>,
 }
 
@@ -34,7 +34,8 @@ pub(crate) fn classes_of(alloc: Global, rows: &[Steps]) -> Result<SymbolClasses,
     Ok(classes)
 }
 
-/// Adds the class of a symbol.
+/// Appends the class of `symbol` to `classes`: the class of earlier symbols with the same steps, or
+/// a new class if there is none.
 fn add_symbol(rows: &[Steps], classes: &mut SymbolClasses, symbol: usize) -> Result<(), AllocError>
     requires { Classify rows.now classes.old.numbers.items classes.old.symbols.items symbol }
     ensures { OnOk result (Classify rows.now classes.new.numbers.items classes.new.symbols.items
@@ -49,8 +50,8 @@ fn add_symbol(rows: &[Steps], classes: &mut SymbolClasses, symbol: usize) -> Res
     Ok(())
 }
 
-/// Returns the class whose symbol has the same step as `symbol` in each of the rows, if there is
-/// one.
+/// Returns the class whose symbol has the same step as `symbol` in each of the rows, or `None` if
+/// there is no such class.
 fn class_of(rows: &[Steps], symbols: &[usize], symbol: usize) -> Option<usize>
     ensures { IfSome result (IsClassOf rows.now symbols.now symbol) }
 {
@@ -74,7 +75,7 @@ fn have_same_steps(rows: &[Steps], one: usize, other: usize) -> bool
     true
 }
 
-/// Returns the step of a symbol, or 0 if the symbol does not exist.
+/// Returns the step of a symbol in a row, or 0 if the symbol does not exist.
 pub(crate) fn step_at(row: &Steps, symbol: usize) -> usize
     ensures { result ≡ slice_index row.now symbol }
 {

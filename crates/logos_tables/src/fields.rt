@@ -8,7 +8,7 @@ use crate::runs::{Run, lengths_of, steps_in};
 use logos_token::error::Memory;
 use std::alloc::Global;
 
-/// Appends a field with the name `name` and the numbers `numbers`.
+/// Appends a field with this name and these numbers.
 pub(crate) fn push_field(text: &mut String, name: &str, numbers: &[usize]) -> Result<(), Memory>
     ensures { OnOk result (Appends (field_text name.now numbers.now ∷ []) (string_bytes text.old)
         (string_bytes text.new)) }
@@ -17,7 +17,8 @@ pub(crate) fn push_field(text: &mut String, name: &str, numbers: &[usize]) -> Re
     Ok(())
 }
 
-/// Appends the text of a field: its name, the size of its numbers in bytes, and their bytes.
+/// Appends the text of a field: its name, the number of bytes for each of its numbers, and the
+/// bytes of all numbers.
 fn push_whole_field(text: &mut String, name: &str, numbers: &[usize]) -> Result<(), Memory>
     ensures { OnOk result (string_bytes text.new
         ≡ string_bytes text.old ++ field_text name.now numbers.now) }
@@ -72,7 +73,7 @@ fn push_steps(alloc: Global, text: &mut String, name: &str, runs: &[Run]) -> Res
     push_field(text, name, &steps)
 }
 
-/// Appends a text.
+/// Appends `part` to the text.
 pub(crate) fn push_str(text: &mut String, part: &str) -> Result<(), Memory>
     ensures { OnOk result (string_bytes text.new ≡ string_bytes text.old ++ part.now) }
 {

@@ -38,7 +38,7 @@ pub fn tables(alloc: Global, made: &Generated<'_>) -> Result<Sink, Memory>
     Ok(sink)
 }
 
-/// Appends the implementation of `Tables`, and the rest of the function that lexes.
+/// Appends the implementation of `Tables`, and the rest of the function that lexes, to the front.
 fn push_implementation(alloc: Global, text: &mut String, code: &Code<'_>) -> Result<(), Memory>
     ensures { OnOk result (AppendsTables code.now (string_bytes text.old) (string_bytes text.new)) }
 {
@@ -91,7 +91,8 @@ fn push_skips(alloc: Global, text: &mut String, code: &Code<'_>) -> Result<(), M
     push_field(text, "skips", &skips)
 }
 
-/// Appends the constants that are computed from the tables.
+/// Appends the end of the tables, and the constants that are computed from them. `leaves` is the
+/// number of leaves.
 fn push_numbers(text: &mut String, made: &PrintedTables, leaves: usize) -> Result<(), Memory>
     ensures { OnOk result (AppendsNumbers (length made.now.rows.slots.items)
         (length made.now.runs.items) (string_bytes text.old) (string_bytes text.new)) }

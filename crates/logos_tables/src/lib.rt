@@ -1,5 +1,5 @@
-//! The generated code of a lexer in each shape. For the shape `tables` it is the tables of the
-//! lexer, for the loop of the runtime. Called by `logos_derive` and `logos_expand`.
+//! Prints the generated code of a lexer in each shape. In the shape `tables`, it is tables for the
+//! loop of the runtime. Called by `logos_derive`, `logos_expand` and `logos_cli`.
 
 #![tactic(auto)]
 

@@ -1,4 +1,5 @@
-//! The values from which the tables of a code are printed. Called first by `lexer`.
+//! Computes the values from which the tables of a code are printed. Called by `lexer` before it
+//! prints them.
 
 ghost use Rattle.std.specs.Prelude.{◌≡◌, IfOk};
 ghost use Rattle.logos_tables.specs.Imports.{AreMade};
@@ -9,10 +10,10 @@ use crate::runs::{Run, row_runs, runs_of};
 use logos_code::code::Code;
 use std::alloc::{AllocError, Global};
 
-/// The tables of a code.
+/// The values from which the tables of a code are printed.
 #[derive(Drop)]
 pub(crate) struct PrintedTables {
-    /// The rows of all states.
+    /// The rows of all states, in the order of their numbers.
     pub(crate) rows: StepRows,
     /// The classes of all symbols.
     pub(crate) classes: SymbolClasses,
@@ -22,7 +23,7 @@ pub(crate) struct PrintedTables {
     pub(crate) runs: Vec<Run>,
 }
 
-/// Returns the tables of a code.
+/// Returns the values from which the tables of a code are printed.
 ///
 /// # Errors
 ///

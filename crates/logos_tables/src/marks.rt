@@ -1,5 +1,5 @@
-//! The marks of states, and the leaves that are skipped, as numbers. `lexer` prints them after the
-//! steps.
+//! Computes the numbers of the marks of states and of the leaves that are skipped. Called by
+//! `lexer`, which prints these numbers after the steps.
 
 ghost use Rattle.std.specs.Prelude.{◌≡◌, ◌<◌, IfOk, IfSome, map, option_map};
 ghost use Rattle.logos_tables.specs.Imports.{All, leaf_limit, mark_of, use_of, mark_number, skip_number};
@@ -8,7 +8,7 @@ use logos_code::code::{CodeLeaf, CodeState, Mark};
 use logos_pattern::leaf::VariantKind;
 use std::alloc::{AllocError, Global};
 
-/// Returns the numbers of the marks of all states.
+/// Returns the number of the mark of each state, in the order of the states.
 ///
 /// # Errors
 ///

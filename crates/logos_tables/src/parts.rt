@@ -1,4 +1,5 @@
-//! Prints the parts of the implementation of `Tables`. Called by `lexer` for each part in turn.
+//! Prints the parts of the implementation of `Tables`. Called by `lexer` for one part after
+//! another.
 
 ghost use Rattle.std.specs.Prelude.{◌≡◌, ◌++◌, ◌∷◌, [], OnOk, string_bytes};
 ghost use Rattle.logos_tables.specs.Imports.{Appends, data_text, end_text, entries_size_text, folded_text, head_text, masks_text, unpacked_text};
@@ -9,7 +10,8 @@ use logos_token::error::Memory;
 // rustc evaluates a reference to the value of a call when it checks a package, unless the constant
 // can end before the call. Therefore each constant of the text begins with an assertion.
 
-/// The text after the tables.
+/// The text after the tables: the functions that the loop of the runtime calls, and the call of the
+/// loop.
 const END: &str = "fn bytes(source: &'s <Self as Logos<'s>>::Source) -> &'s [u8] { source.as_ref() }
 fn plain(leaf: usize) -> _Option<Self> { _token(leaf) }
 fn act(lex: &mut _Lexer<'s>, leaf: usize) -> CallbackResult<'s, Self> { _get_action(lex, leaf) }
@@ -19,7 +21,7 @@ _Tables::run(lex)
 } }
 ";
 
-/// Appends the head of the implementation for a type.
+/// Appends the head of the implementation for the type `this`.
 pub(crate) fn push_head(text: &mut String, this: &str) -> Result<(), Memory>
     ensures { OnOk result (string_bytes text.new ≡ string_bytes text.old ++ head_text this.now) }
 {
@@ -30,8 +32,8 @@ pub(crate) fn push_head(text: &mut String, this: &str) -> Result<(), Memory>
     Ok(())
 }
 
-/// Appends the beginning of the tables: the state in which match attempts begin, and the number of
-/// classes.
+/// Appends the beginning of the tables: `root`, the number of the state in which match attempts
+/// begin, and `width`, the number of classes.
 pub(crate) fn push_data(text: &mut String, root: usize, width: usize) -> Result<(), Memory>
     ensures { OnOk result (string_bytes text.new
         ≡ string_bytes text.old ++ data_text root width) }
@@ -43,7 +45,8 @@ pub(crate) fn push_data(text: &mut String, root: usize, width: usize) -> Result<
     Ok(())
 }
 
-/// Appends the end of the tables, and the type of the unpacked tables.
+/// Appends the end of the tables, and the type and the value of the unpacked tables, for these
+/// numbers of states and runs.
 pub(crate) fn push_unpacked(text: &mut String, states: usize, runs: usize) -> Result<(), Memory>
     ensures { OnOk result (string_bytes text.new
         ≡ string_bytes text.old ++ unpacked_text states runs) }
@@ -55,7 +58,8 @@ pub(crate) fn push_unpacked(text: &mut String, states: usize, runs: usize) -> Re
     Ok(())
 }
 
-/// Appends the constants that the loop reads.
+/// Appends the constants that the loop reads: the rows, which have `entries` entries, and the
+/// entries of the end of the input.
 pub(crate) fn push_entries_size(text: &mut String, entries: usize) -> Result<(), Memory>
     ensures { OnOk result (string_bytes text.new
         ≡ string_bytes text.old ++ entries_size_text entries) }
@@ -67,7 +71,7 @@ pub(crate) fn push_entries_size(text: &mut String, entries: usize) -> Result<(),
     Ok(())
 }
 
-/// Appends the constants of the loops over bytes that stay.
+/// Appends the constants of the loops over bytes that stay: `masks` masks, and their ranges.
 pub(crate) fn push_masks(text: &mut String, masks: usize) -> Result<(), Memory>
     ensures { OnOk result (string_bytes text.new ≡ string_bytes text.old ++ masks_text masks) }
 {
@@ -78,7 +82,7 @@ pub(crate) fn push_masks(text: &mut String, masks: usize) -> Result<(), Memory>
     Ok(())
 }
 
-/// Appends the constant that `scan` reads.
+/// Appends the constant that `scan` reads: the folded tables, which have `entries` entries.
 pub(crate) fn push_folded(text: &mut String, entries: usize) -> Result<(), Memory>
     ensures { OnOk result (string_bytes text.new ≡ string_bytes text.old ++ folded_text entries) }
 {
@@ -89,7 +93,8 @@ pub(crate) fn push_folded(text: &mut String, entries: usize) -> Result<(), Memor
     Ok(())
 }
 
-/// Appends the text after the tables.
+/// Appends the text after the tables: the functions that the loop of the runtime calls, and the
+/// call of the loop.
 pub(crate) fn push_end(text: &mut String) -> Result<(), Memory>
     ensures { OnOk result (string_bytes text.new ≡ string_bytes text.old ++ end_text) }
 {

@@ -1,4 +1,4 @@
-//! The rows of all states, with each distinct row once. Used by `made`.
+//! Computes the rows of all states, and stores each distinct row once. Used by `made`.
 
 ghost use Rattle.std.specs.Prelude.{◌≡◌, ℕ, ◌<◌, ◌++◌, ◌∷◌, [], IfOk, OnOk, length, vec_len, slice_index, slice_index_or};
 ghost use Rattle.logos_tables.specs.Imports.{AreRows, AreWide, rows_at};
@@ -32,7 +32,7 @@ impl StepRows {
         }
     }
 
-    /// Appends a row.
+    /// Appends a row, and stores it if no equal row is stored.
     fn push(&mut self, row: &Steps) -> Result<(), AllocError>
         ensures { OnOk result (rows_of self.new ≡ rows_of self.old ++ row.now ∷ []) }
     {
@@ -49,7 +49,7 @@ fn state_count(code: &Code<'_>) -> usize
     code.parts().states.len()
 }
 
-/// Returns the rows of all states.
+/// Returns the rows of all states, in the order of their numbers.
 ///
 /// # Errors
 ///

@@ -1,5 +1,5 @@
-//! Runs of equal numbers. `made` makes them from the classes of symbols and from the rows by
-//! classes, and `fields` prints them.
+//! Finds the runs of equal numbers in the classes of symbols and in the rows by classes. Called by
+//! `made`; `fields` prints the runs.
 
 ghost use Rattle.std.specs.Prelude.{◌≡◌, ◌<◌, ◌++◌, ◌∷◌, [], IfOk, OnOk, IsTrue, map};
 ghost use Rattle.logos_tables.specs.Imports.{flat_map, by_classes, spread};
@@ -29,7 +29,8 @@ pub(crate) fn runs_of(alloc: Global, numbers: &[usize]) -> Result<Vec<Run>, Allo
     Ok(runs)
 }
 
-/// Returns the runs of the concatenated rows, each with one step for each class.
+/// Returns the runs of the concatenated rows, where a row has the steps of `symbols`, which are one
+/// for each class.
 ///
 /// # Errors
 ///
@@ -48,7 +49,7 @@ pub(crate) fn row_runs(
     Ok(runs)
 }
 
-/// Appends the steps of a row, one for each class.
+/// Appends the steps of a row for `symbols`, which are one for each class.
 fn push_row(runs: &mut Vec<Run>, row: &Steps, symbols: &[usize]) -> Result<(), AllocError>
     ensures { OnOk result (spread runs.new.items
         ≡ spread runs.old.items ++ by_classes symbols.now row.now) }
@@ -59,7 +60,7 @@ fn push_row(runs: &mut Vec<Run>, row: &Steps, symbols: &[usize]) -> Result<(), A
     Ok(())
 }
 
-/// Appends a step: extends the last run by it, or begins a new run.
+/// Appends a step to the numbers of `runs`: extends the last run by it, or begins a new run.
 fn push_step(runs: &mut Vec<Run>, step: usize) -> Result<(), AllocError>
     ensures { OnOk result (spread runs.new.items ≡ spread runs.old.items ++ step ∷ []) }
 {

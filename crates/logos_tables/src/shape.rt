@@ -1,5 +1,4 @@
-//! The shapes in which lexers are printed. Called by `logos_derive`, `logos_expand` and
-//! `logos_cli`.
+//! Prints lexers in each shape. Called by `logos_derive`, `logos_expand` and `logos_cli`.
 
 ghost use Rattle.std.specs.Prelude.{◌≡◌, IfOk, string_bytes};
 ghost use Rattle.logos_tables.specs.Views.{ArePrinted, IsShown, around_made, config_of, shape_runs};
@@ -11,16 +10,17 @@ use logos_text::Sink;
 use logos_token::error::Memory;
 use std::alloc::Global;
 
-/// The shape of generated code.
+/// The shape in which a lexer is printed.
 #[derive(Clone, Copy)]
 pub enum Shape {
-    /// Generated code in a shape of `Config`: a loop over a state, or a function for each state.
+    /// A shape of `Config`: a loop over a state, or a function for each state.
     Code(Config),
     /// Tables for the loop of the runtime.
     Tables,
 }
 
-/// Returns the shape of the code from which a lexer is printed.
+/// Returns the shape of the code from which a lexer of this shape is printed: for tables, a loop
+/// over a state.
 pub fn config_of(shape: Shape) -> Config
     ensures { result ≡ config_of shape }
 {
@@ -32,7 +32,7 @@ pub fn config_of(shape: Shape) -> Config
     }
 }
 
-/// Returns the text of a lexer, with the pieces of the source in it.
+/// Returns the text of the lexer `made` in this shape, with the pieces of the source in it.
 ///
 /// # Errors
 ///

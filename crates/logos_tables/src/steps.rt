@@ -1,5 +1,5 @@
-//! The step of each byte, and of the end of the input, in a state, as a number. Called by `rows`
-//! for each state.
+//! Computes the step of each byte, and of the end of the input, in a state, as a number. Called by
+//! `rows` for each state.
 
 ghost use Rattle.std.specs.Prelude.{◌≡◌, ◌<◌, length, IfSome, IsTrue};
 ghost use Rattle.logos_tables.specs.Imports.{passes_test, code_of, state_at, NamesState, NamesTest, stays, target, HasSteps, led_number, step_number};
@@ -12,10 +12,10 @@ const END: usize = 256;
 /// The number of symbols: each byte, and the end of the input.
 const SYMBOLS: usize = 257;
 
-/// The steps of a state, for each symbol.
+/// The steps of a state, as a number for each symbol.
 pub(crate) type Steps = [usize; SYMBOLS];
 
-/// Returns the step of each symbol in a state.
+/// Returns the steps of all symbols in a state, as numbers.
 pub(crate) fn steps_of(code: &Code<'_>, state: usize) -> Steps
     requires { state < length code.now.states }
     ensures { HasSteps code.now (state_at code.now state) result }
@@ -44,7 +44,7 @@ fn step_number(code: &Code<'_>, state: usize, symbol: usize) -> usize
     number_of_target(code, state, byte)
 }
 
-/// Returns whether the fast loop of the state takes the byte.
+/// Returns whether the state has a fast loop and the byte passes its test.
 fn stays(code: &Code<'_>, state: usize, byte: u8) -> bool
     requires { state < length code.now.states }
     ensures { result ≡ stays code.now (state_at code.now state).fast_loop byte }
@@ -63,7 +63,7 @@ fn number_at_end(code: &Code<'_>, state: usize) -> usize
     led_number(code.parts(), code.at_end(state))
 }
 
-/// Returns the number of the step that a state takes by the byte.
+/// Returns the number of the step that a state takes for a byte that does not stay.
 fn number_of_target(code: &Code<'_>, state: usize, byte: u8) -> usize
     requires { state < length code.now.states }
     ensures { result ≡ led_number (target code.now (state_at code.now state).fork byte) }
@@ -71,7 +71,7 @@ fn number_of_target(code: &Code<'_>, state: usize, byte: u8) -> usize
     led_number(code.parts(), code.target(state, byte))
 }
 
-/// Returns the number of the step to `target`, or of the step without a target.
+/// Returns the number of the step to the state `target`, or 0 for `None`.
 fn led_number(parts: &CodeParts<'_>, target: Option<usize>) -> usize
     requires { IfSome target (NamesState (code_of parts.now)) }
     ensures { result ≡ led_number target }

@@ -1,4 +1,4 @@
-//! Prints the callbacks of leaves. `leaves` calls it.
+//! Prints calls of the callbacks of leaves. Called by `leaves`.
 
 ghost use Rattle.std.specs.Prelude.{OnOk};
 ghost use Rattle.logos_text.specs.Views.{Notes, callback_runs, callback_value, inline_runs, noted_runs, stream_tokens, tokens_of};
@@ -9,7 +9,7 @@ use logos_token::error::Memory;
 use logos_token::token::Tokens;
 use std::alloc::Global;
 
-/// Appends the call of a callback.
+/// Appends the call of a callback, as an expression.
 pub(crate) fn push_call(
     alloc: Global,
     sink: &mut Sink,
@@ -23,7 +23,7 @@ pub(crate) fn push_call(
     }
 }
 
-/// Appends the call of a callback that is the name of a function.
+/// Appends the call of a callback that is named by `label`, the path of a function.
 fn push_label(alloc: Global, sink: &mut Sink, label: Tokens<'_, '_>) -> Result<(), Memory>
     ensures { OnOk result (Notes (noted_runs (tokens_of label.entry)) sink.old sink.new) }
 {
@@ -32,7 +32,7 @@ fn push_label(alloc: Global, sink: &mut Sink, label: Tokens<'_, '_>) -> Result<(
     Ok(())
 }
 
-/// Appends a callback that is written out: its parameter, and then its body.
+/// Appends a callback that is written out, as a block: its parameter, and then its body.
 fn push_inline(alloc: Global, sink: &mut Sink, inline: &InlineCallback<'_>) -> Result<(), Memory>
     ensures { OnOk result (Notes (inline_runs inline.now.arg (stream_tokens inline.now.body))
         sink.old sink.new) }

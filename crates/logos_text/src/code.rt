@@ -1,4 +1,4 @@
-//! Prints a whole code. `logos_codegen` calls it.
+//! Prints a whole code. Called by `logos_codegen`.
 
 ghost use Rattle.std.specs.Prelude.{[], IfOk, OnOk, map, string_bytes};
 ghost use Rattle.logos_text.specs.Views.{Adds, ArePrinted, BeginsWith, Grows, IsFront, Notes, OccurInOrder, action_runs, around_value, code_of, flat_map, front_runs, opening_text, printed_type, short_core, state_of, state_texts, text_runs, texts_in, texts_of, type_tree};
@@ -17,19 +17,19 @@ use logos_token::error::Memory;
 use logos_type::print_type;
 use std::alloc::Global;
 
-/// The path of `core`, with the gap after it, in generated code, where the names of the crate are
-/// in scope.
+/// The path of `core` in generated code in a shape of `Config`, with the gap after it.
 const SHORT_CORE: &str = "core ";
-/// The path of `core` in a text of tables: the whole path, which no module beside the enum changes.
+/// The path of `core` in generated code in the shape `tables`, with the gap after it: the whole
+/// path, which no module beside the enum changes.
 const WHOLE_CORE: &str = ":: core ";
-/// The text before the function that lexes by tables. The function is short, and a caller that
+/// The text before the function that lexes by tables. This function is short, and a caller that
 /// inlines it keeps the lexer in registers.
 const TABLES_LEAD: &str = "# [ inline ] ";
 
 /// Returns the Rust text of a code, as the body of a function: its tokens, with the gaps that
-/// `print` puts between tokens. The texts of all bit tables, by their numbers, are parts of it, and
-/// after them those of the conditions of all forks, by states and in the fork's order, without
-/// overlap.
+/// `print` puts between tokens. It contains the texts of all bit tables, in the order of their
+/// numbers, and after them the conditions of all forks, in the order of the states and of the
+/// conditions of a fork. No two of these texts overlap.
 ///
 /// # Errors
 ///
@@ -44,8 +44,8 @@ pub fn text(alloc: Global, code: &Code<'_>) -> Result<String, Memory>
     Ok(sink.text)
 }
 
-/// Returns the Rust text of a code as `text` does, with the implementation of `Logos` around it,
-/// and the pieces of the source in it.
+/// Returns the text of the implementation of `Logos`, with the pieces of the source in it: the Rust
+/// text of a code, which is that of `text`, and the text around it that `around` determines.
 ///
 /// # Errors
 ///
@@ -69,8 +69,8 @@ pub fn text_in(alloc: Global, code: &Code<'_>, around: Around<'_, '_>) -> Result
 
 /// Returns the first part of the implementation of `Logos` by tables: its associated types, and the
 /// beginning of the function `lex` with its imports and its functions for errors, matches and
-/// tokens. The caller appends the rest of the body. The result also has the spans of the pieces of
-/// the source that the text contains.
+/// tokens. The caller appends the rest of the body. The result also has the pieces of the source in
+/// the text.
 ///
 /// # Errors
 ///
@@ -91,7 +91,7 @@ pub fn front_in(alloc: Global, code: &Code<'_>, around: Around<'_, '_>) -> Resul
     Ok(sink)
 }
 
-/// Appends the body of a lexer.
+/// Appends the body of the function that lexes: its macros, bit tables, functions and states.
 fn push_code(
     alloc: Global,
     sink: &mut Sink,
@@ -110,7 +110,8 @@ fn push_code(
     Ok(())
 }
 
-/// Appends the macros, with fast loops over blocks of eight bytes.
+/// Appends the macro of fast loops over blocks of eight bytes, and the macro that ends a match
+/// attempt.
 fn push_macros(text: &mut String, root: usize, names: Names<'_>) -> Result<(), Memory>
     ensures { OnOk result (Grows (string_bytes text.old) (string_bytes text.new)) }
 {

@@ -9,17 +9,18 @@ use logos_byte_class::byte_class::Comparisons;
 use logos_code::code::{Condition, Config};
 use logos_token::error::Memory;
 
-/// The characters below this one are ASCII.
+/// The first character that is not ASCII.
 const ASCII: u32 = 128;
 
-/// Returns whether a byte is written as a character between quotes.
+/// Returns whether a byte is written as a byte literal in quotes, and not as a number.
 fn is_quoted(byte: u8) -> bool
     ensures { result ≡ is_quoted byte }
 {
     matches!(byte, b'!'..=b'}') & (byte != b'`')
 }
 
-/// Appends a byte that is an end of a range.
+/// Appends a byte that is an end of a range: as a byte literal in quotes if it is a visible
+/// character but neither a backquote nor a tilde, and otherwise as a number.
 fn push_end(text: &mut String, byte: u8) -> Result<(), Memory>
     ensures { OnOk result (string_bytes text.new ≡ string_bytes text.old ++ end_text byte) }
 {
@@ -35,7 +36,7 @@ fn push_end(text: &mut String, byte: u8) -> Result<(), Memory>
     Ok(())
 }
 
-/// Appends a character between quotes.
+/// Appends an ASCII character as a byte literal in quotes, without an escape.
 fn push_quoted(text: &mut String, character: char) -> Result<(), Memory>
     requires { character < ASCII }
     ensures { OnOk result (string_bytes text.new
@@ -47,7 +48,7 @@ fn push_quoted(text: &mut String, character: char) -> Result<(), Memory>
     Ok(())
 }
 
-/// Appends the condition that the byte is not `byte`.
+/// Appends `&&` and the condition that the byte of the input is not `byte`.
 fn push_exception(text: &mut String, byte: u8) -> Result<(), Memory>
     ensures { OnOk result (string_bytes text.new ≡ string_bytes text.old ++ exception_text byte) }
 {
@@ -55,7 +56,7 @@ fn push_exception(text: &mut String, byte: u8) -> Result<(), Memory>
     Ok(())
 }
 
-/// Appends the conditions that the byte is none of `bytes`.
+/// Appends `&&` and the condition that the byte of the input is not `b`, for each `b` of `bytes`.
 fn push_exceptions(text: &mut String, bytes: &[u8]) -> Result<(), Memory>
     ensures { OnOk result (string_bytes text.new
         ≡ string_bytes text.old ++ flat_map exception_text bytes.now) }
@@ -66,7 +67,8 @@ fn push_exceptions(text: &mut String, bytes: &[u8]) -> Result<(), Memory>
     Ok(())
 }
 
-/// Appends a comparison: with one byte, or with the ends of a range.
+/// Appends a comparison of the byte of the input: with one byte, or with the ends of a range and
+/// its exceptions.
 fn push_comparison(text: &mut String, comparison: &Comparisons) -> Result<(), Memory>
     ensures { OnOk result (string_bytes text.new
         ≡ string_bytes text.old ++ comparison_text (comparison_of comparison.now)) }
@@ -79,7 +81,7 @@ fn push_comparison(text: &mut String, comparison: &Comparisons) -> Result<(), Me
     push_between(text, first, last, &comparison.except)
 }
 
-/// Appends the condition that the byte is `byte`.
+/// Appends the condition that the byte of the input is `byte`.
 fn push_single(text: &mut String, byte: u8) -> Result<(), Memory>
     ensures { OnOk result (string_bytes text.new ≡ string_bytes text.old ++ single_text byte) }
 {
@@ -89,7 +91,8 @@ fn push_single(text: &mut String, byte: u8) -> Result<(), Memory>
     Ok(())
 }
 
-/// Appends the condition that the byte is from `first` to `last` and is not an exception.
+/// Appends the condition that the byte of the input is from `first` to `last` and is not one of
+/// `except`.
 fn push_between(text: &mut String, first: u8, last: u8, except: &[u8]) -> Result<(), Memory>
     ensures { OnOk result (string_bytes text.new
         ≡ string_bytes text.old ++ between_text first last except.now) }
@@ -136,7 +139,8 @@ fn push_comparisons(text: &mut String, comparisons: &[Comparisons]) -> Result<()
     push_next_comparisons(text, rest)
 }
 
-/// Appends the bit of the test with this number.
+/// Appends the expression for the bit of the test with this number, in the bit table's entry for
+/// the byte.
 pub(crate) fn push_bit(text: &mut String, test: usize) -> Result<(), Memory>
     ensures { OnOk result (string_bytes text.new ≡ string_bytes text.old ++ bit_text test) }
 {
@@ -168,7 +172,7 @@ fn push_bit_test(text: &mut String, test: usize) -> Result<(), Memory>
     Ok(())
 }
 
-/// Appends the step to a state.
+/// Appends the step to the state `target`, in this shape.
 pub(crate) fn push_transition(text: &mut String, target: usize, shape: Config) -> Result<(), Memory>
     ensures { OnOk result (string_bytes text.new
         ≡ string_bytes text.old ++ transition_text target shape) }
@@ -181,7 +185,7 @@ pub(crate) fn push_transition(text: &mut String, target: usize, shape: Config) -
     Ok(())
 }
 
-/// Appends a condition, and the step that is taken if it holds.
+/// Appends a condition, and the step to the state `target` that is taken if the condition holds.
 pub(crate) fn push_condition(
     text: &mut String,
     test: &Condition,

@@ -1,4 +1,4 @@
-//! Prints the function that makes errors. `code` calls it once.
+//! Prints the function that makes errors. Called once for each lexer, by `code` or by `actions`.
 
 ghost use Rattle.std.specs.Prelude.{OnOk, option_copied, option_map};
 ghost use Rattle.logos_text.specs.Views.{Notes, called_runs, callback_runs, callback_value, inline_runs, noted_runs, stream_tokens, tokens_of};
@@ -10,7 +10,7 @@ use logos_token::error::Memory;
 use logos_token::token::Tokens;
 use std::alloc::Global;
 
-/// Appends the function `_make_error`, which makes the error of a text that no leaf matches.
+/// Appends the function `_make_error`, which makes the error of bytes that no leaf matches.
 pub(crate) fn push_make_error(
     alloc: Global,
     sink: &mut Sink,
@@ -30,7 +30,8 @@ pub(crate) fn push_make_error(
     Ok(())
 }
 
-/// Appends the body of `_make_error`: the default error, or the call of the error callback.
+/// Appends the body of `_make_error`: the call of the error callback, or the default error if there
+/// is no callback.
 fn push_error_body(
     alloc: Global,
     sink: &mut Sink,
@@ -63,7 +64,7 @@ fn push_error_call(alloc: Global, sink: &mut Sink, callback: &Callback<'_>) -> R
     }
 }
 
-/// Appends the call of an error callback that is the name of a function.
+/// Appends the call of an error callback that is named by `label`, the path of a function.
 fn push_error_label(alloc: Global, sink: &mut Sink, label: Tokens<'_, '_>) -> Result<(), Memory>
     ensures { OnOk result (Notes (noted_runs (tokens_of label.entry)) sink.old sink.new) }
 {

@@ -33,7 +33,7 @@ fn push_branches(
     Ok(())
 }
 
-/// Appends the entry of this byte in a jump table.
+/// Appends the entry of `byte` in a jump table, with a comma before all but the first.
 fn push_jump(text: &mut String, byte: usize, entry: u32, shape: Config) -> Result<(), Memory>
     ensures { OnOk result (Grows (string_bytes text.old) (string_bytes text.new)) }
 {
@@ -70,7 +70,7 @@ fn push_jumps(text: &mut String, table: &[u32; 256], shape: Config) -> Result<()
     Ok(())
 }
 
-/// Appends a jump by a table, in the shape with a loop: it sets the state.
+/// Appends a jump table, and the statements that set the state by it, in the shape with a loop.
 fn push_step(text: &mut String, table: &[u32; 256], shape: Config) -> Result<(), Memory>
     ensures { OnOk result (Grows (string_bytes text.old) (string_bytes text.new)) }
 {
@@ -82,7 +82,8 @@ fn push_step(text: &mut String, table: &[u32; 256], shape: Config) -> Result<(),
     )
 }
 
-/// Returns the numbers of the targets of a jump table, each once and ascending.
+/// Returns the numbers of the targets of a jump table, ascending and without duplicates. `NOWHERE`
+/// is not a target.
 fn targets_of(alloc: Global, table: &[u32; 256]) -> Result<Vec<u32>, Memory> {
     let mut targets = Vec::from_slice(alloc, table)?;
     targets.sort_unstable();
@@ -93,7 +94,8 @@ fn targets_of(alloc: Global, table: &[u32; 256]) -> Result<Vec<u32>, Memory> {
     Ok(targets)
 }
 
-/// Appends the name of state `target`, with a comma before all but the first.
+/// Appends the name of the state `target`, the element `n` of a list, with a comma before all but
+/// the first.
 fn push_next_name(text: &mut String, n: usize, target: u32) -> Result<(), Memory>
     ensures { OnOk result (Grows (string_bytes text.old) (string_bytes text.new)) }
 {
@@ -102,7 +104,7 @@ fn push_next_name(text: &mut String, n: usize, target: u32) -> Result<(), Memory
     Ok(())
 }
 
-/// Appends the names of the targets of a jump.
+/// Appends the names of the targets of a jump table, with commas between them.
 fn push_next_names(text: &mut String, targets: &[u32]) -> Result<(), Memory>
     ensures { OnOk result (Grows (string_bytes text.old) (string_bytes text.new)) }
 {
@@ -112,7 +114,8 @@ fn push_next_names(text: &mut String, targets: &[u32]) -> Result<(), Memory>
     Ok(())
 }
 
-/// Appends the match arm that calls state `target`, with a comma before all but the first.
+/// Appends the match arm that calls the state `target`, the element `n` of a list, with a comma
+/// before all but the first.
 fn push_next_arm(text: &mut String, n: usize, target: u32, shape: Config) -> Result<(), Memory>
     ensures { OnOk result (Grows (string_bytes text.old) (string_bytes text.new)) }
 {
@@ -122,7 +125,7 @@ fn push_next_arm(text: &mut String, n: usize, target: u32, shape: Config) -> Res
     push(text, " } ")
 }
 
-/// Appends the match arms that call the targets of a jump.
+/// Appends the match arms that call the targets of a jump table.
 fn push_next_arms(text: &mut String, targets: &[u32], shape: Config) -> Result<(), Memory>
     ensures { OnOk result (Grows (string_bytes text.old) (string_bytes text.new)) }
 {
@@ -132,7 +135,7 @@ fn push_next_arms(text: &mut String, targets: &[u32], shape: Config) -> Result<(
     Ok(())
 }
 
-/// Appends a jump table, with an enum of its targets.
+/// Appends an enum of the targets of a jump table, and the table up to its last entry.
 fn push_next_table(
     text: &mut String,
     table: &[u32; 256],
@@ -153,8 +156,8 @@ fn push_next_table(
     push_jumps(text, table, shape)
 }
 
-/// Appends a jump by a table, in the shape with a function for each state: a call of the target's
-/// function.
+/// Appends a jump table, and the call of the target's function, in the shape with a function for
+/// each state.
 fn push_call(
     alloc: Global,
     text: &mut String,
@@ -170,7 +173,7 @@ fn push_call(
     push(text, "LogosNextState :: ___ => { } , } offset -= 1 ; ")
 }
 
-/// Appends a jump by a table.
+/// Appends a jump by a table in this shape, or nothing if there is no table.
 fn push_by_table(
     alloc: Global,
     text: &mut String,
@@ -188,7 +191,7 @@ fn push_by_table(
     push_call(alloc, text, table, shape)
 }
 
-/// Appends a fork: the step of each byte.
+/// Appends the steps of a fork, for each byte that leads to a state.
 pub(crate) fn push_ways(
     alloc: Global,
     text: &mut String,

@@ -1,5 +1,5 @@
-//! Determines the gap between printed tokens and the token that follows them. `sink` and
-//! `implementation` call it.
+//! Determines the gap between printed tokens and the token that follows them. Called by `sink` and
+//! `implementation`.
 
 ghost use Rattle.std.specs.Prelude.{◌≡◌, []};
 ghost use Rattle.logos_text.specs.Imports.{gap_after, gap_of, tokens_of, tree_of};
@@ -7,8 +7,8 @@ ghost use Rattle.logos_text.specs.Imports.{gap_after, gap_of, tokens_of, tree_of
 use logos_token::token::{TokenTree, Tokens, gap_after_doc};
 
 /// Returns the gap to print between `tokens` and the token that follows them: nothing if there are
-/// no tokens, a line end if the last of them is a comment that ends with its line, since the token
-/// would belong to the comment, and a space otherwise.
+/// no tokens; a line end if the last one is a comment that ends with its line, since the next token
+/// would belong to the comment; and a space otherwise.
 pub(crate) fn gap_after(tokens: Tokens<'_, '_>) -> &'static str
     ensures { result.now ≡ gap_after [] (tokens_of tokens.entry) }
 {

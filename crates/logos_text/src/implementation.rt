@@ -13,24 +13,24 @@ use logos_token::token::{Ident, Tokens, print};
 use logos_type::{TypeExpr, print_type};
 use std::alloc::Global;
 
-/// The text around the body of a lexer, mostly tokens of its source.
+/// The parts of the text around the body of a lexer that depend on its source.
 #[derive(Clone, Copy)]
 pub struct Around<'t, 's> {
-    /// The path of the `logos` library. Without tokens it is `::logos`.
+    /// The path of the `logos` library, or `None` for `::logos`.
     pub logos: Option<Tokens<'t, 's>>,
-    /// The type of errors. Without tokens it is `()`.
+    /// The tokens of the type of errors, or `None` for `()`.
     pub error: Option<Tokens<'t, 's>>,
-    /// The type of errors as it was read from the tokens of `error`, if it was read. It is printed
-    /// in place of the tokens.
+    /// The type of errors that was read from the tokens of `error`, or `None` if they were not
+    /// read. It is printed in place of the tokens.
     pub error_type: Option<&'t TypeExpr<'s>>,
-    /// The type of extras. Without tokens it is `()`.
+    /// The tokens of the type of extras, or `None` for `()`.
     pub extras: Option<Tokens<'t, 's>>,
-    /// The type of sources, with the gap after it.
+    /// The text of the type of inputs, with the gap after it.
     pub source: &'static str,
 }
 
-/// Appends the text before a body. `lead` precedes the function that lexes, and `core` is the path
-/// of Rust's `core`, with the gap after it.
+/// Appends the text before a body. `lead` is the text before the function that lexes, and `core` is
+/// the path of Rust's `core`, with the gap after it.
 pub(crate) fn push_front(
     alloc: Global,
     sink: &mut Sink,
@@ -51,7 +51,7 @@ pub(crate) fn push_front(
     Ok(())
 }
 
-/// Appends the path of the library, and the gap after it.
+/// Appends the path of the library, or `::logos` for `None`, and the gap after it.
 fn push_library(
     alloc: Global,
     sink: &mut Sink,
@@ -66,7 +66,7 @@ fn push_library(
     }
 }
 
-/// Appends the enum as a type, which begins with its name.
+/// Appends `this`, the enum as a type. If it begins with the enum's name, the name becomes a piece.
 fn push_this(sink: &mut Sink, name: Ident<'_>, this: &str) -> Result<(), Memory>
     ensures { OnOk result (Prints this.now (this_runs name.entry this.now) sink.old sink.new) }
 {
@@ -83,7 +83,7 @@ fn push_this(sink: &mut Sink, name: Ident<'_>, this: &str) -> Result<(), Memory>
     }
 }
 
-/// Appends the head of the implementation.
+/// Appends the head of the implementation, up to its opening brace.
 fn push_head(
     alloc: Global,
     sink: &mut Sink,
@@ -116,7 +116,7 @@ fn push_types(alloc: Global, sink: &mut Sink, around: Around<'_, '_>) -> Result<
     Ok(())
 }
 
-/// Appends the type of sources.
+/// Appends the associated type of inputs.
 fn push_source(sink: &mut Sink, source: &str) -> Result<(), Memory>
     ensures { OnOk result (Prints (source_text source.now) [] sink.old sink.new) }
 {
@@ -138,8 +138,8 @@ fn push_error(alloc: Global, sink: &mut Sink, around: Around<'_, '_>) -> Result<
     }
 }
 
-/// Appends a type that was read from tokens, and the gap after the tokens. If the tokens are
-/// printed as the type is, they become a piece.
+/// Appends a type that was read from tokens, and the gap after the tokens, or a space if there are
+/// none. If the tokens are printed as the type is, they become a piece.
 fn push_read_type(
     alloc: Global,
     sink: &mut Sink,
@@ -162,7 +162,8 @@ fn push_read_type(
     }
 }
 
-/// Appends the printed form of a type that was read from tokens, and the gap after the tokens.
+/// Appends `printed`, the printed form of a type that was read from the tokens `run`, and the gap
+/// after them. If the tokens are printed alike, they become a piece.
 fn push_typed_run(
     alloc: Global,
     sink: &mut Sink,
@@ -182,7 +183,7 @@ fn push_typed_run(
     Ok(())
 }
 
-/// Appends a type that is not read, and the gap after it.
+/// Appends a type by its tokens, or `()` for `None`, and the gap after it.
 fn push_type(alloc: Global, sink: &mut Sink, tokens: Option<Tokens<'_, '_>>) -> Result<(), Memory>
     ensures { OnOk result (Prints (type_text (option_map tokens_of tokens.entry))
         (option_runs (option_map tokens_of tokens.entry)) sink.old sink.new) }
@@ -193,7 +194,7 @@ fn push_type(alloc: Global, sink: &mut Sink, tokens: Option<Tokens<'_, '_>>) -> 
     }
 }
 
-/// Appends the signature of the function that lexes, after the text that precedes it.
+/// Appends `lead`, and the signature of the function that lexes.
 fn push_signature(
     alloc: Global,
     sink: &mut Sink,
@@ -214,7 +215,8 @@ fn push_signature(
     Ok(())
 }
 
-/// Appends the type of the lexer and the result type of the function that lexes, up to the library.
+/// Appends the type of the lexer and the result type of the function that lexes, between the paths
+/// of the library.
 fn push_answer(sink: &mut Sink, core: &str) -> Result<(), Memory>
     ensures { OnOk result (Prints (answer_text core.now) [] sink.old sink.new) }
 {
@@ -271,7 +273,7 @@ fn push_core(sink: &mut Sink, core: &str) -> Result<(), Memory>
     Ok(())
 }
 
-/// Appends the import of `Logos`, and the type of the lexer.
+/// Appends the import of `Logos`, and a name for the type of the lexer.
 fn push_lexer(
     alloc: Global,
     sink: &mut Sink,

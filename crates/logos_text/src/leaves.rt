@@ -14,7 +14,7 @@ use logos_token::token::Ident;
 use logos_type::print_type;
 use std::alloc::Global;
 
-/// Appends the enum of the leaves, each with its number.
+/// Appends the enum of the leaves, whose variants have the numbers of the leaves.
 pub(crate) fn push_leaf_names(text: &mut String, count: usize) -> Result<(), Memory>
     ensures { OnOk result (Grows (string_bytes text.old) (string_bytes text.new)) }
 {
@@ -33,7 +33,7 @@ fn push_each_leaf_name(text: &mut String, count: usize) -> Result<(), Memory>
     Ok(())
 }
 
-/// Appends the variant of a leaf with its number.
+/// Appends the variant of a leaf with its number, with a comma before all but the first.
 fn push_leaf_name(text: &mut String, leaf: usize) -> Result<(), Memory>
     ensures { OnOk result (Grows (string_bytes text.old) (string_bytes text.new)) }
 {
@@ -42,7 +42,8 @@ fn push_leaf_name(text: &mut String, leaf: usize) -> Result<(), Memory>
     Ok(())
 }
 
-/// Appends the function `_get_action`, which returns the result of a match or an error.
+/// Appends the function `_get_action`, which returns the result of a match, or of an attempt
+/// without a match.
 pub(crate) fn push_get_action(
     alloc: Global,
     sink: &mut Sink,
@@ -62,7 +63,7 @@ pub(crate) fn push_get_action(
     Ok(())
 }
 
-/// Appends the match arms of all leaves.
+/// Appends the match arms of all leaves, or the arm of a lexer without leaves.
 fn push_arms(
     alloc: Global,
     sink: &mut Sink,
@@ -81,7 +82,7 @@ fn push_arms(
     Ok(())
 }
 
-/// Appends the match arm where there are no leaves.
+/// Appends the match arm of a lexer without leaves, which is never taken.
 fn push_no_arm(sink: &mut Sink) -> Result<(), Memory>
     ensures { OnOk result (Notes [] sink.old sink.new) }
 {
@@ -105,8 +106,8 @@ fn push_arm(
     Ok(())
 }
 
-/// Appends the body of a leaf's arm: the call of its callback, if it has one, and the result of a
-/// match.
+/// Appends the body of a leaf's match arm: the call of the leaf's callback, if there is one, and
+/// the result of a match.
 pub(crate) fn push_leaf(
     alloc: Global,
     sink: &mut Sink,
@@ -157,7 +158,7 @@ fn push_value(sink: &mut Sink, variant: Ident<'_>, names: Names<'_>) -> Result<(
     Ok(())
 }
 
-/// Appends the path of a variant of the enum with a name.
+/// Appends the path of `variant`, a variant of the enum `name`.
 pub(crate) fn push_variant(
     sink: &mut Sink,
     name: Ident<'_>,
@@ -171,7 +172,7 @@ pub(crate) fn push_variant(
     Ok(())
 }
 
-/// Appends the result of a match, computed from the result of its callback.
+/// Appends the result of a match of this kind, computed from the result of its callback.
 fn push_result(
     alloc: Global,
     sink: &mut Sink,

@@ -23,7 +23,7 @@ pub(crate) fn push_fast_loop_macro(text: &mut String, factor: usize) -> Result<(
     Ok(())
 }
 
-/// Appends the tests of the bytes of a block.
+/// Appends the tests of the `factor` bytes of a block.
 fn push_block_tests(text: &mut String, factor: usize) -> Result<(), Memory>
     ensures { OnOk result (Grows (string_bytes text.old) (string_bytes text.new)) }
 {
@@ -56,7 +56,7 @@ pub(crate) fn push_take_action_macro(
     )
 }
 
-/// Appends the step back to the root.
+/// Appends the step to the root, with which the next attempt begins.
 fn push_restart(text: &mut String, root: usize, names: Names<'_>) -> Result<(), Memory>
     ensures { OnOk result (Grows (string_bytes text.old) (string_bytes text.new)) }
 {

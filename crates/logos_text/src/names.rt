@@ -1,4 +1,4 @@
-//! The names that all parts of generated code use. `code` makes them once, for all printers.
+//! The names that all parts of generated code use. Made by `code` once, for all printers.
 
 ghost use Rattle.std.specs.Prelude.{◌≡◌};
 

@@ -1,4 +1,4 @@
-//! Appends parts to a text. All printers call it.
+//! Appends parts to a text. Called by all printers.
 
 ghost use Rattle.std.specs.Prelude.{◌≡◌, ◌==◌, ◌++◌, OnOk, codes, if◌then◌else◌, string_bytes};
 ghost use Rattle.logos_text.specs.Imports.{Grows};
@@ -21,7 +21,8 @@ pub(crate) fn push(text: &mut String, part: &str) -> Result<(), Memory>
     Ok(())
 }
 
-/// Returns the text before number `n` of a list: a comma, but nothing before the first.
+/// Returns the text before the element `n` of a list: a comma and a space, or nothing before
+/// element 0.
 pub(crate) fn comma_before(n: usize) -> &'static str
     ensures { result.now ≡ (if n == 0 then codes "" else codes ", ") }
 {

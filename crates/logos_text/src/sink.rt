@@ -1,5 +1,5 @@
-//! The output of printers: a text, and the spans of the source's tokens in it. `code` makes it, and
-//! all printers of a user's tokens write into it.
+//! The output of printers: a text, and the pieces of the source in this text. Made by `code`, and
+//! written by all printers of a user's tokens.
 
 ghost use Rattle.std.specs.Prelude.{[], OnOk};
 ghost use Rattle.logos_text.specs.Views.{IsEmptySink, Prints, PrintsPiece, name_runs, noted_runs, printed, run_after, tokens_of};
@@ -29,19 +29,19 @@ pub struct Call {
     pub from: usize,
 }
 
-/// A text of printed tokens, with the pieces of the source in it.
+/// A text of printed tokens, with the pieces of the source and the calls of callbacks in it.
 #[derive(Debug, Drop)]
 pub struct Sink {
-    /// The text.
+    /// The printed text.
     pub text: String,
     /// The pieces, in the order of the text. No two overlap.
     pub pieces: Vec<Piece>,
-    /// The statements with callbacks, in the order of the text. No contract is about them.
+    /// The statements with callbacks, in the order of the text. No contract describes them.
     pub calls: Vec<Call>,
 }
 
 impl Sink {
-    /// Returns a sink without a text.
+    /// Returns a sink with an empty text.
     pub(crate) fn new(alloc: Global) -> Sink
         ensures { IsEmptySink result }
     {
@@ -60,7 +60,7 @@ impl Sink {
         Ok(())
     }
 
-    /// Appends a name of the source.
+    /// Appends a name of the source, as a piece.
     pub(crate) fn push_name(&mut self, name: Ident<'_>) -> Result<(), Memory>
         ensures { OnOk result (Prints name.entry.text.now (name_runs name.entry) self.old self.new) }
     {
@@ -68,7 +68,8 @@ impl Sink {
         Ok(())
     }
 
-    /// Appends tokens of the source, without the gap after them.
+    /// Appends tokens of the source as a piece, without the gap after them, or nothing if there are
+    /// no tokens.
     fn push_tokens(&mut self, alloc: Global, tokens: Tokens<'_, '_>) -> Result<(), Memory>
         ensures { OnOk result (Prints (printed (tokens_of tokens.entry))
             (noted_runs (tokens_of tokens.entry)) self.old self.new) }
@@ -81,7 +82,7 @@ impl Sink {
         Ok(())
     }
 
-    /// Appends tokens of the source, and the gap after them.
+    /// Appends tokens of the source as a piece, and the gap after them.
     pub(crate) fn push_run(&mut self, alloc: Global, tokens: Tokens<'_, '_>) -> Result<(), Memory>
         ensures { OnOk result (Prints (run_after (tokens_of tokens.entry))
             (noted_runs (tokens_of tokens.entry)) self.old self.new) }
@@ -91,7 +92,7 @@ impl Sink {
         Ok(())
     }
 
-    /// Appends the printed text of tokens, which have this span in the source.
+    /// Appends a piece: the printed text of tokens, which have this span in the source.
     fn push_piece(&mut self, text: &str, span: Span) -> Result<(), Memory>
         ensures { OnOk result (PrintsPiece text.now span self.old self.new) }
     {
@@ -102,7 +103,7 @@ impl Sink {
         Ok(())
     }
 
-    /// Records that a statement that calls a callback comes next.
+    /// Records that the statement that begins at the end of the text calls `callback`.
     pub(crate) fn note_call(&mut self, callback: &Callback<'_>) -> Result<(), Memory>
         ensures { OnOk result (Prints [] [] self.old self.new) }
     {

@@ -11,7 +11,7 @@ use logos_code::code::{CodeParts, CodeState, Config, Mark};
 use logos_token::error::Memory;
 use std::alloc::Global;
 
-/// Appends the fast loop for the test with this number, if there is one.
+/// Appends the fast loop for the test with this number, or nothing for `None`.
 fn push_fast_loop(text: &mut String, fast_loop: Option<usize>) -> Result<(), Memory>
     ensures { OnOk result (Grows (string_bytes text.old) (string_bytes text.new)) }
 {
@@ -23,13 +23,13 @@ fn push_fast_loop(text: &mut String, fast_loop: Option<usize>) -> Result<(), Mem
     push(text, " == 0 } _fast_loop ! ( lex , loop_test , offset ) ; ")
 }
 
-/// Returns the text that computes the end of a match from the offset: one byte less if its mark is
-/// late.
+/// Returns the text that is subtracted from `offset` in the end of a match: one byte if its mark is
+/// late, and nothing otherwise.
 fn distance(late: bool) -> &'static str {
     if late { " - 1" } else { "" }
 }
 
-/// Appends the statements that record a match which ends here, if the state has a mark.
+/// Appends the statements that record the match of a state's mark, or nothing for `None`.
 fn push_mark(text: &mut String, mark: Option<Mark>) -> Result<(), Memory>
     ensures { OnOk result (Grows (string_bytes text.old) (string_bytes text.new)) }
 {
@@ -46,6 +46,7 @@ fn push_mark(text: &mut String, mark: Option<Mark>) -> Result<(), Memory>
 }
 
 /// Appends the step of the root at the end of the input if no byte was read: it returns `None`.
+/// Appends nothing for other states.
 fn push_nothing_read(text: &mut String, is_root: bool) -> Result<(), Memory>
     ensures { OnOk result (Grows (string_bytes text.old) (string_bytes text.new)) }
 {
@@ -55,7 +56,7 @@ fn push_nothing_read(text: &mut String, is_root: bool) -> Result<(), Memory>
     push(text, "if lex . offset ( ) == offset { return None } ")
 }
 
-/// Appends the step of the end of the input, if it leads to a state.
+/// Appends the step to `at_end` at the end of the input, or nothing for `None`.
 fn push_at_end(text: &mut String, at_end: Option<usize>, shape: Config) -> Result<(), Memory>
     ensures { OnOk result (Grows (string_bytes text.old) (string_bytes text.new)) }
 {
@@ -83,7 +84,8 @@ fn push_head(text: &mut String, s: usize, names: Names<'_>) -> Result<(), Memory
     Ok(())
 }
 
-/// Appends the steps of a state before it reads a byte.
+/// Appends the steps of the state `s` before its fork: its fast loop, its mark, and the read of a
+/// byte.
 fn push_before(
     text: &mut String,
     s: usize,
@@ -137,7 +139,7 @@ fn push_state(
     Ok(())
 }
 
-/// Appends the states, by their numbers.
+/// Appends the states, in the order of their numbers.
 pub(crate) fn push_states(
     alloc: Global,
     text: &mut String,
@@ -154,7 +156,7 @@ pub(crate) fn push_states(
     Ok(())
 }
 
-/// Appends the names of the states, sorted as texts.
+/// Appends the names of `count` states, sorted as texts.
 fn push_state_names(alloc: Global, text: &mut String, count: usize) -> Result<(), Memory>
     ensures { OnOk result (Grows (string_bytes text.old) (string_bytes text.new)) }
 {
@@ -165,7 +167,7 @@ fn push_state_names(alloc: Global, text: &mut String, count: usize) -> Result<()
     Ok(())
 }
 
-/// Appends the name of a state, with a comma before all but the first.
+/// Appends `name`, the element `n` of a list of names, with a comma before all but the first.
 fn push_state_name(text: &mut String, n: usize, name: &str) -> Result<(), Memory>
     ensures { OnOk result (Grows (string_bytes text.old) (string_bytes text.new)) }
 {
@@ -184,7 +186,8 @@ fn state_names(alloc: Global, count: usize) -> Result<Vec<String>, Memory> {
     Ok(names)
 }
 
-/// Appends the text before the states: nothing in the shape with a function for each state.
+/// Appends the text before the states: the enum of the states, the variables and the beginning of
+/// the loop, or nothing in the shape with a function for each state.
 pub(crate) fn push_opening(
     alloc: Global,
     text: &mut String,
@@ -206,7 +209,8 @@ pub(crate) fn push_opening(
     Ok(())
 }
 
-/// Appends the text after the states.
+/// Appends the text after the states: the end of the loop, or in the shape with a function for each
+/// state the call of the root's function.
 pub(crate) fn push_closing(text: &mut String, root: usize, shape: Config) -> Result<(), Memory>
     ensures { OnOk result (Grows (string_bytes text.old) (string_bytes text.new)) }
 {

@@ -7,7 +7,7 @@ ghost use Rattle.logos_text.specs.Imports.{flat_map, join_by, entry_text, table_
 use crate::pieces::{push, push_str};
 use logos_token::error::Memory;
 
-/// Appends an entry.
+/// Appends an entry of a bit table.
 fn push_entry(text: &mut String, entry: u8) -> Result<(), Memory>
     ensures { OnOk result (string_bytes text.new ≡ string_bytes text.old ++ entry_text entry) }
 {
@@ -15,7 +15,7 @@ fn push_entry(text: &mut String, entry: u8) -> Result<(), Memory>
     Ok(())
 }
 
-/// Appends a comma and an entry.
+/// Appends a comma and an entry of a bit table.
 fn push_next_entry(text: &mut String, entry: u8) -> Result<(), Memory>
     ensures { OnOk result (string_bytes text.new
         ≡ string_bytes text.old ++ codes " , " ++ entry_text entry) }
@@ -24,7 +24,7 @@ fn push_next_entry(text: &mut String, entry: u8) -> Result<(), Memory>
     push_entry(text, entry)
 }
 
-/// Appends entries, each after a comma.
+/// Appends entries of a bit table, each after a comma.
 fn push_next_entries(text: &mut String, entries: &[u8]) -> Result<(), Memory>
     ensures { OnOk result (string_bytes text.new ≡ string_bytes text.old
         ++ flat_map (λ entry. codes " , " ++ entry_text entry) entries.now) }
@@ -35,7 +35,7 @@ fn push_next_entries(text: &mut String, entries: &[u8]) -> Result<(), Memory>
     Ok(())
 }
 
-/// Appends the entries, with commas between them.
+/// Appends the entries of a bit table, with commas between them.
 fn push_entries(text: &mut String, entries: &[u8]) -> Result<(), Memory>
     ensures { OnOk result (string_bytes text.new
         ≡ string_bytes text.old ++ join_by entry_text (codes " , ") entries.now) }
@@ -47,7 +47,7 @@ fn push_entries(text: &mut String, entries: &[u8]) -> Result<(), Memory>
     push_next_entries(text, rest)
 }
 
-/// Appends the bit table with this number.
+/// Appends the bit table with the number `n`.
 fn push_table(text: &mut String, n: usize, entries: &[u8; 256]) -> Result<(), Memory>
     ensures { OnOk result (string_bytes text.new
         ≡ string_bytes text.old ++ table_text n entries.now) }
@@ -58,7 +58,7 @@ fn push_table(text: &mut String, n: usize, entries: &[u8; 256]) -> Result<(), Me
     Ok(())
 }
 
-/// Appends a table, and a space.
+/// Appends the bit table with the number `n`, and a space.
 fn push_next_table(text: &mut String, n: usize, entries: &[u8; 256]) -> Result<(), Memory>
     ensures { OnOk result (Adds (table_text n entries.now ∷ []) (string_bytes text.old)
         (string_bytes text.new)) }
@@ -68,7 +68,7 @@ fn push_next_table(text: &mut String, n: usize, entries: &[u8; 256]) -> Result<(
     Ok(())
 }
 
-/// Appends the bit tables, by their numbers.
+/// Appends the bit tables, in the order of their numbers.
 pub(crate) fn push_tables(text: &mut String, tables: &[[u8; 256]]) -> Result<(), Memory>
     ensures { OnOk result (Adds (table_texts 0 tables.now) (string_bytes text.old)
         (string_bytes text.new)) }

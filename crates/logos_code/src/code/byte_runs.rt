@@ -1,4 +1,5 @@
-//! Runs of neighboring bytes with the same step in a state. `rows` writes their entries at once.
+//! Finds runs of neighboring bytes with the same step in a state. Called by `rows`, which writes
+//! the entries of a run at once.
 //!
 //! A run consists of a byte and the bytes after it that are like it, up to an end. It need not be
 //! maximal.
@@ -10,7 +11,8 @@ use super::{CodeParts, CodeState, Condition, Fork};
 use logos_byte_class::byte_class::Comparisons;
 
 impl CodeParts<'_> {
-    /// Returns the end of a run of bytes with the same step in the state as the first byte.
+    /// Returns the end of a run that begins at `byte` and whose bytes have the same step in the
+    /// state.
     pub(super) fn run_end(&self, state: &CodeState, byte: usize) -> usize
         requires there { NamesExisting (code_of self.now)
             (state_of self.now.jump_tables.items state.now) }
@@ -23,7 +25,8 @@ impl CodeParts<'_> {
         self.fork_end(&state.fork, byte, end)
     }
 
-    /// Returns the end of a run of bytes that all pass the test of the fast loop, or all do not.
+    /// Returns the end of a run that begins at `byte` and whose bytes all pass the test of the fast
+    /// loop, or all do not. Without a fast loop the end is 256.
     fn loop_end(&self, fast_loop: Option<usize>, byte: usize) -> usize
         requires there { IfSome fast_loop (NamesTest (code_of self.now)) }
         requires byte { byte < 256 }
@@ -35,7 +38,8 @@ impl CodeParts<'_> {
         }
     }
 
-    /// Returns the end of a run of bytes that all lead to the same state, or all lead nowhere.
+    /// Returns the end, at most `end`, of a run that begins at `byte` and whose bytes all lead to
+    /// the same state, or all lead nowhere.
     fn fork_end(&self, fork: &Fork, byte: usize, end: usize) -> usize
         requires there { NamesFork (code_of self.now)
             (fork_of self.now.jump_tables.items fork.now) }
@@ -50,7 +54,8 @@ impl CodeParts<'_> {
         }
     }
 
-    /// Returns the end of a run of bytes for which the same conditions hold.
+    /// Returns the end, at most `end`, of a run that begins at `byte` and for whose bytes the same
+    /// conditions hold.
     fn branches_end(&self, branches: &[(Condition, usize)], byte: usize, end: usize) -> usize
         requires there { NamesFork (code_of self.now) (by_conditions (map branch_of branches.now)) }
         requires byte { byte < end }
@@ -65,7 +70,8 @@ impl CodeParts<'_> {
         until
     }
 
-    /// Returns the end of a run of bytes for which the condition holds, or does not hold.
+    /// Returns the end, at most `end`, of a run that begins at `byte` and for whose bytes the
+    /// condition always holds, or never.
     fn condition_end(&self, condition: &Condition, byte: usize, end: usize) -> usize
         requires there { NamesCondition (code_of self.now) (condition_of condition.now) }
         requires byte { byte < end }
@@ -79,7 +85,8 @@ impl CodeParts<'_> {
         }
     }
 
-    /// Returns the end of a run of bytes that pass the test, or do not pass it.
+    /// Returns the end, at most `end`, of a run that begins at `byte` and whose bytes all pass test
+    /// `k`, or all do not.
     fn test_end(&self, k: usize, byte: usize, end: usize) -> usize
         requires there { NamesTest (code_of self.now) k }
         requires byte { byte < end }
@@ -96,7 +103,8 @@ impl CodeParts<'_> {
     }
 }
 
-/// Returns the end of a run of bytes that have the same entry in the jump table.
+/// Returns the end, at most `end`, of a run that begins at `byte` and whose bytes have the same
+/// entry in the jump table.
 fn table_end(table: &[u32; 256], byte: usize, end: usize) -> usize
     requires byte { byte < end }
     requires end { end ≤ 256 }
@@ -111,7 +119,8 @@ fn table_end(table: &[u32; 256], byte: usize, end: usize) -> usize
     end
 }
 
-/// Returns the end of a run of bytes for which the same comparisons hold.
+/// Returns the end, at most `end`, of a run that begins at `byte` and for whose bytes the same
+/// comparisons hold.
 fn comparisons_end(comparisons: &[Comparisons], byte: usize, end: usize) -> usize
     requires { byte < end }
     ensures { EndsRun (some_compares (map comparison_of comparisons.now)) byte end result }
@@ -123,7 +132,8 @@ fn comparisons_end(comparisons: &[Comparisons], byte: usize, end: usize) -> usiz
     until
 }
 
-/// Returns the end of a run of bytes for which the comparison holds, or does not hold.
+/// Returns the end, at most `end`, of a run that begins at `byte` and for whose bytes the
+/// comparison always holds, or never.
 fn comparison_end(comparison: &Comparisons, byte: usize, end: usize) -> usize
     requires { byte < end }
     ensures { EndsRun (compares (comparison_of comparison.now)) byte end result }
@@ -135,7 +145,8 @@ fn comparison_end(comparison: &Comparisons, byte: usize, end: usize) -> usize
     exceptions_end(&comparison.except, byte, until)
 }
 
-/// Returns the end of a run of bytes that are all in `except`, or are all not in it.
+/// Returns the end, at most `end`, of a run that begins at `byte` and whose bytes are all in
+/// `except`, or are all not in it.
 fn exceptions_end(except: &[u8], byte: usize, end: usize) -> usize
     requires { byte < end }
     ensures { EndsRun (is_among except.now) byte end result }
@@ -148,7 +159,7 @@ fn exceptions_end(except: &[u8], byte: usize, end: usize) -> usize
     until
 }
 
-/// Returns `at` if it lies inside the run, and the end of the run otherwise.
+/// Returns `at` if it is after `byte` and before `end`, and `end` otherwise.
 fn cut(byte: usize, end: usize, at: usize) -> usize
     requires { byte < end }
     ensures after { byte < result }

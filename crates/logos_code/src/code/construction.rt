@@ -1,5 +1,5 @@
-//! Constructs code values. Only the generator of codes uses this module, so `code` does not
-//! re-export it.
+//! Constructs code values from their parts. Called only by the generator of codes, so `code` does
+//! not re-export it.
 
 ghost use Rattle.std.specs.Prelude.{◌≡◌, IfOk};
 ghost use Rattle.logos_code.specs.Views.{code_of, IsValid, IsWhole};
@@ -15,7 +15,7 @@ use std::alloc::{AllocError, Global};
 /// The tables of a code, which are computed from its parts.
 #[derive(Drop)]
 struct CodeTables {
-    /// The step for each byte at the start of a match attempt.
+    /// The entry of each byte at the start of a match attempt.
     first: [u32; 256],
     rows: Vec<u32>,
     masks: Vec<[u8; 32]>,
@@ -24,7 +24,7 @@ struct CodeTables {
     uses: Vec<LeafUse>,
 }
 
-/// Computes the tables of these parts.
+/// Returns the tables of a code with these parts.
 fn tables_of(alloc: Global, parts: &CodeParts<'_>) -> Result<CodeTables, AllocError>
     requires { IsValid parts.now }
     ensures { IfOk result (λ tables. IsWhole parts.now tables.first tables.rows.items
@@ -46,8 +46,8 @@ fn tables_of(alloc: Global, parts: &CodeParts<'_>) -> Result<CodeTables, AllocEr
     })
 }
 
-/// Makes the code of these parts. Everything that they refer to must exist, and no two of their
-/// jump tables may be equal.
+/// Returns the code with these parts. Each state, table, test and leaf to which they refer must
+/// exist, and no two jump tables may be equal.
 ///
 /// # Errors
 ///

@@ -1,5 +1,5 @@
-//! Last marks: the last mark that a match attempt has passed if it ends in a given state.
-//! `construction` computes them, and the fast path of an attempt reads them.
+//! Finds last marks: the last mark that a match attempt has passed if it ends in a given state.
+//! Called by `construction`; the fast path of an attempt reads the last marks.
 //!
 //! If all paths to a state agree on the last mark, a lexer need not record the marks that it
 //! passes. The last marks are searched along the forks of all states, and then checked. Only the
@@ -15,13 +15,13 @@ use std::alloc::{AllocError, Global};
 /// The last mark that a match attempt has passed if it ends in a given state.
 #[derive(Clone, Copy, PartialEq, Eq)]
 pub enum LastMark {
-    /// No path to the state was found.
+    /// An unknown last mark: no path to the state was found.
     Unseen,
-    /// The paths to the state have different last marks.
+    /// Different last marks on different paths to the state.
     Varies,
-    /// No mark was passed.
+    /// No last mark: no mark was passed.
     Never,
-    /// The match of this leaf ends this number of bytes before the end of the attempt.
+    /// A match of this leaf that ends this number of bytes before the end of the attempt.
     Back(LeafId, usize),
 }
 
@@ -50,7 +50,8 @@ pub(super) fn last_marks_of(alloc: Global, parts: &CodeParts) -> Result<Vec<Last
     Ok(Vec::new(alloc))
 }
 
-/// Searches for the last marks of all states.
+/// Returns the last marks of all states, as a search along their forks finds them. The result has
+/// not been checked.
 ///
 /// # Errors
 ///
@@ -72,7 +73,8 @@ fn find(alloc: Global, parts: &CodeParts) -> Result<Vec<LastMark>, AllocError> {
 }
 
 impl Search {
-    /// Updates all states to which the fork of a state leads.
+    /// Updates the last marks of all states to which the fork of `state` leads. Does nothing if
+    /// there is no such state.
     fn update_targets(&mut self, parts: &CodeParts, state: usize) -> Result<(), AllocError> {
         let mark = last_mark_at(&self.found, state);
         let Some(state) = parts.states.get(state) else {
@@ -84,7 +86,8 @@ impl Search {
         }
     }
 
-    /// Updates all states to which the branches lead, given the last mark before them.
+    /// Updates the last marks of all states to which the branches lead. `mark` is the last mark in
+    /// the state of the branches.
     fn update_by_conditions(
         &mut self,
         parts: &CodeParts,
@@ -97,7 +100,8 @@ impl Search {
         Ok(())
     }
 
-    /// Updates all states to which the jump table leads, given the last mark before them.
+    /// Updates the last marks of all states to which jump table `k` leads. `mark` is the last mark
+    /// in the state of the table.
     fn update_by_table(
         &mut self,
         parts: &CodeParts,
@@ -113,7 +117,8 @@ impl Search {
         Ok(())
     }
 
-    /// Updates the state `to`, if it exists, given the last mark before it.
+    /// Updates the last mark of the state `to`, if the state exists. `mark` is the last mark in a
+    /// state that leads to it.
     fn update_target(
         &mut self,
         parts: &CodeParts,
@@ -126,7 +131,8 @@ impl Search {
         }
     }
 
-    /// Records that an attempt can end in the state with this last mark.
+    /// Records that an attempt can end in the state with this last mark, and opens the state if its
+    /// last mark changes. Does nothing if there is no such state.
     fn find_more(&mut self, state: usize, mark: LastMark) -> Result<(), AllocError> {
         if state >= self.found.len() {
             return Ok(());
@@ -141,7 +147,8 @@ impl Search {
     }
 }
 
-/// Returns the last mark of a state for which both `one` and `other` were found.
+/// Returns the last mark of a state for which `one` and then `other` was found: `other` if `one` is
+/// `Unseen` or equal to it, and `Varies` otherwise.
 fn either(one: LastMark, other: LastMark) -> LastMark {
     if one == LastMark::Unseen || one == other {
         other
@@ -150,7 +157,8 @@ fn either(one: LastMark, other: LastMark) -> LastMark {
     }
 }
 
-/// Returns the last mark in a state, given the last mark in the state that leads to it on a byte.
+/// Returns the last mark in a state, where `before` is the last mark in a state that leads to it on
+/// a byte. The result is `Varies` if a fast loop makes the number of bytes unknown.
 fn entered(state: &CodeState, before: LastMark) -> LastMark {
     match (state.mark, before) {
         (Some(mark), _) => LastMark::Back(mark.leaf, bytes_back(mark)),
@@ -162,14 +170,15 @@ fn entered(state: &CodeState, before: LastMark) -> LastMark {
     }
 }
 
-/// Returns the number of bytes by which the match of a mark ends before the state.
+/// Returns the number of bytes between the end of a mark's match and the state: 1 if the mark is
+/// late, and 0 otherwise.
 fn bytes_back(mark: Mark) -> usize
     ensures { result ≡ (if mark.late then 1 else 0) }
 {
     if mark.late { 1 } else { 0 }
 }
 
-/// Returns the last mark in the state with this number.
+/// Returns the last mark in the state with this number, or `Unseen` if `marks` has no such element.
 pub(super) fn last_mark_at(marks: &[LastMark], state: usize) -> LastMark
     ensures { result ≡ last_mark_at marks.now state }
 {
@@ -179,7 +188,8 @@ pub(super) fn last_mark_at(marks: &[LastMark], state: usize) -> LastMark
     }
 }
 
-/// Returns whether the last marks agree with each other along all paths.
+/// Returns whether the last marks agree with the marks of states, and with each other along all
+/// transitions, so that they are correct.
 fn agree(parts: &CodeParts, marks: &[LastMark]) -> bool
     requires { IsSound (code_of parts.now) }
     ensures { IsTrue result → Agree (code_of parts.now) marks.now }
@@ -195,7 +205,8 @@ fn agree(parts: &CodeParts, marks: &[LastMark]) -> bool
     true
 }
 
-/// Returns whether this can be the last mark in the state in which match attempts begin.
+/// Returns whether `mark` can be the last mark in the state in which match attempts begin: whether
+/// it is not `Back`.
 fn begins_unmarked(mark: LastMark) -> bool
     ensures { IsTrue result → BeginsUnmarked mark }
 {
@@ -230,7 +241,8 @@ fn fork_agrees(parts: &CodeParts, marks: &[LastMark], from: LastMark, fork: &For
     }
 }
 
-/// Returns whether the last marks in the states to which the branches lead follow from `from`.
+/// Returns whether the last marks in the states to which the branches lead follow from `from`, the
+/// last mark in the state of the branches.
 fn branches_agree(
     parts: &CodeParts,
     marks: &[LastMark],
@@ -248,7 +260,8 @@ fn branches_agree(
     true
 }
 
-/// Returns whether the last marks in the states to which the jump table leads follow from `from`.
+/// Returns whether the last marks in the states to which the jump table leads follow from `from`,
+/// the last mark in the state of the table.
 fn table_agrees(parts: &CodeParts, marks: &[LastMark], from: LastMark, table: &[u32; 256]) -> bool
     ensures { IsTrue result → ForkAgrees (code_of parts.now) marks.now from
         (by_table (jumps_of table.now)) }
@@ -261,7 +274,7 @@ fn table_agrees(parts: &CodeParts, marks: &[LastMark], from: LastMark, table: &[
     true
 }
 
-/// Returns whether a last mark in a state agrees with the state's mark.
+/// Returns whether `last`, the last mark in a state, agrees with `mark`, the state's mark.
 fn is_own(last: LastMark, mark: Option<Mark>) -> bool
     ensures { IsTrue result → IsOwn last (option_map mark_of mark) }
 {
@@ -275,8 +288,8 @@ fn is_own(last: LastMark, mark: Option<Mark>) -> bool
     }
 }
 
-/// Returns whether the last mark in the state to which an entry of a jump table leads follows from
-/// `from`, if it leads to one.
+/// Returns whether the entry of a jump table leads nowhere, or `target_agrees` holds for the state
+/// to which it leads.
 fn entry_agrees(parts: &CodeParts, marks: &[LastMark], from: LastMark, entry: u32) -> bool
     ensures { IsTrue result → IfSome (entry_of entry) (FollowsAt (code_of parts.now) marks.now
         from) }
@@ -287,8 +300,8 @@ fn entry_agrees(parts: &CodeParts, marks: &[LastMark], from: LastMark, entry: u3
     }
 }
 
-/// Returns whether the last mark in the state `to` follows from `from`, if the state has no mark of
-/// its own.
+/// Returns whether the state `to` exists, and has a mark of its own or a last mark that follows
+/// from `from`, the last mark in a state that leads to it.
 fn target_agrees(parts: &CodeParts, marks: &[LastMark], from: LastMark, to: usize) -> bool
     ensures { IsTrue result → FollowsAt (code_of parts.now) marks.now from to }
 {
@@ -301,8 +314,9 @@ fn target_agrees(parts: &CodeParts, marks: &[LastMark], from: LastMark, to: usiz
     follows(from, next.fast_loop, last_mark_at(marks, to))
 }
 
-/// Returns whether the last mark in a state without a mark of its own follows from `from`, the last
-/// mark in a state that leads to it on a byte.
+/// Returns whether `to`, the last mark in a state without a mark of its own, follows from `from`,
+/// the last mark in a state that leads to it on a byte. `fast_loop` is the fast loop of the first
+/// state.
 fn follows(from: LastMark, fast_loop: Option<usize>, to: LastMark) -> bool
     ensures { IsTrue result → Follows to from fast_loop }
 {
@@ -313,7 +327,7 @@ fn follows(from: LastMark, fast_loop: Option<usize>, to: LastMark) -> bool
     }
 }
 
-/// Returns whether `from` is the last mark of this leaf, one byte earlier.
+/// Returns whether `from` is `Back` with this leaf and one byte fewer than `bytes`.
 fn follows_back(from: LastMark, leaf: LeafId, bytes: usize) -> bool
     ensures { IsTrue result → FollowsBack from leaf.0 bytes }
 {

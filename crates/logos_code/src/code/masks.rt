@@ -1,5 +1,5 @@
-//! Masks: the tests of fast loops, for sixteen bytes at once. `construction` computes them, and the
-//! fast loops of lexers look them up.
+//! Computes the masks of tests, with which a fast loop tests sixteen bytes at once. Called by
+//! `construction`; the fast loops of lexers read the masks.
 
 ghost use Rattle.std.specs.Prelude.{◌≡◌, ◌+◌, ◌*◌, ◌<◌, ◌≤◌, ◌^◌, ◌==◌, ℕ, if◌then◌else◌, IfOk};
 ghost use Rattle.logos_code.specs.Views.{bit_at, passes_test, code_of, IsMask, AreMasks, NamesTest};
@@ -7,7 +7,7 @@ ghost use Rattle.logos_code.specs.Views.{bit_at, passes_test, code_of, IsMask, A
 use super::CodeParts;
 use std::alloc::{AllocError, Global};
 
-/// Computes the masks of all tests, in the order of their numbers.
+/// Returns the masks of all tests, in the order of their numbers.
 ///
 /// # Errors
 ///
@@ -36,7 +36,7 @@ fn mask_of(parts: &CodeParts, test: usize) -> [u8; 32]
     mask
 }
 
-/// The first byte for which the seven bytes after it at distances of 16 are not all bytes.
+/// The least number for which the seven numbers after it at distances of 16 are not all bytes.
 const FIRSTS: usize = 144;
 
 /// Returns the entry of a mask for the eight bytes at distances of 16 from `first` on: bit `k` is
@@ -57,7 +57,7 @@ fn mask_entry(parts: &CodeParts, test: usize, first: usize) -> u8
         + mask_bit(parts.passes_test(test, (first + 112) as u8), 7)
 }
 
-/// Returns bit `k` if the byte passes, and 0 otherwise.
+/// Returns the number in which only bit `k` is set if `passes` is `true`, and 0 otherwise.
 fn mask_bit(passes: bool, k: usize) -> u8
     requires { k < 8 }
     ensures is { result ≡ if passes then 2 ^ k else 0 }

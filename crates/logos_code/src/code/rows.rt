@@ -1,5 +1,5 @@
-//! Rows: the step for each byte in each state, as one number. `construction` computes them, and
-//! `logos_machine` and `logos_scan` read them.
+//! Computes rows: the step for each byte in each state, as one number. Called by `construction`;
+//! `logos_machine` and `logos_scan` read the rows.
 //!
 //! The rows of all states are in one table, one after another, with `WIDTH` entries each: the step
 //! for byte `b` in state `s` is entry `WIDTH * s + b`. The row offset of a state is the index of
@@ -8,7 +8,7 @@
 //!
 //! | Kind | Operand | The byte |
 //! |---|---|---|
-//! | 0 | the offset of a state | leads to this state |
+//! | 0 | the row offset of a state | leads to this state |
 //! | 1, `STAYS` | a test | stays in the state, whose fast loop has this test |
 //! | 2, `LEAVES` | a leaf, `LATE` | ends a match before it, which is skipped without a callback |
 //! | 3, `HALTS` | a leaf, `LATE` | ends a match before it, which is a token without a callback |
@@ -37,78 +37,85 @@ use std::alloc::{AllocError, Global};
 /// entry are its operand.
 const NAMED: u32 = 1 << 28;
 
-/// The number of entries of a row: one for each byte, and 16 unused ones. With them, the entries of
-/// one byte in many states are not a power of two apart, where they would evict each other from a
-/// processor's cache.
+/// The number of entries of a row: one for each byte, and 16 unused ones. Without the unused ones,
+/// the entries of one byte in many states would be a power of two apart, and would evict each other
+/// from a processor's cache.
 pub const WIDTH: usize = 272;
 
-/// The number of states that entries can represent.
+/// The maximum number of states that entries can represent.
 const STATES: usize = 986_896;
 
 /// The number that is added to the entry of a match that ends before the byte, if the byte leads to
 /// a state that marks the match late.
 pub const LATE: u32 = 1 << 27;
 
-/// The first entry of a test: the byte does not change the state, whose fast loop has this test. A
-/// lesser entry is the row offset of the state to which the byte leads.
+/// The first of the entries with a test: the byte does not change the state, whose fast loop has
+/// this test. A lesser entry is the row offset of the state to which the byte leads.
 pub const STAYS: u32 = NAMED;
 
-/// The first entry of a leaf whose match ends before the byte, and is skipped without a callback.
+/// The first of the entries with the leaf of a match that ends before the byte, and is skipped
+/// without a callback.
 pub const LEAVES: u32 = 2 * NAMED;
 
-/// The first entry of a leaf whose match ends before the byte, and is a token without a callback.
+/// The first of the entries with the leaf of a match that ends before the byte, and is a token
+/// without a callback.
 pub const HALTS: u32 = 3 * NAMED;
 
-/// The first entry of a leaf whose match ends after the byte, and is a token without a callback.
+/// The first of the entries with the leaf of a match that ends after the byte, and is a token
+/// without a callback.
 pub const CLOSES: u32 = 4 * NAMED;
 
-/// The first entry of a leaf whose match ends after the byte, and is skipped without a callback.
+/// The first of the entries with the leaf of a match that ends after the byte, and is skipped
+/// without a callback.
 pub const SHUTS: u32 = 5 * NAMED;
 
-/// The first entry of a leaf whose match ends before the byte, and which may have a callback.
+/// The first of the entries with the leaf of a match that ends before the byte, and may have a
+/// callback.
 pub const CALLS_BACK: u32 = 6 * NAMED;
 
-/// The first entry of a leaf whose match ends after the byte, and which may have a callback.
+/// The first of the entries with the leaf of a match that ends after the byte, and may have a
+/// callback.
 pub const CALLS_BACK_AFTER: u32 = 7 * NAMED;
 
-/// The first entry of a byte that leads nowhere from a state without an early mark.
+/// The entry of a byte that leads nowhere from a state without an early mark.
 pub const STUCK: u32 = 8 * NAMED;
 
-/// The first entry that does not describe the step for its byte.
+/// The entry of a byte whose step no other entry describes.
 pub const UNDESCRIBED: u32 = 9 * NAMED;
 
 /// The use of the matches of a leaf, as far as entries describe it.
 #[derive(Clone, Copy)]
 pub enum MatchUse {
-    /// The matches are tokens, without a callback.
+    /// Tokens, without a callback.
     Emits,
-    /// The matches are skipped, without a callback.
+    /// No items, without a callback.
     Skips,
-    /// A callback may determine the use of the matches.
+    /// A use that a callback may determine.
     CallsBack,
 }
 
 /// The step for a byte in a state.
 #[derive(Clone, Copy)]
 pub enum Step {
-    /// The byte leads to this state.
+    /// A transition to this state.
     Leads(usize),
-    /// The byte does not change the state, whose fast loop has this test.
+    /// No change of the state, whose fast loop has this test.
     Stays(usize),
-    /// The byte leads nowhere, and a match of this leaf ends before it.
+    /// No transition, after a match of this leaf that ends before the byte.
     Halts(LeafId, MatchUse),
-    /// The byte leads to a state that marks a match of this leaf late, which ends before the byte.
+    /// A transition to a state that marks a match of this leaf late, which ends before the byte.
     /// The state has no other step.
     Looks(LeafId, MatchUse),
-    /// The byte leads to a state that marks a match of this leaf and has no other step.
+    /// A transition to a state that marks a match of this leaf early, which ends after the byte.
+    /// The state has no other step.
     Closes(LeafId, MatchUse),
-    /// The byte leads nowhere.
+    /// No transition, and no match in this state that ends before the byte.
     Stuck,
-    /// The step cannot be described by an entry.
+    /// A step that an entry cannot describe.
     Undescribed,
 }
 
-/// Returns the entry that represents the step, or `UNDESCRIBED`.
+/// Returns the entry that represents the step, or `UNDESCRIBED` if no other entry can represent it.
 pub(super) fn entry_of_step(step: Step) -> u32
     ensures { IsStepOf result step ⊎ IsStepOf result Step.Undescribed }
 {
@@ -125,7 +132,7 @@ pub(super) fn entry_of_step(step: Step) -> u32
     }
 }
 
-/// Returns the first entry for a match that ends before the byte.
+/// Returns the first of the entries with the leaf of a match of this use that ends before the byte.
 fn first_halting(used: MatchUse) -> u32
     ensures { result ≡ first_halting used }
 {
@@ -136,7 +143,7 @@ fn first_halting(used: MatchUse) -> u32
     }
 }
 
-/// Returns the first entry for a match that ends after the byte.
+/// Returns the first of the entries with the leaf of a match of this use that ends after the byte.
 fn first_closing(used: MatchUse) -> u32
     ensures { result ≡ first_closing used }
 {
@@ -147,7 +154,7 @@ fn first_closing(used: MatchUse) -> u32
     }
 }
 
-/// Computes the rows of all states.
+/// Returns the rows of all states, one after another.
 ///
 /// # Errors
 ///
@@ -163,7 +170,7 @@ pub(super) fn rows_of(alloc: Global, parts: &CodeParts) -> Result<Vec<u32>, Allo
     Ok(rows)
 }
 
-/// Returns the entries of all bytes in the state.
+/// Returns the row of a state: the entries of all bytes, and 16 unused ones.
 fn row_of(parts: &CodeParts, state: &CodeState) -> [u32; 272]
     requires { NamesExisting (code_of parts.now)
         (state_of parts.now.jump_tables.items state.now) }
@@ -179,7 +186,7 @@ fn row_of(parts: &CodeParts, state: &CodeState) -> [u32; 272]
     row
 }
 
-/// Writes the entry for all bytes of a run.
+/// Writes `entry` for the bytes from `byte` up to but not including `end`.
 fn fill(row: &mut [u32; 272], byte: usize, end: usize, entry: u32)
     requires { end ≤ 256 }
     ensures inside { (k : ℕ) → byte ≤ k → k < end → slice_index row.new k ≡ entry }
@@ -200,9 +207,8 @@ fn entry_at(parts: &CodeParts, state: &CodeState, byte: u8) -> u32
     entry_of_step(parts.step(state, byte))
 }
 
-/// Returns the row for the first byte of an attempt, given the rows of all states and the state in
-/// which match attempts begin. Each of its entries leads to a state, ends a match, or is
-/// `UNDESCRIBED`.
+/// Returns the row for the first byte of an attempt, given the rows of all states and `root`, the
+/// number of the state in which match attempts begin.
 pub(super) fn first_row(rows: &[u32], root: usize) -> [u32; 256]
     requires { WIDTH * root + 256 ≤ length rows.now }
     ensures { IsFirstOf rows.now root result }
@@ -214,8 +220,8 @@ pub(super) fn first_row(rows: &[u32], root: usize) -> [u32; 256]
     first
 }
 
-/// Returns the entry in the row for first bytes, given the entry in the row of the state in which
-/// match attempts begin.
+/// Returns the entry in the row for first bytes: `entry`, which is that in the root's row, or
+/// `UNDESCRIBED` if `entry` is of the kind `STAYS`, `LEAVES` or `HALTS`.
 fn first_entry(entry: u32) -> u32
     ensures { IsFirstEntry entry result }
 {
@@ -226,7 +232,7 @@ fn first_entry(entry: u32) -> u32
     }
 }
 
-/// Returns the mark of the state, if the state has no other step.
+/// Returns the mark of the state, or `None` if the state has no mark or another step.
 fn closing_mark(state: &CodeState) -> Option<Mark>
     ensures { IfSome result (λ mark. (tables : List (List ℕ)) →
         state_of tables state.now ≡ closing (mark_of mark)) }
@@ -252,7 +258,8 @@ pub(super) fn early_leaf(mark: Option<Mark>) -> Option<LeafId>
 }
 
 impl CodeParts<'_> {
-    /// Returns whether the byte passes the test of the fast loop.
+    /// Returns whether the byte passes the test of the fast loop, or `false` if there is no fast
+    /// loop.
     fn stays(&self, fast_loop: Option<usize>, byte: u8) -> bool
         requires { IfSome fast_loop (NamesTest (code_of self.now)) }
         ensures { result ≡ stays (code_of self.now) fast_loop byte }
@@ -297,7 +304,8 @@ impl CodeParts<'_> {
         }
     }
 
-    /// Returns the step in a state with this mark if there is no transition.
+    /// Returns the step for a byte, or for the end of the input, that leads nowhere from a state
+    /// with this mark.
     pub(super) fn halting_step(&self, mark: Option<Mark>) -> Step
         ensures { IsHalting (code_of self.now) (option_map mark_of mark) result }
     {
@@ -307,7 +315,8 @@ impl CodeParts<'_> {
         }
     }
 
-    /// Returns the use of the matches of the leaf.
+    /// Returns the use of the matches of the leaf: `CallsBack` if it has a callback or does not
+    /// exist.
     fn match_use(&self, leaf: LeafId) -> MatchUse
         ensures { IsUse (code_of self.now) leaf.0 result }
     {
@@ -317,7 +326,7 @@ impl CodeParts<'_> {
         }
     }
 
-    /// Returns the state to which the byte leads, or `None` if it leads nowhere.
+    /// Returns the state to which the byte leads by this fork, or `None` if it leads nowhere.
     pub(super) fn target(&self, fork: &Fork, byte: u8) -> Option<usize>
         requires { NamesFork (code_of self.now) (fork_of self.now.jump_tables.items fork.now) }
         ensures is { result ≡ target (code_of self.now)
@@ -383,7 +392,7 @@ fn jump(table: &[u32; 256], byte: u8) -> Option<usize>
     target_of(table[byte as usize])
 }
 
-/// Returns whether one of the comparisons holds for the byte.
+/// Returns whether at least one of the comparisons holds for the byte.
 fn some_holds(comparisons: &[Comparisons], byte: u8) -> bool
     ensures { result ≡ some_compares (map comparison_of comparisons.now) byte }
 {
@@ -395,7 +404,7 @@ fn some_holds(comparisons: &[Comparisons], byte: u8) -> bool
     false
 }
 
-/// Returns whether the table's entry for the byte has a bit of the mask.
+/// Returns whether the table's entry for the byte has a bit that is set in `mask`.
 fn has_mask(table: &[u8; 256], mask: u8, byte: u8) -> bool
     ensures { result ≡ has_mask table.now mask byte }
 {

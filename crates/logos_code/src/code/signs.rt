@@ -1,5 +1,5 @@
-//! Accept signs: the marks of states, read with one load. `construction` computes them, and the
-//! slow path of an attempt reads them.
+//! Computes accept signs: the marks of states, each read with one load. Called by `construction`;
+//! the slow path of an attempt reads the signs.
 
 ghost use Rattle.std.specs.Prelude.{◌≡◌, IfOk, map, option_map};
 ghost use Rattle.logos_code.specs.Views.{mark_of, code_of, mark_by, AreSigns};
@@ -12,15 +12,15 @@ use std::alloc::{AllocError, Global};
 /// for the leaf.
 #[derive(Clone, Copy)]
 pub enum Sign {
-    /// The state has no mark.
+    /// No mark.
     Nothing,
-    /// A match of this leaf ends at the state.
+    /// The leaf of an early mark, whose match ends at the state.
     Here(LeafId),
-    /// A match of this leaf ends one byte before the state.
+    /// The leaf of a late mark, whose match ends one byte before the state.
     Before(LeafId),
 }
 
-/// Returns the signs of all states.
+/// Returns the signs of all states, in the order of their numbers.
 ///
 /// # Errors
 ///
@@ -35,7 +35,7 @@ pub(super) fn signs_of(alloc: Global, parts: &CodeParts) -> Result<Vec<Sign>, Al
     Ok(signs)
 }
 
-/// Returns the sign of a mark.
+/// Returns the sign of a mark, or `Nothing` for `None`.
 fn sign_of(mark: Option<Mark>) -> Sign
     ensures { mark_by result ≡ option_map mark_of mark }
 {

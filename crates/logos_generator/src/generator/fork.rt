@@ -11,7 +11,8 @@ use logos_code::code::{Condition, Fork, NOWHERE};
 use logos_graph::graph::State;
 use std::alloc::{AllocError, Global};
 
-/// Returns the number of the test of the edge back to the state, if there is one.
+/// Returns the number of the test of the edge from `state` back to it, or `None` if there is no
+/// such edge. Adds the test to `tests` if it is new.
 pub(super) fn maybe_impl_fast_loop(
     tests: &mut IndexSet<[bool; 256]>,
     edges: &[(ByteClass, State)],
@@ -29,7 +30,7 @@ pub(super) fn maybe_impl_fast_loop(
     }
 }
 
-/// Returns the bytes of the first edge that leads back to the state, or `None` if no edge does.
+/// Returns the bytes of the first edge that leads back to `state`, or `None` if no edge does.
 fn edge_back<'e>(edges: &'e [(ByteClass, State)], state: usize) -> Option<&'e ByteClass>
     ensures { option_map (λ class. ranges_of class.now) result
         ≡ option_map (λ edge. edge.0) (find (λ edge. edge.1 == state) (map edge_of edges.now)) }
@@ -42,8 +43,9 @@ fn edge_back<'e>(edges: &'e [(ByteClass, State)], state: usize) -> Option<&'e By
     None
 }
 
-/// Makes the fork of a state, without the edge back to it: a table if there are more than two
-/// edges, and conditions otherwise.
+/// Returns the fork of `state`, without the edge back to it: a jump table if there are more than
+/// two edges, that one included, and conditions otherwise. Adds the tests and the jump table to
+/// `tables` if they are new.
 pub(super) fn impl_fork(
     alloc: Global,
     tables: &mut NodeTables,
@@ -68,7 +70,7 @@ pub(super) fn impl_fork(
     Ok(Fork::Conditions(conditions_of(alloc, &mut tables.tests, edges, state)?))
 }
 
-/// Returns the jump table of a state's edges, without the edge back to it.
+/// Returns the jump table of the edges of `state`, without the edge back to it.
 fn table_of(edges: &[(ByteClass, State)], state: usize) -> [u32; 256]
     requires { All (λ edge. state_number edge.1 < NOWHERE) edges.now }
     ensures long { length result ≡ 256 }
@@ -83,7 +85,8 @@ fn table_of(edges: &[(ByteClass, State)], state: usize) -> [u32; 256]
     table
 }
 
-/// Writes an edge into the table, unless it leads back to the state.
+/// Writes the target of an edge for each byte of the edge that has no target yet, unless the edge
+/// leads back to `state`.
 fn fill_edge(table: &mut [u32; 256], edge: &(ByteClass, State), state: usize)
     requires { state_number edge.now.1 < NOWHERE }
     ensures { (b : ℕ) → b < 256 → entry_of (slice_index table.new b) ≡ option_or
@@ -94,7 +97,7 @@ fn fill_edge(table: &mut [u32; 256], edge: &(ByteClass, State), state: usize)
     }
 }
 
-/// Writes the target at each byte of the class that has none.
+/// Writes `target` for each byte of the class that has no target yet.
 fn fill_class(table: &mut [u32; 256], class: &ByteClass, target: u32)
     requires { target < NOWHERE }
     ensures { (b : ℕ) → b < 256 → entry_of (slice_index table.new b)
@@ -105,7 +108,7 @@ fn fill_class(table: &mut [u32; 256], class: &ByteClass, target: u32)
     }
 }
 
-/// Writes the target at each byte of a range that has none.
+/// Writes `target` for each byte from `first` to `last` that has no target yet.
 fn fill_range(table: &mut [u32; 256], first: u8, last: u8, target: u32)
     requires { target < NOWHERE }
     ensures { (b : ℕ) → b < 256 → entry_of (slice_index table.new b)
@@ -116,7 +119,7 @@ fn fill_range(table: &mut [u32; 256], first: u8, last: u8, target: u32)
     }
 }
 
-/// Returns the entry, or the target if the entry leads nowhere.
+/// Returns the entry, or `target` if the entry leads nowhere.
 fn filled(entry: u32, target: u32) -> u32
     requires { target < NOWHERE }
     ensures { entry_of result ≡ hit true target (entry_of entry) }
@@ -124,7 +127,8 @@ fn filled(entry: u32, target: u32) -> u32
     if entry == NOWHERE { target } else { entry }
 }
 
-/// Makes the conditions of a state's edges, without the edge back to it.
+/// Returns the conditions and targets of the edges of `state`, without the edge back to it. Adds
+/// the tests to `tests` if they are new.
 fn conditions_of(
     alloc: Global,
     tests: &mut IndexSet<[bool; 256]>,
@@ -145,7 +149,8 @@ fn conditions_of(
     Ok(made)
 }
 
-/// Adds the branch of an edge, unless it leads back to the state.
+/// Appends the condition and the target of an edge to `made`, unless the edge leads back to
+/// `state`. Adds the test of the condition to `tests` if it is new.
 fn add_branch(
     alloc: Global,
     tests: &mut IndexSet<[bool; 256]>,
@@ -168,8 +173,8 @@ fn add_branch(
     Ok(())
 }
 
-/// Makes the test of a class: comparisons, or a bit of a table if the comparisons cost more than
-/// two operations.
+/// Returns the condition for the bytes of a class: comparisons, or a test by bits if the
+/// comparisons cost more than two operations. Adds the test to `tests` if it is new.
 fn condition_of(
     alloc: Global,
     tests: &mut IndexSet<[bool; 256]>,

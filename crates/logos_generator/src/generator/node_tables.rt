@@ -1,23 +1,23 @@
-//! The tables that the nodes of a code share. `fork` adds to them, and `states` puts them into the
-//! code.
+//! The tests and jump tables that the nodes of a code share. `fork` adds to these tables, and
+//! `states` puts them into the code.
 
 ghost use Rattle.std.specs.Prelude.{◌≡◌, []};
 
 use indexmap::IndexSet;
 use std::alloc::Global;
 
-/// The tables that the nodes of a code share.
+/// The tests and the jump tables that the nodes of a code share.
 #[derive(Drop)]
 pub(super) struct NodeTables {
-    /// The byte sets that nodes test by bits, by the numbers of their tests.
+    /// The sets of bytes that nodes test by bits, in the order of the numbers of the tests.
     pub tests: IndexSet<[bool; 256]>,
-    /// The jump tables of nodes, by their numbers.
+    /// The jump tables of nodes, in the order of their numbers.
     pub jumps: IndexSet<[u32; 256]>,
 }
 
 impl NodeTables {
-    /// Returns tables without a test and without a jump table. They take their memory from `alloc`
-    /// when they grow; this call takes none.
+    /// Returns tables without a test and without a jump table. The tables take their memory from
+    /// `alloc` when they grow; this call takes none.
     pub(super) fn new(alloc: Global) -> NodeTables
         ensures tests { result.tests.keys ≡ [] }
         ensures jumps { result.jumps.keys ≡ [] }

@@ -14,26 +14,27 @@ use logos_pattern::leaf::Leaf;
 use logos_token::error::Memory;
 use std::alloc::Global;
 
-/// A fast loop, by the number of its test.
+/// A fast loop, identified by the number of its test.
 #[derive(Clone, Copy, Debug, PartialEq, Eq)]
 pub struct FastLoop {
     pub test: usize,
 }
 
 /// The macro that ends a match attempt. After a match that is skipped, the next attempt begins in
-/// the state with this number.
+/// the state with the number `restart`.
 #[derive(Clone, Copy, Debug, PartialEq, Eq)]
 pub struct TakeAction {
     pub restart: usize,
 }
 
-/// The macro of fast loops over blocks of this many bytes.
+/// The macro of fast loops over blocks of `unroll_factor` bytes.
 #[derive(Clone, Copy, Debug, PartialEq, Eq)]
 pub struct FastLoopMacro {
     pub unroll_factor: usize,
 }
 
-/// Returns the macro of fast loops over blocks of this many bytes, which must be at least one.
+/// Returns the macro of fast loops over blocks of `unroll_factor` bytes. `unroll_factor` must be at
+/// least 1.
 pub fn fast_loop_macro(unroll_factor: usize) -> FastLoopMacro
     requires { 1 ≤ unroll_factor }
     ensures { result ≡ record { unroll_factor = unroll_factor } }
@@ -42,8 +43,9 @@ pub fn fast_loop_macro(unroll_factor: usize) -> FastLoopMacro
 }
 
 impl<'s> Generator<'_, 's> {
-    /// Makes the fork of a state with this data, with or without the edge back to the state. Its
-    /// tests and its jump table are numbered after those of the nodes made before.
+    /// Returns the fork of `state` with the edges of `state_data`, without the edge back to the
+    /// state if `ignore_self` is `true`. New tests and a new jump table are numbered after those of
+    /// the nodes made before.
     ///
     /// # Errors
     ///
@@ -72,7 +74,9 @@ impl<'s> Generator<'_, 's> {
         }
     }
 
-    /// Makes the fast loop of a state of the graph, over the edge back to it, if there is one.
+    /// Returns the fast loop over the edge from `state`, a state of the graph, back to it, or
+    /// `None` if there is no such edge. A new test is numbered after those of the nodes made
+    /// before.
     ///
     /// # Errors
     ///
@@ -94,7 +98,8 @@ impl<'s> Generator<'_, 's> {
         }
     }
 
-    /// Makes the fast loop over an edge with these bytes.
+    /// Returns the fast loop over an edge with the bytes of `self_edge`. A new test is numbered
+    /// after those of the nodes made before.
     ///
     /// # Errors
     ///
@@ -112,7 +117,7 @@ impl<'s> Generator<'_, 's> {
         Ok(FastLoop { test })
     }
 
-    /// Returns the code's leaf for a leaf: its kind, and a copy of its callback.
+    /// Returns the code's leaf for `leaf`, with copies of the leaf's kind and callback.
     ///
     /// # Errors
     ///
@@ -123,15 +128,16 @@ impl<'s> Generator<'_, 's> {
         Ok(leaf_made(leaf)?)
     }
 
-    /// Returns the macro that ends a match attempt.
+    /// Returns the macro that ends a match attempt. After a skipped match it restarts in the root,
+    /// state 0.
     pub fn take_action_macro(&self) -> TakeAction
         ensures { result ≡ record { restart = 0 } }
     {
         TakeAction { restart: 0 }
     }
 
-    /// Returns the bit tables of the tests of all nodes made so far. After `generate` they are
-    /// those of the code.
+    /// Returns the bit tables of the tests of all nodes made so far. After `generate`, these are
+    /// the bit tables of the code.
     ///
     /// # Errors
     ///
@@ -142,9 +148,9 @@ impl<'s> Generator<'_, 's> {
         Ok(tables_of(alloc, self.tables.tests.as_slice())?)
     }
 
-    /// Returns the jump tables of all forks made so far, by their numbers. After `generate` they
-    /// are those of the code. An entry is the number of the state to which the byte leads, or
-    /// `NOWHERE`. `Fork::Table(k)` refers to table `k`.
+    /// Returns the jump tables of all forks made so far, in the order of their numbers. After
+    /// `generate`, these are the jump tables of the code. An entry is the number of the state to
+    /// which the byte leads, or `NOWHERE`. `Fork::Table(k)` refers to table `k`.
     ///
     /// # Errors
     ///

@@ -12,7 +12,8 @@ use logos_code::make_code;
 use logos_graph::graph::{Graph, State, StateData, StateType, States};
 use std::alloc::{AllocError, Global};
 
-/// Makes the code of a graph. Its tests and jump tables are added to empty tables.
+/// Returns the code of a graph, with this header. `states` are the states of the graph. Adds the
+/// tests and jump tables of the code to `tables`, which must be empty.
 pub(super) fn code_of<'s>(
     alloc: Global,
     tables: &mut NodeTables,
@@ -56,7 +57,8 @@ struct Tables {
     jump_tables: Vec<[u32; 256]>,
 }
 
-/// Makes the states of the code, and their tables.
+/// Returns the states of the code, with their tables. Adds the tests and jump tables to `tables`,
+/// which must be empty.
 fn tables_made(
     alloc: Global,
     tables: &mut NodeTables,
@@ -82,7 +84,8 @@ fn tables_made(
     })
 }
 
-/// Makes the states of the code, in the order of the graph's states.
+/// Returns the states of the code, in the order of the graph's states. Adds their tests and jump
+/// tables to `tables` if they are new.
 fn states_of(
     alloc: Global,
     tables: &mut NodeTables,
@@ -105,7 +108,8 @@ fn states_of(
     Ok(made)
 }
 
-/// Makes a state of the code from state `s` of the graph.
+/// Returns the code's state for `state`, the state `s` of the graph. Adds its tests and its jump
+/// table to `tables` if they are new.
 fn state_made(
     alloc: Global,
     tables: &mut NodeTables,
@@ -132,7 +136,7 @@ fn state_made(
     })
 }
 
-/// Returns the number of the state, if there is one.
+/// Returns the number of a state, or `None` if there is no state.
 fn number_of(state: Option<State>) -> Option<usize>
     ensures { result ≡ option_map state_number state }
 {

@@ -1,5 +1,5 @@
-//! Makes tests of bytes by the bits of tables. `fork` adds tests, and `states` makes the tables
-//! once all tests are known.
+//! Makes tests of bytes by the bits of tables. `fork` and `nodes` add tests, and `states` and
+//! `nodes` make the tables of the tests.
 
 ghost use Rattle.std.specs.Prelude.{◌≡◌, ◌+◌, ◌*◌, ◌<◌, ◌≤◌, ◌/◌, ◌∷◌, [], ℕ, Some, IfOk, OnOk, OnErr, length, slice_get, if◌then◌else◌};
 ghost use Rattle.logos_generator.specs.Imports.{beq, pointwise, insert_key, ranges_of, passes_test, Extends, IsTest, tests_byte, numbered, bits_from, bit_table, bit_tables_of};
@@ -8,8 +8,8 @@ use indexmap::IndexSet;
 use logos_byte_class::byte_class::ByteClass;
 use std::alloc::{AllocError, Global};
 
-/// Returns the number of the test for the bytes of the class, and adds the test if it is new.
-/// Classes with the same bytes share a test.
+/// Returns the number of the test for the bytes of the class, and adds the test to `tests` if it is
+/// new. Classes with the same bytes share a test.
 pub(super) fn add_test(
     tests: &mut IndexSet<[bool; 256]>,
     class: &ByteClass,
@@ -24,7 +24,7 @@ pub(super) fn add_test(
     Ok(k)
 }
 
-/// Returns the number of the test for this set of bytes, and adds the test if it is new.
+/// Returns the number of the test for this set of bytes, and adds the test to `tests` if it is new.
 fn add_set(tests: &mut IndexSet<[bool; 256]>, set: [bool; 256]) -> Result<usize, AllocError>
     ensures long { length set ≡ 256 }
     ensures keys { OnOk result (tests.new.keys ≡ insert_key (pointwise beq) tests.old.keys set) }
@@ -35,7 +35,7 @@ fn add_set(tests: &mut IndexSet<[bool; 256]>, set: [bool; 256]) -> Result<usize,
     Ok(k)
 }
 
-/// Returns the tables of all tests: test `k` is bit `k % 8` of table `k / 8`.
+/// Returns the bit tables of all tests: test `k` is bit `k % 8` of the entries of table `k / 8`.
 pub(super) fn tables_of(alloc: Global, tests: &[[bool; 256]]) -> Result<Vec<[u8; 256]>, AllocError>
     ensures tests { IfOk result (λ tables. (k b : ℕ) → b < 256 →
         passes_test tables.items k b ≡ tests_byte tests.now k b) }
@@ -61,7 +61,7 @@ fn table_at(tests: &[[bool; 256]], j: usize) -> [u8; 256]
     table
 }
 
-/// Returns the entry of table `j` for the byte `b`: bit `i` is test `8 * j + i`.
+/// Returns the entry of bit table `j` for the byte `b`: bit `i` is that of test `8 * j + i`.
 fn entry_of(tests: &[[bool; 256]], j: usize, b: usize) -> u8
     requires table { 8 * j < length tests.now }
     requires byte { b < 256 }
@@ -74,8 +74,8 @@ fn entry_of(tests: &[[bool; 256]], j: usize, b: usize) -> u8
     bits
 }
 
-/// Returns the bit of test number `k` for the byte `b`: 1 if there is such a test and it holds, and
-/// 0 otherwise.
+/// Returns the bit of test `k` for the byte `b`: 1 if the test exists and the byte passes it, and 0
+/// otherwise.
 fn bit_of(tests: &[[bool; 256]], k: usize, b: usize) -> u8
     requires { b < 256 }
     ensures { result ≡ (if tests_byte tests.now k b then 1 else 0) }

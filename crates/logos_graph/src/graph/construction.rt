@@ -15,7 +15,7 @@ use logos_pattern::leaf::Leaf;
 use logos_reduce::reduction::reduce;
 use std::alloc::Global;
 
-/// Returns the automaton of no rules.
+/// Returns the automaton of an empty list of rules.
 fn automaton_of_none(alloc: Global) -> Result<Dfa, BuildError>
     ensures total { IfOk result (λ dfa. IsTotal (dfa_of dfa)) }
     ensures few { IfOk result (λ dfa. length (dfa_of dfa).matches ≤ MAX_STATES) }
@@ -76,7 +76,7 @@ fn leaf_findings(alloc: Global, leaves: &[Leaf<'_>]) -> Result<Findings, BuildEr
     rule_findings(alloc, &rules)
 }
 
-/// Returns the graph of leaves without faults.
+/// Returns the graph of leaves without faults, whose automaton is `dfa`.
 fn finished<'s>(
     alloc: Global,
     leaves: Vec<Leaf<'s>>,

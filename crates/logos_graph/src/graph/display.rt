@@ -1,4 +1,4 @@
-//! Prints states and graphs. `value` and users of the library print with it.
+//! Prints states and graphs. Called by `value` and by users of the library.
 
 ghost use Rattle.std.specs.Prelude.{◌≡◌, ◌++◌, Some, IfOk, codes, string_bytes};
 ghost use Rattle.logos_graph.specs.Imports.{decimal};
@@ -43,7 +43,8 @@ impl fmt::Display for State {
     }
 }
 
-/// Prints each mark with a space after it.
+/// Prints `accept(..)` for a late mark and then `early(..)` for an early mark, each with the number
+/// of its leaf and a space after it.
 impl fmt::Display for StateType {
     fn fmt<W: fmt::Write>(&self, f: &mut fmt::Formatter<W>) -> fmt::Result {
         if let Some(leaf) = self.accept {
@@ -58,11 +59,12 @@ impl fmt::Display for StateType {
     }
 }
 
-/// A state with its edges, one on each line.
+/// The printed form of a state: a line with its marks, a line for each of its edges, and a line
+/// with the closing brace.
 #[derive(Clone, Copy)]
 struct StateLines<'g> {
     state: &'g StateData,
-    /// The indentation of each line but the first.
+    /// The indentation of the last line. The lines of edges have two spaces more.
     indent: &'static str,
 }
 
@@ -83,7 +85,7 @@ impl fmt::Display for StateLines<'_> {
     }
 }
 
-/// Prints the marks, and in the alternate form also the edges, one on each line.
+/// Prints the marks, and in the alternate form (`{:#}`) also the edges, with a line for each edge.
 impl fmt::Display for StateData {
     fn fmt<W: fmt::Write>(&self, f: &mut fmt::Formatter<W>) -> fmt::Result {
         if f.alternate() {
@@ -98,7 +100,7 @@ impl fmt::Display for StateData {
     }
 }
 
-/// States with their edges, one on each line.
+/// The printed form of a graph: its states with their numbers, with a line for each edge.
 #[derive(Clone, Copy)]
 pub(super) struct Listing<'g> {
     pub states: &'g [StateData],

@@ -8,8 +8,8 @@ use crate::distinction::{checks, evidence};
 use logos_token::error::Memory;
 use std::alloc::Global;
 
-/// Bytes that distinguish two states: they lead to states of different types, or can be followed
-/// from exactly one of the two.
+/// Bytes that distinguish two states: they lead from the two states to states of different types,
+/// or lead to a state from exactly one of the two.
 #[derive(Debug, Drop)]
 pub struct Telling {
     pub bytes: Vec<u8>,
@@ -18,8 +18,8 @@ pub struct Telling {
 }
 
 impl Graph<'_> {
-    /// Returns bytes that distinguish two different states of this graph, fewer bytes than it has
-    /// states, and whether the end follows them.
+    /// Returns bytes that distinguish the different states `s` and `t` of this graph, and whether
+    /// the end of the input follows these bytes. There are fewer bytes than states.
     ///
     /// # Errors
     ///
@@ -35,8 +35,8 @@ impl Graph<'_> {
         Ok(Telling { bytes, at_end })
     }
 
-    /// Returns whether the bytes, with or without the end after them, distinguish two states of
-    /// this graph. Does not allocate.
+    /// Returns whether `bytes`, with the end of the input after them if `at_end` is `true`,
+    /// distinguish the states `s` and `t` of this graph. Does not allocate.
     pub fn checks(&self, s: State, t: State, bytes: &[u8], at_end: bool) -> bool
         requires s_in { s.0 < length self.now.states }
         requires t_in { t.0 < length self.now.states }

@@ -1,4 +1,4 @@
-//! Draws state diagrams of graphs in Mermaid's language. `Graph::get_mermaid` calls it.
+//! Prints state diagrams of graphs in Mermaid's language. Called by `Graph::get_mermaid`.
 
 ghost use Rattle.std.specs.Prelude.{◌≡◌, ◌<◌, ◌++◌, IfOk, OnOk, map, option_map, codes, string_bytes};
 ghost use Rattle.logos_graph.specs.Views.{decimal, flat_map, bounds, ranges_of, byte_text, label_character, label_text, range_label, next_label, class_label, state_label, state_colour, node_name, edge_name, style_line, link_line, node_lines, edge_lines, byte_edge_lines, end_edge_lines, state_lines, mermaid_of, edge_of, graph_state_of, state_number, state_type_of};
@@ -10,10 +10,11 @@ use logos_hir::leaf::LeafId;
 use std::alloc::{AllocError, Global};
 use std::ops::RangeInclusive;
 
-/// The characters below this one are ASCII.
+/// The first character that is not ASCII.
 const ASCII: u32 = 128;
 
-/// Appends a character of a label.
+/// Appends an ASCII character to a label: `"`, `\` and a line break as Mermaid spells them, and any
+/// other character unchanged.
 fn push_character(text: &mut String, character: char) -> Result<(), AllocError>
     requires { character < ASCII }
     ensures { OnOk result (string_bytes text.new
@@ -27,7 +28,8 @@ fn push_character(text: &mut String, character: char) -> Result<(), AllocError>
     }
 }
 
-/// Appends a byte to a label, as printed.
+/// Appends a byte to a label, as it is printed: an escape such as `\n`, `\"` or `\x1f`, or the byte
+/// itself if it needs no escape. Spells each character as `push_character` does.
 fn push_byte(text: &mut String, byte: u8) -> Result<(), AllocError>
     ensures { OnOk result (string_bytes text.new
         ≡ string_bytes text.old ++ label_text (byte_text byte)) }
@@ -45,7 +47,8 @@ fn push_byte(text: &mut String, byte: u8) -> Result<(), AllocError>
     push_character(text, lower_digit(byte % 16))
 }
 
-/// Appends a range of bytes to a label.
+/// Appends a range of bytes to a label: the first byte, and, if there are more, `..=` and the last
+/// byte.
 fn push_range(text: &mut String, range: &RangeInclusive<u8>) -> Result<(), AllocError>
     ensures { OnOk result (string_bytes text.new
         ≡ string_bytes text.old ++ range_label (bounds range.now)) }
@@ -80,7 +83,7 @@ fn push_next_ranges(text: &mut String, ranges: &[RangeInclusive<u8>]) -> Result<
     Ok(())
 }
 
-/// Appends the ranges of an edge, each on its own line.
+/// Appends the ranges of an edge's bytes to a label, each on a line of its own.
 fn push_class(text: &mut String, class: &ByteClass) -> Result<(), AllocError>
     ensures { OnOk result (string_bytes text.new
         ≡ string_bytes text.old ++ class_label (ranges_of class.now)) }
@@ -92,7 +95,8 @@ fn push_class(text: &mut String, class: &ByteClass) -> Result<(), AllocError>
     push_next_ranges(text, rest)
 }
 
-/// Appends a mark with its leaf.
+/// Appends a mark to a label: `mark`, which is the text before the leaf, the number of the leaf,
+/// and `)`.
 fn push_mark(text: &mut String, mark: &str, leaf: LeafId) -> Result<(), AllocError>
     ensures { OnOk result (string_bytes text.new
         ≡ string_bytes text.old ++ mark.now ++ decimal leaf.0 ++ codes ")") }
@@ -101,7 +105,8 @@ fn push_mark(text: &mut String, mark: &str, leaf: LeafId) -> Result<(), AllocErr
     write!(text, "{mark}{leaf})")
 }
 
-/// Appends the label of the node of a state.
+/// Appends the label of the node of the state `s`: its number, and its early mark or, if it has
+/// none, its late mark.
 fn push_state_label(text: &mut String, s: usize, state_type: StateType) -> Result<(), AllocError>
     ensures { OnOk result (string_bytes text.new
         ≡ string_bytes text.old ++ state_label s (state_type_of state_type)) }
@@ -116,7 +121,7 @@ fn push_state_label(text: &mut String, s: usize, state_type: StateType) -> Resul
     Ok(())
 }
 
-/// Returns the colour of a state.
+/// Returns the colour of the node of a state: green if the state has a mark, and black otherwise.
 fn colour_of(state_type: StateType) -> &'static str
     ensures { result.now ≡ state_colour (state_type_of state_type) }
 {
@@ -126,14 +131,14 @@ fn colour_of(state_type: StateType) -> &'static str
     "#000000"
 }
 
-/// Returns the name of the node of a state.
+/// Returns the name of the node of the state `s`.
 fn name_of(alloc: Global, s: usize) -> Result<String, AllocError>
     ensures { IfOk result (λ name. string_bytes name ≡ node_name s) }
 {
     format!(in alloc; "n{s}")
 }
 
-/// Appends the colour of a node.
+/// Appends the line that assigns a colour to the node `name`.
 fn push_style(text: &mut String, name: &str, colour: &str) -> Result<(), AllocError>
     ensures { OnOk result (string_bytes text.new
         ≡ string_bytes text.old ++ style_line name.now colour.now) }
@@ -141,7 +146,7 @@ fn push_style(text: &mut String, name: &str, colour: &str) -> Result<(), AllocEr
     write!(text, "style {name} stroke:{colour}\n")
 }
 
-/// Appends a link between nodes.
+/// Appends the line of a link from the node `from` to the node `to`.
 fn push_link(text: &mut String, from: &str, to: &str) -> Result<(), AllocError>
     ensures { OnOk result (string_bytes text.new
         ≡ string_bytes text.old ++ link_line from.now to.now) }
@@ -149,7 +154,8 @@ fn push_link(text: &mut String, from: &str, to: &str) -> Result<(), AllocError>
     write!(text, "{from}-->{to}\n")
 }
 
-/// Appends the lines of the node of an edge.
+/// Appends the lines of an edge: its own node, with this label, and the links from the node `from`
+/// to this node and from this node to that of `target`.
 fn push_edge(
     alloc: Global,
     text: &mut String,
@@ -168,7 +174,7 @@ fn push_edge(
     push_link(text, &name, &to)
 }
 
-/// Appends the lines of an edge on bytes.
+/// Appends the lines of an edge on bytes, whose source is the node `from`.
 fn push_byte_edge(
     alloc: Global,
     text: &mut String,
@@ -183,7 +189,7 @@ fn push_byte_edge(
     push_edge(alloc, text, from, edge.1, &label)
 }
 
-/// Appends the lines of the edges on bytes.
+/// Appends the lines of edges on bytes, whose source is the node `from`.
 fn push_byte_edges(
     alloc: Global,
     text: &mut String,
@@ -199,7 +205,8 @@ fn push_byte_edges(
     Ok(())
 }
 
-/// Appends the lines of the edge on the end, if there is one.
+/// Appends the lines of the edge on the end of the input from the node `from`, or nothing if `end`
+/// is `None`.
 fn push_end_edge(
     alloc: Global,
     text: &mut String,
@@ -215,7 +222,7 @@ fn push_end_edge(
     push_edge(alloc, text, from, target, "EOI")
 }
 
-/// Appends the node of a state.
+/// Appends the lines of the node `name` of the state `s`: its label and its colour.
 fn push_node(
     text: &mut String,
     name: &str,
@@ -231,7 +238,7 @@ fn push_node(
     push_style(text, name, colour_of(state_type))
 }
 
-/// Appends the lines of a state and of its edges.
+/// Appends the lines of the state `s` and of its edges.
 fn push_state(
     alloc: Global,
     text: &mut String,

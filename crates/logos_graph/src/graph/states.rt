@@ -15,7 +15,8 @@ use std::ops::RangeInclusive;
 /// An edge: the bytes that lead to a state, and the state.
 type Edge = (ByteClass, State);
 
-/// Returns the index of the first edge whose target is `target` or greater.
+/// Returns the index of the first edge whose target is `target` or greater, or the number of edges
+/// if there is none. The targets must ascend.
 fn slot_of(edges: &[Edge], target: usize) -> usize
     requires { IsRising (targets (map edge_of edges.now)) }
     ensures { IsFirstFrom (targets (map edge_of edges.now)) target result }
@@ -33,7 +34,7 @@ fn slot_of(edges: &[Edge], target: usize) -> usize
     low
 }
 
-/// Returns whether the edge at an index leads to `target`.
+/// Returns whether there is an edge at the index `slot` and it leads to `target`.
 fn is_at(edges: &[Edge], slot: usize, target: usize) -> bool
     ensures hit { IsTrue result → (slot < length edges.now)
         × (slice_index (targets (map edge_of edges.now)) slot ≡ target) }
@@ -46,7 +47,7 @@ fn is_at(edges: &[Edge], slot: usize, target: usize) -> bool
     edges[slot].1.0 == target
 }
 
-/// Appends bytes to an edge.
+/// Appends a range of bytes to the ranges of an edge.
 fn push_range(edge: &mut Edge, range: RangeInclusive<u8>) -> Result<(), AllocError>
     ensures { OnOk result (edge_of edge.new
         ≡ ((edge_of edge.old).0 ++ bounds range ∷ [], (edge_of edge.old).1)) }
@@ -55,7 +56,7 @@ fn push_range(edge: &mut Edge, range: RangeInclusive<u8>) -> Result<(), AllocErr
     Ok(())
 }
 
-/// Returns an edge on a range of bytes.
+/// Returns an edge to `target` on a range of bytes.
 fn new_edge(alloc: Global, range: RangeInclusive<u8>, target: usize) -> Result<Edge, AllocError>
     ensures { IfOk result (λ edge. edge_of edge ≡ (bounds range ∷ [], target)) }
 {
@@ -64,7 +65,8 @@ fn new_edge(alloc: Global, range: RangeInclusive<u8>, target: usize) -> Result<E
     Ok((ByteClass { ranges }, State(target)))
 }
 
-/// Adds bytes that lead to `target`, after all bytes that already lead to it.
+/// Appends a range of bytes to the edge to `target`, or inserts such an edge in order if there is
+/// none.
 fn add_range(
     alloc: Global,
     edges: &mut Vec<Edge>,
@@ -84,7 +86,8 @@ fn add_range(
     Ok(())
 }
 
-/// Returns the end of the run of equal entries that begins at the byte `from`.
+/// Returns the end of the run of equal entries of a row that begins at the byte `from`: the first
+/// byte after the run, or 256.
 fn run_end(row: &Row, from: usize) -> usize
     requires { from < 256 }
     ensures after { from < result }
@@ -101,7 +104,7 @@ fn run_end(row: &Row, from: usize) -> usize
     256
 }
 
-/// Adds the bytes of a range, if they lead to a state.
+/// Adds a range of bytes to the edge to `target`, or nothing if `target` is `None`.
 fn add_run(
     alloc: Global,
     edges: &mut Vec<Edge>,
@@ -118,7 +121,7 @@ fn add_run(
     add_range(alloc, edges, range, target)
 }
 
-/// Returns the edges of a state on bytes, ascending by target.
+/// Returns the edges on bytes of the state with this row, ascending by target.
 fn edges_of(alloc: Global, row: &Row) -> Result<Vec<Edge>, AllocError>
     ensures { IfOk result (λ edges. AreEdgesOf (target_by row.now) 256 (map edge_of edges.items)) }
 {
@@ -133,7 +136,7 @@ fn edges_of(alloc: Global, row: &Row) -> Result<Vec<Edge>, AllocError>
     Ok(edges)
 }
 
-/// Returns the leaf with this number, if there is a number.
+/// Returns the leaf with this number, or `None` if there is no number.
 fn leaf(number: Option<usize>) -> Option<LeafId>
     ensures { option_map leaf_number result ≡ number }
 {
@@ -150,14 +153,14 @@ fn type_of_mark(mark: StateMarks) -> StateType
     }
 }
 
-/// Returns the state with this number, if there is a number.
+/// Returns the state with this number, or `None` if there is no number.
 fn state(number: Option<usize>) -> Option<State>
     ensures { option_map state_number result ≡ number }
 {
     Some(State(number?))
 }
 
-/// Returns the states with these numbers.
+/// Returns the states with these numbers, in order.
 fn numbered(alloc: Global, numbers: &[usize]) -> Result<Vec<State>, AllocError>
     ensures { IfOk result (λ states. map state_number states.items ≡ numbers.now) }
 {
@@ -189,7 +192,7 @@ fn state_of(
     })
 }
 
-/// Returns the states of the graph that the table represents.
+/// Returns the states of the graph that the table represents, in the order of their numbers.
 pub(crate) fn states_of(alloc: Global, table: &Table) -> Result<Vec<StateData>, AllocError>
     ensures shows { IfOk result (λ states. Shows table.now (map graph_state_of states.items)) }
     ensures neat { IfOk result (λ states.

@@ -1,5 +1,5 @@
-//! The graph of a lexer, and its methods. `construction` makes graphs, and the generator of codes
-//! and users of the library read them.
+//! The graph of a lexer, and its methods. Made by `construction`, and read by the generator of
+//! codes and users of the library.
 
 ghost use Rattle.std.specs.Prelude.{◌≡◌, ◌≢◌, ℕ, ◌-◌, ◌<◌, ◌↔◌, [], IsTrue, IfOk, Some, length, map, slice_get, string_bytes};
 ghost use Rattle.logos_graph.specs.Views.{range_with_len, dfa_of, fault_of, IsFit, IsFinished, mermaid_of, Shows, YieldsEvidence, YieldsFirstBy, item_count, AreBackward, graph_state_of, state_number, states_left};
@@ -16,7 +16,7 @@ use std::alloc::{AllocError, Global};
 use std::fmt;
 use std::marker::Model;
 
-/// The graph of a lexer: its states and the edges between them.
+/// The graph of a lexer: its leaves and their faults, its states, and the edges between them.
 #[derive(Drop)]
 pub struct Graph<'s> {
     leaves: Vec<Leaf<'s>>,
@@ -27,7 +27,7 @@ pub struct Graph<'s> {
     reduced: Option<Reduction>,
 }
 
-/// An iterator over the states of a graph, ascending.
+/// An iterator over the states of a graph, in the order of their numbers.
 #[derive(Clone, Copy)]
 pub struct States {
     next: usize,
@@ -56,7 +56,7 @@ impl<'s> Model for Graph<'s> {
 }
 
 impl<'s> Graph<'s> {
-    /// Returns a graph without states, for leaves with faults.
+    /// Returns a graph without states, for leaves with the faults `errors`.
     pub(crate) fn refused(
         alloc: Global,
         leaves: Vec<Leaf<'s>>,
@@ -83,7 +83,7 @@ impl<'s> Graph<'s> {
         }
     }
 
-    /// Returns the graph that a table represents, for leaves without faults.
+    /// Returns the graph that the table of `reduced` represents, for leaves without faults.
     pub(crate) fn finished(
         alloc: Global,
         leaves: Vec<Leaf<'s>>,
@@ -119,8 +119,8 @@ impl<'s> Graph<'s> {
 }
 
 impl Graph<'_> {
-    /// Returns the state in which each match attempt begins. The graph must have states, which it
-    /// has if there are no errors.
+    /// Returns the state in which each match attempt begins. The graph must have states; it has
+    /// states if `errors` is empty.
     pub fn root(&self) -> State
         requires { 0 < length self.now.states }
         ensures root { result.0 ≡ 0 }
@@ -132,7 +132,8 @@ impl Graph<'_> {
         State(0)
     }
 
-    /// Returns all states, ascending. There are none if there are errors.
+    /// Returns an iterator over all states, in the order of their numbers. A graph with faults has
+    /// no states.
     pub fn iter_states(&self) -> States
         ensures states { states_left result ≡ range_with_len 0 (length self.now.states) }
         ensures finished { self.now.faults ≡ [] →
@@ -152,7 +153,7 @@ impl Graph<'_> {
         state.0 < self.states.len()
     }
 
-    /// Returns the type and the edges of a state of this graph. `contains` must hold for it.
+    /// Returns the type and the edges of `state`, which must be a state of this graph.
     pub fn get_state(&self, state: State) -> &StateData
         requires { state.0 < length self.now.states }
         ensures state { slice_get self.now.states state.0 ≡ Some (graph_state_of result.now) }
@@ -162,7 +163,7 @@ impl Graph<'_> {
         &self.states[state.0]
     }
 
-    /// Returns the table that the graph represents.
+    /// Returns the reduction whose table the graph represents. The graph must have states.
     pub(crate) fn reduced(&self) -> &Reduction
         requires { 0 < length self.now.states }
         ensures shows { Shows result.now.table self.now.states }
@@ -174,7 +175,7 @@ impl Graph<'_> {
         }
     }
 
-    /// Returns the automaton that the graph was made from.
+    /// Returns the automaton from which the graph was made.
     pub fn dfa(&self) -> &Dfa
         ensures { dfa_of result.now ≡ self.now.automaton }
     {
@@ -208,7 +209,7 @@ impl Graph<'_> {
     }
 }
 
-/// The states with their edges, one on each line.
+/// Prints the states with their numbers and marks, and with a line for each edge.
 impl fmt::Display for Graph<'_> {
     fn fmt<W: fmt::Write>(&self, f: &mut fmt::Formatter<W>) -> fmt::Result {
         let listing = Listing {

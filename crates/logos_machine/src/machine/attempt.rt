@@ -1,5 +1,6 @@
-//! The slow path of an attempt: state by state, recording the last mark passed. `walk` takes it if
-//! entries do not determine the last mark passed, and `part` for inputs whose rest is not known.
+//! The slow path of an attempt, which enters state after state and records the last mark passed.
+//! `walk` takes it if entries do not determine the result, and `part` uses its functions for inputs
+//! whose rest is not known.
 
 ghost use Rattle.std.specs.Prelude.{◌≡◌, ◌+◌, ◌-◌, ◌<◌, ◌≤◌, ℕ, max, length, slice_get, drop, option_map, IfSome, IsTrue, IsCharBoundary, ◌^◌, ◌↔◌};
 ghost use Rattle.logos_machine.specs.Views.{state_at, mark_by, Does, Attempts, EndsError, target, looped, marked, IsStatus, StaysWithin, context_of, status_of, turn_of, found_of};
@@ -15,22 +16,24 @@ const CONTINUES: u8 = 128;
 /// The byte after the last UTF-8 continuation byte.
 const LEADS: u8 = 192;
 
-/// The status of an attempt as it enters a state.
+/// An attempt as it enters a state: the state, the offset in the input, and the last mark passed.
 #[derive(Clone, Copy)]
 pub(super) struct Status {
     pub state: usize,
     pub offset: usize,
-    /// The last mark passed: its leaf, and the end of its match.
+    /// The leaf of the last mark passed and the end of its match, or `None` if no mark has been
+    /// passed.
     pub context: Option<(LeafId, usize)>,
 }
 
-/// The turn of a state in an attempt.
+/// The step that an attempt makes in a state.
 #[derive(Clone, Copy)]
 pub(super) enum Turn {
     Enters(Status),
-    /// The attempt ends at this offset, with this last mark.
+    /// The end of the attempt. The first field is the last mark passed, and the second the offset
+    /// at which the attempt ends.
     Acts(Option<(LeafId, usize)>, usize),
-    /// The input ends, and no byte was read in this attempt.
+    /// The end of the input, at which the attempt began.
     Returns,
 }
 
@@ -38,21 +41,23 @@ pub(super) enum Turn {
 #[derive(Clone, Copy)]
 pub(super) enum Found {
     Ended,
-    /// A match of this leaf up to this offset.
+    /// A match of this leaf, up to this offset.
     Matched(LeafId, usize),
     /// No match. The error ends at this offset.
     Failed(usize),
 }
 
-/// The end of a state's fast loop.
+/// The point at which a state's fast loop ends.
 #[derive(Clone, Copy)]
 pub(super) struct LoopEnd {
     pub offset: usize,
-    /// The target of the byte there, if there is a byte.
+    /// The target of the byte at `offset`, or `None` at the end of the input. The inner option is
+    /// `None` if the byte leads nowhere.
     pub target: Option<Option<usize>>,
 }
 
-/// Returns the turn of the entered state.
+/// Returns the step in the state that an attempt from `start` has entered. `at` is the attempt as
+/// it enters the state.
 #[inline]
 fn run_state(code: &Code, input: &[u8], start: usize, at: Status) -> Turn
     requires { IsStatus code.now input.now start (status_of at) }
@@ -75,7 +80,8 @@ fn run_state(code: &Code, input: &[u8], start: usize, at: Status) -> Turn
     }
 }
 
-/// Returns the end of the state's fast loop, and the target of the byte there.
+/// Returns the end of the fast loop of a state that is entered at `offset`, with the target of the
+/// byte at that end.
 #[inline]
 pub(super) fn stop_of(code: &Code, input: &[u8], state: usize, offset: usize) -> LoopEnd
     requires { state < length code.now.states }
@@ -104,7 +110,8 @@ pub(super) fn stop_of(code: &Code, input: &[u8], state: usize, offset: usize) ->
     }
 }
 
-/// Returns the end of the fast loop of a state that is entered at the offset.
+/// Returns the end of the fast loop of a state that is entered at `offset`, or `offset` if the
+/// state has no fast loop.
 #[inline]
 fn loop_end(code: &Code, input: &[u8], state: usize, offset: usize) -> usize
     requires state { state < length code.now.states }
@@ -119,8 +126,8 @@ fn loop_end(code: &Code, input: &[u8], state: usize, offset: usize) -> usize
     }
 }
 
-/// Returns the last mark passed once a state with this sign is entered. `context` is the last mark
-/// passed before.
+/// Returns the last mark passed after a state with this sign. `offset` is the end of the state's
+/// fast loop, and `context` is the last mark passed before the state.
 #[inline]
 pub(super) fn marked(
     sign: Sign,
@@ -137,8 +144,8 @@ pub(super) fn marked(
     }
 }
 
-/// Returns the end of an error of an attempt that has reached the offset: after at least one byte,
-/// and in UTF-8 mode between characters.
+/// Returns the end of the error of an attempt from `start` that ends at `offset`: the first offset
+/// from `offset` on that is after `start`, and in UTF-8 mode between characters.
 #[cold]
 #[inline(never)]
 pub(super) fn error_end(code: &Code, input: &[u8], start: usize, offset: usize) -> usize
@@ -155,7 +162,7 @@ pub(super) fn error_end(code: &Code, input: &[u8], start: usize, offset: usize) 
     }
 }
 
-/// Returns the first character boundary from the offset on.
+/// Returns the first character boundary at `from` or after it.
 fn boundary_from(input: &[u8], from: usize) -> usize
     requires { from ≤ length input.now }
     ensures past { from ≤ result }
@@ -176,7 +183,7 @@ fn is_continuation(byte: u8) -> bool
     matches!(byte, 0x80..=0xBF)
 }
 
-/// Returns the result of an attempt from a point on that records the marks passed, and the number
+/// Returns the result of an attempt from `start` on that records the marks passed, and the number
 /// of states that it entered.
 #[cold]
 #[inline(never)]

@@ -1,5 +1,5 @@
-//! Finds the end of a fast loop: of the bytes that pass its test. Both paths of an attempt call it
-//! in a state that has a fast loop.
+//! Finds the end of a fast loop: the first byte that does not pass its test. Both paths of an
+//! attempt call it in a state that has a fast loop.
 
 ghost use Rattle.std.specs.Prelude.{◌≡◌, ◌+◌, ◌/◌, ◌%◌, ◌<◌, ◌≤◌, length, map, not, slice_index};
 ghost use Rattle.logos_machine.specs.Views.{mask_l, passes_test, NamesTest, StopsAt};
@@ -7,8 +7,9 @@ ghost use Rattle.logos_machine.specs.Views.{mask_l, passes_test, NamesTest, Stop
 use logos_code::code::Code;
 use std::simd::prelude::*;
 
-/// Returns the index of the first byte from `from` on that does not pass the test, or the length of
-/// the input. Sixteen bytes are tested at once, without a branch for each.
+/// Returns the index of the first byte at `from` or after it that does not pass the test, or the
+/// length of the input if there is none. Tests sixteen bytes at once, without a branch for each
+/// byte.
 #[inline(always)]
 pub(super) fn stop(code: &Code, test: usize, input: &[u8], from: usize) -> usize
     requires test { NamesTest code.now test }
@@ -38,15 +39,16 @@ fn stopping(code: &Code, test: usize, block: &[u8; 16]) -> u64
     (near | far).simd_eq(u8x16::splat(0)).to_bitmask()
 }
 
-/// For the upper half of a byte below 128, the number with only the bit of that index. For other
-/// bytes, 0.
+/// For each upper half of a byte below 128, the number in which only the bit of that index is set.
+/// For the upper halves of other bytes, 0.
 const NEAR: [u8; 16] = [1, 2, 4, 8, 16, 32, 64, 128, 0, 0, 0, 0, 0, 0, 0, 0];
 
-/// For the upper half of a byte from 128 on, the number with only the bit whose index is 8 less.
-/// For other bytes, 0.
+/// For each upper half of a byte from 128 on, the number in which only the bit whose index is 8
+/// less is set. For the upper halves of other bytes, 0.
 const FAR: [u8; 16] = [0, 0, 0, 0, 0, 0, 0, 0, 1, 2, 4, 8, 16, 32, 64, 128];
 
-/// Looks up the lower half of each byte in the sixteen entries of a mask from an index on.
+/// Returns for each byte an entry of the mask: that at the index `at` plus the lower half of the
+/// byte.
 #[inline(always)]
 fn by_low(mask: &[u8; 32], at: usize, bytes: u8x16) -> u8x16
     requires { at ≤ 16 }
@@ -55,7 +57,7 @@ fn by_low(mask: &[u8; 32], at: usize, bytes: u8x16) -> u8x16
     u8x16::from_slice(&mask[at..]).swizzle_dyn_within::<16>(bytes & u8x16::splat(15))
 }
 
-/// Looks up the upper half of each byte.
+/// Returns for each byte the entry of `bits` whose index is the upper half of the byte.
 #[inline(always)]
 fn by_high(bits: [u8; 16], bytes: u8x16) -> u8x16
     ensures { result ≡ map (λ b. slice_index bits (b / 16)) bytes }
@@ -63,7 +65,8 @@ fn by_high(bits: [u8; 16], bytes: u8x16) -> u8x16
     u8x16::from_array(bits).swizzle_dyn_within::<16>(bytes >> u8x16::splat(4))
 }
 
-/// Does the same as `stop`, for long runs of bytes.
+/// Returns the result of `stop` for the bytes from `from` on. Called for long runs of bytes that
+/// pass the test.
 #[cold]
 #[inline(never)]
 fn stop_far(code: &Code, test: usize, input: &[u8], from: usize) -> usize
@@ -82,7 +85,8 @@ fn stop_far(code: &Code, test: usize, input: &[u8], from: usize) -> usize
     stop_late(code, test, input, at)
 }
 
-/// Does the same as `stop`, byte by byte, for fewer than sixteen remaining bytes.
+/// Returns the result of `stop` for the bytes from `from` on, testing byte by byte. Called if fewer
+/// than sixteen bytes are left.
 #[cold]
 #[inline(never)]
 fn stop_late(code: &Code, test: usize, input: &[u8], from: usize) -> usize

@@ -1,5 +1,5 @@
-//! The fast path of an attempt: one load of an entry for each byte. `Lexer::next` calls it for each
-//! attempt.
+//! The fast path of an attempt: one load of an entry for each byte. Called by `Lexer::next` and
+//! `logos_scan`.
 
 ghost use Rattle.std.specs.Prelude.{◌≡◌, ◌<◌, ◌≤◌, ◌/◌, ◌%◌, length, slice_index_or};
 ghost use Rattle.logos_machine.specs.Views.{state_at, IsSound, IsEntry, IsRowStart, Reaches, LooksAhead, IsOutcome};
@@ -14,24 +14,24 @@ use logos_code::code::rows::{
 };
 use logos_hir::leaf::LeafId;
 
-/// The outcome of an attempt. The numbers after leaves are the end of the match and the number of
-/// states that were entered.
+/// The outcome of an attempt. The numbers after a leaf are the end of the match and the number of
+/// states that the attempt entered.
 #[derive(Clone, Copy)]
 pub enum Outcome {
     /// A skipped match up to this offset.
     Skips(usize),
-    /// A match that is a token.
+    /// A match of this leaf that is a token.
     Emits(LeafId, usize, usize),
-    /// A match whose leaf may have a callback.
+    /// A match of this leaf, which may have a callback.
     CallsBack(LeafId, usize, usize),
-    /// No match. The error ends at this offset, and the second number is the number of states that
-    /// were entered.
+    /// No match. The numbers are the end of the error, and the number of states that were entered.
     Fails(usize, usize),
-    /// The end of the input, and the number of states that were entered.
+    /// The end of the input, at which the attempt began, and the number of states that were
+    /// entered.
     Ends(usize),
 }
 
-/// Returns the outcome of an attempt from a point of the input on.
+/// Returns the outcome of an attempt from the offset `start` of the input on.
 #[inline(always)]
 pub fn attempt(code: &Code, input: &[u8], start: usize) -> Outcome
     requires { start ≤ length input.now }
@@ -51,9 +51,9 @@ pub fn attempt(code: &Code, input: &[u8], start: usize) -> Outcome
     end_of(code, input, start, last)
 }
 
-/// Returns the outcome of an attempt from a point on that records the marks passed. Only this
-/// attempt is called out of line: its result is in memory, and the outcome is created from it, so
-/// that the compiler can keep the outcome in registers.
+/// Returns the outcome of an attempt from `start` on that records the marks passed. Only
+/// `attempt_with_marks` is called out of line: its result is in memory, and the outcome is created
+/// from that result, so that the compiler can keep the outcome in registers.
 #[inline(always)]
 fn attempt_slowly(code: &Code, input: &[u8], start: usize) -> Outcome
     requires { start ≤ length input.now }
@@ -66,9 +66,9 @@ fn attempt_slowly(code: &Code, input: &[u8], start: usize) -> Outcome
     }
 }
 
-/// Returns the outcome of an attempt that ends at entry `last`. The numbers of `last` are the
-/// entry, the offset of its byte, the number of states that were entered before its state, and the
-/// row offset of the state.
+/// Returns the outcome of an attempt that ends at the entry `last.0`. The other numbers of `last`
+/// are the offset of the entry's byte, the number of states that were entered before the entry's
+/// state, and the row offset of that state.
 #[inline(always)]
 fn end_of(code: &Code, input: &[u8], start: usize, last: (u32, usize, usize, usize)) -> Outcome
     requires sound { IsSound code.now }
@@ -108,8 +108,9 @@ fn end_of(code: &Code, input: &[u8], start: usize, last: (u32, usize, usize, usi
     attempt_slowly(code, input, start)
 }
 
-/// Returns the outcome of an attempt that ends before a byte that leads nowhere. If the last mark
-/// passed is known for its last state, the attempt need not be repeated.
+/// Returns the outcome of an attempt that ends before a byte that leads nowhere. `last` is as for
+/// `end_of`. If the last mark passed is known for the state of `last`, the attempt need not be
+/// repeated.
 #[inline(always)]
 fn stuck(code: &Code, input: &[u8], start: usize, last: (u32, usize, usize, usize)) -> Outcome
     requires sound { IsSound code.now }
@@ -127,8 +128,8 @@ fn stuck(code: &Code, input: &[u8], start: usize, last: (u32, usize, usize, usiz
     }
 }
 
-/// Returns the leaf of a match that ends before the byte, and the number of states that were
-/// entered after the state of the entry, given the entry without its kind.
+/// Returns the leaf of a match that ends before the byte of an entry, and the number of states that
+/// were entered after the entry's state. `entry` is the operand of the entry.
 #[inline(always)]
 fn halted(entry: u32) -> (LeafId, usize)
     ensures leaf { result.0.0 ≡ entry % LATE }
@@ -137,8 +138,9 @@ fn halted(entry: u32) -> (LeafId, usize)
     (LeafId((entry % LATE) as usize), (entry / LATE) as usize)
 }
 
-/// Returns the last entry of an attempt, the offset of its byte, the number of states that were
-/// entered before its state, and the row offset of this state.
+/// Returns the last entry of an attempt from `start`, the offset of the entry's byte, the number of
+/// states that were entered before the entry's state, and the row offset of that state. `first` is
+/// the entry of the first byte, which leads to a state.
 #[inline(always)]
 fn walk(code: &Code, input: &[u8], start: usize, first: u32) -> (u32, usize, usize, usize)
     requires sound { IsSound code.now }
@@ -173,7 +175,9 @@ fn walk(code: &Code, input: &[u8], start: usize, first: u32) -> (u32, usize, usi
     (code.last_entry(row_start), at, before, row_start)
 }
 
-/// Returns the entry after a fast loop, and the offset of its byte.
+/// Returns the entry after a fast loop, and the offset of that entry's byte. `entry` is the entry
+/// of the byte at the offset `at`, which stays in the state. At the end of the input the result is
+/// the state's entry for the end.
 #[inline(always)]
 fn look_far(code: &Code, input: &[u8], row_start: usize, at: usize, entry: u32) -> (u32, usize)
     requires sound { IsSound code.now }

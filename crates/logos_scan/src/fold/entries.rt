@@ -1,4 +1,4 @@
-//! Computes the entries of folded rows. `folded` calls it for each state.
+//! Computes the entries of folded rows. Called by `folded` for each state.
 
 ghost use Rattle.std.specs.Prelude.{◌≡◌, ◌+◌, ◌<◌, false, length, IfSome};
 ghost use Rattle.logos_scan.specs.fold.Imports.{first_halting, flags_of, row_start_of, state_at, stays, Goes, IsEnded, IsFew, IsFolded, IsFoldedRow, IsSound, IsStepOf, IsWithin, LeadsToRowStart, Describes};
@@ -17,13 +17,13 @@ pub const CALLS: u32 = 1 << 29;
 /// The number of entries of one kind in the rows of a code.
 const NAMED: u32 = 1 << 28;
 
-/// The number of entries that folded rows can have.
+/// The maximum number of entries that folded rows can have.
 pub(crate) const ENTRIES: usize = 1 << 20;
 
-/// The number of leaves that entries can represent.
+/// The maximum number of leaves that entries can represent.
 const LEAVES_NAMED: usize = 512;
 
-/// The factor of the number of a leaf in an entry.
+/// The factor by which the number of a leaf is multiplied in an entry.
 const LEAF: u32 = 1 << 20;
 
 /// Returns the step that an entry of a code represents.
@@ -48,7 +48,8 @@ fn step_of(entry: u32) -> Step
     }
 }
 
-/// Returns the step of a match that ends before its byte, given the entry without its kind.
+/// Returns the step of a match that ends before its byte. `named` is the operand of the byte's
+/// entry, and `used` the use of the match.
 fn before(named: u32, used: MatchUse) -> Step
     requires { named < NAMED }
     ensures { IsStepOf (first_halting used + named) result }
@@ -69,7 +70,7 @@ fn step_at(code: &Code, state: usize, byte: u8) -> Step
     step_of(code.entry(WIDTH * state, byte))
 }
 
-/// Returns the row offset of the state of an attempt after the byte, if it is known that the byte
+/// Returns the row offset of the state after the byte, or `None` if it is not known that the byte
 /// continues the attempt.
 fn row_start_after(code: &Code, state: usize, byte: u8) -> Option<usize>
     requires few { IsFew code.now }
@@ -99,7 +100,7 @@ fn row_start_of_target(code: &Code, state: usize, byte: u8) -> Option<usize>
     }
 }
 
-/// Returns the flags of an entry before whose byte a match ends.
+/// Returns the flags of an entry before whose byte a match of this use ends.
 fn flags(used: MatchUse) -> u32
     ensures { result ≡ flags_of used }
 {
@@ -110,8 +111,8 @@ fn flags(used: MatchUse) -> u32
     }
 }
 
-/// Returns the entry of a byte before which a match ends, where the next attempt is in the state at
-/// this row offset after the byte.
+/// Returns the entry of a byte before which a match of this leaf and use ends. `row_start` is the
+/// row offset of the state in which the next attempt is after the byte.
 fn ended(leaf: LeafId, used: MatchUse, row_start: usize) -> u32
     requires leaf { leaf.0 < LEAVES_NAMED }
     requires row_start { row_start < ENTRIES }
@@ -120,8 +121,8 @@ fn ended(leaf: LeafId, used: MatchUse, row_start: usize) -> u32
     flags(used) + LEAF * leaf.0 as u32 + row_start as u32
 }
 
-/// Returns the entry of a byte that does not continue the attempt, given the row offset after the
-/// byte in a new attempt.
+/// Returns the entry of a byte that does not continue the attempt. `row_start` is the row offset of
+/// the state in which a new attempt is after the byte.
 fn fold_end(code: &Code, state: usize, byte: u8, row_start: usize) -> u32
     requires few { IsFew code.now }
     requires state { state < length code.now.states }
@@ -153,7 +154,7 @@ fn fold(code: &Code, state: usize, byte: u8) -> u32
     }
 }
 
-/// Returns the folded entries of all bytes in the state.
+/// Returns the folded row of the state: the entries of all bytes, and 16 unused ones.
 pub(crate) fn row_of(code: &Code, state: usize) -> [u32; 272]
     requires few { IsFew code.now }
     requires sound { IsSound code.now }

@@ -1,4 +1,4 @@
-//! The folded rows of a code. `choice` makes them for each input that is long enough.
+//! Folds the rows of a code. Called by `choice` for each input that is long enough.
 
 ghost use Rattle.std.specs.Prelude.{◌≡◌, IfOk, IfSome, None, length};
 ghost use Rattle.logos_scan.specs.fold.Imports.{AreFolded, IsFew, IsMany};
@@ -9,7 +9,7 @@ use logos_code::code::rows::WIDTH;
 use std::alloc::{AllocError, Global};
 use std::marker::Model;
 
-/// A code with its folded rows. `rows` describes the entries.
+/// A code with its folded rows. The module `walk` describes their entries.
 #[derive(Drop)]
 pub struct Folded<'c, 's> {
     code: &'c Code<'s>,
@@ -31,8 +31,8 @@ impl<'c, 's> Model for Folded<'c, 's> {
 }
 
 impl<'c, 's> Folded<'c, 's> {
-    /// Folds the rows of a code. Returns `None` only if the code has more states than folded
-    /// entries can represent: more than 3,855.
+    /// Returns the code with its folded rows, or `None` if it has more states than folded entries
+    /// can represent: more than 3,855.
     ///
     /// # Errors
     ///
@@ -49,7 +49,7 @@ impl<'c, 's> Folded<'c, 's> {
         Ok(Some(Folded { code, rows }))
     }
 
-    /// Returns the code.
+    /// Returns the code whose rows were folded.
     pub fn code(&self) -> &'c Code<'s>
         ensures { result.now ≡ self.now.code }
     {
@@ -66,7 +66,7 @@ impl<'c, 's> Folded<'c, 's> {
     }
 }
 
-/// Computes the folded rows of all states.
+/// Returns the folded rows of the `states` states of a code, one after another.
 ///
 /// # Errors
 ///

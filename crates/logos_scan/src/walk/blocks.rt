@@ -1,5 +1,4 @@
-//! Steps over the blocks of a chunk in parallel. `run` and `trial` call `walk_chunk` for each
-//! chunk.
+//! Steps over the blocks of a chunk in parallel. Called by `run` and `trial` for each chunk.
 
 ghost use Rattle.std.specs.Prelude.{◌≡◌, ◌<◌, ◌+◌, List, ℕ, length, slice_index};
 ghost use Rattle.logos_scan.specs.walk.Views.{IsClosed, IsRowStart, IsSameBeside, Walked, AreRowStarts, AreWalked, HoldsStretch};
@@ -8,8 +7,8 @@ use crate::walk::guess::guess_row_starts;
 use crate::walk::repair::{Stretch, repair};
 use crate::walk::step;
 
-/// The number of blocks of a chunk. They are walked in parallel: each step depends on the one
-/// before it, so that a single walk would leave a processor idle.
+/// The number of blocks of a chunk. They are walked in parallel: a step depends on the step before
+/// it, so that a single walk would leave a processor idle.
 pub const BLOCKS: usize = 6;
 
 /// The number of bytes of a block.
@@ -18,8 +17,8 @@ pub const BLOCK: usize = 768;
 /// The number of bytes of a chunk.
 pub const CHUNK: usize = 4608;
 
-/// Steps over one byte of each block, from its row on. `at` is the index of the byte in the first
-/// block.
+/// Steps over one byte of each block, whose index in its block is `at`. Writes the entry of the
+/// byte into `trace`, and replaces the block's row in `row_starts` by the row after the byte.
 #[inline(always)]
 fn column(rows: &[u32], text: &[u8], row_starts: &mut [usize; 6], trace: &mut [u32], at: usize)
     requires closed { IsClosed rows.now }
@@ -38,8 +37,9 @@ fn column(rows: &[u32], text: &[u8], row_starts: &mut [usize; 6], trace: &mut [u
     }
 }
 
-/// Steps over the blocks in turns, each from its own row on, and stores the rows after them. It is
-/// called out of line, so that all registers are available to it.
+/// Steps over the blocks in turns, each from its row in `row_starts` on. Writes the entries into
+/// `trace`, and replaces the rows by those after the blocks. Called out of line, so that all
+/// registers are available to it.
 #[inline(never)]
 fn walk_blocks(rows: &[u32], text: &[u8], row_starts: &mut [usize; 6], trace: &mut [u32])
     requires closed { IsClosed rows.now }
@@ -56,8 +56,9 @@ fn walk_blocks(rows: &[u32], text: &[u8], row_starts: &mut [usize; 6], trace: &m
     *row_starts = now;
 }
 
-/// Steps over a chunk from a row on, and returns the row after it. All blocks but the first begin
-/// in guessed rows. A block whose guess was wrong is repaired.
+/// Steps over a chunk from the row `row_start` on: writes the entries of its bytes into `trace`,
+/// and returns the row after it. All blocks but the first begin in rows that are guessed with the
+/// row `root` of new attempts. A block whose guess was wrong is repaired.
 pub fn walk_chunk(
     rows: &[u32],
     text: &[u8],
@@ -90,8 +91,8 @@ pub fn walk_chunk(
     now
 }
 
-/// Steps again over a block that began in a guessed row, if the guess was wrong. Returns the row
-/// after the block.
+/// Steps again over a block that began in a guessed row, if the guess was not `row_start`. Returns
+/// the row after the block.
 #[inline(always)]
 fn repaired_block(
     rows: &[u32],

@@ -1,4 +1,5 @@
-//! The pending entries of a chunk, found by the flags of its entries. `run` iterates over them.
+//! Finds the pending entries of a chunk by the flags of its entries. Used by `run`, which iterates
+//! over these entries.
 
 ghost use Rattle.std.specs.Prelude.{◌≡◌, ◌<◌, ◌+◌, ◌*◌, MatchOption};
 ghost use Rattle.logos_scan.specs.walk.Views.{HasRoom, Finds, Finishes, IsInWord, IsMarked, Passes, IsAt, start_at, start_by, start_of};
@@ -6,16 +7,18 @@ ghost use Rattle.logos_scan.specs.walk.Views.{HasRoom, Finds, Finishes, IsInWord
 use crate::walk::blocks::CHUNK;
 use crate::walk::masks::ChunkEntries;
 
-/// The state of a scan in a chunk: before the entry `from`, in a word of flags. It has the tokens
-/// of the word that are left, and all ends of the word. The last end before an entry is computed
-/// only when it is requested, so that `next` changes only the flags that it passes.
+/// A point of a scan in a chunk: before the entry `from`, in a word of flags. `tokens` has the
+/// flags of the word's pending entries that are left, and `ends` those of the ends of matches in
+/// the word. The last end before an entry is computed only when it is requested, so that `next`
+/// changes only the flags that it passes.
 #[derive(Clone, Copy, Drop)]
 pub struct ChunkCursor {
-    /// The offset of the chunk in the input.
+    /// The offset of the chunk in the input, in bytes.
     pub base: usize,
-    /// The first entry that has not been passed.
+    /// The index of the first entry that has not been passed.
     pub from: usize,
-    /// The start, in the input, of the attempt that is active before the first end of the word.
+    /// The offset in the input at which the attempt begins that is active before the first end of
+    /// the word.
     pub word_start: usize,
     word: usize,
     tokens: u64,
@@ -23,8 +26,8 @@ pub struct ChunkCursor {
 }
 
 impl ChunkCursor {
-    /// Returns the cursor before the entry `from` of a chunk, where the active attempt began at
-    /// `start`.
+    /// Returns the cursor before the entry `from` of the chunk at the offset `base` of the input.
+    /// The active attempt began at the offset `start`.
     #[inline(always)]
     pub fn new(chunk: &ChunkEntries, base: usize, start: usize, from: usize) -> ChunkCursor
         requires marked { IsMarked chunk.now }
@@ -46,7 +49,8 @@ impl ChunkCursor {
         }
     }
 
-    /// Returns the start of the attempt that is active after ends of the word, given their bits.
+    /// Returns the start of the attempt that is active after some ends of the word, whose bits are
+    /// set in `bits`.
     #[inline(always)]
     fn start_after(self, bits: u64) -> usize
         requires room { HasRoom self.base }
@@ -59,7 +63,7 @@ impl ChunkCursor {
         self.base + 64 * self.word + (63 - bits.leading_zeros() as usize)
     }
 
-    /// Returns the start of the attempt that is active before an entry of the word.
+    /// Returns the start of the attempt that is active before the entry `at`, which is in the word.
     #[inline(always)]
     pub fn start_before(self, at: usize) -> usize
         requires room { HasRoom self.base }
@@ -71,7 +75,7 @@ impl ChunkCursor {
         self.start_after(self.ends & before)
     }
 
-    /// Returns the cursor before the next word, if no pending entry is left in this one.
+    /// Returns the cursor before the next word. This word must have no pending entry left.
     #[inline(always)]
     fn moved(self, chunk: &ChunkEntries) -> ChunkCursor
         requires marked { IsMarked chunk.now }
@@ -94,7 +98,8 @@ impl ChunkCursor {
         }
     }
 
-    /// Returns the cursor in the next word with a pending entry, or in the last word.
+    /// Returns the cursor in the first word from this one on that has a pending entry left, or in
+    /// the last word if there is none.
     #[inline(always)]
     fn filled(self, chunk: &ChunkEntries) -> ChunkCursor
         requires marked { IsMarked chunk.now }
@@ -114,8 +119,9 @@ impl ChunkCursor {
         cursor
     }
 
-    /// Returns the next pending entry, and passes it. If there is none, returns `None`: all entries
-    /// are passed, and the attempt that is active at the end began at `word_start`.
+    /// Returns the index of the next pending entry, and passes it. If there is none, returns
+    /// `None`: all entries are passed, and the attempt that is active at the end began at
+    /// `word_start`.
     #[inline(always)]
     pub fn next(&mut self, chunk: &ChunkEntries) -> Option<usize>
         requires marked { IsMarked chunk.now }

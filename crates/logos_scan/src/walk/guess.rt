@@ -1,4 +1,4 @@
-//! Guesses the rows in which blocks begin. `blocks` calls it for each chunk.
+//! Guesses the rows in which blocks begin. Called by `blocks` and `trial` for each chunk.
 
 ghost use Rattle.std.specs.Prelude.{◌≡◌, ◌<◌, length};
 ghost use Rattle.logos_scan.specs.walk.Views.{IsClosed, IsRowStart, AreRowStarts};
@@ -9,7 +9,8 @@ use crate::walk::{OFFSET_MASK, entry_of};
 /// The number of bytes before a block that a guess examines.
 const WINDOW: usize = 48;
 
-/// Returns the row after a byte, which is the root after a line end.
+/// Returns the row after a byte: the root after a line end, and otherwise the row to which the byte
+/// leads from `row_start`.
 #[inline(always)]
 fn after(rows: &[u32], byte: u8, row_start: usize, root: usize) -> usize
     requires closed { IsClosed rows.now }
@@ -21,8 +22,8 @@ fn after(rows: &[u32], byte: u8, row_start: usize, root: usize) -> usize
     if byte == b'\n' { root } else { next }
 }
 
-/// Steps over one byte before each block but the first. `at` is the index of the byte among those
-/// that are examined.
+/// Steps over one byte before each block but the first, from the block's row in `row_starts` on,
+/// and replaces this row. `at` is the index of the byte among those that are examined.
 #[inline(always)]
 fn step_before(rows: &[u32], text: &[u8], root: usize, row_starts: &mut [usize; 6], at: usize)
     requires closed { IsClosed rows.now }
@@ -38,9 +39,10 @@ fn step_before(rows: &[u32], text: &[u8], root: usize, row_starts: &mut [usize; 
     }
 }
 
-/// Returns guesses of the rows in which blocks begin: the rows to which the bytes after the last
-/// line end lead from the root, among a few bytes before each block. Any row is correct, and a good
-/// guess is fast. All guesses are made in parallel, as blocks are walked.
+/// Returns guesses of the rows in which blocks begin. The guess for a block is the row to which the
+/// bytes after the last line end lead from the root, among a few bytes before the block; for the
+/// first block it is the root. Any row is correct, and a good guess is fast. All guesses are made
+/// in parallel, as blocks are walked.
 #[inline(always)]
 pub fn guess_row_starts(rows: &[u32], text: &[u8], root: usize) -> [usize; 6]
     requires closed { IsClosed rows.now }

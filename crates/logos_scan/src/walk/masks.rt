@@ -1,4 +1,4 @@
-//! Bit masks of the flags of entries. `run` computes them for each chunk.
+//! Computes bit masks of the flags of entries. Called by `run` for each chunk.
 
 ghost use Rattle.std.specs.Prelude.{◌≡◌, ◌≤◌, ◌+◌, length, replicate};
 ghost use Rattle.logos_scan.specs.walk.Views.{HoldTops, MarksFrom, IsMarked, IsMarkedBeside};
@@ -10,7 +10,8 @@ use std::simd::prelude::*;
 /// The number of words of flags of a chunk.
 const WORDS: usize = CHUNK / 64;
 
-/// The entries of a chunk, and their flags, 64 in a word.
+/// The entries of a chunk, with a bit for each of the flags `ENDED` and `TOKEN` of an entry, 64
+/// bits in a word.
 #[derive(Drop)]
 pub struct ChunkEntries {
     pub entries: [u32; 4608],
@@ -24,8 +25,8 @@ const ENDED_TOP: u8 = (ENDED >> 24) as u8;
 /// The flag `TOKEN` in the highest byte of an entry.
 const TOKEN_TOP: u8 = (TOKEN >> 24) as u8;
 
-/// Returns the highest bytes of the 16 entries from `at` on. They are selected from all bytes,
-/// since the compiler needs more instructions for a shift.
+/// Returns the highest bytes of the 16 entries from `at` on. The bytes are selected from all bytes
+/// of the entries, since the compiler needs more instructions for a shift.
 #[inline(always)]
 fn tops_of_16(trace: &[u32], at: usize) -> u8x16
     requires { at + 16 ≤ length trace.now }
@@ -70,7 +71,8 @@ fn tops_of_64(trace: &[u32], at: usize) -> u8x64
     )
 }
 
-/// Returns the flags `ENDED` and `TOKEN` of the 64 entries from `at` on.
+/// Returns the flags `ENDED` and `TOKEN` of the 64 entries from `at` on, as two words: bit `k` is
+/// the flag of the entry `at + k`.
 #[inline(always)]
 fn flags_of(trace: &[u32], at: usize) -> (u64, u64)
     requires { at + 64 ≤ length trace.now }
@@ -87,7 +89,7 @@ fn flags_of(trace: &[u32], at: usize) -> (u64, u64)
 }
 
 impl ChunkEntries {
-    /// Makes a chunk whose entries are 0, without flags.
+    /// Returns a chunk whose entries are 0, without flags.
     pub fn new() -> ChunkEntries
         ensures entries { result.entries ≡ replicate CHUNK 0 }
         ensures ends { result.ends ≡ replicate WORDS 0 }
@@ -100,7 +102,8 @@ impl ChunkEntries {
         }
     }
 
-    /// Writes the words of flags from `from` up to but not including `to`.
+    /// Computes the words of flags from the entries: those from index `from` up to but not
+    /// including `to`.
     pub fn mark(&mut self, from: usize, to: usize)
         requires order { from ≤ to }
         requires within { to ≤ 72 }

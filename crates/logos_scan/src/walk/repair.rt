@@ -1,4 +1,5 @@
-//! Steps again over bytes where a walk began in another row. `blocks` and `run` call it.
+//! Repairs a walk that began in a wrong row, by steps over its bytes from the right row on. Called
+//! by `blocks` and `run`.
 
 ghost use Rattle.std.specs.Prelude.{◌≡◌, ◌<◌, ◌≤◌, length};
 ghost use Rattle.logos_scan.specs.walk.Views.{IsClosed, IsRowStart, IsSameBeside, Walked, HoldsStretch, IsRepaired};
@@ -15,17 +16,17 @@ pub struct Stretch {
     pub end: usize,
 }
 
-/// The result of a repair.
+/// The result of `repair`: the row after the stretch, and the end of the entries that were written.
 #[derive(Clone, Copy, Drop)]
 pub struct Repaired {
     /// The row after the last byte of the stretch.
     pub row_start: usize,
-    /// The first byte whose entry need not be written again.
+    /// The index of the first byte whose entry was not written again.
     pub stop: usize,
 }
 
-/// Steps again over the bytes of a stretch from another row on, until a byte leads to the same row
-/// as in the trace.
+/// Steps again over the bytes of a stretch, from the row `row_start` on, until a byte leads to the
+/// same row as in the trace. Writes the entries of these bytes into `trace`.
 pub fn repair(
     rows: &[u32],
     text: &[u8],
