@@ -5,10 +5,11 @@ use crate::fault::text;
 use crate::question::Question;
 use proc_macro::{Delimiter, Group, Ident, Literal, Span, TokenStream, TokenTree};
 
-/// Returns the items that make the compiler warn at the first token of the span, or at the name of
-/// the enum. It would not warn at the derive, which is not one of the user's tokens.
+/// Returns the items that make the compiler warn at the first token of the warning's span, or at
+/// the name of the enum if there is no token. At the derive, which is not one of the user's tokens,
+/// the compiler would not warn.
 ///
-/// Lints that the enum allows are allowed for its warnings, too.
+/// Lints that the enum `item` allows are allowed for its warnings, too.
 pub fn warning(found: &Diagnostic, question: &Question, item: &TokenStream) -> TokenStream {
     let note = Literal::string(&text(found, question));
     let place = question.place(&found.span).or_else(|| question.name());
