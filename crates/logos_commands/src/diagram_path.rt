@@ -44,8 +44,8 @@ fn refused_by(extension: &str) -> ExportRefusal
     }
 }
 
-/// Returns the extension of a name, if it has one: the part after its last `.`. A leading `.`
-/// begins no extension, and `..` has none.
+/// Returns the extension of a name, the part after its last `.`, or `None` if it has none. A
+/// leading `.` begins no extension, and `..` has none.
 fn extension_of(name: &str) -> Option<&str>
     ensures { option_copied result ≡ extension name.now }
 {
@@ -58,7 +58,8 @@ fn extension_of(name: &str) -> Option<&str>
     }
 }
 
-/// Returns the path of the diagram of an enum in a folder.
+/// Returns the path of the state diagram of the enum `name` in `folder`: the name in lower case,
+/// with the extension `mmd`. Returns `AllocError` if memory runs out.
 fn path_in(alloc: Global, folder: &str, name: &str) -> Result<String, AllocError>
     ensures { IfOk result (λ path. string_bytes path ≡ file_in folder.now name.now) }
 {
@@ -68,8 +69,8 @@ fn path_in(alloc: Global, folder: &str, name: &str) -> Result<String, AllocError
     Ok(path)
 }
 
-/// Returns the folder's path, ready for a name to be appended: with `/` at its end, unless it is
-/// empty.
+/// Returns the path `folder`, ready for a name to be appended: with `/` at its end, unless it is
+/// empty. Returns `AllocError` if memory runs out.
 fn with_separator(alloc: Global, folder: &str) -> Result<String, AllocError>
     ensures { IfOk result (λ path. string_bytes path ≡ with_separator folder.now) }
 {

@@ -26,8 +26,8 @@ pub fn strips_by_parts()
         EnumStays value tokens remaining → remaining ≡ stripped tokens }
 {}
 
-/// An offset of a part of a file, counted from the beginning of the file, is a sum, as long as that
-/// is a number of 64 bits.
+/// An offset in a part of a file, counted from the beginning of the file, is the sum of that offset
+/// and the offset of the part, if the sum is less than 2^64.
 pub fn offsets_are_sums()
     ensures report { (begin offset : ℕ) → offset + begin < 2 ^ 64 →
         in_file begin offset ≡ offset + begin }
@@ -35,8 +35,8 @@ pub fn offsets_are_sums()
         moved begin offset ≡ begin + offset }
 {}
 
-/// The lines of a report occur in it, in order, by the definition that is used for the generated
-/// code of a lexer.
+/// The lines of a report occur in the report in order, by the definition of this that is used for
+/// the generated code of a lexer.
 pub fn report_lines_occur()
     ensures { (is_colored : Bool) (lines : List (List ℕ)) (whole : List ℕ) →
         InReport is_colored lines whole → OccurInOrder lines whole }

@@ -92,8 +92,8 @@ impl<'t> Source<'t> {
         found.map_or_else(|| self.refusal(n, "an item that does not end"), Ok)
     }
 
-    /// Returns the number of the token that closes the opening bracket `n`, or `n` if that is no
-    /// opening bracket.
+    /// Returns the number of the token that closes the opening bracket `n`, or `n` if this token
+    /// opens no bracket.
     pub(crate) fn closing(&self, n: usize) -> usize {
         self.tokens.get(n).map_or(n, |token| token.closing.max(n))
     }

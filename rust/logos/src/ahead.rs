@@ -225,7 +225,7 @@ impl Ahead {
 }
 
 /// The steps of a lexer that are called out of line. They are functions of the enum, so that the
-/// compiler places them next to its `lex`, and has each table once in a program.
+/// compiler puts them next to its `lex`, and has each table once in a program.
 pub(crate) trait Looks<'source>: Tables<'source> {
     /// Returns the next step of a lexer whose last item ended at byte offset `end`, and the new
     /// state.

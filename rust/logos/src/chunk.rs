@@ -323,7 +323,7 @@ fn entered(trace: &[u32; WORD]) -> usize {
 }
 
 /// The walks over blocks, which are called out of line. They are functions of the enum, so that the
-/// compiler places them next to its `lex`, and has each table once in a program.
+/// compiler puts them next to its `lex`, and has each table once in a program.
 trait Blocks<'source>: Tables<'source> {
     /// Walks over all blocks in parallel, each from its row, and sets their entries in `trace`.
     /// Returns the row offsets after the blocks.

@@ -52,8 +52,9 @@ impl<const STATES: usize, const RUNS: usize> Unpacked<STATES, RUNS> {
         self.layout.rows * self.layout.columns
     }
 
-    /// Returns the rows of all states, given the steps `insides` of those without a row. There are
-    /// so many entries that the offset of each row plus a byte or a class is the index of an entry.
+    /// Returns the rows of all states, given the steps `insides` of those without a row. The offset
+    /// of each row plus a byte or a class is the index of an entry: after the last row there are
+    /// more entries.
     ///
     /// # Panics
     ///
