@@ -38,7 +38,7 @@ pub(crate) enum Next {
     Match(usize, Span),
     /// The match attempt that begins at this byte offset is repeated.
     Repeat(usize),
-    /// The part of an input has no further item after this byte offset.
+    /// The lexer has returned all items of its part of an input, which end at this byte offset.
     End(usize),
 }
 

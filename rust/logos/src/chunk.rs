@@ -111,8 +111,9 @@ impl Chunk {
         }
     }
 
-    /// Walks over all bytes of a chunk. The first block begins in the row at `row_start`, the other
-    /// blocks begin in rows that `guesser` guesses.
+    /// Walks over all bytes of a chunk, and returns the row offset after the chunk and the cost.
+    /// The first block begins in the row at `row_start`, the other blocks begin in rows that
+    /// `guesser` guesses.
     #[inline]
     pub(crate) fn walk<'s, T: Tables<'s>>(
         &mut self,
@@ -240,7 +241,8 @@ impl Chunk {
     }
 
     /// Walks over `rest`, which has fewer bytes than a chunk, from the row at `row_start` on: in
-    /// parallel parts, and over the last bytes one by one.
+    /// parallel parts, and over the last bytes one at a time. Returns the row offset after `rest`,
+    /// and the cost.
     #[inline]
     pub(crate) fn walk_rest<'s, T: Tables<'s>>(&mut self, rest: &[u8], row_start: u32) -> Walked {
         let size = rest.len() / BLOCKS;
@@ -263,8 +265,8 @@ impl Chunk {
     }
 
     /// Walks again over the bytes in `range`, from the row at `row_start` on, up to the first byte
-    /// after which the trace has the same row. Returns the offset after that byte, or the end of
-    /// `range` if there is none, and the row offset there.
+    /// after which the trace has the same row, and sets their entries. Returns the offset after
+    /// that byte, or the end of `range` if there is none, and the row offset there.
     #[inline]
     pub(crate) fn walk_again<'s, T: Tables<'s>>(
         &mut self,

@@ -38,7 +38,7 @@ pub struct Data {
     pub lengths: Numbers,
     /// The step of each run of `lengths`.
     pub steps: Numbers,
-    /// The number of each state's row.
+    /// The index of each state's row.
     pub rows: Numbers,
     /// The mark of each state: 0 if it has none, otherwise 2 plus twice the leaf of a match that
     /// ends there, plus 1 if the match ends one byte before.
@@ -61,7 +61,7 @@ pub(crate) struct Row {
     /// belong to earlier rows.
     pub(crate) run: usize,
     pub(crate) passed: usize,
-    /// Whether a step leads to a state.
+    /// Whether any step of the row leads to a state.
     pub(crate) leads: bool,
     /// Whether a byte leads to another state, no byte stays, and no symbol leads to a state except
     /// bytes that continue a character.
@@ -110,9 +110,9 @@ impl Unpacked<0, 0> {
     };
 }
 
-/// The values of the constants of a lexer. Each is made from the enum, and not from another
-/// constant: when rustc checks a package it evaluates the constants that a constant names, but it
-/// evaluates these only in builds.
+/// The values of the constants of a lexer. Each value is made from the enum, and not from another
+/// constant: when rustc only checks a package, it evaluates each constant that another constant
+/// names, and leaves the others to builds.
 ///
 /// # Panics
 ///
@@ -124,8 +124,7 @@ impl<const STATES: usize, const RUNS: usize> Unpacked<STATES, RUNS> {
     }
 
     /// Returns the rows of a lexer if they have an entry for each byte: an entry for each state and
-    /// column, and 256 more entries. Otherwise returns zeros, and [`crate::layout::Made`] has the
-    /// rows.
+    /// column, and 256 more entries. Otherwise returns zeros, and `layout::Made` has the rows.
     pub const fn rows<'source, T, const N: usize>() -> [u32; N]
     where
         T: Tables<'source, Unpacked = Self>,

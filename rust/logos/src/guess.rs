@@ -142,7 +142,7 @@ impl Guesser {
     }
 }
 
-/// Returns the number of the counter of two candidates, in either order.
+/// Returns the index of the counter for two candidates, which may be in either order.
 fn hash(first: u32, second: u32) -> usize {
     let (low, high) = (first.min(second), first.max(second));
     ((low.wrapping_mul(0x9E37_79B1) ^ high.wrapping_mul(0x85EB_CA77)) >> 26) as usize
@@ -151,7 +151,8 @@ fn hash(first: u32, second: u32) -> usize {
 /// The guesses that are rare, and therefore made out of line.
 trait Far<'source>: Tables<'source> {
     /// Guesses the row offsets of all blocks but the first by more bytes: from the last line end
-    /// before each block. Returns also the number of bytes that were examined.
+    /// before each block, after which the row offset is `start`. Returns also the number of bytes
+    /// that were examined.
     #[cold]
     #[inline(never)]
     fn guess_by_lines(input: &[u8; CHUNK], start: u32) -> ([u32; BLOCKS], usize) {
@@ -202,8 +203,8 @@ pub(crate) fn guess_parts<'s, T: Tables<'s>>(
 }
 
 /// Guesses the row offsets of all blocks but the first: those after the bytes that follow the last
-/// line end, from byte `from` of the previous block on. All guesses are made in parallel, as blocks
-/// are walked.
+/// line end, from byte `from` of the previous block on, where `start` is the row offset after a
+/// line end. All guesses are made in parallel, as blocks are walked.
 #[inline(always)]
 fn guess_row_offsets<'s, T: Tables<'s>>(
     input: &[u8; CHUNK],

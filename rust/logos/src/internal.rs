@@ -57,12 +57,14 @@ impl<'source, Token: Logos<'source>> LexerInternal<'source> for Lexer<'source, T
     }
 }
 
-/// An enum whose lexer is tables, with these in the form of generated code.
+/// An enum whose lexer is tables: these tables, and the functions for its leaves, in generated
+/// code.
 pub trait Tables<'source>: Logos<'source> + Made<'source> {
     /// The tables, packed.
     const DATA: Data;
 
-    /// The unpacked tables and their type, from which the constants that follow are made.
+    /// The type of the unpacked tables, and these tables, from which the constants that follow are
+    /// made.
     type Unpacked: 'static;
     const UNPACKED: &'static Self::Unpacked;
 
@@ -87,8 +89,8 @@ pub trait Tables<'source>: Logos<'source> + Made<'source> {
     /// [`Tables::act`].
     fn plain(leaf: usize) -> Option<Self>;
 
-    /// Returns the outcome of the lexer's match, of a leaf for which [`Tables::plain`] returns
-    /// `None`.
+    /// Returns the outcome of the lexer's match of `leaf`, for which [`Tables::plain`] returns
+    /// `None`. Calls the callback of the leaf, if it has one.
     fn act(lexer: &mut Lexer<'source, Self>, leaf: usize) -> CallbackResult<'source, Self>;
 
     /// Returns the error for unmatched input.
@@ -112,7 +114,7 @@ pub fn looking<'source, Token: Tables<'source>>(
     lexer
 }
 
-/// The outcome of a match.
+/// The outcome of a match: a token, an error, or no item.
 pub enum CallbackResult<'source, Token: Logos<'source>> {
     Emit(Token),
     Error(Token::Error),
@@ -120,7 +122,7 @@ pub enum CallbackResult<'source, Token: Logos<'source>> {
     Skip,
 }
 
-/// The outcome of a match of a skip.
+/// The outcome of a match of a leaf that is skipped: no item, or an error.
 pub enum SkipResult<'source, Token: Logos<'source>> {
     Skip,
     Error(Token::Error),

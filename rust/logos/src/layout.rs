@@ -76,7 +76,8 @@ pub trait Made<'source> {
     /// The rows of the loop over match attempts: see [`crate::rows`].
     const ENTRIES: &'static [u32];
     const INSIDES: &'static [Inside];
-    /// For the number of each state, its last match, and the state in the tables of generated code.
+    /// The last match in each state, and each state's index in the tables of generated code, both
+    /// in the order of the states' numbers.
     const LAST_MATCHES: &'static [u32];
     const NUMBERED: &'static [u32];
     /// The rows of walks: see [`crate::folded`].
@@ -84,7 +85,8 @@ pub trait Made<'source> {
     const WALKED_INSIDES: &'static [Inside];
 }
 
-/// The sets of the states without a row, and the number of such states with entries among the rows.
+/// The steps of the states without a row, and the number of such states with entries among the
+/// rows.
 pub(crate) struct Sets<const STATES: usize> {
     pub(crate) insides: [Inside; STATES],
     pub(crate) many: usize,
@@ -133,7 +135,8 @@ const fn printed_folded<'s, T: Tables<'s>>() -> &'static [u32] {
     T::FOLDED
 }
 
-/// The sets of the states without a row of a lexer, as constants for its two tables.
+/// The steps of the states without a row of a lexer, as constants: among the rows of match
+/// attempts, and among those of walks.
 struct Parts<'s, T>(PhantomData<(&'s (), T)>);
 
 impl<'s, T, const STATES: usize, const RUNS: usize> Parts<'s, T>
@@ -251,7 +254,8 @@ impl<const STATES: usize, const RUNS: usize> Unpacked<STATES, RUNS> {
         is_inside && state != self.data.root && !self.data.by_bytes()
     }
 
-    /// Returns for each class the number of its column, and then the number of columns.
+    /// Returns the column of each class, followed by the number of columns, where the states whose
+    /// number is below `rows` have a row.
     const fn columns_of_classes(&self, number: &[u32; STATES], rows: u32) -> [u16; SYMBOLS + 1] {
         let (mut columns, mut is_first, mut state) = ([0; SYMBOLS + 1], [false; SYMBOLS + 1], 0);
         let (width, runs) = (self.data.width, &self.runs);
@@ -276,7 +280,7 @@ impl<const STATES: usize, const RUNS: usize> Unpacked<STATES, RUNS> {
         columns
     }
 
-    /// Returns the state that has each number.
+    /// Returns the states in the order of their numbers.
     const fn numbered(&self) -> [u32; STATES] {
         let (mut states, mut state) = ([0; STATES], 0);
         while state < STATES {
@@ -307,7 +311,7 @@ impl<const STATES: usize, const RUNS: usize> Unpacked<STATES, RUNS> {
 }
 
 impl<const STATES: usize> Sets<STATES> {
-    /// The value before the set of any state is made.
+    /// The value before the steps of any state are made.
     pub(crate) const NONE: Sets<STATES> = Sets {
         insides: [NO_INSIDE; STATES],
         many: 0,

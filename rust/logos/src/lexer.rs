@@ -9,20 +9,20 @@ use crate::{Logos, Source};
 use core::fmt;
 use core::ops::{Deref, DerefMut, Range};
 
-/// A range of byte offsets in an input, without its end.
+/// A range of byte offsets in an input, up to the end of the range, which is not part of it.
 pub type Span = Range<usize>;
 
 /// The setting that determines where a lexer looks ahead.
 #[derive(Clone, Copy, Debug, PartialEq, Eq)]
 pub enum Way {
-    /// Where that saves time.
+    /// The lexer looks ahead where that saves time.
     ByRule,
-    /// Nowhere.
+    /// The lexer does not look ahead.
     Never,
-    /// Everywhere.
+    /// The lexer looks ahead everywhere.
     Always,
-    /// Everywhere. The lexer returns only the items that do not depend on the bytes after the
-    /// input.
+    /// The lexer looks ahead everywhere, and returns only the items that do not depend on the bytes
+    /// after the input.
     Part,
 }
 

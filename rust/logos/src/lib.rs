@@ -58,7 +58,7 @@ pub use source::Source;
 
 /// An enum whose variants are tokens.
 pub trait Logos<'source>: Sized {
-    /// The state that callbacks can read and change.
+    /// The type of the state that callbacks can read and change.
     type Extras;
 
     /// The type of inputs, such as `str`, or `[u8]` for bytes.

@@ -5,8 +5,8 @@ use crate::data::{Unpacked, END, SYMBOLS};
 use crate::internal::Tables;
 
 /// The mask of a loop: for each byte eight zeros if it stays in the state, otherwise eight numbers
-/// of which number `k` has only bit `k`. So the numbers of eight bytes, one of each, add up to the
-/// set of those bytes that do not stay.
+/// of which number `k` has only bit `k`. The sum of number `k` of the `k`-th of eight bytes, over
+/// all `k`, is the set of the bytes that do not stay.
 pub type Mask = [[u8; 8]; 256];
 
 #[derive(Clone, Copy)]
@@ -23,8 +23,8 @@ struct Range {
 /// The maximum number of ranges that a search by ranges compares with.
 const MOST_RANGES: usize = 4;
 
-/// The ranges of the bytes that stay, and their number. If there are fewer than [`MOST_RANGES`],
-/// the first range is repeated; if there are more, the others are left out.
+/// The ranges of the bytes that stay, and their number. If there are fewer than `MOST_RANGES`, the
+/// first range is repeated; if there are more, the others are left out.
 pub struct Ranges([Range; MOST_RANGES], usize);
 
 impl<const STATES: usize, const RUNS: usize> Unpacked<STATES, RUNS> {
@@ -149,8 +149,9 @@ fn bits(mask: &Mask, block: &[u8; 8]) -> u8 {
     low | high
 }
 
-/// Returns for each byte of a block its distance from the end of the nearest of the first `most`
-/// ranges before it, and 0 if the byte stays. Compilers vectorize these loops.
+/// Returns for each byte of a block, the first one lowest, its distance from the end of the nearest
+/// of the first `most` ranges before it, and 0 if the byte stays. Compilers vectorize the loops of
+/// this function.
 #[inline(always)]
 fn past(ranges: &Ranges, most: usize, block: &[u8; 16]) -> u128 {
     let (mut past, mut k) = ([0u8; 16], 0);

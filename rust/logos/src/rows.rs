@@ -207,9 +207,9 @@ impl<const STATES: usize, const RUNS: usize> Unpacked<STATES, RUNS> {
     }
 }
 
-/// The last match before a state, without the match of the state itself: as bytes before, as bytes
-/// after the start, and as [`FORTH`] plus the bytes since the start. All are 0 for a state to which
-/// no bytes are known to lead.
+/// The last match before a state, without the match of the state itself: by its distance from the
+/// state, and by its distance from the start of the attempt; and [`FORTH`] plus the number of bytes
+/// since that start. All are 0 for a state to which no bytes are known to lead.
 type Before = [u32; 3];
 
 /// Returns the last match in a state, and the last match before the states after it, given that

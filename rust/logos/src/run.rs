@@ -78,7 +78,7 @@ pub(crate) trait Run<'source>: Loops<'source> {
         entry >= Self::LEADS && entry < Self::ENTERS
     }
 
-    /// Returns the entry of a byte in any state.
+    /// Returns the entry of `byte` in `state`, which may have no row.
     #[inline(always)]
     fn any_step(rows: &'static [u32], state: u32, byte: u8) -> u32 {
         if !Self::HAS_INSIDES || !Self::is_inside(state) {
@@ -95,7 +95,7 @@ pub(crate) trait Run<'source>: Loops<'source> {
         }
     }
 
-    /// Returns the number of a state.
+    /// Returns the number of the state whose offset is `state`.
     #[inline(always)]
     fn number(state: u32) -> usize {
         if Self::HAS_INSIDES && Self::is_inside(state) {

@@ -7,8 +7,8 @@ use core::ops::{Deref, DerefMut};
 
 /// An enum whose lexer is tables.
 ///
-/// The derive macro, and `logos_cli`, implement it with [`Logos`](crate::Logos) in the shape
-/// `tables`.
+/// The derive macro, and `logos_cli`, implement this trait with [`Logos`](crate::Logos) in the
+/// shape `tables`.
 #[diagnostic::on_unimplemented(
     message = "`{Self}` has no lexer that scans",
     label = "its lexer is no table",

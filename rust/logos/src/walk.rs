@@ -18,8 +18,8 @@ const ENTER: usize = 19;
 /// The factor of the cost of guesses. With 1, walks were chosen on texts on which many guesses
 /// fail, and were slower there.
 const GUESSES: usize = 2;
-/// The number of bytes of which matches may end at three at most: where they end at more, walks are
-/// slower than match attempts, since processors predict these well.
+/// The denominator of the limit beyond which walks are slower than match attempts: if more than
+/// three of every four bytes end a match, processors predict the branches of match attempts.
 const ALMOST_ALL: usize = 4;
 /// The numbers of chunks that match attempts process if walks do not save time: the least number,
 /// and the greatest, after several such decisions in a row.
@@ -27,7 +27,7 @@ const FEWEST_PLAIN: usize = 4;
 const MOST_PLAIN: usize = 64;
 /// The greatest number of bytes whose bits are set one by one.
 const FEW: usize = 6;
-/// One of this many words is examined to decide whether walks pay off.
+/// One of this many words is examined to decide whether walks save time.
 const SAMPLED: usize = 18;
 
 /// The number of bytes that are walked over after match attempts, to determine whether walks save
@@ -56,7 +56,8 @@ pub(crate) struct Walk {
     cost: usize,
     moves: usize,
     gain: isize,
-    /// The number of chunks that were last left to match attempts, since walks did not save time.
+    /// The number of chunks that were left to match attempts when walks last did not save time,
+    /// halved by each later walk that did.
     plain: usize,
     /// Whether the next walk is over only [`TRIAL`] bytes.
     tries: bool,
@@ -134,7 +135,8 @@ impl Walk {
         tokens & left
     }
 
-    /// Returns whether no byte of the chunk is walked over.
+    /// Returns whether the chunk has no bytes, as before the first walk or after the lexer was
+    /// moved away.
     pub(crate) fn is_empty(&self) -> bool {
         self.len == 0
     }
@@ -167,7 +169,8 @@ impl Walk {
         self.begin_word(0, self.base, !0, start)
     }
 
-    /// Walks over a whole chunk.
+    /// Walks over `input` as a whole chunk, and sets the length of the chunk, the row offset after
+    /// it, and the cost.
     #[inline]
     fn walk_chunk<'s, T: Tables<'s>>(&mut self, input: &[u8; CHUNK]) {
         let guesser = &mut self.guesser;
@@ -175,7 +178,8 @@ impl Walk {
         (self.len, self.row_start, self.cost) = (CHUNK, walked.row_start, walked.cost);
     }
 
-    /// Walks over fewer bytes than a chunk has.
+    /// Walks over `rest`, which has fewer bytes than a whole chunk, and sets the length of the
+    /// chunk, the row offset after it, and the cost.
     #[inline]
     fn walk_rest<'s, T: Tables<'s>>(&mut self, rest: &[u8]) {
         let walked = self.chunk.walk_rest::<T>(rest, self.row_start);

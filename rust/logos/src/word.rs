@@ -5,7 +5,8 @@
 /// in `Ahead`, since tokens are taken one by one.
 #[derive(Clone, Copy)]
 pub(crate) struct Word {
-    /// The bit of each byte, from the lowest on: it is set if a match ends before the byte.
+    /// The bits of the bytes, the lowest for the first byte: each is set if a match ends before the
+    /// byte.
     pub(crate) ends: u64,
     /// The byte offset of the word in the input, and in the chunk.
     pub(crate) here: usize,
