@@ -7,8 +7,9 @@ use crate::refusals::{ExportRefusal, refused_export};
 use logos_host::{Failure, file_name};
 use std::alloc::{AllocError, Global};
 
-/// Returns the path of the file for the state diagram of an enum. `path` is the export path of its
-/// source: the path of a file, or of a folder, in which the file has the enum's name.
+/// Returns the path of the file for the state diagram of the enum `name`. `path` is the export path
+/// of its source: the path of a file, or of a folder, in which the file has the enum's name in
+/// lower case and the extension `mmd`.
 ///
 /// # Errors
 ///
@@ -33,7 +34,7 @@ pub(super) fn diagram_path(
     Err(refused_export(alloc, refused_by(extension)))
 }
 
-/// Returns the reason that the path of a diagram must not have this extension, which is not `mmd`.
+/// Returns the reason that the path of a diagram must not have `extension`, which is not `mmd`.
 fn refused_by(extension: &str) -> ExportRefusal
     ensures { result ≡ refusal_by extension.now }
 {

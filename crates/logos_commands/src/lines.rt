@@ -1,4 +1,4 @@
-//! The lines of items. Used by `item_lines`.
+//! The lines that the command `lex` writes for items. Used by `item_lines`.
 
 ghost use Rattle.std.specs.Prelude.{◌≡◌, ◌+◌, ◌≤◌, ◌++◌, length, drop};
 ghost use Rattle.logos_commands.specs.Imports.{item_of, line_of, span_line};

@@ -67,8 +67,8 @@ pub fn short_reports_are_whole()
 {}
 
 /// If consecutive leaves are the remaining leaves of a variant, the next line of the totals has the
-/// sum of their numbers of items, if that is not zero and fits into 64 bits. The lines after it are
-/// those of the leaves after them.
+/// sum of their numbers of items, or 2^64 - 1 if the sum is greater. There is no such line if the
+/// sum is 0. The lines after it are those of the leaves after them.
 pub fn totals_are_sums()
     ensures { (leaves : List CodeLeaf) (counts : List ℕ) (from size last total left : ℕ) →
         AreOfVariant leaves counts from size last total →

@@ -21,12 +21,13 @@ pub use package::{Crates, LIBRARY, Module, build};
 
 use std::fmt;
 
-/// The targets of the paths in a file.
+/// The modules to which the paths in a file lead in the Rust package.
 #[derive(Clone, Default)]
 pub struct Paths<'a> {
     /// The module of the root that contains the file's crate, such as `logos_hir`.
     pub module: &'a str,
-    /// The crates that the file may name, each with the module that contains it, such as `crate`.
+    /// The crates that paths in the file may name, each with the module that contains the crate,
+    /// such as `crate`.
     pub libraries: Vec<(&'a str, &'a str)>,
 }
 

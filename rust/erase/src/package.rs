@@ -138,7 +138,7 @@ fn write(path: &Path, text: String) -> io::Result<()> {
     fs::write(path, text).map_err(named(path))
 }
 
-/// Returns a function that adds a path to an error.
+/// Returns a function that adds `path` to the message of an error.
 fn named(path: &Path) -> impl Fn(io::Error) -> io::Error {
     |error| io::Error::new(error.kind(), format!("{}: {error}", path.display()))
 }

@@ -13,7 +13,8 @@ pub(crate) enum Kind {
     Ghost,
 }
 
-/// Returns the kind of the token that begins at byte offset `at`, and the offset after it.
+/// Returns the kind of the token that begins at byte offset `at`, and the offset after it. Refuses
+/// a token that does not end, and a character that begins no token.
 pub(crate) fn token_at(text: &str, at: usize) -> Result<(Kind, usize), Refusal> {
     let bytes = text.as_bytes();
     match (bytes[at], bytes.get(at + 1)) {
@@ -43,7 +44,8 @@ pub(crate) fn word_end(bytes: &[u8], mut at: usize) -> usize {
 }
 
 /// Returns the kind of the token that begins with a word at byte offset `at`, and the offset after
-/// it. The token is the word, a literal with a prefix, a ghost item or a clause.
+/// it. The token is the word, a literal with a prefix, a ghost item or a clause. Refuses one of the
+/// last three that does not end.
 fn word_at(text: &str, at: usize) -> Result<(Kind, usize), Refusal> {
     let bytes = text.as_bytes();
     let to = word_end(bytes, at);
@@ -57,7 +59,8 @@ fn word_at(text: &str, at: usize) -> Result<(Kind, usize), Refusal> {
     }
 }
 
-/// Returns the byte offset after the string whose opening quote is at `at`.
+/// Returns the byte offset after the string whose opening quote is at `at`, or a refusal if it does
+/// not end.
 pub(crate) fn string_end(bytes: &[u8], at: usize) -> Result<usize, Refusal> {
     let mut end = at + 1;
     while end < bytes.len() {
@@ -71,7 +74,7 @@ pub(crate) fn string_end(bytes: &[u8], at: usize) -> Result<usize, Refusal> {
 }
 
 /// Returns the byte offset after the raw string that begins at `at`, and whose hashes, if any,
-/// begin at `hashes`.
+/// begin at `hashes`, or a refusal if it does not end.
 fn raw_string_end(text: &str, at: usize, hashes: usize) -> Result<usize, Refusal> {
     let count = text[hashes..].bytes().take_while(|byte| *byte == b'#').count();
     let closing = format!("\"{}", &text[hashes..hashes + count]);
@@ -82,7 +85,8 @@ fn raw_string_end(text: &str, at: usize, hashes: usize) -> Result<usize, Refusal
     }
 }
 
-/// Returns the byte offset after the lifetime or the character whose quote is at `at`.
+/// Returns the byte offset after the lifetime or the character whose quote is at `at`, or a refusal
+/// if it is neither.
 fn quote_end(text: &str, at: usize) -> Result<usize, Refusal> {
     let rest = &text[at + 1..];
     let length = rest.chars().next().map_or(0, char::len_utf8);
@@ -98,8 +102,8 @@ fn quote_end(text: &str, at: usize) -> Result<usize, Refusal> {
     }
 }
 
-/// Returns the byte offset after the comment in `/*` and `*/` that begins at `at`. Comments may be
-/// nested.
+/// Returns the byte offset after the comment in `/*` and `*/` that begins at `at`, or a refusal if
+/// it does not end. Comments may be nested.
 fn block_comment_end(bytes: &[u8], at: usize) -> Result<usize, Refusal> {
     let (mut depth, mut end) = (0, at);
     while end + 1 < bytes.len() {

@@ -16,7 +16,8 @@ use std::prelude::{HostRuntime, String as Word, Vec as List};
 /// The shape of the generated lexers.
 #[derive(Clone, Copy, Debug, Default, PartialEq, Eq)]
 pub enum Shape {
-    /// Tables, and one loop that reads them. It takes a second to compile.
+    /// Tables, and one loop that reads these tables. A lexer in this shape takes a second to
+    /// compile.
     #[default]
     Tables,
     /// A function for each state.

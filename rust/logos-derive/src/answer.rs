@@ -17,7 +17,7 @@ pub struct Answer {
     pub diagnostics: Vec<Diagnostic>,
 }
 
-/// The implementation of an enum, and the pieces of its source in it.
+/// The text of an implementation, and the pieces of the source that it contains.
 pub struct Implementation {
     pub text: String,
     pub pieces: Vec<Piece>,
@@ -31,7 +31,7 @@ pub struct Piece {
     pub source: Range<usize>,
 }
 
-/// A fault or a warning.
+/// A fault or a warning about an enum.
 pub struct Diagnostic {
     pub is_error: bool,
     /// The first line of the diagnostic, which begins with the code, in brackets, if there is one.

@@ -1,4 +1,5 @@
-//! The generic parameters of a refused enum, for the implementation that replaces its lexer.
+//! The generic parameters of a refused enum, for the implementation that replaces its lexer. Used
+//! by `stub`.
 
 use crate::stub::{Trees, is_punct};
 use proc_macro::{Delimiter, Group, Ident, Span, TokenStream, TokenTree};
@@ -11,7 +12,7 @@ use std::iter::from_fn;
 pub struct Generics {
     pub parameters: TokenStream,
     pub arguments: TokenStream,
-    /// The `where` clause.
+    /// The `where` clause of the implementation.
     pub bounds: TokenStream,
 }
 

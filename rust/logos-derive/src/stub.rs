@@ -27,7 +27,7 @@ struct Options {
 /// The remaining token trees of an item.
 pub type Trees = Peekable<proc_macro::token_stream::IntoIter>;
 
-/// The template, in which words that begin with `logos_` are replaced.
+/// The template of the implementation, in which words that begin with `logos_` are replaced.
 const TEXT: &str = "\
 impl<'s, logos_parameters> logos_path::Logos<'s> for logos_name<logos_arguments> logos_where {
     type Error = logos_error;

@@ -1,4 +1,5 @@
-//! Warnings, as uses of a deprecated constant, since stable Rust has no warnings from macros.
+//! Warnings, as uses of a deprecated constant, since stable Rust has no warnings from macros. Used
+//! by the macro.
 
 use crate::answer::Diagnostic;
 use crate::fault::text;
@@ -28,7 +29,8 @@ pub fn warning(found: &Diagnostic, question: &Question, item: &TokenStream) -> T
     tokens
 }
 
-/// Returns the attributes `#[allow(..)]` before an item.
+/// Returns the attributes `#[allow(..)]` at the beginning of `item`, up to its first token that
+/// belongs to no attribute.
 fn allowed(item: TokenStream) -> TokenStream {
     let mut found = TokenStream::new();
     let mut trees = item.into_iter();

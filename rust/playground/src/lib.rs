@@ -40,7 +40,7 @@ const MISUSE: u8 = 2;
 /// The exit status if memory runs out.
 const FAILED: u8 = 3;
 
-/// The slots.
+/// The bytes of each slot.
 static SLOTS: Mutex<[Vec<u8>; 5]> = Mutex::new([const { Vec::new() }; 5]);
 
 /// Returns the slots, locked. A program that panics ends the instance, so no other one finds them
@@ -118,7 +118,7 @@ fn answer(slots: &[Vec<u8>; 5], out: &mut List<u8>, messages: &mut List<u8>) -> 
     }
 }
 
-/// Returns the lines of a text as arguments.
+/// Returns the lines of `text` as arguments, or `AllocError` if memory runs out.
 fn words_of(text: &str) -> Result<List<Argument>, AllocError> {
     let mut words = List::new(Global);
     for line in text.lines() {

@@ -8,7 +8,7 @@ pub use crate::fs::Files;
 
 /// A system with an allocator.
 pub trait AllocGlobal {
-    /// Returns the allocator.
+    /// Returns the allocator of the system.
     fn alloc(&self) -> Global;
 }
 

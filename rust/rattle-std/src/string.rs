@@ -69,7 +69,7 @@ impl String {
         self.grow(additional)
     }
 
-    /// Returns the allocator.
+    /// Returns the allocator of the text.
     pub fn allocator(&self) -> &Global {
         &Global
     }

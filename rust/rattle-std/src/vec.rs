@@ -87,7 +87,7 @@ impl<T> Vec<T> {
         self.grow(additional)
     }
 
-    /// Returns the allocator.
+    /// Returns the allocator of the vector.
     pub fn allocator(&self) -> &Global {
         &Global
     }
@@ -153,7 +153,7 @@ impl<T> Vec<T> {
         self.0.truncate(n);
     }
 
-    /// Removes all except the first of consecutive equal values.
+    /// Removes each value that is equal to the one before it.
     pub fn dedup(&mut self)
     where
         T: PartialEq,

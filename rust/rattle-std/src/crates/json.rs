@@ -33,37 +33,61 @@ impl Writer {
     ///
     /// # Errors
     ///
-    /// Returns `AllocError` if memory is refused, like all methods that write.
+    /// Returns `AllocError` if memory is refused.
     pub fn begin_object(&mut self) -> Result<(), AllocError> {
         self.token(self.after_value, b"{", false)
     }
 
     /// Writes the end of an object.
+    ///
+    /// # Errors
+    ///
+    /// Returns `AllocError` if memory is refused.
     pub fn end_object(&mut self) -> Result<(), AllocError> {
         self.token(false, b"}", true)
     }
 
     /// Writes the beginning of an array.
+    ///
+    /// # Errors
+    ///
+    /// Returns `AllocError` if memory is refused.
     pub fn begin_array(&mut self) -> Result<(), AllocError> {
         self.token(self.after_value, b"[", false)
     }
 
     /// Writes the end of an array.
+    ///
+    /// # Errors
+    ///
+    /// Returns `AllocError` if memory is refused.
     pub fn end_array(&mut self) -> Result<(), AllocError> {
         self.token(false, b"]", true)
     }
 
     /// Writes the name of a member of an object.
+    ///
+    /// # Errors
+    ///
+    /// Returns `AllocError` if memory is refused.
     pub fn key(&mut self, name: &str) -> Result<(), AllocError> {
         self.quoted(name, b"\":", false)
     }
 
     /// Writes `text` as a value, escaped and in quotes.
+    ///
+    /// # Errors
+    ///
+    /// Returns `AllocError` if memory is refused.
     pub fn string(&mut self, text: &str) -> Result<(), AllocError> {
         self.quoted(text, b"\"", true)
     }
 
     /// Writes `number` as a value, in decimal.
+    ///
+    /// # Errors
+    ///
+    /// Returns `AllocError` if memory is refused.
     pub fn u64(&mut self, number: u64) -> Result<(), AllocError> {
         let mut digits = [0; 20];
         let at = write_digits(number, &mut digits, 20);
@@ -71,12 +95,20 @@ impl Writer {
     }
 
     /// Writes `true` or `false` as a value.
+    ///
+    /// # Errors
+    ///
+    /// Returns `AllocError` if memory is refused.
     pub fn boolean(&mut self, value: bool) -> Result<(), AllocError> {
         let text: &[u8] = if value { b"true" } else { b"false" };
         self.token(self.after_value, text, true)
     }
 
     /// Writes `null` as a value.
+    ///
+    /// # Errors
+    ///
+    /// Returns `AllocError` if memory is refused.
     pub fn null(&mut self) -> Result<(), AllocError> {
         self.token(self.after_value, b"null", true)
     }

@@ -21,8 +21,8 @@ pub mod sets {
         Ascii,
         /// The code points that Unicode has assigned.
         Assigned,
-        /// The code points with a binary property, a general category or a script, given by its
-        /// number.
+        /// The code points with a binary property, a general category or a script, which has this
+        /// number in the tables.
         Named(u16),
     }
 
@@ -167,7 +167,7 @@ pub mod properties {
     }
 
     impl GeneralCategory {
-        /// Returns the category of a character.
+        /// Returns the general category of the character `c`.
         pub fn for_char(c: char) -> GeneralCategory {
             GeneralCategory {
                 is_number: contains(&NUMBER, c),

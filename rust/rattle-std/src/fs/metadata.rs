@@ -1,4 +1,4 @@
-//! The metadata of a file.
+//! The metadata and the permissions of files. Used by `fs`.
 
 use super::Files;
 use crate::io::{self, ErrorKind};
@@ -24,7 +24,7 @@ impl Metadata {
         self.found.len()
     }
 
-    /// Returns the permissions of the file.
+    /// Returns the permissions of the file, as a value that can be changed.
     pub fn permissions(&self) -> Permissions {
         Permissions(self.found.permissions())
     }

@@ -78,7 +78,7 @@ macro_rules! kinds {
         #[derive(Clone, Copy, Debug, PartialEq, Eq, Hash)]
         pub enum ErrorKind {
             $($(#[$doc])* $kind,)*
-            /// The links of a path form a cycle, or there are too many.
+            /// The links of a path form a cycle, or the path has too many links.
             FilesystemLoop,
             /// Another reason.
             Other,

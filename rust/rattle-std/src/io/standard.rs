@@ -9,7 +9,7 @@ pub trait Input {
     /// The type of the reader of standard input.
     type Reader: Read;
 
-    /// Returns a reader of standard input.
+    /// Returns a reader of the standard input of the system.
     fn reader(&self) -> Self::Reader;
 }
 
@@ -23,10 +23,10 @@ impl Input for HostRuntime {
 
 /// A system with a standard output and a standard error.
 pub trait Print {
-    /// Returns standard output.
+    /// Returns the standard output of the system.
     fn stdout(&self) -> Stdout;
 
-    /// Returns standard error.
+    /// Returns the standard error of the system.
     fn stderr(&self) -> Stderr;
 }
 

@@ -7,7 +7,7 @@ use core::hash::Hash;
 use core::iter::Map;
 use core::slice::Iter;
 
-/// A map whose entries have indices.
+/// A map from keys to values. Its entries have indices in the order in which they were added.
 pub struct IndexMap<K, V>(Entries<(K, V)>);
 
 impl<K: Eq + Hash, V> IndexMap<K, V> {

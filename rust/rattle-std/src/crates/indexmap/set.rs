@@ -8,7 +8,7 @@ use core::fmt;
 use core::hash::Hash;
 use core::slice::Iter;
 
-/// A set whose values have indices.
+/// A set of values, which have indices in the order in which they were added.
 pub struct IndexSet<T>(Entries<T>);
 
 impl<T: Eq + Hash> IndexSet<T> {
@@ -17,7 +17,7 @@ impl<T: Eq + Hash> IndexSet<T> {
         IndexSet(Entries::new(alloc))
     }
 
-    /// Returns the allocator.
+    /// Returns the allocator of the set.
     pub fn allocator(&self) -> &Global {
         &Global
     }
