@@ -106,8 +106,8 @@ fn note_library(source: &Source<'_>, n: usize, paths: &Paths<'_>, names: &mut Na
     }
 }
 
-/// Applies the rule for the word at the token `n`: a bound, a method, a call of a law, or a form
-/// that is refused.
+/// Applies the rule for `word`, the token `n`, if there is one: blanks a bound `Drop`, a parameter
+/// of formatting or a call of a law, renames a method, or refuses a form that must not occur.
 fn keyword(source: &mut Source<'_>, n: usize, word: &str, names: &Names<'_>) -> Step {
     let after = source.at(n + 1);
     match word {

@@ -22,10 +22,10 @@ pub type Types = HashMap<String, TokenStream>;
 /// Reads the generic parameters of an enum and its `where` clause, and returns those of the
 /// implementation.
 ///
-/// A type parameter is replaced by the type that the enum names for it. A parameter without bounds
-/// for which the enum names no type is replaced by `()`: rustc could not infer the type in
-/// `Token::lexer(text)`. Any other parameter remains, and so do all of an enum with a `where`
-/// clause.
+/// A type parameter is replaced by the type that the enum names for it. A type parameter without
+/// bounds for which the enum names no type is replaced by `()`: rustc could not infer the type in
+/// `Token::lexer(text)`. Any other type parameter remains, and so do all type parameters of an enum
+/// with a `where` clause.
 pub fn read_generics(trees: &mut Trees, types: &Types) -> Generics {
     let mut generics = Generics::default();
     let parameters = match is_punct(trees.peek(), '<') {

@@ -52,8 +52,8 @@ impl Place {
         record::read(&bytes, &self.asked)
     }
 
-    /// Stores the answer about an accepted enum. Changes nothing if the enum was refused, and
-    /// ignores failures.
+    /// Stores the answer about an accepted enum. Stores nothing if the enum was refused, the record
+    /// is longer than [`LONGEST`], or the file cannot be written.
     pub fn keep(&self, answer: &Answer) {
         let bytes = record::written(answer, &self.asked);
         if let Some(bytes) = bytes.filter(|bytes| bytes.len() <= LONGEST) {

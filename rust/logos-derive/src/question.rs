@@ -92,8 +92,8 @@ impl Question {
         self.nodes.get(start + 1)
     }
 
-    /// Returns whether an attribute `#[logos(..)]` of the enum has an argument that begins with
-    /// `name`.
+    /// Returns whether an attribute `#[logos(..)]` of the enum has an argument whose first token is
+    /// the word `name`.
     pub fn has_option(&self, name: &str) -> bool {
         self.nodes.iter().any(|node| match node.inner.as_slice() {
             [head, arguments] if is_named(head, "logos") => arguments
@@ -104,8 +104,8 @@ impl Question {
         })
     }
 
-    /// Returns the tokens that overlap a byte range, or the byte at its start if it is empty.
-    /// Returns `None` if there are none.
+    /// Returns the tokens that overlap a byte range or, if the range is empty, the byte at its
+    /// start. Returns `None` if no token does.
     pub fn place(&self, range: &Range<usize>) -> Option<Place> {
         let from = range.start;
         let to = range.end.max(from.saturating_add(1));

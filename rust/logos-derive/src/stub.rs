@@ -53,7 +53,7 @@ logos_where {
     fn error(_: &mut logos_path::Lexer<'s, Self>) -> logos_error { loop {} }
 }";
 
-/// Returns the implementation for the enum `item`, or `None` if the item is another one.
+/// Returns the implementation for `item`, or `None` if `item` is no enum.
 pub fn stub(item: TokenStream) -> Option<TokenStream> {
     let Head {
         name,

@@ -7,7 +7,8 @@ use proc_macro::{Delimiter, Group, TokenTree};
 /// fit.
 struct Rest<'a>(&'a [TokenTree]);
 
-/// Returns whether `trees` are one type of these kinds. Other types are not recognized.
+/// Returns whether `trees` are one type of the kinds that options usually have. Other types are not
+/// recognized.
 pub fn is_type(trees: &[TokenTree]) -> bool {
     let mut rest = Rest(trees);
     rest.type_() && rest.0.is_empty()

@@ -53,14 +53,15 @@ impl Inside {
         self.entries[0] != self.entries[1]
     }
 
-    /// Returns the entry of `byte`, from 0x80 to 0xBF, if [`Inside::is_set`].
+    /// Returns the entry of `byte`, from 0x80 to 0xBF, in a state with at most two distinct
+    /// entries.
     #[inline(always)]
     pub(crate) const fn entry(&self, byte: u8) -> u32 {
         self.entries[(self.bits >> (byte % CONTINUATIONS as u8) & 1) as usize]
     }
 
-    /// Returns the index of the entry of `byte`, from 0x80 to 0xBF, among the rows if not
-    /// [`Inside::is_set`].
+    /// Returns the index among the rows of the entry of `byte`, from 0x80 to 0xBF, in a state with
+    /// more than two distinct entries.
     #[inline(always)]
     pub(crate) const fn index(&self, byte: usize) -> usize {
         self.entries[0] as usize + byte % CONTINUATIONS

@@ -9,7 +9,7 @@ use crate::{Logos, Source};
 use core::fmt;
 use core::ops::{Deref, DerefMut, Range};
 
-/// A range of byte offsets in an input, up to the end of the range, which is not part of it.
+/// A range of byte offsets in an input, without the offset at its end.
 pub type Span = Range<usize>;
 
 /// The setting that determines where a lexer looks ahead.

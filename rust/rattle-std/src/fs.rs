@@ -241,7 +241,7 @@ impl File {
     ///
     /// # Errors
     ///
-    /// Returns the error of the system.
+    /// Returns the error of the system, which is of the kind `AlreadyExists` if the file exists.
     pub fn create_new<R: Files>(_rt: &R, path: &str) -> io::Result<File> {
         Ok(File(Opened::File(std::fs::File::create_new(path)?)))
     }

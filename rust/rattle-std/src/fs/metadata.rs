@@ -60,7 +60,7 @@ fn name_of(path: &str) -> io::Result<u64> {
 /// The permissions of a file.
 pub struct Permissions(std::fs::Permissions);
 
-/// Sets the permissions of the file at `path`.
+/// Sets the permissions of the file at `path` to the value `to`.
 ///
 /// # Errors
 ///
