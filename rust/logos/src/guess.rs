@@ -12,8 +12,7 @@ pub(crate) const LEAST_PART: usize = 2 * NEAR;
 /// The cost of each byte that is processed again, and of each that a guess by lines examines.
 pub(crate) const AGAIN: usize = 24;
 const EXAMINE: usize = 10;
-/// The number of counters, each of which counts which of two candidates was right, and the greatest
-/// count.
+/// The number of counters for pairs of candidates, and the greatest count.
 const COUNTERS: usize = 64;
 const MOST: i8 = 8;
 

@@ -93,8 +93,8 @@ pub(crate) fn new_room(way: Way) -> Room {
 }
 
 impl Walk {
-    /// Returns the leaf and the end of the first token of the bits `tokens` of the word, or `None`
-    /// if there is none.
+    /// Returns the leaf and the end of the first token of the bits `tokens` of the word, which must
+    /// not be 0. Returns `None` if that bit is after the chunk.
     #[inline(always)]
     pub(crate) fn token(&self, tokens: u64) -> Option<(usize, usize)> {
         let bit = tokens.trailing_zeros() as usize;
