@@ -1,4 +1,4 @@
-//! The commands of `logos`, read from its arguments. Called by `program`.
+//! The commands of `logos`, read from its arguments. Used by `program`.
 
 ghost use Rattle.std.specs.Prelude.{◌≡◌, bytes_eq, map, option_map, string_bytes};
 ghost use Rattle.logos_commands.specs.Commands.{requested, diagram_in, command_requested, export_in, items_in, shape_in, strip_in, text_in};
@@ -7,7 +7,7 @@ use crate::item_lines::LexRequest;
 use logos_codegen::generator::Config;
 use logos_options::OptionName;
 
-/// A command with its files.
+/// A command of `logos`, with the paths of its files.
 #[derive(Clone, Copy)]
 pub(super) enum Command<'w> {
     /// `gen`: print the generated code for the enum in the file.
@@ -22,7 +22,7 @@ pub(super) enum Command<'w> {
     Strip { file: &'w str },
 }
 
-/// Returns the command for the arguments, or `None` if they are invalid.
+/// Returns the command that `arguments` name, or `None` if they are invalid.
 pub(super) fn command_of(arguments: &[String]) -> Option<Command<'_>>
     ensures { option_map command_requested result ≡ requested (map string_bytes arguments.now) }
 {
@@ -47,14 +47,14 @@ pub(super) fn command_of(arguments: &[String]) -> Option<Command<'_>>
     None
 }
 
-/// Returns whether an argument is this text.
+/// Returns whether the argument `word` is `text`.
 fn is_word(word: &String, text: &str) -> bool
     ensures { result ≡ bytes_eq (string_bytes word.now) text.now }
 {
     word.as_str() == text
 }
 
-/// Returns the command `gen` with the arguments after its name, if they are valid.
+/// Returns the command `gen` with `arguments`, those after its name, or `None` if they are invalid.
 fn text_of(arguments: &[String]) -> Option<Command<'_>>
     ensures { option_map command_requested result ≡ text_in (map string_bytes arguments.now) }
 {
@@ -66,7 +66,7 @@ fn text_of(arguments: &[String]) -> Option<Command<'_>>
     Some(Command::Text { file, config })
 }
 
-/// Returns the command `lex` with the arguments after its name, if they are valid.
+/// Returns the command `lex` with `arguments`, those after its name, or `None` if they are invalid.
 fn items_of(arguments: &[String]) -> Option<Command<'_>>
     ensures { option_map command_requested result ≡ items_in (map string_bytes arguments.now) }
 {
@@ -81,7 +81,8 @@ fn items_of(arguments: &[String]) -> Option<Command<'_>>
     }))
 }
 
-/// Returns the command `mermaid` with the arguments after its name, if they are valid.
+/// Returns the command `mermaid` with `arguments`, those after its name, or `None` if they are
+/// invalid.
 fn diagram_of(arguments: &[String]) -> Option<Command<'_>>
     ensures { option_map command_requested result ≡ diagram_in (map string_bytes arguments.now) }
 {
@@ -93,7 +94,8 @@ fn diagram_of(arguments: &[String]) -> Option<Command<'_>>
     }
 }
 
-/// Returns the command `export` with the arguments after its name, if they are valid.
+/// Returns the command `export` with `arguments`, those after its name, or `None` if they are
+/// invalid.
 fn export_of(arguments: &[String]) -> Option<Command<'_>>
     ensures { option_map command_requested result ≡ export_in (map string_bytes arguments.now) }
 {
@@ -105,7 +107,8 @@ fn export_of(arguments: &[String]) -> Option<Command<'_>>
     }
 }
 
-/// Returns the command `strip` with the arguments after its name, if they are valid.
+/// Returns the command `strip` with `arguments`, those after its name, or `None` if they are
+/// invalid.
 fn strip_of(arguments: &[String]) -> Option<Command<'_>>
     ensures { option_map command_requested result ≡ strip_in (map string_bytes arguments.now) }
 {
@@ -117,8 +120,8 @@ fn strip_of(arguments: &[String]) -> Option<Command<'_>>
     }
 }
 
-/// Returns the code shape that the last arguments of a command select, if they are valid. The
-/// default is one loop over a state.
+/// Returns the code shape that `arguments`, those after the files of a command, select, or `None`
+/// if they are invalid. Without arguments, the shape is one loop over a state.
 fn shape_of(arguments: &[String]) -> Option<Config>
     ensures { result ≡ shape_in (map string_bytes arguments.now) }
 {

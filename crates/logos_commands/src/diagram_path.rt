@@ -7,8 +7,9 @@ use crate::refusals::{ExportRefusal, refused_export};
 use logos_host::{Failure, file_name};
 use std::alloc::{AllocError, Global};
 
-/// Returns the path of the file for the state diagram of an enum. `path` is the export path of its
-/// source: the path of a file, or of a folder, in which the file has the enum's name.
+/// Returns the path of the file for the state diagram of the enum `name`. `path` is the export path
+/// of its source: the path of a file, or of a folder, in which the file has the enum's name in
+/// lower case and the extension `mmd`.
 ///
 /// # Errors
 ///
@@ -33,7 +34,7 @@ pub(super) fn diagram_path(
     Err(refused_export(alloc, refused_by(extension)))
 }
 
-/// Returns the reason that the path of a diagram must not have this extension, which is not `mmd`.
+/// Returns the reason that the path of a diagram must not have `extension`, which is not `mmd`.
 fn refused_by(extension: &str) -> ExportRefusal
     ensures { result ≡ refusal_by extension.now }
 {
@@ -44,8 +45,8 @@ fn refused_by(extension: &str) -> ExportRefusal
     }
 }
 
-/// Returns the extension of a name, if it has one: the part after its last `.`. A leading `.`
-/// begins no extension, and `..` has none.
+/// Returns the extension of a name, the part after its last `.`, or `None` if it has none. A
+/// leading `.` begins no extension, and `..` has none.
 fn extension_of(name: &str) -> Option<&str>
     ensures { option_copied result ≡ extension name.now }
 {
@@ -58,7 +59,8 @@ fn extension_of(name: &str) -> Option<&str>
     }
 }
 
-/// Returns the path of the diagram of an enum in a folder.
+/// Returns the path of the state diagram of the enum `name` in `folder`: the name in lower case,
+/// with the extension `mmd`. Returns `AllocError` if memory runs out.
 fn path_in(alloc: Global, folder: &str, name: &str) -> Result<String, AllocError>
     ensures { IfOk result (λ path. string_bytes path ≡ file_in folder.now name.now) }
 {
@@ -68,8 +70,8 @@ fn path_in(alloc: Global, folder: &str, name: &str) -> Result<String, AllocError
     Ok(path)
 }
 
-/// Returns the folder's path, ready for a name to be appended: with `/` at its end, unless it is
-/// empty.
+/// Returns the path `folder`, ready for a name to be appended: with `/` at its end, unless it is
+/// empty. Returns `AllocError` if memory runs out.
 fn with_separator(alloc: Global, folder: &str) -> Result<String, AllocError>
     ensures { IfOk result (λ path. string_bytes path ≡ with_separator folder.now) }
 {

@@ -19,7 +19,8 @@ use logos_scan::walk::masks::ChunkEntries;
 use std::alloc::Global;
 use std::io::Write;
 
-/// The minimum length in bytes of a block that is written.
+/// The length in bytes from which on a block is full. Only the last block that is written is
+/// shorter.
 const BLOCK: usize = 65_536;
 
 /// A request for the items of an input: the paths of the source and of the input, and the shape of
@@ -31,10 +32,15 @@ pub(super) struct LexRequest<'w> {
     pub(super) config: Config,
 }
 
-/// Writes a line for each item of an input, found by the lexer of the enum in a file.
+/// Writes a line to `out` for each item of an input, found by the lexer of the enum in a file.
 ///
 /// The source and the input are validated before the first item is written. After that, only
 /// writing can fail.
+///
+/// # Errors
+///
+/// Returns the failure to read a file, `Refused` if the source is refused, `NotUtf8` if the lexer
+/// requires UTF-8 and the input is not, `Memory` if memory runs out, and the failure of the output.
 pub(super) fn lex<'w, F: Files, O: Write>(
     alloc: Global,
     request: LexRequest<'w>,
@@ -62,7 +68,7 @@ pub(super) fn lex<'w, F: Files, O: Write>(
     )
 }
 
-/// Writes a line for each item of an input, found by the lexer of a source.
+/// Writes a line to `out` for each item of `input`, found by the lexer of the source `source`.
 fn lex_by_source<O: Write>(
     alloc: Global,
     source: &str,
@@ -84,7 +90,7 @@ fn lex_by_source<O: Write>(
     }
 }
 
-/// Writes a line for each item of an input, found by the code of a lexer.
+/// Writes a line to `out` for each item of `input`, found by the lexer with the code `code`.
 fn lex_by_code<O: Write>(
     alloc: Global,
     code: &Code<'_>,
@@ -116,8 +122,8 @@ fn lex_by_code<O: Write>(
     }
 }
 
-/// Writes a line for each item of an input, found in chunks and collected in a block, and flushes
-/// the writer. Only writing can fail.
+/// Writes the bytes of `block`, and after them a line for each item of `input`, found in chunks, to
+/// `out`, and flushes it. The lines are collected in `block`. Only writing can fail.
 fn write_by_chunks<C: Fn(LeafId, &[u8]) -> Action, O: Write>(
     folded: &Folded<'_, '_>,
     input: &[u8],
@@ -142,8 +148,8 @@ fn write_by_chunks<C: Fn(LeafId, &[u8]) -> Action, O: Write>(
     print_bytes(block, out)
 }
 
-/// Writes a line for each further item of a lexer, collected in a block, and flushes the writer.
-/// Only writing can fail.
+/// Writes the bytes of `block`, and after them a line for each further item of a lexer, to `out`,
+/// and flushes it. The lines are collected in `block`. Only writing can fail.
 fn write_lines<C: Fn(LeafId, &[u8]) -> Action, O: Write>(
     lexer: &mut Lexer<'_, '_, '_, C>,
     block: &mut Vec<u8>,
@@ -164,7 +170,7 @@ fn write_lines<C: Fn(LeafId, &[u8]) -> Action, O: Write>(
     print_bytes(block, out)
 }
 
-/// Writes a block and empties it, if it is full.
+/// Writes `block` to `out` and empties it, if it has at least [`BLOCK`] bytes.
 fn write_if_full<O: Write>(block: &mut Vec<u8>, out: &mut O) -> Result<(), Failure<'static>>
     ensures few { vec_len block.new < BLOCK }
     ensures room { vec_capacity block.new ≡ vec_capacity block.old }
@@ -179,7 +185,7 @@ fn write_if_full<O: Write>(block: &mut Vec<u8>, out: &mut O) -> Result<(), Failu
     }
 }
 
-/// Appends the line of an item to a block that has room for it.
+/// Appends the line of an item to `block`, which has room for the line.
 #[inline(always)]
 fn push_line(block: &mut Vec<u8>, item: Item<'_>)
     requires { vec_len block.old + LONGEST ≤ vec_capacity block.old }

@@ -1,4 +1,4 @@
-//! The lines of items. Used by `item_lines`.
+//! The lines that the command `lex` writes for items. Used by `item_lines`.
 
 ghost use Rattle.std.specs.Prelude.{◌≡◌, ◌+◌, ◌≤◌, ◌++◌, length, drop};
 ghost use Rattle.logos_commands.specs.Imports.{item_of, line_of, span_line};
@@ -11,7 +11,7 @@ use logos_codegen::token::Span;
 /// separators between them.
 pub(super) const LONGEST: usize = 70;
 
-/// Writes the line of an item at the end of the array, and returns the index at which it begins.
+/// Writes the line of an item at the end of `line`, and returns the index at which it begins there.
 #[inline(always)]
 pub(super) fn write_line(line: &mut [u8; LONGEST], item: Item<'_>) -> usize
     ensures { drop result line.new ≡ line_of (item_of item.entry) }
@@ -30,7 +30,7 @@ pub(super) fn write_line(line: &mut [u8; LONGEST], item: Item<'_>) -> usize
     }
 }
 
-/// Writes a span and a line end at the end of the array, and returns the index at which they begin.
+/// Writes a span and LF at the end of `line`, and returns the index at which they begin there.
 #[inline(always)]
 fn write_span(line: &mut [u8; LONGEST], span: Span) -> usize
     ensures row_start { (27 ≤ result) × (result ≤ LONGEST) }
@@ -42,7 +42,7 @@ fn write_span(line: &mut [u8; LONGEST], span: Span) -> usize
     write_digits(span.from as u64, line, at)
 }
 
-/// Writes a text before index `end` of the line, and returns the index at which the text begins.
+/// Writes `text` before the index `end` of `line`, and returns the index at which the text begins.
 #[inline(always)]
 fn write_before(line: &mut [u8; LONGEST], end: usize, text: &[u8]) -> usize
     requires { (length text.now ≤ end) × (end ≤ LONGEST) }

@@ -37,7 +37,12 @@ const ANY_SHAPE: Config = Config {
     use_state_machine_codegen: true,
 };
 
-/// Returns the outcome of a command on the source in a file.
+/// Returns the requested part of the lexer of the source in the file `file`, as an outcome.
+///
+/// # Errors
+///
+/// Returns the failure to read the file, `Refused` if the source or its export path is refused, and
+/// `Memory` if memory runs out.
 pub(super) fn of_file<'w, F: Files>(
     alloc: Global,
     file: &'w str,
@@ -56,7 +61,8 @@ pub(super) fn of_file<'w, F: Files>(
     of_source(alloc, source.as_str(), requested)
 }
 
-/// Returns the outcome of a command on a source.
+/// Returns the requested part of the lexer of a source, as an outcome, or the failure if there is
+/// none.
 fn of_source(
     alloc: Global,
     source: &str,
@@ -73,7 +79,7 @@ fn of_source(
     }
 }
 
-/// Returns the shape of the code that a command needs.
+/// Returns the code shape of the lexer from which the requested part is made.
 fn shape_of(requested: Requested) -> Config
     ensures { result ≡ shape_of requested }
 {
@@ -83,7 +89,7 @@ fn shape_of(requested: Requested) -> Config
     }
 }
 
-/// Returns the outcome of a command on a lexer.
+/// Returns the requested part of a lexer, as an outcome, or the failure if there is none.
 fn of_lexer(
     alloc: Global,
     made: &Generated<'_>,
@@ -105,7 +111,7 @@ fn of_lexer(
     }
 }
 
-/// Returns the generated code of a lexer, followed by LF.
+/// Returns the generated code of a lexer, followed by LF, or `Memory` if memory runs out.
 fn text_of_lexer(alloc: Global, made: &Generated<'_>) -> Result<String, Failure<'static>>
     ensures text { IfOk result (λ text. EndsWithLine
         (IsCodeText (around_made made.now) made.now.code) (string_bytes text)) }
@@ -117,7 +123,13 @@ fn text_of_lexer(alloc: Global, made: &Generated<'_>) -> Result<String, Failure<
     Ok(text)
 }
 
-/// Returns the enum in a file without the attributes of the derive macro, followed by LF.
+/// Returns the enum in the file `file` without the attributes of the derive macro, followed by LF,
+/// as an outcome.
+///
+/// # Errors
+///
+/// Returns the failure to read the file, `Refused` if the source is refused, and `Memory` if memory
+/// runs out.
 pub(super) fn stripped<'w, F: Files>(
     alloc: Global,
     file: &'w str,
@@ -138,7 +150,8 @@ pub(super) fn stripped<'w, F: Files>(
     }
 }
 
-/// Returns the enum of a source without the attributes of the derive macro, followed by LF.
+/// Returns the enum of a source without the attributes of the derive macro, followed by LF. Returns
+/// `Refused` if the source is refused, and `Memory` if memory runs out.
 fn stripped_source(alloc: Global, source: &str) -> Result<String, Failure<'static>>
     ensures done { IfOk result (λ text. IsLeft source.now (prints (string_bytes text))) }
     ensures denied { IfErr result (λ failure. status_of failure ≡ 1 →
@@ -154,7 +167,8 @@ fn stripped_source(alloc: Global, source: &str) -> Result<String, Failure<'stati
     Ok(text)
 }
 
-/// Returns the state diagram of a lexer, for the file that its source names.
+/// Returns the state diagram of a lexer, for the file that its source names. Returns `Refused` if
+/// the source names none, and `Memory` if memory runs out.
 fn export_of_lexer(alloc: Global, made: &Generated<'_>) -> Result<CommandOutcome, Failure<'static>>
     ensures diagram { IfOk result (λ outcome. IsPart Requested.Export (around_made made.now)
         made.now.graph made.now.code (ident_slice made.now.name)
@@ -172,7 +186,8 @@ fn export_of_lexer(alloc: Global, made: &Generated<'_>) -> Result<CommandOutcome
     Ok(CommandOutcome::Diagram { path, text })
 }
 
-/// Returns the path of the file that a source names for its diagram.
+/// Returns the path of the file that a source names for its diagram. Returns `Refused` if it names
+/// none, or one with another extension, and `Memory` if memory runs out.
 fn path_of_diagram(alloc: Global, made: &Generated<'_>) -> Result<String, Failure<'static>>
     ensures file { IfOk result (λ diagram. file_at (string_bytes diagram) ≡ export_destination
         (option_map string_bytes made.now.export_path) made.now.name.text.now) }
@@ -210,7 +225,7 @@ fn test_neighbours(alloc: Global, graph: &Graph<'_>) -> Result<(), Failure<'stat
     Ok(())
 }
 
-/// Refuses two different states if no text distinguishes them.
+/// Refuses two different states of a graph unless a text is found that distinguishes them.
 fn test_pair(alloc: Global, graph: &Graph<'_>, s: State, t: State) -> Result<(), Failure<'static>>
     ensures { IfErr result (λ failure. status_of failure ≡ 3) }
 {
@@ -226,8 +241,8 @@ fn test_pair(alloc: Global, graph: &Graph<'_>, s: State, t: State) -> Result<(),
     }
 }
 
-/// Returns the refusal of a graph in which two states find the same matches. Graphs never have such
-/// states.
+/// Returns the refusal of a graph in which the states with the indices `s` and `t` find the same
+/// matches, or `Memory` if memory runs out. Graphs never have such states.
 fn alike(alloc: Global, s: usize, t: usize) -> Failure<'static> {
     match format!(in alloc; "states {s} and {t} are alike\n") {
         Ok(text) => Failure::Refused(text),

@@ -1,4 +1,4 @@
-//! The program `logos`, from its arguments to its exit status. `main` calls it.
+//! The program `logos`, from its arguments to its exit status. Used by `logos_program`.
 
 ghost use Rattle.std.specs.Prelude.{◌≡◌, ◌≢◌, ◌≤◌, ◌⊎◌, ◌↔◌, None, map, string_bytes, IfErr, IfOk, IfSome, OnOk};
 ghost use Rattle.logos_commands.specs.Views.{Appends, Carries, Failure as Why, HasEffect, IsDenied, IsDone, IsLeft, IsPartOf, IsTouched, Keeps, ReadsSource, RefusesLexer, RefusesStripping, Touches, WritesFor, requested, effect_of, status_of};
@@ -12,8 +12,8 @@ use std::io::Write;
 
 const USAGE: &str = "usage: logos gen|lex|strip|mermaid|export FILE ..\n";
 
-/// Runs the program with its arguments, and returns the exit status of `run`. If the arguments
-/// cannot be read, the status is that of the failure.
+/// Runs the program with `arguments`, and returns the exit status of `run`. If the arguments could
+/// not be read, writes the message of the failure to `err`, and returns its exit status.
 pub fn run_with<F: Files, O: Write, E: Write>(
     alloc: Global,
     arguments: Result<Vec<String>, Failure<'static>>,
@@ -45,12 +45,12 @@ pub fn run_with<F: Files, O: Write, E: Write>(
     }
 }
 
-/// Runs the command that the arguments name, and returns the exit status: 0 if it was carried out,
-/// 1 if the source or the input was refused, 2 if the arguments are not a command, 3 if a file, the
-/// output or the memory failed.
+/// Runs the command that `arguments` name, and returns the exit status: 0 if it was carried out, 1
+/// if the source, the input or the export path was refused, 2 if the arguments are not a command, 3
+/// if a file, the output or the memory failed.
 ///
 /// If the exit status is not 0, a message is written to `err`, and nothing was written to `out`,
-/// unless writing to it failed.
+/// unless writing to `out` failed.
 pub fn run<F: Files, O: Write, E: Write>(
     alloc: Global,
     arguments: &[String],
@@ -100,7 +100,8 @@ const NO_COMMAND: Failure<'static> = Failure::Misuse {
     word: "",
 };
 
-/// Writes a part of the lexer of the source in a file, and returns the exit status.
+/// Writes the requested part of the lexer of the source in a file, which `request` names first, to
+/// `out` or to another file, and returns the exit status.
 fn run_part<F: Files, O: Write, E: Write>(
     alloc: Global,
     request: (&str, Requested),
@@ -123,8 +124,8 @@ fn run_part<F: Files, O: Write, E: Write>(
     }
 }
 
-/// Writes the enum in a file without the attributes of the derive macro, and returns the exit
-/// status.
+/// Writes the enum in the file `file`, without the attributes of the derive macro, to `out`, and
+/// returns the exit status.
 fn run_strip<F: Files, O: Write, E: Write>(
     alloc: Global,
     file: &str,
@@ -146,7 +147,7 @@ fn run_strip<F: Files, O: Write, E: Write>(
     }
 }
 
-/// Writes an outcome to standard output or to a file, and returns the exit status.
+/// Writes an outcome to `out` or to its file, and returns the exit status.
 fn run_outcome<F: Files, O: Write, E: Write>(
     outcome: &CommandOutcome,
     files: &mut F,
@@ -164,7 +165,7 @@ fn run_outcome<F: Files, O: Write, E: Write>(
     }
 }
 
-/// Writes an outcome to standard output or to a file.
+/// Writes an outcome to `out` or to its file, or returns the failure to write it.
 fn deliver<'o, F: Files, O: Write>(
     outcome: &'o CommandOutcome,
     files: &mut F,
@@ -181,7 +182,7 @@ fn deliver<'o, F: Files, O: Write>(
     }
 }
 
-/// Writes the message of a failure, and returns the exit status.
+/// Writes the message of a failure to `err`, and returns the failure's exit status.
 fn failed<E: Write>(failure: &Failure<'_>, err: &mut E) -> u8
     ensures { result ≡ status_of failure.now }
 {

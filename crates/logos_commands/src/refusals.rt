@@ -45,7 +45,7 @@ pub(super) fn refused_export(alloc: Global, why: ExportRefusal) -> Failure<'stat
     }
 }
 
-/// Returns the line with the reason that a diagram is not exported.
+/// Returns the line, with LF, that reports the reason `why`.
 fn export_line(why: ExportRefusal) -> &'static str
     ensures { result.now ≡ export_line why }
 {
@@ -58,9 +58,9 @@ fn export_line(why: ExportRefusal) -> &'static str
     }
 }
 
-/// Returns the lines of all faults. Reserves memory for them in one step: the faults of thousands
-/// of equal leaves have hundreds of megabytes, and a text that grows by doubling takes up to twice
-/// as much.
+/// Returns the lines of all faults, or `Memory` if memory runs out. Reserves the memory for the
+/// lines in one step: the faults of thousands of equal leaves have hundreds of megabytes, and a
+/// text that grows by doubling takes up to twice as much.
 fn fault_lines(errors: &Errors) -> Result<String, Memory>
     ensures { IfOk result (λ text. string_bytes text ≡ fault_lines errors.now) }
 {
@@ -74,7 +74,7 @@ fn fault_lines(errors: &Errors) -> Result<String, Memory>
 /// separators. Most lines have fewer.
 const BESIDE_MESSAGE: usize = 80;
 
-/// Returns an estimate of the number of bytes of the lines of these faults. No proof depends on it.
+/// Returns an estimate of the number of bytes of the lines of `faults`. No proof depends on it.
 fn size_of_lines(faults: &[SpannedError]) -> usize {
     let mut size: usize = 0;
     for fault in faults {
@@ -84,7 +84,7 @@ fn size_of_lines(faults: &[SpannedError]) -> usize {
     size
 }
 
-/// Returns the number of bytes of a message with `\n` in place of each LF.
+/// Returns the number of bytes of `message` with `\n` in place of each LF.
 fn size_on_one_line(message: &[u8]) -> usize {
     let mut size = message.len();
     for byte in message {
@@ -95,7 +95,7 @@ fn size_on_one_line(message: &[u8]) -> usize {
     size
 }
 
-/// Appends the lines of these faults.
+/// Appends the lines of `faults` to `text`.
 fn push_lines(text: &mut String, faults: &[SpannedError]) -> Result<(), Memory>
     ensures { OnOk result (string_bytes text.new
         ≡ string_bytes text.old ++ flat_map fault_line (faults_of faults.now)) }
@@ -106,7 +106,7 @@ fn push_lines(text: &mut String, faults: &[SpannedError]) -> Result<(), Memory>
     Ok(())
 }
 
-/// Appends the line of a fault.
+/// Appends the line of a fault to `text`.
 fn push_line(text: &mut String, fault: &SpannedError) -> Result<(), Memory>
     ensures { OnOk result (string_bytes text.new
         ≡ string_bytes text.old ++ fault_line (fault_of fault.now)) }
@@ -117,7 +117,7 @@ fn push_line(text: &mut String, fault: &SpannedError) -> Result<(), Memory>
     Ok(())
 }
 
-/// Appends the span and the code of a fault.
+/// Appends the span and the code of a fault, the beginning of its line, to `text`.
 fn push_head(text: &mut String, fault: &SpannedError) -> Result<(), Memory>
     ensures { OnOk result (string_bytes text.new
         ≡ string_bytes text.old ++ fault_head (fault_of fault.now)) }
@@ -131,7 +131,7 @@ fn push_head(text: &mut String, fault: &SpannedError) -> Result<(), Memory>
     Ok(())
 }
 
-/// Appends a text with `\n` in place of each LF.
+/// Appends `message` to `text`, with `\n` in place of each LF.
 fn push_on_one_line(text: &mut String, message: &str) -> Result<(), Memory>
     ensures { OnOk result (string_bytes text.new
         ≡ string_bytes text.old ++ on_one_line message.now) }
@@ -142,7 +142,7 @@ fn push_on_one_line(text: &mut String, message: &str) -> Result<(), Memory>
     Ok(())
 }
 
-/// Appends a character, or `\n` in place of LF.
+/// Appends a character, or `\n` in place of LF, to `text`.
 fn push_character(text: &mut String, character: char) -> Result<(), Memory>
     ensures { OnOk result (string_bytes text.new
         ≡ string_bytes text.old ++ line_character character) }

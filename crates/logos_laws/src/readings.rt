@@ -26,8 +26,8 @@ pub fn strips_by_parts()
         EnumStays value tokens remaining → remaining ≡ stripped tokens }
 {}
 
-/// An offset of a part of a file, counted from the beginning of the file, is a sum, as long as that
-/// is a number of 64 bits.
+/// An offset in a part of a file, counted from the beginning of the file, is the sum of that offset
+/// and the offset of the part, if the sum is less than 2^64.
 pub fn offsets_are_sums()
     ensures report { (begin offset : ℕ) → offset + begin < 2 ^ 64 →
         in_file begin offset ≡ offset + begin }
@@ -35,8 +35,8 @@ pub fn offsets_are_sums()
         moved begin offset ≡ begin + offset }
 {}
 
-/// The lines of a report occur in it, in order, by the definition that is used for the generated
-/// code of a lexer.
+/// The lines of a report occur in the report in order, by the definition of this that is used for
+/// the generated code of a lexer.
 pub fn report_lines_occur()
     ensures { (is_colored : Bool) (lines : List (List ℕ)) (whole : List ℕ) →
         InReport is_colored lines whole → OccurInOrder lines whole }
@@ -67,8 +67,8 @@ pub fn short_reports_are_whole()
 {}
 
 /// If consecutive leaves are the remaining leaves of a variant, the next line of the totals has the
-/// sum of their numbers of items, if that is not zero and fits into 64 bits. The lines after it are
-/// those of the leaves after them.
+/// sum of their numbers of items, or 2^64 - 1 if the sum is greater. There is no such line if the
+/// sum is 0. The lines after it are those of the leaves after them.
 pub fn totals_are_sums()
     ensures { (leaves : List CodeLeaf) (counts : List ℕ) (from size last total left : ℕ) →
         AreOfVariant leaves counts from size last total →

@@ -4,9 +4,9 @@
 ghost use Rattle.std.specs.Prelude.{List, ℕ, Ok, All, IsUtf8};
 ghost use Rattle.logos_laws.specs.spans.Imports.{EnumValue, Fault, LeafView, OptionsView, Reads, Spells, TokenList, IsSourceRead, HasSpansOf, OccursIn};
 
-/// The literal of each leaf of an enum is one of its tokens, and its callback, if it has one,
-/// consists of its tokens. In each source that spells these tokens, both have spans, and the
-/// literal is the text at its span.
+/// The literal of each leaf of an enum is a token of the enum, and the callback of the leaf, if it
+/// has one, consists of tokens of the enum. In each source that spells these tokens, the literal
+/// and the callback have spans, and the literal is the text at its span.
 pub fn leaves_have_spans()
     ensures tokens { (tokens : TokenList) (enum : EnumValue) → Reads tokens (Ok enum) →
         (leaves : List LeafView) (options : OptionsView) (faults : List Fault) →

@@ -1,4 +1,4 @@
-//! Selects the program by the name under which it was invoked. Called by `main`.
+//! The selection of the program by the name under which the executable was invoked. Used by `main`.
 
 ghost use Rattle.std.specs.Prelude.{◌≡◌, ◌≢◌, ◌<◌, ◌≤◌, ◌-◌, ℕ, List, MatchBool, length, slice_index};
 ghost use Rattle.logos_program.specs.Called.{IsLastName, IsNameStart, program_of};
@@ -8,11 +8,11 @@ use std::env::Env;
 /// The program that a name selects.
 #[derive(Clone, Copy)]
 pub(crate) enum Called {
-    /// The commands of `logos`.
+    /// The program `logos`.
     Logos,
-    /// `logos_cli`.
+    /// The program `logos_cli`.
     LogosCli,
-    /// `logos_show`.
+    /// The program `logos_show`.
     LogosShow,
 }
 
@@ -20,7 +20,8 @@ pub(crate) enum Called {
 /// Linux.
 const LONGEST_PATH: usize = 4096;
 
-/// Returns the name of the file to which a path leads: the part after its last slash.
+/// Returns the name of the file to which `path` leads: the part after its last slash, or the whole
+/// path without one.
 fn name_in(path: &[u8]) -> &[u8]
     ensures { IsLastName path.now result.now }
 {
@@ -31,7 +32,8 @@ fn name_in(path: &[u8]) -> &[u8]
     &path[from..]
 }
 
-/// Returns whether an offset of a path is its beginning, or the byte before it is a slash.
+/// Returns whether the byte offset `offset` of `path` is 0, or the byte before that offset is a
+/// slash.
 fn is_name_start(path: &[u8], offset: usize) -> bool
     requires { offset ≤ length path.now }
     ensures { MatchBool result (IsNameStart path.now offset)
@@ -43,8 +45,8 @@ fn is_name_start(path: &[u8], offset: usize) -> bool
     path[offset - 1] == b'/'
 }
 
-/// Returns the program for the name of an executable. Names may have a suffix, such as
-/// `logos_cli-0.1.0`. Any other name selects `logos`.
+/// Returns the program that the name of an executable selects. The names of `logos_cli` and
+/// `logos_show` may have a suffix, such as `logos_cli-0.1.0`. Any other name selects `logos`.
 fn requested_by(name: &[u8]) -> Called
     ensures { result ≡ program_of name.now }
 {
@@ -57,15 +59,16 @@ fn requested_by(name: &[u8]) -> Called
     Called::Logos
 }
 
-/// Returns the program for the path of an executable.
+/// Returns the program that the path of an executable selects by the name at its end.
 fn requested_at(path: &[u8]) -> Called
     ensures { (name : List ℕ) × IsLastName path.now name × (result ≡ program_of name) }
 {
     requested_by(name_in(path))
 }
 
-/// Returns the program for the name under which the process was invoked. It allocates no memory, so
-/// that an allocation of any of the three programs is its own.
+/// Returns the program for the name under which the process was invoked, or `logos` if the name
+/// cannot be read. The function allocates no memory, so that a process has only the allocations of
+/// the program that is selected.
 pub(crate) fn requested_by_name<R: Env>(rt: &R) -> Called {
     let mut path = [0; LONGEST_PATH];
     match rt.arg(0, &mut path) {

@@ -16,8 +16,8 @@ use logos_show::run_logos_show;
 use std::io;
 use std::process::ExitCode;
 
-/// Runs `logos` with these arguments of the process: it prints the lexer of an enum in a file or
-/// its state diagram, or lexes another file with it. Returns the exit status.
+/// Runs `logos` with `arguments`, those of the process, and returns the exit status. The program
+/// prints the lexer of an enum in a file or its state diagram, or lexes another file with it.
 fn run_logos(rt: &HostRuntime, arguments: Result<Vec<String>, Failure<'static>>) -> u8
     requires { IfErr arguments (λ failure. (status_of failure ≡ 2) ⊎ (status_of failure ≡ 3)) }
     ensures usage { IfOk arguments.entry (λ passed.
@@ -34,7 +34,7 @@ fn run_logos(rt: &HostRuntime, arguments: Result<Vec<String>, Failure<'static>>)
     )
 }
 
-/// Runs a program with these arguments of the process. Returns the exit status.
+/// Runs the program `called` with `arguments`, those of the process, and returns the exit status.
 fn run_called(
     rt: &HostRuntime,
     called: Called,

@@ -1,11 +1,12 @@
-//! Erases attributes: those of Rattle are removed, and a derive loses the names that Rust does not
-//! have.
+//! The rules for attributes: those of Rattle are removed, and a derive loses the names that Rust
+//! does not have. Used by `rules`.
 
 use crate::Refusal;
 use crate::rules::Step;
 use crate::source::Source;
 
-/// Changes the attribute whose `#` is at `n`. Returns its last token.
+/// Erases the attribute whose `#` is the token `n`, and returns the number of its last token.
+/// Appends to `added` the copies that replace a derive of `Clone`. Refuses an unknown attribute.
 pub(crate) fn attribute(source: &mut Source<'_>, n: usize, added: &mut String) -> Step {
     let open = if source.at(n + 1) == "!" { n + 2 } else { n + 1 };
     if source.at(open) != "[" {
@@ -23,8 +24,9 @@ pub(crate) fn attribute(source: &mut Source<'_>, n: usize, added: &mut String) -
     Ok(close)
 }
 
-/// Erases the derive whose `#` is at `n`. `Drop` is removed, and the whole derive if it has no
-/// other name. A `Clone` without `Copy` can fail in Rattle, so Rust cannot derive it.
+/// Erases names of the derive whose `#` is the token `n`, and the whole derive if no name remains.
+/// `Drop` is removed. `Clone` without `Copy` is removed too, since it can fail in Rattle and Rust
+/// cannot derive it: an `impl` of it is appended to `added`. Refuses an unknown name.
 fn derive(source: &mut Source<'_>, n: usize, added: &mut String) -> Result<(), Refusal> {
     let close = source.closing(n + 3);
     let names = (n + 4..close).step_by(2);
@@ -51,7 +53,8 @@ fn derive(source: &mut Source<'_>, n: usize, added: &mut String) -> Result<(), R
     Ok(())
 }
 
-/// Returns an `impl` of `Clone` for the struct that begins at `n`. It copies each field.
+/// Returns an `impl` of `Clone`, which copies each field, for the struct that begins at the token
+/// `n`. Refuses any item other than a struct with named fields and no parameters.
 fn copy_of(source: &Source<'_>, n: usize) -> Result<String, Refusal> {
     let word = source.find(n, &["struct", "enum", "fn", ";", "{"])?;
     let (name, open) = (source.at(word + 1), word + 2);

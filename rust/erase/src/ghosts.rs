@@ -1,10 +1,10 @@
-//! Finds the ends of ghost items and clauses. The content of their braces is antt and not Rust: its
-//! comments begin with `--`, and a quote is a letter.
+//! The ends of ghost items and clauses. Their braces contain antt instead of Rust: its comments
+//! begin with `--`, and a quote is a letter. Used by `tokens`.
 
 use crate::Refusal;
 use crate::tokens::{line_end, string_end, word_end};
 
-/// Returns the end of the blanks and comments that begin at `at`.
+/// Returns the byte offset after the blanks and comments that begin at byte offset `at`.
 fn skip_blanks(bytes: &[u8], mut at: usize) -> usize {
     while at < bytes.len() {
         match bytes[at] {
@@ -16,7 +16,9 @@ fn skip_blanks(bytes: &[u8], mut at: usize) -> usize {
     at
 }
 
-/// Returns the end of the next antt braces after `at`, in the clause or item at `item`.
+/// Returns the byte offset after the antt braces that come next from `at` on, or a refusal if no
+/// braces come next or they do not end. They belong to the clause or item at `item`, which the
+/// refusal names.
 fn braces_after(bytes: &[u8], item: usize, at: usize) -> Result<usize, Refusal> {
     let open = skip_blanks(bytes, at);
     if bytes.get(open) != Some(&b'{') {
@@ -37,14 +39,15 @@ fn braces_after(bytes: &[u8], item: usize, at: usize) -> Result<usize, Refusal> 
     Err(Refusal::new(open, "a brace of a clause or a ghost item that is not closed"))
 }
 
-/// Returns the end of a clause: `requires` or `ensures` at `at..word`, optionally a name, and
-/// braces.
+/// Returns the byte offset after a clause, or a refusal if it has no braces: `requires` or
+/// `ensures` at `at..word`, optionally a name, and braces.
 pub(crate) fn clause_end(text: &str, at: usize, word: usize) -> Result<usize, Refusal> {
     let bytes = text.as_bytes();
     braces_after(bytes, at, word_end(bytes, skip_blanks(bytes, word)))
 }
 
-/// Returns the end of a ghost item, whose word `ghost` is at `at..word`. The forms are:
+/// Returns the byte offset after a ghost item, whose word `ghost` is at `at..word`, or a refusal if
+/// it has none of these forms:
 ///
 /// - `ghost use path;`
 /// - `ghost name = {..};`, a member of an `impl`

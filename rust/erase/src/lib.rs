@@ -1,6 +1,6 @@
-//! Removes the contracts from Rattle sources. The result is Rust.
+//! The eraser, which removes the contracts from Rattle sources. The result is Rust.
 //!
-//! Called by the build scripts of the packages beside this one, which compile crates as modules.
+//! Used by the build scripts of the packages beside this one, which compile crates as modules.
 //!
 //! - Ghost items, clauses and everything else that only proofs need become blanks. A few names
 //!   become others of the same width. Thus each remaining token keeps its line and its column, and
@@ -21,25 +21,27 @@ pub use package::{Crates, LIBRARY, Module, build};
 
 use std::fmt;
 
-/// The targets of the paths in a file.
+/// The modules to which the paths in a file lead in the Rust package.
 #[derive(Clone, Default)]
 pub struct Paths<'a> {
     /// The module of the root that contains the file's crate, such as `logos_hir`.
     pub module: &'a str,
-    /// The crates that the file may name, each with the module that contains it, such as `crate`.
+    /// The crates that paths in the file may name, each with the module that contains the crate,
+    /// such as `crate`.
     pub libraries: Vec<(&'a str, &'a str)>,
 }
 
-/// Why a source was not erased.
+/// The reason that a source was not erased: a form that this library does not know, with its
+/// location.
 #[derive(Clone, Debug, PartialEq, Eq)]
 pub struct Refusal {
-    /// The offset in bytes.
+    /// The byte offset of the unknown form in the source.
     at: usize,
-    /// The line, counted from 1.
+    /// The line of the unknown form, counted from 1.
     pub line: usize,
-    /// The column in characters, counted from 1.
+    /// The column of the unknown form in characters, counted from 1.
     pub column: usize,
-    /// The unknown form.
+    /// The description of the unknown form.
     pub message: &'static str,
 }
 
@@ -55,11 +57,11 @@ impl fmt::Display for Refusal {
     }
 }
 
-/// Returns the Rust text of a Rattle source.
+/// Returns the Rust text of the Rattle source `text`, whose paths lead to the targets in `paths`.
 ///
 /// # Errors
 ///
-/// Returns `Refusal` for a source with a form that this library does not know.
+/// Returns `Refusal` for the first form in the source that this library does not know.
 pub fn erase(text: &str, paths: &Paths<'_>) -> Result<String, Refusal> {
     let erased = source::Source::new(text).and_then(|mut source| {
         let added = rules::apply(&mut source, paths)?;

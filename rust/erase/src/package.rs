@@ -1,19 +1,20 @@
-//! Erases the modules of a Rust package. Called by build scripts, in the folder of their package.
+//! The erasure of the crates of a Rust package to its modules. Used by build scripts, in the folder
+//! of their package.
 
 use crate::{Paths, erase};
 use std::path::{Path, PathBuf};
 use std::{env, fs, io};
 
-/// The package `logos-codegen` contains these crates and those below them.
+/// The crates that the package `logos-codegen` contains, together with the libraries below them.
 pub const LIBRARY: [&str; 4] = ["logos_codegen", "logos_tables", "logos_help", "logos_derive"];
 
 /// A crate or a program that becomes a module of the package's root.
 pub struct Module<'a> {
     pub name: &'a str,
-    /// The folder of its sources, or its single source.
+    /// The folder of the module's sources, or its single source.
     pub source: PathBuf,
     pub paths: Paths<'a>,
-    /// Lines that are added to its root.
+    /// The lines that are added to the module's root.
     pub added: &'a str,
 }
 
@@ -24,13 +25,13 @@ pub struct Crates {
 }
 
 impl Crates {
-    /// Finds the crates. The package has them as `bazel-crates` and `bazel-crates.txt`: symbolic
-    /// links in a clone, and copies if it is vendored. Rattle's gate refuses links with other
-    /// names. In a clone without links the crates are two folders above.
+    /// Returns the crates of the repository. The package has them as `bazel-crates` and
+    /// `bazel-crates.txt`: symbolic links in a clone, and copies if it is vendored. Rattle's gate
+    /// refuses links with other names. In a clone without links the crates are two folders above.
     ///
     /// # Errors
     ///
-    /// Returns an error if there is no list.
+    /// Returns an error if the list of the crates cannot be read.
     pub fn find() -> io::Result<Crates> {
         let is_whole = Path::new("bazel-crates").is_dir();
         let folder = Path::new(if is_whole { "bazel-crates" } else { "../../crates" });
@@ -44,18 +45,20 @@ impl Crates {
         Ok(Crates { folder, rows: rows.collect() })
     }
 
-    /// Returns the names of all crates.
+    /// Returns the names of all crates, in the order of the list.
     pub fn names(&self) -> impl Iterator<Item = &str> {
         self.rows.iter().map(|(name, _)| name.as_str())
     }
 
-    /// Returns the libraries that a crate uses. There are none if the list does not have the crate.
+    /// Returns the names of the libraries that the crate `name` uses, or none if the list does not
+    /// have the crate.
     fn libraries(&self, name: &str) -> impl Iterator<Item = &str> {
         let row = self.rows.iter().find(|(row, _)| row == name);
         row.into_iter().flat_map(|(_, libraries)| libraries).map(String::as_str)
     }
 
-    /// Returns the crates among `roots` and below them, in the order of the list.
+    /// Returns the names of the crates `roots` and of those that they use, directly or not, in the
+    /// order of the list.
     pub fn closure(&self, roots: &[&str]) -> Vec<&str> {
         let (mut needed, mut left) = (Vec::new(), roots.to_vec());
         while let Some(name) = left.pop() {
@@ -67,7 +70,7 @@ impl Crates {
         self.names().filter(|name| needed.contains(name)).collect()
     }
 
-    /// Returns a crate as a module.
+    /// Returns the crate `name` as a module.
     pub fn module<'a>(&'a self, name: &'a str) -> Module<'a> {
         let source = self.folder.join(name).join("src");
         // A library that is not in the list belongs to the toolchain.
@@ -78,12 +81,13 @@ impl Crates {
     }
 }
 
-/// Erases modules into the folder `OUT_DIR`, and writes `crates.rs` there, which declares them. A
-/// module becomes a file with its name and a folder with its modules.
+/// Erases modules into the folder `OUT_DIR`, and writes the file `crates.rs` there, which declares
+/// these modules. A module becomes a file with its name, and a folder with the modules in it.
 ///
 /// # Errors
 ///
-/// Returns an error if a file cannot be read, erased or written.
+/// Returns an error if a file cannot be read, erased or written. Other files may have been written
+/// then.
 pub fn build(modules: &[Module<'_>]) -> io::Result<()> {
     let out = PathBuf::from(env::var_os("OUT_DIR").unwrap_or_default());
     let mut declarations = String::new();
@@ -95,8 +99,8 @@ pub fn build(modules: &[Module<'_>]) -> io::Result<()> {
     write(&out.join("crates.rs"), declarations)
 }
 
-/// Erases the sources of a module: the root into the file `target.rs`, the others into the folder
-/// `target`. Modules named `laws` are left out.
+/// Erases the sources of a module: the root into the file `target` with the extension `rs`, the
+/// others into the folder `target`. Modules named `laws` are left out.
 fn erase_module(module: &Module<'_>, target: &Path) -> io::Result<()> {
     let (paths, root) = (&module.paths, target.with_extension("rs"));
     if module.source.is_file() {
@@ -128,13 +132,13 @@ fn erase_file(path: &Path, target: &Path, paths: &Paths<'_>, added: &str) -> io:
     write(target, erased + added)
 }
 
-/// Writes a file, and creates its folder.
+/// Writes a file, after its folder is created if it does not exist.
 fn write(path: &Path, text: String) -> io::Result<()> {
     fs::create_dir_all(path.parent().unwrap_or(path)).map_err(named(path))?;
     fs::write(path, text).map_err(named(path))
 }
 
-/// Returns a function that adds a path to an error.
+/// Returns a function that adds `path` to the message of an error.
 fn named(path: &Path) -> impl Fn(io::Error) -> io::Error {
     |error| io::Error::new(error.kind(), format!("{}: {error}", path.display()))
 }

@@ -1,13 +1,15 @@
-//! The rules that turn code into Rust. Each examines a token and those around it.
+//! The rules that turn the code of a Rattle source into Rust. Each examines a token and those
+//! around it. Used by `erase`.
 
 use crate::attributes::attribute;
 use crate::source::Source;
 use crate::{Paths, Refusal};
 
-/// The last token that a rule has handled.
+/// The number of the last token that a rule has handled, or the refusal of a form.
 pub(crate) type Step = Result<usize, Refusal>;
 
-/// Methods that take an allocator in Rattle and none in Rust, and their names with an allocator.
+/// The methods that take an allocator in Rattle and none in Rust, each with the name of the method
+/// that takes one.
 const WITH_ALLOCATOR: [(&str, &str); 4] = [
     ("collect", "list_in"),
     ("to_vec", "vec_in"),
@@ -15,12 +17,12 @@ const WITH_ALLOCATOR: [(&str, &str); 4] = [
     ("to_ascii_lowercase", "ascii_lowercase_in"),
 ];
 
-/// The names of a file that rules need.
+/// The names that rules collect from a file.
 #[derive(Default)]
 struct Names<'t> {
-    /// The `use` declarations that its paths need, each once.
+    /// The `use` declarations that the paths of the file need, without duplicates.
     uses: String,
-    /// The names that declarations of laws import.
+    /// The names that `use` declarations of laws import.
     laws: Vec<&'t str>,
 }
 
@@ -32,7 +34,8 @@ impl Names<'_> {
     }
 }
 
-/// Changes the code of a source, and returns the lines that it needs at its end.
+/// Applies all rules to the code of a source, and returns the lines that have to be added after its
+/// last one.
 pub(crate) fn apply(source: &mut Source<'_>, paths: &Paths<'_>) -> Result<String, Refusal> {
     let (mut names, mut copies) = (Names::default(), String::new());
     let mut n = 0;
@@ -52,7 +55,8 @@ pub(crate) fn apply(source: &mut Source<'_>, paths: &Paths<'_>) -> Result<String
     Ok(format!("\nuse std::prelude::*;\n{}{copies}", names.uses))
 }
 
-/// Blanks a declaration of laws, whose names it records, or of names that only models need.
+/// Blanks the `use` or `mod` at the token `n` if it declares laws, whose names it adds to `names`,
+/// or a name that only models need.
 fn declaration<'t>(source: &mut Source<'t>, n: usize, names: &mut Names<'t>) -> Step {
     let end = source.find(n, &[";"])?;
     let law = (n..end).find(|&k| source.at(k) == "laws");
@@ -65,7 +69,7 @@ fn declaration<'t>(source: &mut Source<'t>, n: usize, names: &mut Names<'t>) -> 
     Ok(end)
 }
 
-/// Blanks an `impl` of `Model`. A type with its own code for `drop` is refused.
+/// Blanks the `impl` at the token `n` if it is one of `Model`, and refuses one of `Drop`.
 fn implementation(source: &mut Source<'_>, n: usize) -> Step {
     let open = source.find(n, &["{", ";"])?;
     let trait_end = (n..open).find(|&k| source.at(k) == "for").map_or("", |k| source.before(k));
@@ -77,7 +81,8 @@ fn implementation(source: &mut Source<'_>, n: usize) -> Step {
     Ok(source.closing(open))
 }
 
-/// Replaces `crate::x` by `krate::x`, where `krate` is the module that contains the crate.
+/// Replaces the `crate` at the token `n` of a path by `krate`, a name of the module that contains
+/// the crate, and adds the declaration of this name to `names`.
 fn own_path(source: &mut Source<'_>, n: usize, paths: &Paths<'_>, names: &mut Names<'_>) -> Step {
     match (source.before(n), source.at(n + 1)) {
         (before, "::") if before != "in" && before != "$" => source.rename(n, "krate"),
@@ -88,7 +93,8 @@ fn own_path(source: &mut Source<'_>, n: usize, paths: &Paths<'_>, names: &mut Na
     Ok(n)
 }
 
-/// Records the library with which a path begins.
+/// Adds to `names` the declaration of the library with which a path at the token `n` begins, if
+/// there is such a path.
 fn note_library(source: &Source<'_>, n: usize, paths: &Paths<'_>, names: &mut Names<'_>) {
     let (before, after) = (source.before(n), source.at(n + 1));
     let is_path = after == "::" || before == "use" && [";", "as"].contains(&after);
@@ -100,7 +106,8 @@ fn note_library(source: &Source<'_>, n: usize, paths: &Paths<'_>, names: &mut Na
     }
 }
 
-/// Erases a keyword of a type or a call.
+/// Applies the rule for `word`, the token `n`, if there is one: blanks a bound `Drop`, a parameter
+/// of formatting or a call of a law, renames a method, or refuses a form that must not occur.
 fn keyword(source: &mut Source<'_>, n: usize, word: &str, names: &Names<'_>) -> Step {
     let after = source.at(n + 1);
     match word {
@@ -122,7 +129,7 @@ fn keyword(source: &mut Source<'_>, n: usize, word: &str, names: &Names<'_>) -> 
     Ok(n)
 }
 
-/// Blanks the bound `Drop`: each type of Rust may be dropped.
+/// Blanks the bound `Drop` at the token `n`: each type of Rust may be dropped.
 fn bound(source: &mut Source<'_>, n: usize) -> Step {
     match (source.before(n), source.at(n + 1)) {
         ("+", _) => source.blank(n - 1, n),
@@ -133,7 +140,7 @@ fn bound(source: &mut Source<'_>, n: usize) -> Step {
     Ok(n)
 }
 
-/// Changes the name of a method that takes an allocator.
+/// Renames the method at the token `n` if it is one of [`WITH_ALLOCATOR`] and has arguments.
 fn method(source: &mut Source<'_>, n: usize, word: &str) -> Step {
     if let Some(&(_, name)) = WITH_ALLOCATOR.iter().find(|(name, _)| *name == word) {
         match (source.at(n + 1), source.at(n + 2)) {
@@ -145,7 +152,7 @@ fn method(source: &mut Source<'_>, n: usize, word: &str) -> Step {
     Ok(n)
 }
 
-/// Blanks the call of a law, which does nothing.
+/// Blanks the call of a law at the token `n`, which must be a statement.
 fn law(source: &mut Source<'_>, n: usize) -> Step {
     let end = source.closing(n + 1) + 1;
     if !["{", "}", ";"].contains(&source.before(n)) || source.at(end) != ";" {

@@ -1,13 +1,14 @@
-//! The tokens of a source, with the operations that rules need to examine and to change them.
+//! The tokens of a source, with the operations by which rules examine and change these tokens. Used
+//! by `rules` and `attributes`.
 
 use crate::Refusal;
 use crate::tokens::{Kind, token_at};
 
-/// A token of code: its bytes are `from..to`.
+/// A token of code, with the range of its bytes in the source, `from..to`.
 struct Token {
     from: usize,
     to: usize,
-    /// The number of the bracket that closes this one, otherwise 0.
+    /// The number of the token that closes this one, if it is an opening bracket, otherwise 0.
     closing: usize,
 }
 
@@ -15,14 +16,16 @@ struct Token {
 pub(crate) struct Source<'t> {
     text: &'t str,
     tokens: Vec<Token>,
-    /// The ranges of all comments.
+    /// The byte ranges of all comments.
     comments: Vec<(usize, usize)>,
-    /// The bytes to change, and the name that replaces them, which is empty for blanks.
+    /// The byte ranges to change, each with the name that replaces its bytes, which is empty for
+    /// blanks.
     edits: Vec<(usize, usize, &'static str)>,
 }
 
 impl<'t> Source<'t> {
-    /// Reads a source. Ghost items and clauses become blanks.
+    /// Reads a source, and blanks its ghost items and clauses. Refuses a source whose brackets are
+    /// not paired.
     pub(crate) fn new(text: &'t str) -> Result<Source<'t>, Refusal> {
         let (tokens, comments, edits) = (Vec::new(), Vec::new(), Vec::new());
         let mut source = Source { text, tokens, comments, edits };
@@ -46,7 +49,8 @@ impl<'t> Source<'t> {
         }
     }
 
-    /// Adds a token, and pairs it with the last open bracket if it closes one.
+    /// Adds the token at `from..to`. An opening bracket is added to `open`; a closing one is paired
+    /// with the last of `open`, or refused.
     fn push(&mut self, from: usize, to: usize, open: &mut Vec<usize>) -> Result<(), Refusal> {
         let n = self.tokens.len();
         self.tokens.push(Token { from, to, closing: 0 });
@@ -66,28 +70,30 @@ impl<'t> Source<'t> {
         self.tokens.len()
     }
 
-    /// Returns the text of a token, or an empty one past the last.
+    /// Returns the text of the token `n`, or an empty text after the last token.
     pub(crate) fn at(&self, n: usize) -> &'t str {
         self.tokens.get(n).map_or("", |token| &self.text[token.from..token.to])
     }
 
-    /// Returns the text of the token before one, or an empty one before the first.
+    /// Returns the text of the token before the token `n`, or an empty text before the first one.
     pub(crate) fn before(&self, n: usize) -> &'t str {
         n.checked_sub(1).map_or("", |n| self.at(n))
     }
 
-    /// Returns whether the tokens `pattern` begin at `n`.
+    /// Returns whether the tokens from `n` on have the texts of `pattern`.
     pub(crate) fn matches(&self, n: usize, pattern: &[&str]) -> bool {
         pattern.iter().enumerate().all(|(k, text)| self.at(n + k) == *text)
     }
 
-    /// Returns the first token from `n` on with one of these texts.
+    /// Returns the number of the first token from `n` on with one of `texts`, or a refusal if there
+    /// is none.
     pub(crate) fn find(&self, n: usize, texts: &[&str]) -> Result<usize, Refusal> {
         let found = (n..self.len()).find(|&k| texts.contains(&self.at(k)));
         found.map_or_else(|| self.refusal(n, "an item that does not end"), Ok)
     }
 
-    /// Returns the number of the bracket that closes the one at `n`, or `n` if it is not a bracket.
+    /// Returns the number of the token that closes the opening bracket `n`, or `n` if this token
+    /// opens no bracket.
     pub(crate) fn closing(&self, n: usize) -> usize {
         self.tokens.get(n).map_or(n, |token| token.closing.max(n))
     }
@@ -96,17 +102,18 @@ impl<'t> Source<'t> {
         Err(Refusal::new(self.tokens.get(n).map_or(self.text.len(), |token| token.from), message))
     }
 
-    /// Replaces a token by another name of the same width.
+    /// Replaces the token `n` by `name`, which must have the same width.
     pub(crate) fn rename(&mut self, n: usize, name: &'static str) {
         self.edits.push((self.tokens[n].from, self.tokens[n].to, name));
     }
 
-    /// Blanks the tokens from `from` to `to`, both included.
+    /// Blanks the source from the token `from` to the token `to`, both included.
     pub(crate) fn blank(&mut self, from: usize, to: usize) {
         self.add_blanks(self.tokens[from].from, self.tokens[to].to);
     }
 
-    /// Blanks an item that ends at `to`, with its visibility and the comments directly above.
+    /// Blanks the item from the token `from` to the token `to`, both included, with its visibility
+    /// and the comments directly above.
     pub(crate) fn blank_item(&mut self, from: usize, to: usize) {
         let start = match self.before(from) {
             "pub" => from - 1,
@@ -116,8 +123,8 @@ impl<'t> Source<'t> {
         self.blank_text(self.tokens[start].from, self.tokens[to].to);
     }
 
-    /// Blanks bytes, and the comments on the lines directly above, except those that document the
-    /// file.
+    /// Blanks the bytes `from..to`, and the comments on the lines directly above, except those that
+    /// document the file.
     fn blank_text(&mut self, from: usize, to: usize) {
         let mut start = from;
         let above = self.comments.partition_point(|comment| comment.1 <= from);
@@ -133,14 +140,14 @@ impl<'t> Source<'t> {
         self.add_blanks(start, to);
     }
 
-    /// Blanks bytes, and the end of their line if nothing else follows on it.
+    /// Blanks the bytes `from..to`, and the end of their line if nothing else follows on it.
     fn add_blanks(&mut self, from: usize, to: usize) {
         let rest = self.text[to..].trim_start_matches([' ', '\r']);
         let end = self.text.len() - rest.len();
         self.edits.push((from, if rest.starts_with('\n') { end + 1 } else { to }, ""));
     }
 
-    /// Returns the text with its edits.
+    /// Returns the text of the source with all edits.
     pub(crate) fn edited(mut self) -> String {
         self.edits.sort_unstable_by_key(|edit| edit.0);
         let mut output = String::with_capacity(self.text.len() + 256);
@@ -157,8 +164,8 @@ impl<'t> Source<'t> {
     }
 }
 
-/// Appends a blank for each character of a text, or nothing if it has another name. Trailing blanks
-/// of a line are removed.
+/// Appends a blank for each character of `text`, or nothing if `name` has replaced it. Trailing
+/// blanks of lines are removed.
 fn push_blanks(output: &mut String, text: &str, name: &str) {
     for character in text.chars().filter(|_| name.is_empty()) {
         if character == '\n' {

@@ -1,4 +1,5 @@
-//! Reads the tokens of a Rattle source, in which each ghost item and each clause is one token.
+//! The tokens of a Rattle source, in which each ghost item and each clause is one token. Used by
+//! `source`.
 
 use crate::Refusal;
 use crate::ghosts::{clause_end, ghost_end};
@@ -12,7 +13,8 @@ pub(crate) enum Kind {
     Ghost,
 }
 
-/// Returns the kind and the end of the token that begins at `at`.
+/// Returns the kind of the token that begins at byte offset `at`, and the offset after it. Refuses
+/// a token that does not end, and a character that begins no token.
 pub(crate) fn token_at(text: &str, at: usize) -> Result<(Kind, usize), Refusal> {
     let bytes = text.as_bytes();
     match (bytes[at], bytes.get(at + 1)) {
@@ -27,13 +29,13 @@ pub(crate) fn token_at(text: &str, at: usize) -> Result<(Kind, usize), Refusal> 
     }
 }
 
-/// Returns the end of the line on which `at` is.
+/// Returns the byte offset of the end of the line on which `at` is, without its line end.
 pub(crate) fn line_end(bytes: &[u8], at: usize) -> usize {
     let length = bytes[at..].iter().position(|byte| *byte == b'\n');
     length.map_or(bytes.len(), |length| at + length)
 }
 
-/// Returns the end of the run of letters, digits and underscores at `at`.
+/// Returns the byte offset after the ASCII letters, digits and underscores from `at` on.
 pub(crate) fn word_end(bytes: &[u8], mut at: usize) -> usize {
     while at < bytes.len() && (bytes[at].is_ascii_alphanumeric() || bytes[at] == b'_') {
         at += 1;
@@ -41,8 +43,9 @@ pub(crate) fn word_end(bytes: &[u8], mut at: usize) -> usize {
     at
 }
 
-/// Reads a word, or a token that begins with one: a literal with a prefix, a ghost item or a
-/// clause.
+/// Returns the kind of the token that begins with a word at byte offset `at`, and the offset after
+/// it. The token is the word, a literal with a prefix, a ghost item or a clause. Refuses one of the
+/// last three that does not end.
 fn word_at(text: &str, at: usize) -> Result<(Kind, usize), Refusal> {
     let bytes = text.as_bytes();
     let to = word_end(bytes, at);
@@ -56,7 +59,8 @@ fn word_at(text: &str, at: usize) -> Result<(Kind, usize), Refusal> {
     }
 }
 
-/// Returns the end of the string whose opening quote is at `at`.
+/// Returns the byte offset after the string whose opening quote is at `at`, or a refusal if it does
+/// not end.
 pub(crate) fn string_end(bytes: &[u8], at: usize) -> Result<usize, Refusal> {
     let mut end = at + 1;
     while end < bytes.len() {
@@ -69,7 +73,8 @@ pub(crate) fn string_end(bytes: &[u8], at: usize) -> Result<usize, Refusal> {
     Err(Refusal::new(at, "a string that does not end"))
 }
 
-/// Returns the end of the raw string that begins at `at`, and whose hashes begin at `hashes`.
+/// Returns the byte offset after the raw string that begins at `at`, and whose hashes, if any,
+/// begin at `hashes`, or a refusal if it does not end.
 fn raw_string_end(text: &str, at: usize, hashes: usize) -> Result<usize, Refusal> {
     let count = text[hashes..].bytes().take_while(|byte| *byte == b'#').count();
     let closing = format!("\"{}", &text[hashes..hashes + count]);
@@ -80,7 +85,8 @@ fn raw_string_end(text: &str, at: usize, hashes: usize) -> Result<usize, Refusal
     }
 }
 
-/// Returns the end of the lifetime or the character whose quote is at `at`.
+/// Returns the byte offset after the lifetime or the character whose quote is at `at`, or a refusal
+/// if it is neither.
 fn quote_end(text: &str, at: usize) -> Result<usize, Refusal> {
     let rest = &text[at + 1..];
     let length = rest.chars().next().map_or(0, char::len_utf8);
@@ -96,7 +102,8 @@ fn quote_end(text: &str, at: usize) -> Result<usize, Refusal> {
     }
 }
 
-/// Returns the end of a comment in `/*` and `*/`, which may be nested.
+/// Returns the byte offset after the comment in `/*` and `*/` that begins at `at`, or a refusal if
+/// it does not end. Comments may be nested.
 fn block_comment_end(bytes: &[u8], at: usize) -> Result<usize, Refusal> {
     let (mut depth, mut end) = (0, at);
     while end + 1 < bytes.len() {

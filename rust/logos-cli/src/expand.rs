@@ -1,5 +1,5 @@
-//! Expands the lexers of a Rust file in a build script. Build scripts call it under the name
-//! `logos_build`.
+//! The expansion of the lexers of a Rust file in a build script. Used by build scripts, under the
+//! name `logos_build`.
 
 // In this package `std` is Rattle's.
 extern crate std as rust_std;
@@ -16,7 +16,8 @@ use std::prelude::{HostRuntime, String as Word, Vec as List};
 /// The shape of the generated lexers.
 #[derive(Clone, Copy, Debug, Default, PartialEq, Eq)]
 pub enum Shape {
-    /// Tables, and one loop that reads them. It takes a second to compile.
+    /// Tables, and one loop that reads these tables. A lexer in this shape takes a second to
+    /// compile.
     #[default]
     Tables,
     /// A function for each state.
@@ -35,7 +36,7 @@ impl Shape {
     }
 }
 
-/// The settings for expanding files.
+/// The settings with which files are expanded.
 #[derive(Clone, Debug, Default)]
 #[must_use = "`expand` expands a file"]
 pub struct Build {
@@ -43,24 +44,25 @@ pub struct Build {
 }
 
 impl Build {
-    /// Returns the default settings.
+    /// Returns the default settings: the shape of tables.
     pub fn new() -> Build {
         Build::default()
     }
 
-    /// Sets the shape of the lexers.
+    /// Returns the settings with `shape` as the shape of the lexers.
     pub fn shape(mut self, shape: Shape) -> Build {
         self.shape = shape;
         self
     }
 
-    /// Expands the lexers of a Rust file of the package into a file of the same name in the folder
-    /// `OUT_DIR`, and returns its path. Everything else in the file stays unchanged. The result is
-    /// written entirely, or not at all.
+    /// Expands the lexers of the Rust file `source` of the package into a file of the same name in
+    /// the folder `OUT_DIR`, and returns the path of that file. Everything else in the file stays
+    /// unchanged. The result is written entirely, or not at all.
     ///
-    /// Warnings become warnings of Cargo. If the file has faults, or cannot be read, the reason is
-    /// printed and the build script ends with exit status 1. The library uses at most 1 GiB of
-    /// memory, or the value of the variable `LOGOS_MEMORY`, such as `4G`.
+    /// Warnings become warnings of Cargo. If the file has faults, or cannot be read, or the result
+    /// cannot be written, the reason is printed on standard error and the build script ends with
+    /// exit status 1. The library uses at most 1 GiB of memory, or the value of the variable
+    /// `LOGOS_MEMORY`, such as `4G`.
     pub fn expand(&self, source: impl AsRef<Path>) -> PathBuf {
         let source = source.as_ref();
         self.try_expand(source).unwrap_or_else(|why| {
@@ -83,7 +85,8 @@ impl Build {
         Ok(output)
     }
 
-    /// Runs `logos_cli`, and returns its warnings.
+    /// Runs `logos_cli` on the path `source` with the option `--output`, and returns its messages:
+    /// the warnings, or the faults as an error.
     fn run(&self, source: &str, output: &str) -> Result<String, String> {
         let words = [
             source,
@@ -106,14 +109,14 @@ impl Build {
     }
 }
 
-/// Expands the lexers of a Rust file of the package in the shape of tables, and returns the path of
-/// the result, like [`Build::expand`].
+/// Expands the lexers of the Rust file `source` of the package in the shape of tables, and returns
+/// the path of the result, like [`Build::expand`].
 pub fn expand(source: impl AsRef<Path>) -> PathBuf {
     Build::new().expand(source)
 }
 
-/// Returns a path as an argument. Cargo reads paths from lines, so a path with a line end is
-/// invalid.
+/// Returns a path as an argument, or a message if it is not UTF-8 or has control characters: Cargo
+/// reads paths from lines, so a path with a line end is invalid.
 fn word(path: &Path) -> Result<&str, String> {
     let word = path
         .to_str()
@@ -131,7 +134,7 @@ fn words_of(words: &[&str]) -> Result<List<Word>, AllocError> {
     Ok(list)
 }
 
-/// Returns a text in which control characters other than line ends are escaped.
+/// Returns `text` with control characters other than line ends escaped.
 fn shown(text: &str) -> String {
     let mut shown = String::with_capacity(text.len());
     for c in text.chars() {

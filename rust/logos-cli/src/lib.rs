@@ -1,5 +1,6 @@
-//! For build scripts that keep lexers in a file: `expand` expands a Rust file like the program
-//! `logos_cli`. The package has the three programs, too.
+//! For build scripts of packages whose lexers are in a file: `expand` expands a Rust file like the
+//! program `logos_cli`. The package has the three programs `logos`, `logos_cli` and `logos_show`,
+//! too.
 //!
 //! ```no_run
 //! // build.rs

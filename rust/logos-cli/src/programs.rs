@@ -1,5 +1,5 @@
-//! Runs a program on the runtime of this process, or on another system. Called by the programs
-//! `logos`, `logos_cli` and `logos_show`, and by the playground.
+//! Functions that run a program on the runtime of this process, or on another system. Called by the
+//! programs `logos`, `logos_cli` and `logos_show`, and by the playground.
 
 use crate::logos_host::{ComparableFiles, Failure, arguments};
 use std::alloc::{Global, set_budget_of_program};
@@ -9,17 +9,19 @@ use std::prelude::{HostRuntime, String, Vec};
 use std::process::ExitCode;
 use std::time::Clock;
 
-/// The line that `--version` prints after the version. The programs print none if it names no
+/// The line that `--version` prints after the version. The programs do not print it if it names no
 /// commit.
 const COMMIT: &str = concat!("commit: ", env!("LOGOS_COMMIT"), "\n");
 
-/// The exit status for an argument or a variable in an unknown form.
+/// The exit status if the variable `LOGOS_MEMORY` is not a number of bytes.
 const MISUSE: u8 = 2;
 
-/// A program: it takes the arguments of the process, and returns the exit status.
+/// A program: a function that takes the runtime, and the arguments of the process or the failure to
+/// read them, and returns the exit status.
 type Program = fn(&HostRuntime, Result<Vec<String>, Failure<'static>>) -> u8;
 
-/// Runs a program.
+/// Runs a program with the arguments of the process, and returns its exit status, or [`MISUSE`] if
+/// the variable `LOGOS_MEMORY` is not a number of bytes.
 pub fn run(program: Program) -> ExitCode {
     if let Err(error) = set_budget_of_program() {
         let _ = writeln!(HostRuntime.stderr(), "error: {error}");
@@ -29,9 +31,9 @@ pub fn run(program: Program) -> ExitCode {
     ExitCode::from(program(&HostRuntime, arguments(&HostRuntime)))
 }
 
-/// Runs `logos_show` with these arguments, without its name, on other files and on another system,
-/// which has a clock, a standard input and variables. Returns the exit status, and appends its
-/// output to `err` and `out`.
+/// Runs `logos_show` with `arguments`, which do not contain its name, on other files and on another
+/// system, which has a clock, a standard input and variables. Returns the exit status. Appends the
+/// standard error to `err`, and the standard output to `out`.
 pub fn show<F: ComparableFiles, S: Clock + Input + Env>(
     arguments: &[String],
     files: &mut F,

@@ -1,10 +1,11 @@
 //! The library that `#[derive(Logos)]` calls: from the source of an enum to its lexer.
 //!
 //! The items at the root are those of the crate `logos_codegen` of the repository. The modules
-//! `logos_*` are its crates. Their sources are written in Rattle, which is Rust with contracts, and
-//! are proved there. A build script removes the contracts and leaves the rest unchanged, so lines
-//! and columns are those of the `.rt` files. That the result behaves as proved depends on that
-//! script, on `rattle-std`, and on the Rust compiler. The tests of the repository run both.
+//! `logos_*` are the crates of the library. Their sources are written in Rattle, which is Rust with
+//! contracts, and are proved there. A build script removes the contracts and leaves the rest
+//! unchanged, so lines and columns are those of the `.rt` files. That the result behaves as proved
+//! depends on that script, on `rattle-std`, and on the Rust compiler. The tests of the repository
+//! run both.
 
 #![no_std]
 #![forbid(unsafe_code)]

@@ -1,4 +1,4 @@
-//! The library's answers about an enum, in types of Rust's own library.
+//! The library's answers about an enum, in types of Rust's own library. Used by all other modules.
 
 use crate::question::Question;
 use logos_codegen::logos_codegen::generator::Config;
@@ -10,13 +10,14 @@ use rattle_std::alloc::{Global, set_budget_of_program};
 use std::ops::Range;
 use std::panic::{AssertUnwindSafe, catch_unwind};
 
-/// The library's answer: the implementation, if the enum is accepted, and faults and warnings.
+/// The library's answer about an enum: the implementation, if the enum is accepted, and the faults
+/// and warnings.
 pub struct Answer {
     pub implementation: Option<Implementation>,
     pub diagnostics: Vec<Diagnostic>,
 }
 
-/// The implementation of an enum, and the pieces of its source in it.
+/// The text of an implementation, and the pieces of the source that it contains.
 pub struct Implementation {
     pub text: String,
     pub pieces: Vec<Piece>,
@@ -24,33 +25,33 @@ pub struct Implementation {
 
 /// A piece of the source that the implementation repeats.
 pub struct Piece {
-    /// Its range in the implementation, in bytes.
+    /// The byte range of the piece in the implementation.
     pub range: Range<usize>,
-    /// The range of its tokens in the source, in bytes.
+    /// The byte range of the piece's tokens in the source.
     pub source: Range<usize>,
 }
 
-/// A fault or a warning.
+/// A fault or a warning about an enum.
 pub struct Diagnostic {
     pub is_error: bool,
-    /// The first line, after the code of a fault in brackets.
+    /// The first line of the diagnostic, which begins with the code, in brackets, if there is one.
     pub message: String,
-    /// The primary span, in bytes of the source.
+    /// The byte range of the source in which the diagnostic is.
     pub span: Range<usize>,
-    /// The faulty part of a literal, if that is not all of `span`.
+    /// The byte range of the faulty part of a literal, if that is not all of `span`.
     pub carets: Option<Range<usize>>,
     pub labels: Vec<Label>,
-    /// Lines that begin with `note: ` or `help: `.
+    /// The notes, each of which begins with `note: ` or `help: `.
     pub notes: Vec<String>,
 }
 
-/// Another span of a diagnostic, with its label.
+/// Another span of a diagnostic, in bytes of the source, with its label.
 pub struct Label {
     pub span: Range<usize>,
     pub text: String,
 }
 
-/// The reason that there is no answer, and the way to fix it.
+/// A message: the reason that there is no answer, and perhaps a way to fix that.
 pub struct Failure(pub String);
 
 /// The shape of an implementation, named as in the variable `LOGOS_SHAPE`.
@@ -79,16 +80,18 @@ impl ShapeName {
 ///
 /// # Errors
 ///
-/// Returns a message if the variable `LOGOS_MEMORY` is not a number of bytes.
+/// Returns a message if the value of the variable `LOGOS_MEMORY` is not a number of bytes, such as
+/// `500M`.
 pub fn set_budget() -> Result<(), Failure> {
     set_budget_of_program().map_err(|error| Failure(error.to_string()))
 }
 
-/// Calls the library for the implementation of an enum.
+/// Calls the library, and returns its answer about the enum of `question`.
 ///
 /// # Errors
 ///
-/// Returns a message if memory runs out, or if the library panics, which is a mistake in it.
+/// Returns a message if memory runs out, or if the library panics, which is a mistake in the
+/// library.
 pub fn ask(question: &Question, shape: ShapeName) -> Result<Answer, Failure> {
     let derive = || library::derive(Global, &question.text, shape.shape(), &FaultHelps);
     match catch_unwind(AssertUnwindSafe(derive)) {

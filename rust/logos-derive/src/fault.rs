@@ -1,16 +1,16 @@
-//! Faults as compile errors.
+//! Faults as compile errors. Used by the macro, and by `warning` for texts.
 
 use crate::answer::{Diagnostic, Failure, Label};
 use crate::question::{Place, Question};
 use proc_macro::{Delimiter, Group, Ident, Literal, Punct, Spacing, Span, TokenStream, TokenTree};
 use std::ops::Range;
 
-/// Returns the error for a failure, at the name of the enum.
+/// Returns the compile error for a failure, at the name of the enum.
 pub fn failure(failure: &Failure, question: &Question) -> TokenStream {
     error_at(&failure.0, question.name())
 }
 
-/// Returns the error for a fault, at its tokens.
+/// Returns the compile error for a fault, at its tokens.
 pub fn error(fault: &Diagnostic, question: &Question) -> TokenStream {
     error_at(&text(fault, question), question.place(&fault.span))
 }
@@ -22,7 +22,8 @@ fn error_at(text: &str, place: Option<Place>) -> TokenStream {
     }
 }
 
-/// Returns the whole text of a fault or a warning: its first line, and then notes and helps.
+/// Returns the whole text of a fault or a warning: its first line, and after it the notes and
+/// helps.
 pub fn text(found: &Diagnostic, question: &Question) -> String {
     let mut lines = vec![found.message.clone()];
     lines.extend(in_literal(found, question));
@@ -36,14 +37,16 @@ pub fn text(found: &Diagnostic, question: &Question) -> String {
     lines.join("\n")
 }
 
-/// Returns the note for another span: its label, and its tokens.
+/// Returns the note for another span: its label, and its text. Returns `None` if the span is not in
+/// the text of the enum.
 fn other(label: &Label, question: &Question) -> Option<String> {
     let tokens = question.text.get(label.span.clone())?;
     Some(format!("note: {}: `{}`", label.text, shortened(tokens)))
 }
 
-/// Returns the note for a part of a literal: the line of the literal with carets under the part. A
-/// line that cannot be shown with carets is named by its number.
+/// Returns the note for a part of a literal: the line of the literal with carets under the part. If
+/// the line cannot be shown with carets, the note names the line and the column. Returns `None` if
+/// the span is not a part of a literal.
 fn in_literal(found: &Diagnostic, question: &Question) -> Option<String> {
     let part = found.carets.as_ref().unwrap_or(&found.span);
     let literal = question.place(part)?.literal?;
@@ -69,7 +72,7 @@ fn in_literal(found: &Diagnostic, question: &Question) -> Option<String> {
     ))
 }
 
-/// Returns how many characters of the first line of a part are marked.
+/// Returns how many carets mark a part: one for each character of its first line, and at least one.
 fn marked(part: &Range<usize>, question: &Question) -> usize {
     let first = question
         .text
@@ -78,7 +81,7 @@ fn marked(part: &Range<usize>, question: &Question) -> usize {
     first.map_or(1, |text| text.chars().count().max(1))
 }
 
-/// Returns whether a character has one column in each terminal, so that carets below it are
+/// Returns whether each terminal shows a character in one column, so that carets below it are
 /// aligned.
 fn has_one_column(c: char) -> bool {
     matches!(c, ' '..='~' | '\u{a1}'..='\u{2ff}' | '\u{370}'..='\u{52f}') && c != '\u{ad}'
@@ -87,7 +90,7 @@ fn has_one_column(c: char) -> bool {
 /// The maximum length of a line that is shown entirely, in characters.
 const LONG: usize = 80;
 
-/// Returns a text on one line, cut if it is long.
+/// Returns `text` on one line, cut after [`LONG`] characters if it is longer.
 fn shortened(text: &str) -> String {
     let line: String = text
         .trim()
@@ -100,8 +103,8 @@ fn shortened(text: &str) -> String {
     }
 }
 
-/// Returns `::core::compile_error! { ".." }`, which the compiler shows from the first span to the
-/// last.
+/// Returns `::core::compile_error! { ".." }` with the message `text`, which the compiler shows from
+/// the span `first` to `last`.
 fn compile_error(text: &str, first: Span, last: Span) -> TokenStream {
     let punct = |c, spacing| {
         let mut punct = Punct::new(c, spacing);

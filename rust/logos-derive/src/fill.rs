@@ -1,4 +1,4 @@
-//! Makes the tokens of an implementation, with the user's own tokens for the pieces of the source.
+//! The tokens of an implementation, with the user's own tokens for the pieces of the source.
 
 use crate::answer::{Failure, Implementation, Piece};
 use crate::question::Question;
@@ -6,29 +6,29 @@ use proc_macro::{Delimiter, Group, Span, TokenStream, TokenTree};
 use std::ops::Range;
 use std::vec::IntoIter;
 
-/// The attributes before an implementation: they silence lints of clippy for generated code. Clippy
-/// detects by itself that the user's tokens come from a macro.
+/// The attribute before an implementation, which silences lints of clippy for generated code.
+/// Clippy detects by itself that the user's tokens come from a macro.
 const LINTS: &str = "#[allow(clippy::manual_range_contains, clippy::question_mark)] ";
 
 /// The user's tokens for a part of an implementation.
 struct Filling {
-    /// The part of the implementation, in bytes.
+    /// The byte range of the part in the implementation.
     range: Range<usize>,
     tokens: Vec<TokenTree>,
-    /// The span of a piece of an attribute, such as a callback. Errors in the generated code right
-    /// after it are shown there, too.
+    /// The span of a piece, such as a callback, if that is from an attribute. Errors in the
+    /// generated code right after the piece are shown there, too.
     anchor: Option<Span>,
-    /// The first and last token of the type of the field, if this is the name of a variant that has
-    /// one.
+    /// The spans of the first and the last token of a field's type, if the piece is the name of a
+    /// variant that has a field.
     field: Option<(Span, Span)>,
 }
 
-/// Returns the tokens of an implementation, in which the pieces are the user's tokens with their
+/// Returns the tokens of `implementation`, in which the pieces are the user's tokens with their
 /// spans.
 ///
 /// # Errors
 ///
-/// Returns a message if the implementation is not Rust.
+/// Returns a message if the text of the implementation cannot be read as Rust tokens.
 pub fn tokens(
     implementation: &Implementation,
     question: &Question,
@@ -45,8 +45,8 @@ pub fn tokens(
     Ok(Rest { name, fillings }.fill(stream, None).0)
 }
 
-/// Returns the tokens of a piece. The piece keeps its printed form if the source has no whole
-/// tokens there.
+/// Returns the user's tokens for a piece, or `None` if the source has no whole tokens there. Then
+/// the printed form of the piece remains.
 fn filling(piece: &Piece, question: &Question) -> Option<Filling> {
     let tokens = question.cut(&piece.source)?;
     let is_in_attribute = question.is_in_attribute(piece.source.start);
@@ -58,7 +58,8 @@ fn filling(piece: &Piece, question: &Question) -> Option<Filling> {
     })
 }
 
-/// Returns the span of the last token, if that is a name, otherwise of the first.
+/// Returns the span of the last token if that is a name, otherwise that of the first token, or
+/// `None` without tokens.
 fn anchor(tokens: &[TokenTree]) -> Option<Span> {
     match tokens {
         [.., TokenTree::Ident(name)] => Some(name.span()),
@@ -66,7 +67,7 @@ fn anchor(tokens: &[TokenTree]) -> Option<Span> {
     }
 }
 
-/// Returns a name that does not occur in a text.
+/// Returns a name that does not occur in `text`.
 fn new_name(text: &str) -> String {
     let mut name = String::from("logos_piece");
     while text.contains(&name) {
@@ -75,7 +76,8 @@ fn new_name(text: &str) -> String {
     name
 }
 
-/// Returns the text of an implementation with a name instead of each piece that is filled in.
+/// Returns the text of an implementation after [`LINTS`], with `name` instead of each piece that is
+/// filled in.
 fn with_name(text: &str, fillings: &[Filling], name: &str) -> String {
     let mut named = String::with_capacity(LINTS.len() + text.len());
     named.push_str(LINTS);
@@ -89,16 +91,17 @@ fn with_name(text: &str, fillings: &[Filling], name: &str) -> String {
     named
 }
 
-/// The fillings that remain for the occurrences of the name.
+/// The name that occurs instead of pieces, and the fillings for its occurrences that remain.
 struct Rest {
     name: String,
     fillings: IntoIter<Filling>,
 }
 
 impl Rest {
-    /// Fills in the pieces of a group. Each other token is shown at the anchor before it: one of
-    /// the group itself, or of a group in it. Parentheses begin with the anchor before them.
-    /// Returns the last anchor of the group itself, too.
+    /// Returns the tokens of `stream`, the contents of a group, with the pieces filled in, and the
+    /// last anchor of the group itself. Each other token is shown at the anchor before it, which is
+    /// one of the group itself or of a group in it. The first anchor of parentheses is the one
+    /// before them, `before`.
     fn fill(&mut self, stream: TokenStream, before: Option<Span>) -> (TokenStream, Option<Span>) {
         if self.is_done() && before.is_none() {
             return (stream, None);
@@ -126,7 +129,8 @@ impl Rest {
         self.fillings.as_slice().is_empty()
     }
 
-    /// Returns the filling for a token, if it is the name.
+    /// Returns the next filling if `tree` is the name that occurs instead of pieces, otherwise
+    /// `None`.
     fn filling_at(&mut self, tree: &TokenTree) -> Option<Filling> {
         match tree {
             TokenTree::Ident(word) if !self.is_done() && word.to_string() == self.name => {
@@ -136,8 +140,8 @@ impl Rest {
         }
     }
 
-    /// Returns a token, filled in, that is shown at the last anchor in it, or at the one before it.
-    /// Returns the last anchor in it, too.
+    /// Returns a token tree, filled in, that is shown at the last anchor in it, or otherwise at
+    /// `anchor`, the one before it. Returns also the last anchor in it.
     fn shown(&mut self, mut tree: TokenTree, anchor: Option<Span>) -> (TokenTree, Option<Span>) {
         let (mut span, mut last) = (tree.span(), None);
         if let TokenTree::Group(group) = &tree {
@@ -154,8 +158,8 @@ impl Rest {
     }
 }
 
-/// Returns a token after the name of a variant. The value of its field is shown at the field's
-/// type.
+/// Returns the token tree after the name of a variant. If that is a group, the value of the field
+/// in it is shown at the field's type, from the token `first` to `last`.
 fn constructed(tree: TokenTree, (first, last): (Span, Span)) -> TokenTree {
     let TokenTree::Group(group) = &tree else {
         return tree;

@@ -1,28 +1,31 @@
-//! The generic parameters of a refused enum, for the implementation that replaces its lexer.
+//! The generic parameters of a refused enum, for the implementation that replaces its lexer. Used
+//! by `stub`.
 
 use crate::stub::{Trees, is_punct};
 use proc_macro::{Delimiter, Group, Ident, Span, TokenStream, TokenTree};
 use std::collections::HashMap;
 use std::iter::from_fn;
 
-/// The generic parameters of an implementation, and the arguments of its type. All lifetimes are
-/// `'s`.
+/// The generic parameters of an implementation, the arguments of its type, and its `where` clause.
+/// All lifetimes but `'static` are `'s`.
 #[derive(Default)]
 pub struct Generics {
     pub parameters: TokenStream,
     pub arguments: TokenStream,
-    /// The `where` clause.
+    /// The `where` clause of the implementation.
     pub bounds: TokenStream,
 }
 
-/// The types that an enum names for its type parameters.
+/// The types that an enum names for its type parameters, by the names of these.
 pub type Types = HashMap<String, TokenStream>;
 
-/// Reads the generic parameters of an enum, and its `where` clause.
+/// Reads the generic parameters of an enum and its `where` clause, and returns those of the
+/// implementation.
 ///
-/// A type parameter is replaced by the type that the enum names for it, or by `()` if it names
-/// none: rustc could not infer the type in `Token::lexer(text)`. A parameter with bounds stays if
-/// the enum names no type for it.
+/// A type parameter is replaced by the type that the enum names for it. A type parameter without
+/// bounds for which the enum names no type is replaced by `()`: rustc could not infer the type in
+/// `Token::lexer(text)`. Any other type parameter remains, and so do all type parameters of an enum
+/// with a `where` clause.
 pub fn read_generics(trees: &mut Trees, types: &Types) -> Generics {
     let mut generics = Generics::default();
     let parameters = match is_punct(trees.peek(), '<') {
@@ -38,7 +41,8 @@ pub fn read_generics(trees: &mut Trees, types: &Types) -> Generics {
 }
 
 impl Generics {
-    /// Adds a parameter.
+    /// Adds a generic parameter of the enum: its argument to the arguments, and to the parameters
+    /// itself if it remains. `has_clause` is whether the enum has a `where` clause.
     fn add(&mut self, parameter: &[TokenTree], types: &Types, has_clause: bool) {
         let declared = parameter.split(|tree| is_punct(Some(tree), '=')).next();
         let declared = declared.unwrap_or_default();
@@ -71,7 +75,8 @@ fn is_brace(tree: &TokenTree) -> bool {
     matches!(tree, TokenTree::Group(group) if group.delimiter() == Delimiter::Brace)
 }
 
-/// Reads parameters between angle brackets, up to the closing one.
+/// Reads parameters between angle brackets, with the brackets, and returns the tokens of each
+/// parameter.
 fn read_parameters(trees: &mut Trees) -> Vec<Vec<TokenTree>> {
     let (mut found, mut depth, mut after_minus) = (vec![Vec::new()], 0, false);
     for tree in trees.by_ref() {
@@ -93,8 +98,8 @@ fn read_parameters(trees: &mut Trees) -> Vec<Vec<TokenTree>> {
     found
 }
 
-/// Returns tokens in which all lifetimes except `'static` are `'s`, including those that are left
-/// out after `&`.
+/// Returns `tokens` with all lifetimes except `'static` replaced by `'s`, including those that are
+/// left out after `&`.
 pub fn with_lifetime(tokens: TokenStream) -> TokenStream {
     let mut renamed = Vec::new();
     let mut before = ' ';
@@ -116,7 +121,7 @@ pub fn with_lifetime(tokens: TokenStream) -> TokenStream {
     renamed.into_iter().collect()
 }
 
-/// Returns the name of a lifetime.
+/// Returns the name of a lifetime after its replacement: `static` unchanged, otherwise `s`.
 fn lifetime(tree: TokenTree) -> TokenTree {
     match tree.to_string().as_str() {
         "static" => tree,
@@ -124,7 +129,7 @@ fn lifetime(tree: TokenTree) -> TokenTree {
     }
 }
 
-/// Returns a token with its lifetimes replaced.
+/// Returns a token tree with the lifetimes in it replaced, if it is a group.
 fn inner(tree: TokenTree) -> TokenTree {
     match &tree {
         TokenTree::Group(group) => {

@@ -1,10 +1,10 @@
 //! A cache of answers from one build to the next.
 //!
-//! rustc expands a macro again in each build of its crate. An answer depends only on the enum, the
-//! shape and the library, so it is kept in the folder that Cargo provides to the macro. A file
-//! contains the question, which is compared before the answer is used. Files are written under
-//! another name and renamed, so that no partial file is ever read. If the folder cannot be written,
-//! nothing is kept.
+//! rustc expands a macro again in each build of the crate that uses it. An answer depends only on
+//! the enum, the shape and the library, so it is stored in the folder that Cargo provides to the
+//! macro. A file contains the question, which is compared before the answer is used. Files are
+//! written under another name and renamed, so that no partial file is ever read. If the folder
+//! cannot be written, nothing is stored.
 
 use crate::answer::{Answer, ShapeName};
 use crate::record;
@@ -14,7 +14,7 @@ use std::hash::{Hash, Hasher};
 use std::io::{self, Write};
 use std::path::{Path, PathBuf};
 
-/// The folder of the macro. It exists where Cargo builds.
+/// The folder that Cargo provides to the macro. It exists on the machine that built the macro.
 const FOLDER: &str = env!("OUT_DIR");
 
 /// The identity of this version of the library: a checksum of its sources.
@@ -23,20 +23,21 @@ const LIBRARY: &str = env!("LOGOS_LIBRARY");
 /// The maximum length of a file, in bytes.
 const LONGEST: usize = 8 << 20;
 
-/// The maximum length of all files, in bytes. Beyond it all are removed.
+/// The maximum length of all files together, in bytes. If another file would exceed it, all files
+/// are removed.
 const MOST: u64 = 128 << 20;
 
-/// The minimum length for which a file counts, in bytes, which bounds their number.
+/// The number of bytes that a shorter file counts as, which bounds the number of files.
 const LEAST: u64 = 32 << 10;
 
-/// The location of an answer in the cache.
+/// The location of an answer in the cache: its question, and the path of its file.
 pub struct Place {
     asked: String,
     path: PathBuf,
 }
 
 impl Place {
-    /// Returns the location of the answer about an enum.
+    /// Returns the location of the answer about the enum `text` for a shape.
     pub fn new(text: &str, shape: ShapeName) -> Place {
         let asked = format!("{LIBRARY} {} {text}", shape.0);
         let mut sum = DefaultHasher::new();
@@ -45,13 +46,14 @@ impl Place {
         Place { asked, path }
     }
 
-    /// Returns the stored answer, if there is one.
+    /// Returns the stored answer, or `None` if there is none that can be read.
     pub fn find(&self) -> Option<Answer> {
         let bytes = fs::read(&self.path).ok()?;
         record::read(&bytes, &self.asked)
     }
 
-    /// Stores the answer about an accepted enum.
+    /// Stores the answer about an accepted enum. Stores nothing if the enum was refused, the record
+    /// is longer than [`LONGEST`], or the file cannot be written.
     pub fn keep(&self, answer: &Answer) {
         let bytes = record::written(answer, &self.asked);
         if let Some(bytes) = bytes.filter(|bytes| bytes.len() <= LONGEST) {
@@ -81,7 +83,8 @@ fn folder() -> PathBuf {
     Path::new(FOLDER).join("answers")
 }
 
-/// Creates the folder, and removes its files if they would have too many bytes with another one.
+/// Creates the folder if it does not exist, and removes its files if they would have too many bytes
+/// with another one of `more` bytes.
 fn make_room(more: u64) -> io::Result<()> {
     if !folder().is_dir() {
         fs::create_dir(folder())?;

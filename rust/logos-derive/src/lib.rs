@@ -1,7 +1,8 @@
 //! The macro `#[derive(Logos)]`.
 //!
-//! Programs use it through the crate `logos`, which re-exports it. It calls the library
-//! `logos-codegen` in the same process, and expands to the implementation that the library returns.
+//! Programs use the macro through the crate `logos`, which re-exports it. The macro calls the
+//! library `logos-codegen` in the same process, and expands to the implementation that the library
+//! returns.
 //!
 //! Your tokens keep their spans, so errors in your callbacks and types point into the enum. A fault
 //! of the enum is an error at its tokens, with its code in brackets. Stable Rust has no spans
@@ -71,7 +72,7 @@ use question::Question;
 /// - `#[regex(literal)]`: the texts that a regular expression matches, in the syntax of the crate
 ///   `regex`.
 ///
-/// A variant may have several. After the literal both take:
+/// A variant may have several of these attributes. After the literal both take:
 ///
 /// - a callback, or `callback = ..`: a path, or a closure of one parameter. It is called with the
 ///   lexer at each match. A variant without a field has no value; the value of a field is the one
@@ -119,11 +120,12 @@ pub fn derive(item: TokenStream) -> TokenStream {
     tokens
 }
 
-/// The note about `export_dir`.
+/// The note that the macro prints for an enum with `export_dir`.
 const UNWRITTEN: &str =
     "[logos] export_dir: the macro writes no file; `logos export FILE` writes the state diagram";
 
-/// Returns the answer about an enum: the stored one, otherwise the library's.
+/// Returns the answer about an enum: the stored one if there is one, otherwise the library's, which
+/// is then stored. With the feature `debug`, prints the implementation on standard error.
 fn answer_to(question: &Question, shape: ShapeName) -> Result<Answer, Failure> {
     let place = kept::Place::new(&question.text, shape);
     let answer = match place.find() {
@@ -143,8 +145,8 @@ fn answer_to(question: &Question, shape: ShapeName) -> Result<Answer, Failure> {
     Ok(answer)
 }
 
-/// Returns the implementation and the warnings, or the faults of the enum, and whether it is
-/// refused.
+/// Returns the implementation of the enum, or its faults, with the warnings in both cases, and
+/// whether the enum is refused.
 fn implementation(
     answer: &Answer,
     question: &Question,
@@ -164,7 +166,8 @@ fn implementation(
     Ok((tokens, false))
 }
 
-/// Returns the shape of the implementation. An empty variable counts as not set.
+/// Returns the shape of the implementation: the one that the variable `LOGOS_SHAPE` names, or the
+/// default if it is empty or not set.
 fn shape() -> Result<ShapeName, Failure> {
     let word = std::env::var("LOGOS_SHAPE").unwrap_or_default();
     if word.is_empty() {
@@ -178,8 +181,8 @@ fn shape() -> Result<ShapeName, Failure> {
     })
 }
 
-/// Returns an item that reads the variable, so that Cargo rebuilds the package if it has changed. A
-/// function that is never called leaves no trace in the compiler's output.
+/// Returns an item that reads the variable `LOGOS_SHAPE`, so that Cargo rebuilds the package if the
+/// variable has changed. A function that is never called leaves no trace in the compiler's output.
 fn tracked() -> TokenStream {
     "const _: () = { #[allow(dead_code)] fn tracked() { \
      let _ = ::core::option_env!(\"LOGOS_SHAPE\"); } };"

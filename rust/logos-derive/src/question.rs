@@ -1,9 +1,10 @@
-//! The enum as a text, and the ranges of its tokens there.
+//! The enum as a text, with the byte ranges of its tokens. Used by `answer`, `fault`, `fill` and
+//! `warning`.
 
 use proc_macro::{Delimiter, Group, Ident, Literal, Spacing, Span, TokenStream, TokenTree};
 use std::ops::Range;
 
-/// The enum as a text, with its tokens.
+/// An enum as a text, with its token trees and its tokens.
 #[derive(Default)]
 pub struct Question {
     pub text: String,
@@ -27,16 +28,17 @@ struct Token {
     is_literal: bool,
 }
 
-/// The tokens in a byte range.
+/// The tokens that overlap a byte range: the spans of the first and the last one.
 pub struct Place {
     pub first: Span,
     pub last: Span,
-    /// The byte range of the literal, if the range is a part of one.
+    /// The byte range of a literal, if the tokens are this literal and the byte range is only a
+    /// part of it.
     pub literal: Option<Range<usize>>,
 }
 
 impl Question {
-    /// Prints an item.
+    /// Returns the text of `item`, with its tokens.
     pub fn new(item: TokenStream) -> Question {
         let mut question = Question::default();
         question.nodes = question.print(item);
@@ -44,13 +46,14 @@ impl Question {
         question
     }
 
-    /// Returns the token trees of a byte range, if it contains each of them entirely.
+    /// Returns the token trees in a byte range, or `None` unless it begins and ends with token
+    /// trees between the same delimiters.
     pub fn cut(&self, range: &Range<usize>) -> Option<Vec<TokenTree>> {
         cut(&self.nodes, range.start, range.end)
     }
 
-    /// Returns the spans of the first and the last token of the type of a field, if a variant with
-    /// one field has the name that ends at a byte offset.
+    /// Returns the spans of the first and the last token of a field's type, if a variant whose name
+    /// ends at byte offset `end` has one field or more in parentheses. Otherwise returns `None`.
     pub fn field_after(&self, end: usize) -> Option<(Span, Span)> {
         let variants = self.nodes.last()?;
         let after = variants.inner.partition_point(|node| node.from < end);
@@ -64,18 +67,19 @@ impl Question {
         (name.to == end).then_some((first.tree.span(), last.tree.span()))
     }
 
-    /// Returns whether a byte offset is in an attribute.
+    /// Returns whether the token at byte offset `at`, or the next one, is in an attribute.
     pub fn is_in_attribute(&self, at: usize) -> bool {
         is_in_attribute(&self.nodes, at)
     }
 
-    /// Returns the tokens of the enum's name.
+    /// Returns the tokens of the enum's name, or `None` if the item is no enum.
     pub fn name(&self) -> Option<Place> {
         let name = self.name_node()?;
         self.place(&(name.from..name.to))
     }
 
-    /// Returns the description of the enum in a message.
+    /// Returns the description of the enum for a message: "the enum" with its name, or "this item"
+    /// if there is no enum.
     pub fn described(&self) -> String {
         match self.name_node() {
             Some(name) => format!("the enum `{}`", name.tree),
@@ -88,7 +92,8 @@ impl Question {
         self.nodes.get(start + 1)
     }
 
-    /// Returns whether an attribute `#[logos(..)]` of the enum has an argument with this name.
+    /// Returns whether an attribute `#[logos(..)]` of the enum has an argument whose first token is
+    /// the word `name`.
     pub fn has_option(&self, name: &str) -> bool {
         self.nodes.iter().any(|node| match node.inner.as_slice() {
             [head, arguments] if is_named(head, "logos") => arguments
@@ -99,7 +104,8 @@ impl Question {
         })
     }
 
-    /// Returns the tokens that overlap a byte range.
+    /// Returns the tokens that overlap a byte range or, if the range is empty, the byte at its
+    /// start. Returns `None` if no token does.
     pub fn place(&self, range: &Range<usize>) -> Option<Place> {
         let from = range.start;
         let to = range.end.max(from.saturating_add(1));
@@ -116,7 +122,7 @@ impl Question {
         })
     }
 
-    /// Appends token trees to the text.
+    /// Appends token trees to the text, and returns them with their byte ranges.
     fn print(&mut self, trees: TokenStream) -> Vec<Node> {
         trees
             .into_iter()
@@ -147,7 +153,7 @@ impl Question {
         }
     }
 
-    /// Appends a group, and returns its content and its end.
+    /// Appends a group to the text, and returns its contents and the byte offset of its end.
     fn print_group(&mut self, group: &Group) -> (Vec<Node>, usize) {
         let Some((open, close)) = delimiters(group.delimiter()) else {
             // A group from the argument of another macro has no delimiters.
@@ -160,8 +166,8 @@ impl Question {
         (inner, self.push(close, group.span_close()))
     }
 
-    /// Appends a token, and returns its end. A blank follows it, or a line end if that keeps lines
-    /// short.
+    /// Appends a token to the text and to the tokens, and returns the byte offset of its end. A
+    /// blank follows it, or a line end after a comma or a bracket, which keeps lines short.
     fn push(&mut self, text: &str, span: Span) -> usize {
         let from = self.text.len();
         let to = from + text.len();
@@ -186,7 +192,7 @@ impl Question {
     }
 }
 
-/// Returns the printed form of a name. A source cannot contain `$crate`.
+/// Returns the printed form of a name, without `$`: a source cannot contain `$crate`.
 fn printed(name: &Ident) -> String {
     name.to_string().trim_start_matches('$').into()
 }
@@ -200,7 +206,8 @@ fn delimiters(delimiter: Delimiter) -> Option<(&'static str, &'static str)> {
     }
 }
 
-/// Returns the trees of a range that begins and ends with trees of one level.
+/// Returns the token trees in the byte range from `from` to `to`, or `None` unless it begins and
+/// ends with token trees of one level.
 fn cut(nodes: &[Node], from: usize, to: usize) -> Option<Vec<TokenTree>> {
     let first = nodes.partition_point(|node| node.to <= from);
     let end = nodes.partition_point(|node| node.from < to);
@@ -225,7 +232,7 @@ fn is_parenthesized(node: &Node) -> bool {
     matches!(&node.tree, TokenTree::Group(group) if group.delimiter() == Delimiter::Parenthesis)
 }
 
-/// Returns the number of trees before the type of a field: its attributes.
+/// Returns the number of token trees before the type of a field: those of its attributes.
 fn field_start(nodes: &[Node]) -> usize {
     let is_hash = |node: &Node| matches!(&node.tree, TokenTree::Punct(p) if p.as_char() == '#');
     2 * nodes.chunks(2).take_while(|pair| is_hash(&pair[0])).count()

@@ -1,13 +1,14 @@
 //! Answers as bytes. Numbers have eight bytes, the lowest first; a text or a list is preceded by
-//! its length.
+//! its length. Used by `kept`.
 
 use crate::answer::{Answer, Diagnostic, Implementation, Label, Piece};
 use std::ops::Range;
 
-/// The end of a complete record.
+/// The text at the end of a complete record.
 const END: &str = "end of the answer";
 
-/// Returns the bytes of an answer about an accepted enum, after the question.
+/// Returns the record of an answer: the question `asked`, and the answer. Returns `None` if the
+/// enum was refused.
 pub fn written(answer: &Answer, asked: &str) -> Option<Vec<u8>> {
     let implementation = answer.implementation.as_ref()?;
     let mut out = Vec::with_capacity(asked.len() + implementation.text.len() + (4 << 10));
@@ -22,7 +23,8 @@ pub fn written(answer: &Answer, asked: &str) -> Option<Vec<u8>> {
     Some(out)
 }
 
-/// Returns the answer of a record, if it is complete and has this question.
+/// Returns the answer of a record, or `None` unless the record is complete and has the question
+/// `asked`.
 pub fn read(bytes: &[u8], asked: &str) -> Option<Answer> {
     let mut rest = bytes;
     let rest = &mut rest;

@@ -1,5 +1,5 @@
-//! The implementation for a refused enum. It finds nothing, and exists so that uses of the enum as
-//! a lexer are not errors in addition to the faults.
+//! The implementation for a refused enum. It is never called, and exists so that uses of the enum
+//! as a lexer are not errors in addition to the faults.
 
 use crate::generics::{Generics, Types, read_generics, with_lifetime};
 use crate::type_syntax::{is_path, is_type};
@@ -7,7 +7,7 @@ use proc_macro::{Delimiter, Group, TokenStream, TokenTree};
 use std::collections::HashMap;
 use std::iter::Peekable;
 
-/// The names for the implementation.
+/// The name, the generic parameters and the options of an enum.
 struct Head {
     name: TokenTree,
     generics: Generics,
@@ -20,14 +20,14 @@ struct Options {
     source: TokenStream,
     extras: TokenStream,
     error: TokenStream,
-    /// The types of type parameters, by their names.
+    /// The types of type parameters, by the names of these.
     types: Types,
 }
 
-/// The remaining tokens of an item.
+/// The remaining token trees of an item.
 pub type Trees = Peekable<proc_macro::token_stream::IntoIter>;
 
-/// The template, in which words that begin with `logos_` are replaced.
+/// The template of the implementation, in which words that begin with `logos_` are replaced.
 const TEXT: &str = "\
 impl<'s, logos_parameters> logos_path::Logos<'s> for logos_name<logos_arguments> logos_where {
     type Error = logos_error;
@@ -53,7 +53,7 @@ logos_where {
     fn error(_: &mut logos_path::Lexer<'s, Self>) -> logos_error { loop {} }
 }";
 
-/// Returns the implementation, if the item is an enum.
+/// Returns the implementation for `item`, or `None` if `item` is no enum.
 pub fn stub(item: TokenStream) -> Option<TokenStream> {
     let Head {
         name,
@@ -73,7 +73,7 @@ pub fn stub(item: TokenStream) -> Option<TokenStream> {
     Some(replace(TEXT.parse().ok()?, &HashMap::from(words)))
 }
 
-/// Replaces words by tokens.
+/// Returns `text` with each identifier that is a key of `words` replaced by its tokens.
 fn replace(text: TokenStream, words: &HashMap<&str, TokenStream>) -> TokenStream {
     let replaced = |tree| match &tree {
         TokenTree::Ident(word) => match words.get(word.to_string().as_str()) {
@@ -89,7 +89,8 @@ fn replace(text: TokenStream, words: &HashMap<&str, TokenStream>) -> TokenStream
     text.into_iter().map(replaced).collect()
 }
 
-/// Reads the attributes, the name and the generic parameters of an enum.
+/// Returns the name, the generic parameters and the options of an enum, or `None` if the item is
+/// none.
 fn head(item: TokenStream) -> Option<Head> {
     let mut trees = item.into_iter().peekable();
     let tokens = |text: &str| text.parse::<TokenStream>().ok();
@@ -120,7 +121,8 @@ pub fn is_punct(tree: Option<&TokenTree>, c: char) -> bool {
     matches!(tree, Some(TokenTree::Punct(punct)) if punct.as_char() == c)
 }
 
-/// Reads an attribute, and takes the options of one that is `logos(..)`.
+/// Reads an attribute after its `#`, and sets the options in it if it is `#[logos(..)]`. Returns
+/// `None` if no such group follows.
 fn attribute(trees: &mut Trees, options: &mut Options) -> Option<()> {
     let TokenTree::Group(attribute) = trees.next()? else {
         return None;
@@ -138,8 +140,8 @@ fn attribute(trees: &mut Trees, options: &mut Options) -> Option<()> {
     Some(())
 }
 
-/// Takes an option: `name = value`, `error(type, ..)` or `type name = value`. Faulty values are
-/// ignored.
+/// Sets an option according to `name = value`, `error(type, ..)` or `type name = value`. Other
+/// options and faulty values are ignored.
 fn take(option: &[TokenTree], options: &mut Options) {
     let [TokenTree::Ident(name), rest @ ..] = option else {
         return;
@@ -172,7 +174,7 @@ fn take(option: &[TokenTree], options: &mut Options) {
     }
 }
 
-/// Takes the type for a type parameter.
+/// Sets the type for a type parameter, if `value` is a type.
 fn take_type(parameter: &str, value: &[TokenTree], options: &mut Options) {
     if is_type(value) {
         let tokens = value.iter().cloned().collect();

@@ -1,31 +1,33 @@
-//! Tests whether tokens are a type, of the kinds that options usually have: paths, references,
-//! tuples, slices and arrays.
+//! The syntax of types of the kinds that options usually have: paths, references, tuples, slices
+//! and arrays. Used by `stub`.
 
 use proc_macro::{Delimiter, Group, TokenTree};
 
-/// The remaining tokens.
+/// The token trees that were not taken yet. Its methods take some of them, and return whether they
+/// fit.
 struct Rest<'a>(&'a [TokenTree]);
 
-/// Returns whether the tokens are one type. Other kinds of types are not recognized.
+/// Returns whether `trees` are one type of the kinds that options usually have. Other types are not
+/// recognized.
 pub fn is_type(trees: &[TokenTree]) -> bool {
     let mut rest = Rest(trees);
     rest.type_() && rest.0.is_empty()
 }
 
-/// Returns whether the tokens are one path.
+/// Returns whether `trees` are one path.
 pub fn is_path(trees: &[TokenTree]) -> bool {
     let mut rest = Rest(trees);
     rest.path() && rest.0.is_empty()
 }
 
 impl Rest<'_> {
-    /// Takes a character of punctuation.
+    /// Takes the next token if it is the punctuation character `c`, and returns whether it is.
     fn punct(&mut self, c: char) -> bool {
         let found = matches!(self.0, [TokenTree::Punct(punct), ..] if punct.as_char() == c);
         self.skip_if(found)
     }
 
-    /// Takes a word.
+    /// Takes the next token if it is a word, and returns whether it is.
     fn word(&mut self) -> bool {
         let found = matches!(self.0, [TokenTree::Ident(_), ..]);
         self.skip_if(found)
@@ -68,7 +70,8 @@ impl Rest<'_> {
         }
     }
 
-    /// Takes lifetimes and types with commas between them, and the closing angle bracket.
+    /// Takes lifetimes and types with commas between them, and the closing angle bracket. Returns
+    /// whether all of these are there.
     fn arguments(&mut self) -> bool {
         while !self.punct('>') {
             let fits = if self.punct('\'') {

@@ -1,14 +1,16 @@
-//! Warnings, as uses of a deprecated constant, since stable Rust has no warnings from macros.
+//! Warnings, as uses of a deprecated constant, since stable Rust has no warnings from macros. Used
+//! by the macro.
 
 use crate::answer::Diagnostic;
 use crate::fault::text;
 use crate::question::Question;
 use proc_macro::{Delimiter, Group, Ident, Literal, Span, TokenStream, TokenTree};
 
-/// Returns the items that make the compiler warn at the first token of the span, or at the name of
-/// the enum. It would not warn at the derive, which is not one of the user's tokens.
+/// Returns the items that make the compiler warn at the first token of the warning's span, or at
+/// the name of the enum if there is no token. At the derive, which is not one of the user's tokens,
+/// the compiler would not warn.
 ///
-/// Lints that the enum allows are allowed for its warnings, too.
+/// Lints that the enum `item` allows are allowed for its warnings, too.
 pub fn warning(found: &Diagnostic, question: &Question, item: &TokenStream) -> TokenStream {
     let note = Literal::string(&text(found, question));
     let place = question.place(&found.span).or_else(|| question.name());
@@ -27,7 +29,8 @@ pub fn warning(found: &Diagnostic, question: &Question, item: &TokenStream) -> T
     tokens
 }
 
-/// Returns the attributes `#[allow(..)]` before an item.
+/// Returns the attributes `#[allow(..)]` at the beginning of `item`, up to its first token that
+/// belongs to no attribute.
 fn allowed(item: TokenStream) -> TokenStream {
     let mut found = TokenStream::new();
     let mut trees = item.into_iter();

@@ -19,36 +19,38 @@ const FEWEST: usize = 2048;
 /// The items that a lexer has found ahead of its own offset. The value is small, so that it can be
 /// kept in registers.
 pub(crate) struct Ahead {
-    /// The tokens of the room's word that are left: a bit for each byte before which one ends.
+    /// The tokens of the room's word that are left: the bit of a byte is set if one ends before the
+    /// byte.
     tokens: u64,
-    /// Up to this byte offset, match attempts find the items.
+    /// The byte offset of the input up to which match attempts find the items.
     plain_to: usize,
     room: Option<Room>,
 }
 
 /// The next step of a lexer whose word has no more tokens.
 pub(crate) enum Next {
-    /// By the word.
+    /// The next items are those of the word.
     Word,
-    /// By match attempts, from a byte offset on.
+    /// Match attempts find the next items, from this byte offset on.
     Attempts(usize),
-    /// By a match of the leaf with this number, or an error if no leaf has it.
+    /// The next item is a match of the leaf with this number, or an error if no leaf has the
+    /// number.
     Match(usize, Span),
-    /// By repeating the attempt that begins at a byte offset.
+    /// The match attempt that begins at this byte offset is repeated.
     Repeat(usize),
-    /// There is no further item of a part after this byte offset.
+    /// The lexer has returned all items of its part of an input, which end at this byte offset.
     End(usize),
 }
 
 impl Ahead {
-    /// No item is found ahead, and none will be.
+    /// The state of a lexer that has found no item ahead, and never will.
     pub(crate) const NONE: Ahead = Ahead {
         tokens: 0,
         plain_to: usize::MAX,
         room: None,
     };
 
-    /// Returns the state at a byte offset of an input that has `len` bytes.
+    /// Returns the state of a lexer at byte offset `from` of an input that has `len` bytes.
     #[inline(always)]
     pub(crate) fn new(from: usize, len: usize) -> Ahead {
         let is_short = len.wrapping_sub(from) < BEGINS + HESITATES;
@@ -63,8 +65,8 @@ impl Ahead {
         }
     }
 
-    /// Returns the state at a byte offset of an input that has `len` bytes, for a lexer that looks
-    /// ahead in the same way as this one.
+    /// Returns the state of a lexer at byte offset `from` of an input that has `len` bytes, where
+    /// it looks ahead in the same way as the lexer of `self`.
     #[inline(always)]
     pub(crate) fn anew(&self, from: usize, len: usize) -> Ahead {
         match &self.room {
@@ -74,7 +76,7 @@ impl Ahead {
         }
     }
 
-    /// Returns the state of a lexer that looks ahead in another way than the default one.
+    /// Returns the state of a lexer that looks ahead in the way `way` from its first item on.
     #[cold]
     pub(crate) fn by_way(way: Way) -> Ahead {
         Ahead {
@@ -84,7 +86,7 @@ impl Ahead {
         }
     }
 
-    /// Forgets the word, since the lexer was moved.
+    /// Forgets the tokens of the word, since the lexer was moved.
     pub(crate) fn forget(&mut self) {
         self.tokens = 0;
         if let Some(room) = &mut self.room {
@@ -92,13 +94,13 @@ impl Ahead {
         }
     }
 
-    /// Returns whether the item after a byte offset is found by a match attempt.
+    /// Returns whether a match attempt finds the item that begins at byte offset `end`.
     #[inline(always)]
     pub(crate) fn is_plain(&self, end: usize) -> bool {
         end < self.plain_to
     }
 
-    /// Returns the start of the token of the word that ends at a byte offset.
+    /// Returns the start of the token of the word that ends at byte offset `end` of the input.
     #[inline(always)]
     pub(crate) fn start_of(&self, end: usize) -> usize {
         let room = self.room.as_ref();
@@ -111,7 +113,7 @@ impl Ahead {
         self.tokens != 0
     }
 
-    /// Returns the leaf and the end of the next token of the word.
+    /// Returns the leaf and the end of the next token of the word, or `None` if no token is left.
     #[inline(always)]
     pub(crate) fn token(&self) -> Option<(usize, usize)> {
         if self.tokens == 0 {
@@ -126,8 +128,8 @@ impl Ahead {
         self.tokens &= self.tokens.wrapping_sub(1);
     }
 
-    /// Skips the tokens of the word that end up to a byte offset, where an item ends that was made
-    /// longer. If no match of the word ends there, forgets the word.
+    /// Skips the tokens of the word that end at or before byte offset `end`, the new end of an item
+    /// that was made longer. Forgets the word if no match of the word ends there.
     #[inline(always)]
     pub(crate) fn pass_to(&mut self, end: usize) {
         match &self.room {
@@ -138,7 +140,7 @@ impl Ahead {
         }
     }
 
-    /// Ends the match of the word that ends at a byte offset one byte before.
+    /// Moves the end of the match of the word that ends at byte offset `end` one byte back.
     #[inline(always)]
     pub(crate) fn end_before(&mut self, end: usize) {
         if let Some(room) = &mut self.room {
@@ -146,7 +148,7 @@ impl Ahead {
         }
     }
 
-    /// Moves to the next word of the chunk, if there is one.
+    /// Moves to the next word of the chunk, and returns whether there is one.
     #[inline(always)]
     pub(crate) fn next_word(&mut self) -> bool {
         let next = self.room.as_mut().and_then(|room| room.next_word());
@@ -154,7 +156,7 @@ impl Ahead {
         next.is_some()
     }
 
-    /// Takes the state out, and leaves `NONE`.
+    /// Returns the state, and leaves `NONE` instead.
     #[inline(always)]
     pub(crate) fn take(&mut self) -> Ahead {
         core::mem::replace(self, Ahead::NONE)
@@ -191,7 +193,7 @@ impl Ahead {
         T::refill(self, bytes)
     }
 
-    /// Walks over the next chunk, if that saves time.
+    /// Walks over the next chunk if that saves time, and returns the next step of the lexer.
     #[inline(always)]
     fn refill<'s, T: Tables<'s>>(&mut self, bytes: &[u8]) -> Next {
         let Some(room) = &mut self.room else {
@@ -213,7 +215,8 @@ impl Ahead {
         }
     }
 
-    /// Lets match attempts find the items from one byte offset to another.
+    /// Lets match attempts find the items from byte offset `from` up to `to`, and returns that
+    /// step.
     fn attempts(&mut self, from: usize, to: usize) -> Next {
         self.forget();
         self.plain_to = to;
@@ -221,17 +224,18 @@ impl Ahead {
     }
 }
 
-/// The functions that are called out of line. They are functions of the enum, so that the compiler
-/// places them next to its `lex`, and each table once in a program.
+/// The steps of a lexer that are called out of line. They are functions of the enum, so that the
+/// compiler puts them next to its `lex`, and has each table once in a program.
 pub(crate) trait Looks<'source>: Tables<'source> {
-    /// Determines how a lexer continues after the last item, which ended at a byte offset.
+    /// Returns the next step of a lexer whose last item ended at byte offset `end`, and the new
+    /// state.
     #[inline(never)]
     fn go_on(mut ahead: Ahead, bytes: &[u8], end: usize) -> (Ahead, Next) {
         let next = ahead.next::<Self>(bytes, end);
         (ahead, next)
     }
 
-    /// See [`Ahead::refill`].
+    /// Calls [`Ahead::refill`] out of line.
     #[cold]
     #[inline(never)]
     fn refill(ahead: &mut Ahead, bytes: &[u8]) -> Next {

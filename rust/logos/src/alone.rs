@@ -1,9 +1,10 @@
-//! Replaces `ahead` in builds without memory to look ahead: a lexer has never found items ahead of
-//! its own offset.
+//! The replacement of `ahead` in builds without `std`, in which a lexer finds no items ahead of its
+//! own offset. Used by `lexer` and `run`.
 
 use crate::Way;
 
-/// The setting when the lexer looks ahead, which has no effect here.
+/// The setting that determines where a lexer looks ahead, of which only [`Way::Part`] has an effect
+/// here.
 pub(crate) struct Ahead {
     pub(crate) way: Way,
 }

@@ -6,13 +6,14 @@ use crate::internal::Tables;
 use crate::Span;
 use std::boxed::Box;
 
-/// The number of bytes of a block, and of a chunk, whose blocks are processed at once.
+/// The number of bytes of a block, and the number of blocks of a chunk, which are processed at
+/// once.
 pub(crate) const BLOCK: usize = 768;
 pub(crate) const BLOCKS: usize = 6;
 /// The number of bytes of a block that are processed in one step.
 const STEPS: usize = 6;
 const _: () = assert!(BLOCK % STEPS == 0);
-/// The number of bytes of each block that are examined at once for others than ASCII.
+/// The number of bytes of each block that are examined at once for bytes that are not ASCII.
 const SPAN: usize = 24;
 const _: () = assert!(BLOCK % SPAN == 0 && SPAN % STEPS == 0 && STEPS <= 8);
 pub(crate) const CHUNK: usize = BLOCKS * BLOCK;
@@ -25,32 +26,34 @@ const SOON: usize = 48;
 /// The number of bytes of each block that second walks process at once.
 const PART: usize = 96;
 const _: () = assert!(BLOCK % PART == 0 && PART % STEPS == 0);
-/// The last block from which on all blocks are walked over a second time at once.
+/// The last block whose wrong guess leads to a second walk over all blocks at once.
 const LAST_SECOND: usize = BLOCKS - 3;
 
 /// The matches that a walk over a chunk has found.
 pub(crate) struct Chunk {
     /// The entry of each byte.
     trace: [u32; CHUNK],
-    /// A bit for each byte before which a match ends, and for each before which a token does. A bit
-    /// that is set only in `tokens` marks a byte that needs a separate match attempt.
+    /// The words of the chunk: the bit of a byte in `ends` is set if a match ends before the byte,
+    /// and that in `tokens` if a token ends there. A bit that is set only in `tokens` marks a byte
+    /// that needs a separate match attempt.
     ends: [u64; WORDS],
     tokens: [u64; WORDS],
-    /// The entries of second walks, once there was one.
+    /// The entries of the latest second walk, or `None` before the first one.
     others: Option<Box<[u32; CHUNK]>>,
 }
 
-/// The result of second walks over blocks.
+/// The result of a second walk over all blocks but the first.
 struct Second {
-    /// The row offsets before and after each block, and the number of bytes of each.
+    /// The row offset before each block, that after the bytes that were walked over, and the number
+    /// of these bytes in each block.
     before: [u32; BLOCKS],
     after: [u32; BLOCKS],
     len: usize,
 }
 
-/// The result of a walk over a whole chunk.
+/// The result of a walk over a whole chunk, or over fewer bytes.
 pub(crate) struct Walked {
-    /// The row offset after the chunk.
+    /// The row offset after the last byte.
     pub(crate) row_start: u32,
     /// The cost of guesses, and of bytes that were processed again.
     pub(crate) cost: usize,
@@ -64,18 +67,20 @@ impl Chunk {
         others: None,
     };
 
-    /// Returns the leaf of the entry of a byte.
+    /// Returns the leaf in the entry of byte `at` of the chunk, or `None` if the chunk has no such
+    /// byte.
     #[inline(always)]
     pub(crate) fn leaf(&self, at: usize) -> Option<usize> {
         Some(leaf_of(*self.trace.get(at)?))
     }
 
-    /// Returns the row offset after a byte.
+    /// Returns the row offset after byte `at` of the chunk.
     pub(crate) fn row_start(&self, at: usize) -> u32 {
         self.trace[at] & OFFSET_MASK
     }
 
-    /// Returns the bits of the word that begins at a byte: those of ends, and those of tokens.
+    /// Returns the bits of the word with byte `at` of the chunk, those of ends and those of tokens;
+    /// or zeros if the chunk has no such byte.
     #[inline(always)]
     pub(crate) fn bits(&self, at: usize) -> (u64, u64) {
         let word = at / WORD;
@@ -85,7 +90,8 @@ impl Chunk {
         }
     }
 
-    /// Sets the bits of the words from one byte to another.
+    /// Sets the bits of the words with the bytes from `from` up to `to`, by the entries of these
+    /// words.
     pub(crate) fn set_bits(&mut self, from: usize, to: usize) {
         for word in from / WORD..to.div_ceil(WORD).min(WORDS) {
             let trace = self.trace[WORD * word..].first_chunk();
@@ -95,7 +101,7 @@ impl Chunk {
         }
     }
 
-    /// Sets the bits of a few bytes.
+    /// Sets the bits of the bytes from `from` up to `to`, which are few, by their entries.
     pub(crate) fn set_few_bits(&mut self, from: usize, to: usize) {
         for (at, entry) in self.trace[..to].iter().enumerate().skip(from) {
             let (word, bit) = (at / WORD, at % WORD);
@@ -105,7 +111,9 @@ impl Chunk {
         }
     }
 
-    /// Walks over all bytes of a chunk, from a row on. The other blocks begin in guessed rows.
+    /// Walks over all bytes of a chunk, and returns the row offset after the chunk and the cost.
+    /// The first block begins in the row at `row_start`, the other blocks begin in rows that
+    /// `guesser` guesses.
     #[inline]
     pub(crate) fn walk<'s, T: Tables<'s>>(
         &mut self,
@@ -126,6 +134,7 @@ impl Chunk {
     }
 
     /// Walks again over the blocks whose rows were guessed wrong, as far as that changes entries.
+    /// Returns the row offset after the chunk, and the cost.
     #[inline]
     fn repair<'s, T: Tables<'s>>(
         &mut self,
@@ -171,7 +180,7 @@ impl Chunk {
         Walked { row_start, cost }
     }
 
-    /// Walks over all blocks but the first a second time, from other rows.
+    /// Walks over all blocks but the first a second time, from the rows at `before`.
     #[cold]
     fn walk_second<'s, T: Tables<'s>>(
         &mut self,
@@ -183,8 +192,9 @@ impl Chunk {
         Second { before, after, len }
     }
 
-    /// Takes the entries of a block from its second walk, if that began in the right row. Returns
-    /// the row offset after the block, or nothing within that if it is that of the first walk.
+    /// Copies the entries of block `k` from its second walk. Returns the row offset after the
+    /// block, or `Some(None)` if that of the first walk remains. Returns `None`, and copies
+    /// nothing, unless there was a second walk over the block from the row at `right`.
     #[inline]
     fn take_second(
         &mut self,
@@ -202,7 +212,7 @@ impl Chunk {
     }
 
     /// Walks again over the parts, of `size` bytes each, whose rows were guessed wrong, as far as
-    /// that changes entries.
+    /// that changes entries. Returns the row offset after the last part, and the cost.
     #[inline]
     fn repair_parts<'s, T: Tables<'s>>(
         &mut self,
@@ -230,8 +240,9 @@ impl Chunk {
         walked
     }
 
-    /// Walks over fewer bytes than a chunk has: in parallel parts, and over the last bytes one by
-    /// one.
+    /// Walks over `rest`, which has fewer bytes than a chunk, from the row at `row_start` on: in
+    /// parallel parts, and over the last bytes one at a time. Returns the row offset after `rest`,
+    /// and the cost.
     #[inline]
     pub(crate) fn walk_rest<'s, T: Tables<'s>>(&mut self, rest: &[u8], row_start: u32) -> Walked {
         let size = rest.len() / BLOCKS;
@@ -253,8 +264,9 @@ impl Chunk {
         walked
     }
 
-    /// Walks over some bytes again from another row, until it reaches the row that the trace has.
-    /// Returns the offset there, and the row.
+    /// Walks again over the bytes in `range`, from the row at `row_start` on, up to the first byte
+    /// after which the trace has the same row, and sets their entries. Returns the offset after
+    /// that byte, or the end of `range` if there is none, and the row offset there.
     #[inline]
     pub(crate) fn walk_again<'s, T: Tables<'s>>(
         &mut self,
@@ -275,7 +287,8 @@ impl Chunk {
         (range.end, row_start)
     }
 
-    /// Returns the number of bytes up to an offset that need a separate match attempt.
+    /// Returns the number of bytes that need a separate match attempt, in the words up to byte
+    /// `to`.
     pub(crate) fn undecided(&self, to: usize) -> usize {
         let words = self.ends.iter().zip(&self.tokens).take(to.div_ceil(WORD));
         let words = words.map(|(ends, tokens)| tokens & !ends);
@@ -286,8 +299,8 @@ impl Chunk {
         words.map(|word| word.count_ones() as usize).sum()
     }
 
-    /// Samples one of every `one_of` words up to a byte, and returns three counts: their bytes, the
-    /// matches that end there, and the states that are entered.
+    /// Samples one of every `one_of` words up to byte `to`, and returns three counts: the bytes of
+    /// the sample, the matches that end there, and the states that are entered there.
     pub(crate) fn sample(&self, to: usize, one_of: usize) -> [usize; 3] {
         let mut sums = [0; 3];
         for word in (0..(to / WORD).min(WORDS)).step_by(one_of) {
@@ -300,7 +313,8 @@ impl Chunk {
     }
 }
 
-/// Returns how often a state is entered in a word, not counting its first byte.
+/// Returns how many bytes of a word but the first lead to another state, or have a match that ends
+/// before them.
 fn entered(trace: &[u32; WORD]) -> usize {
     let mut entered = 0;
     for at in 1..WORD {
@@ -310,11 +324,11 @@ fn entered(trace: &[u32; WORD]) -> usize {
     entered as usize
 }
 
-/// The functions that are called out of line. They are functions of the enum, so that the compiler
-/// places them next to its `lex`, and each table once in a program.
+/// The walks over blocks, which are called out of line. They are functions of the enum, so that the
+/// compiler puts them next to its `lex`, and has each table once in a program.
 trait Blocks<'source>: Tables<'source> {
-    /// Walks over all blocks in parallel, each from its row, and returns the row offsets after
-    /// them.
+    /// Walks over all blocks in parallel, each from its row, and sets their entries in `trace`.
+    /// Returns the row offsets after the blocks.
     #[inline(never)]
     fn walk_blocks(
         input: &[u8; CHUNK],
@@ -378,7 +392,8 @@ trait Blocks<'source>: Tables<'source> {
         row_starts.map(|row_start| row_start & OFFSET_MASK)
     }
 
-    /// Walks over a few bytes of all blocks, some of which are not ASCII.
+    /// Walks over a few bytes of each block, some of which are not ASCII, and sets their entries in
+    /// `part`. Returns the last entry of each block.
     #[inline(never)]
     fn step_characters(
         bytes: [&[u8; STEPS]; BLOCKS],
@@ -396,8 +411,8 @@ trait Blocks<'source>: Tables<'source> {
         row_starts
     }
 
-    /// Walks over parts of `size` bytes in parallel, each from its row, and returns the row offsets
-    /// after them.
+    /// Walks over parts of `size` bytes in parallel, each from its row, and sets their entries in
+    /// `trace`. Returns the row offsets after the parts.
     #[inline(never)]
     fn walk_parts(
         rest: &[u8],
@@ -420,7 +435,8 @@ trait Blocks<'source>: Tables<'source> {
     }
 
     /// Walks over all blocks but the first in parallel, each from its row, until all are in the
-    /// rows of the trace. Returns the row offsets after that, and the number of bytes of each.
+    /// rows of `trace`, and sets their entries in `others`. Returns the row offsets there, and the
+    /// number of bytes of each block that were walked over.
     #[inline(never)]
     fn walk_others(
         input: &[u8; CHUNK],
@@ -461,7 +477,8 @@ trait Blocks<'source>: Tables<'source> {
 
 impl<'source, T: Tables<'source>> Blocks<'source> for T {}
 
-/// Returns bits of which one is set if one of eight bytes of a block is not ASCII.
+/// Returns a value with a set bit if one of the eight bytes from `from` on of any block is not
+/// ASCII, otherwise 0.
 #[inline(always)]
 fn high_bits(blocks: &[&[u8; BLOCK]; BLOCKS], from: usize) -> u64 {
     let eights = blocks.iter().map(|block| block[from..].first_chunk());
@@ -471,9 +488,9 @@ fn high_bits(blocks: &[&[u8; BLOCK]; BLOCKS], from: usize) -> u64 {
     all & 0x8080_8080_8080_8080
 }
 
-/// Gathers the flags of the entries of a word: the flags of every fourth entry of each half are in
-/// one number, four bits apart. The function is not inlined and writes to memory, so that the
-/// compiler makes vectors.
+/// Writes the flags of the entries of a word to `to`: the flags of every fourth entry of each half
+/// are in one number, four bits apart. The function is not inlined and writes to memory, so that
+/// the compiler makes vectors.
 #[inline(never)]
 fn gather(trace: &[u32; WORD], to: &mut [u32; 8]) {
     let (low, high) = trace.split_at(WORD / 2);
@@ -487,7 +504,8 @@ fn gather(trace: &[u32; WORD], to: &mut [u32; 8]) {
     *to = flags;
 }
 
-/// Returns the bits of the flags of a word.
+/// Returns the bits of ends and the bits of tokens of a word, given its flags as [`gather`] writes
+/// them.
 #[inline(always)]
 fn bits_of(flags: &[u32; 8]) -> (u64, u64) {
     const FOURTHS: u64 = 0x1111_1111_1111_1111;
@@ -500,7 +518,7 @@ fn bits_of(flags: &[u32; 8]) -> (u64, u64) {
     (ends, tokens)
 }
 
-/// Returns the entry of a byte in the row at an offset. The offset may have the upper bits of an
+/// Returns the entry of `byte` in the row at `row_start`, which may have the upper bits of an
 /// entry.
 #[inline(always)]
 pub(crate) fn step<'s, T: Tables<'s>>(byte: u8, row_start: u32) -> u32 {

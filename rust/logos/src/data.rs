@@ -1,21 +1,22 @@
-//! The tables of a lexer in the form of generated code, and their unpacked form.
+//! The tables of a lexer in the form of generated code, and unpacked. Used by `rows`, `folded`,
+//! `loops` and `layout`.
 
 use crate::internal::Tables;
 use crate::layout::{continuing, others_before, Layout};
 use crate::loops::Mask;
 
-/// The symbols: each byte, and the end of the input.
+/// The number of symbols: each byte, and the end of the input.
 pub(crate) const SYMBOLS: usize = 257;
 /// The symbol for the end of the input.
 pub(crate) const END: usize = 256;
 /// The maximum number of states for which a row has an entry for each byte.
 const FEW: usize = 300;
-/// The number of columns of such a row. At a distance of a power of two, the entries of a byte in
-/// all rows would share a few cache lines.
+/// The number of columns of a row that has an entry for each byte. At a distance of a power of two,
+/// the entries of a byte in all rows would share a few cache lines.
 pub(crate) const BYTES: usize = 272;
 
-/// Numbers: the size of each in bytes, and all of them one after another, with the lowest byte
-/// first.
+/// A sequence of numbers: the size of each number in bytes, and the bytes of all numbers, each with
+/// the lowest byte first.
 pub type Numbers = (usize, &'static [u8]);
 
 /// The tables of a lexer in the form of generated code.
@@ -31,13 +32,13 @@ pub struct Data {
     pub width: usize,
     /// The number of symbols in each run of symbols of one class.
     pub class_lengths: Numbers,
-    /// The class of each such run.
+    /// The class of each run of `class_lengths`.
     pub classes: Numbers,
     /// The number of equal steps in each run of the concatenated rows.
     pub lengths: Numbers,
-    /// The step of each run.
+    /// The step of each run of `lengths`.
     pub steps: Numbers,
-    /// The row of each state.
+    /// The index of each state's row.
     pub rows: Numbers,
     /// The mark of each state: 0 if it has none, otherwise 2 plus twice the leaf of a match that
     /// ends there, plus 1 if the match ends one byte before.
@@ -56,20 +57,21 @@ pub(crate) struct Run {
 /// A row of steps.
 #[derive(Clone, Copy)]
 pub(crate) struct Row {
-    /// The run that has the first step, and the number of steps of that run that belong to earlier
-    /// rows.
+    /// The index of the run that has the first step, and the number of steps of that run that
+    /// belong to earlier rows.
     pub(crate) run: usize,
     pub(crate) passed: usize,
-    /// Whether a step leads to a state.
+    /// Whether any step of the row leads to a state.
     pub(crate) leads: bool,
-    /// Whether only bytes that continue a character lead to a state, and to another one.
+    /// Whether a byte leads to another state, no byte stays, and no symbol leads to a state except
+    /// bytes that continue a character.
     pub(crate) is_inside: bool,
-    /// The first two distinct steps of bytes that continue a character, their number, or 3 if there
-    /// are more, and the bits of the bytes with the second one.
+    /// The first two distinct steps of bytes that continue a character; their number, or 3 if there
+    /// are more; and the bits of the bytes with the second step. They are complete if `is_inside`.
     pub(crate) steps: [usize; 2],
     pub(crate) kinds: u8,
     pub(crate) bits: u64,
-    /// The number of bytes that stay.
+    /// The number of bytes that stay in the state.
     pub(crate) staying: u16,
     /// The number of earlier rows in which a byte stays.
     pub(crate) number: usize,
@@ -87,7 +89,7 @@ pub struct Unpacked<const STATES: usize, const RUNS: usize> {
     pub(crate) marks: [u32; STATES],
     /// The number of distinct rows in which a byte stays.
     pub(crate) loops: usize,
-    /// The numbers of the states, the layout of their rows, and the column of each class.
+    /// The number of each state, the layout of the rows, and the column of each class.
     pub(crate) number: [u32; STATES],
     pub(crate) layout: Layout,
     pub(crate) of_classes: [u16; SYMBOLS + 1],
@@ -108,21 +110,21 @@ impl Unpacked<0, 0> {
     };
 }
 
-/// The values of the constants of a lexer. Each is made from the enum, and not from another
-/// constant: when rustc checks a package it evaluates the constants that a constant names, but it
-/// evaluates these only in builds.
+/// The values of the constants of a lexer. Each value is made from the enum, and not from another
+/// constant: when rustc only checks a package, it evaluates each constant that another constant
+/// names, and leaves the others to builds.
 ///
 /// # Panics
 ///
-/// Each function panics if a number is not that of the tables.
+/// Each function panics if a const parameter is not the number that the tables require.
 impl<const STATES: usize, const RUNS: usize> Unpacked<STATES, RUNS> {
-    /// Returns the tables of a lexer, unpacked.
+    /// Returns the tables of the lexer of `T`, unpacked.
     pub const fn new<'source, T: Tables<'source>>() -> Self {
         T::DATA.unpacked()
     }
 
-    /// Returns the rows of a lexer, if they have an entry for each byte: an entry for each state
-    /// and column, and 256 more entries. Other rows are those of [`crate::layout::Made`].
+    /// Returns the rows of a lexer if they have an entry for each byte: an entry for each state and
+    /// column, and 256 more entries. Otherwise returns zeros, and `layout::Made` has the rows.
     pub const fn rows<'source, T, const N: usize>() -> [u32; N]
     where
         T: Tables<'source, Unpacked = Self>,
@@ -149,7 +151,8 @@ impl<const STATES: usize, const RUNS: usize> Unpacked<STATES, RUNS> {
         T::UNPACKED.all_masks()
     }
 
-    /// Returns the folded tables of a lexer, if its rows have an entry for each byte.
+    /// Returns the folded tables of a lexer if its rows have an entry for each byte, otherwise
+    /// zeros.
     pub const fn folded<'source, T, const N: usize>() -> [u32; N]
     where
         T: Tables<'source, Unpacked = Self>,
@@ -161,12 +164,12 @@ impl<const STATES: usize, const RUNS: usize> Unpacked<STATES, RUNS> {
     }
 }
 
-/// Returns the number of numbers.
+/// Returns the number of elements of `numbers`.
 const fn count(numbers: &Numbers) -> usize {
     numbers.1.len() / numbers.0
 }
 
-/// Returns a number.
+/// Returns the element of `numbers` with index `n`.
 const fn number(numbers: &Numbers, n: usize) -> usize {
     let (size, bytes) = *numbers;
     let (mut number, mut at) = (0, size * (n + 1));
@@ -234,12 +237,12 @@ impl Data {
         classes
     }
 
-    /// Returns the tables unpacked.
+    /// Returns these tables unpacked.
     ///
     /// # Panics
     ///
-    /// Panics if these are not the numbers of the states and of the runs, or if the tables name a
-    /// class, a row, a state or a leaf that does not exist.
+    /// Panics if `STATES` and `RUNS` are not the numbers of the states and of the runs, or if the
+    /// tables name a class, a row, a state or a leaf that does not exist.
     const fn unpacked<const STATES: usize, const RUNS: usize>(&self) -> Unpacked<STATES, RUNS> {
         assert!(STATES == self.states() && STATES == count(&self.marks));
         let (classes, runs) = (self.classes(), self.runs());
@@ -296,7 +299,8 @@ impl Data {
         runs
     }
 
-    /// Returns the distinct rows, their number, and the number of those in which a byte stays.
+    /// Returns the distinct rows, their number, and the number of those in which a byte stays. The
+    /// parameters have the results of [`bytes_before`], [`others_before`] and [`continuing`].
     const fn distinct<const STATES: usize>(
         &self,
         runs: &[Run],
@@ -366,7 +370,7 @@ impl Data {
     }
 }
 
-/// Returns the number of bytes in the classes before each one.
+/// Returns for each class the number of bytes in lower classes.
 const fn bytes_before(classes: &[u16; SYMBOLS]) -> [u16; SYMBOLS + 1] {
     let (mut before, mut byte, mut class) = ([0; SYMBOLS + 1], 0, 0);
     while byte < END {

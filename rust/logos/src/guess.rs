@@ -7,12 +7,12 @@ use crate::internal::Tables;
 /// The numbers of bytes before a block that are examined: to guess its row, and to find a line end.
 const NEAR: usize = 32;
 const FAR: usize = 384;
-/// Fewer bytes than these are not worth a part of their own.
+/// The least number of bytes that are walked over as a part of their own.
 pub(crate) const LEAST_PART: usize = 2 * NEAR;
 /// The cost of each byte that is processed again, and of each that a guess by lines examines.
 pub(crate) const AGAIN: usize = 24;
 const EXAMINE: usize = 10;
-/// The number of counters of which candidate was right, and the greatest count.
+/// The number of counters for pairs of candidates, and the greatest count.
 const COUNTERS: usize = 64;
 const MOST: i8 = 8;
 
@@ -20,23 +20,25 @@ const MOST: i8 = 8;
 pub(crate) struct Guesses {
     /// The guesses with which the blocks are walked over.
     pub(crate) first: [u32; BLOCKS],
-    /// Other candidates, if there are any.
+    /// The second candidates for the row offsets of the blocks, if these were guessed.
     second: Option<[u32; BLOCKS]>,
-    /// Whether the first guesses are by lines, and the number of bytes that these examined.
+    /// Whether the first guesses are by lines, and the number of bytes that were examined for
+    /// these.
     by_lines: bool,
     looked: usize,
 }
 
-/// The knowledge from earlier chunks.
+/// The knowledge from earlier chunks by which rows are guessed.
 pub(crate) struct Guesser {
-    /// The second candidate of a block is its row if this is the one before the bytes that are
-    /// examined. It is the latest one before a block whose row was no candidate.
+    /// The row offset before the last bytes of a block, from which the second candidate of the next
+    /// block is computed. It is the latest one before a block whose row was no candidate.
     other: u32,
-    /// For pairs of candidates, by a hash, how much more often the lower one was right.
+    /// For pairs of candidates, by their hash, how much more often the lower one was right than the
+    /// higher one.
     counters: [i8; COUNTERS],
     /// Whether a walk from a guess in the last chunk did not soon reach the right row.
     pub(crate) missed: bool,
-    /// The recent costs, in a chunk, of guesses by few bytes and of guesses by lines.
+    /// The recent cost in a chunk of guesses by few bytes, and that of guesses by lines.
     costs: [usize; 2],
 }
 
@@ -72,7 +74,8 @@ impl Guesser {
         guesses
     }
 
-    /// Guesses the second candidates, and exchanges those of a block that were more often right.
+    /// Adds second candidates to `guesses`, and exchanges the two of a block if the second one was
+    /// more often right.
     fn add_second<'s, T: Tables<'s>>(&self, input: &[u8; CHUNK], guesses: &mut Guesses) {
         let mut second = T::guess_others(input, self.other);
         for (first, second) in guesses.first.iter_mut().zip(&mut second) {
@@ -84,8 +87,8 @@ impl Guesser {
         guesses.second = Some(second);
     }
 
-    /// Returns the row offsets of second walks, after a miss at a block whose right row offset this
-    /// is.
+    /// Returns the row offsets from which a second walk begins, after a miss at block `k`, whose
+    /// right row offset is `right`. Adds second candidates to `guesses` if there are none.
     pub(crate) fn second<'s, T: Tables<'s>>(
         &mut self,
         input: &[u8; CHUNK],
@@ -102,7 +105,7 @@ impl Guesser {
         row_starts
     }
 
-    /// Learns that this was the row offset of a block.
+    /// Records which candidate for block `k` was right, given its right row offset.
     #[inline]
     pub(crate) fn learn(&mut self, guesses: &Guesses, k: usize, right: u32) {
         let first = guesses.first[k];
@@ -116,7 +119,9 @@ impl Guesser {
         }
     }
 
-    /// Records that a walk from the guess of a block did not soon reach the right row.
+    /// Records that the walk from the guess for block `k` did not soon reach the right row. If the
+    /// second candidate was not right either, later ones are computed from the row before the
+    /// block's guess.
     pub(crate) fn miss(&mut self, guesses: &Guesses, k: usize, right: u32, trace: &[u32; CHUNK]) {
         self.missed = true;
         if guesses.second.map(|it| it[k]) != Some(right) {
@@ -124,8 +129,8 @@ impl Guesser {
         }
     }
 
-    /// Returns the cost of a chunk, in which this many bytes were processed again. The recorded
-    /// cost of the other kind of guesses decreases, so that it is tried again at times.
+    /// Returns the cost of a chunk in which `again` bytes were processed again, and records it. The
+    /// recorded cost of the other kind of guesses decreases, so that it is tried again at times.
     #[inline]
     pub(crate) fn cost(&mut self, guesses: &Guesses, again: usize) -> usize {
         let cost = AGAIN * again + EXAMINE * guesses.looked;
@@ -136,15 +141,17 @@ impl Guesser {
     }
 }
 
-/// Returns the number of the counter of two candidates, in either order.
+/// Returns the index of the counter for two candidates, which may be in either order.
 fn hash(first: u32, second: u32) -> usize {
     let (low, high) = (first.min(second), first.max(second));
     ((low.wrapping_mul(0x9E37_79B1) ^ high.wrapping_mul(0x85EB_CA77)) >> 26) as usize
 }
 
-/// The functions that are called out of line.
+/// The guesses that are rare, and therefore made out of line.
 trait Far<'source>: Tables<'source> {
-    /// Guesses the row offsets by more bytes: from the last line end before each block.
+    /// Guesses the row offsets of all blocks but the first by more bytes: from the last line end
+    /// before each block, after which the row offset is `start`. Returns also the number of bytes
+    /// that were examined.
     #[cold]
     #[inline(never)]
     fn guess_by_lines(input: &[u8; CHUNK], start: u32) -> ([u32; BLOCKS], usize) {
@@ -158,7 +165,7 @@ trait Far<'source>: Tables<'source> {
     }
 
     /// Guesses the row offsets of all blocks but the first: those after the last bytes of the block
-    /// before, if this is the row offset before these.
+    /// before, if `start` is the row offset before these bytes.
     #[cold]
     #[inline(never)]
     fn guess_others(input: &[u8; CHUNK], start: u32) -> [u32; BLOCKS] {
@@ -175,7 +182,7 @@ trait Far<'source>: Tables<'source> {
 impl<'source, T: Tables<'source>> Far<'source> for T {}
 
 /// Guesses the row offsets of all parts of `size` bytes but the first, as [`guess_row_offsets`]
-/// does.
+/// does. That of the first part is `first`.
 #[inline]
 pub(crate) fn guess_parts<'s, T: Tables<'s>>(
     rest: &[u8],
@@ -195,8 +202,8 @@ pub(crate) fn guess_parts<'s, T: Tables<'s>>(
 }
 
 /// Guesses the row offsets of all blocks but the first: those after the bytes that follow the last
-/// line end, from byte `from` of the previous block on. All guesses are made in parallel, as blocks
-/// are walked.
+/// line end, from byte `from` of the previous block on, where `start` is the row offset after a
+/// line end. All guesses are made in parallel, as blocks are walked.
 #[inline(always)]
 fn guess_row_offsets<'s, T: Tables<'s>>(
     input: &[u8; CHUNK],
@@ -214,8 +221,8 @@ fn guess_row_offsets<'s, T: Tables<'s>>(
     row_starts.map(|row_start| row_start & OFFSET_MASK)
 }
 
-/// Returns which byte of a window is the last line end, or the first of the last few bytes if none
-/// is.
+/// Returns the index of the last line end in a window, or that of the first of its last [`NEAR`]
+/// bytes if there is no line end.
 fn last_line_end(window: &[u8; FAR]) -> usize {
     for (n, eight) in window.chunks_exact(8).enumerate().rev() {
         let ends = line_ends(eight);
@@ -226,7 +233,8 @@ fn last_line_end(window: &[u8; FAR]) -> usize {
     FAR - NEAR
 }
 
-/// Returns which of eight bytes are line ends, in their upper bits.
+/// Returns eight bytes as a number in which the highest bit of each byte is set if it is a line
+/// end.
 fn line_ends(eight: &[u8]) -> u64 {
     const ONES: u64 = 0x7F7F_7F7F_7F7F_7F7F;
     let eight = u64::from_le_bytes([

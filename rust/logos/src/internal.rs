@@ -12,16 +12,17 @@ pub use Tables as _Tables;
 
 /// The methods of a lexer that generated code calls.
 pub trait LexerInternal<'source> {
-    /// Returns the bytes at the byte offset.
+    /// Returns the chunk of the input at byte `offset`, or `None` if the input has too few bytes
+    /// there.
     fn read<C: Chunk<'source>>(&self, offset: usize) -> Option<C>;
 
     /// Returns the byte offset at which the token begins.
     fn offset(&self) -> usize;
 
-    /// Ends the token at the byte offset.
+    /// Ends the token at byte `offset`.
     fn end(&mut self, offset: usize);
 
-    /// Ends the token at the first boundary at or after the byte offset.
+    /// Ends the token at the first boundary at or after byte `offset`.
     fn end_to_boundary(&mut self, offset: usize);
 
     /// Skips the token: the next one begins where it ends.
@@ -56,49 +57,55 @@ impl<'source, Token: Logos<'source>> LexerInternal<'source> for Lexer<'source, T
     }
 }
 
-/// The tables of a lexer in the form of generated code.
+/// An enum whose lexer is tables: these tables, and the functions for its leaves, in generated
+/// code.
 pub trait Tables<'source>: Logos<'source> + Made<'source> {
-    /// The tables.
+    /// The tables, packed.
     const DATA: Data;
 
-    /// The unpacked tables, for the constants that follow.
+    /// The type of the unpacked tables, and these tables, from which the constants that follow are
+    /// made.
     type Unpacked: 'static;
     const UNPACKED: &'static Self::Unpacked;
 
-    /// The rows that `lex` reads, if they have an entry for each byte: see [`_Unpacked::rows`].
+    /// The rows that `lex` reads if they have an entry for each byte: see [`_Unpacked::rows`].
     const ROWS: &'static [u32];
 
     /// The last match in each state: see [`_Unpacked::lasts`].
     const LASTS: &'static [u32];
 
-    /// The loops over bytes that stay in a state, and their ranges.
+    /// The masks of the loops over bytes that stay in a state, and the ranges of these bytes.
     const MASKS: &'static [Mask];
     const RANGES: &'static [Ranges];
 
-    /// The tables that walks read, if their rows have an entry for each byte: see
+    /// The tables that walks read if their rows have an entry for each byte: see
     /// [`_Unpacked::folded`].
     const FOLDED: &'static [u32];
 
     /// Returns the bytes of an input.
     fn bytes(source: &'source Self::Source) -> &'source [u8];
 
-    /// Returns the token of a leaf that has no callback and no value.
+    /// Returns the token of `leaf`, or `None` if the outcome of its match is that of
+    /// [`Tables::act`].
     fn plain(leaf: usize) -> Option<Self>;
 
-    /// Returns the outcome of a match of another leaf.
+    /// Returns the outcome of the lexer's match of `leaf`, for which [`Tables::plain`] returns
+    /// `None`. Calls the callback of the leaf, if it has one.
     fn act(lexer: &mut Lexer<'source, Self>, leaf: usize) -> CallbackResult<'source, Self>;
 
     /// Returns the error for unmatched input.
     fn error(lexer: &mut Lexer<'source, Self>) -> Self::Error;
 
-    /// Finds the next token, or the error instead of it, with these tables.
+    /// Returns the next token or error according to these tables, or `None` at the end of the
+    /// input.
     #[inline(always)]
     fn run(lexer: &mut Lexer<'source, Self>) -> Option<Result<Self, Self::Error>> {
         Self::lex_on(lexer)
     }
 }
 
-/// Returns the lexer as one that looks ahead everywhere, or nowhere. Tests compare these.
+/// Returns the lexer, which looks ahead everywhere if `everywhere`, and otherwise nowhere. Tests
+/// compare the two.
 pub fn looking<'source, Token: Tables<'source>>(
     mut lexer: Lexer<'source, Token>,
     everywhere: bool,
@@ -107,7 +114,7 @@ pub fn looking<'source, Token: Tables<'source>>(
     lexer
 }
 
-/// The outcome of a match.
+/// The outcome of a match: a token, an error, or no item.
 pub enum CallbackResult<'source, Token: Logos<'source>> {
     Emit(Token),
     Error(Token::Error),
@@ -115,7 +122,7 @@ pub enum CallbackResult<'source, Token: Logos<'source>> {
     Skip,
 }
 
-/// The outcome of a match of a skip.
+/// The outcome of a match of a leaf that is skipped: no item, or an error.
 pub enum SkipResult<'source, Token: Logos<'source>> {
     Skip,
     Error(Token::Error),
@@ -132,9 +139,10 @@ impl<'source, Token: Logos<'source>> From<SkipResult<'source, Token>>
     }
 }
 
-/// A type that a callback may return if its token has such a value.
+/// A type that a callback may return if its token has a `Value`.
 pub trait CallbackRetVal<'source, Value, Token: Logos<'source>> {
-    /// Returns the outcome of the match; `constructor` makes the token from its value.
+    /// Returns the outcome of the match. Where that is a token, `constructor` makes it from its
+    /// value.
     fn construct<Constructor: FnOnce(Value) -> Token>(
         self,
         constructor: Constructor,

@@ -1,4 +1,5 @@
-//! Which states have a row, and the columns of rows.
+//! The layout of tables: which states have a row, and the columns of rows. Used by `run`, `rows`
+//! and `folded`.
 //!
 //! If a lexer has many states, most of them are between the bytes of a character: only bytes from
 //! 0x80 to 0xBF lead on from there, and mostly to one or two states. Such a state has no row, but a
@@ -12,7 +13,7 @@ use core::marker::PhantomData;
 /// The layout of the rows of a lexer.
 #[derive(Clone, Copy)]
 pub struct Layout {
-    /// The number of states that have a row, and of the others.
+    /// The number of states that have a row, and the number of those that have none.
     pub(crate) rows: usize,
     pub(crate) insides: usize,
     /// The number of the state in which each match attempt begins.
@@ -23,8 +24,8 @@ pub struct Layout {
 }
 
 /// The steps of a state that has no row: two entries, and for each byte from 0x80 to 0xBF a bit
-/// that chooses between them. If there are more, both are the index of the entry of byte 0x80 among
-/// the rows.
+/// that chooses between them. If the state has more than two distinct entries, both numbers are the
+/// index of the entry of byte 0x80 among the rows.
 #[derive(Clone, Copy)]
 pub struct Inside {
     pub(crate) bits: u64,
@@ -46,27 +47,29 @@ pub(crate) const fn continues(byte: u8) -> bool {
 }
 
 impl Inside {
-    /// Returns whether there are two entries.
+    /// Returns whether the state has at most two distinct entries, which are then in `entries`.
     #[inline(always)]
     pub(crate) const fn is_set(&self) -> bool {
         self.entries[0] != self.entries[1]
     }
 
-    /// Returns the entry of a byte from 0x80 to 0xBF, of two.
+    /// Returns the entry of `byte`, from 0x80 to 0xBF, in a state with at most two distinct
+    /// entries.
     #[inline(always)]
     pub(crate) const fn entry(&self, byte: u8) -> u32 {
         self.entries[(self.bits >> (byte % CONTINUATIONS as u8) & 1) as usize]
     }
 
-    /// Returns the index of the entry of a byte from 0x80 to 0xBF, of more than two.
+    /// Returns the index among the rows of the entry of `byte`, from 0x80 to 0xBF, in a state with
+    /// more than two distinct entries.
     #[inline(always)]
     pub(crate) const fn index(&self, byte: usize) -> usize {
         self.entries[0] as usize + byte % CONTINUATIONS
     }
 }
 
-/// The tables of a lexer, in the layout that the loops read. They are made from those that the
-/// lexer has in generated code.
+/// An enum whose lexer is tables, with these in the layout that the loops read. They are made from
+/// the tables that the lexer has in generated code.
 pub trait Made<'source> {
     const LAYOUT: Layout;
     /// Whether there are states without a row.
@@ -74,7 +77,8 @@ pub trait Made<'source> {
     /// The rows of the loop over match attempts: see [`crate::rows`].
     const ENTRIES: &'static [u32];
     const INSIDES: &'static [Inside];
-    /// The last match in each state, and the state, by their numbers.
+    /// The last match in each state, and each state's index in the tables of generated code, both
+    /// in the order of the states' numbers.
     const LAST_MATCHES: &'static [u32];
     const NUMBERED: &'static [u32];
     /// The rows of walks: see [`crate::folded`].
@@ -82,7 +86,8 @@ pub trait Made<'source> {
     const WALKED_INSIDES: &'static [Inside];
 }
 
-/// The sets of the states without a row, and the number of those with entries among the rows.
+/// The steps of the states without a row, and the number of such states with entries among the
+/// rows.
 pub(crate) struct Sets<const STATES: usize> {
     pub(crate) insides: [Inside; STATES],
     pub(crate) many: usize,
@@ -131,7 +136,8 @@ const fn printed_folded<'s, T: Tables<'s>>() -> &'static [u32] {
     T::FOLDED
 }
 
-/// The sets of a lexer.
+/// The steps of the states without a row of a lexer, as constants: among the rows of match
+/// attempts, and among those of walks.
 struct Parts<'s, T>(PhantomData<(&'s (), T)>);
 
 impl<'s, T, const STATES: usize, const RUNS: usize> Parts<'s, T>
@@ -142,7 +148,7 @@ where
     const FOLDED: Sets<STATES> = T::UNPACKED.folded_sets(T::LASTS);
 }
 
-/// Tables of one length.
+/// The tables of a lexer with `N` entries, as constants.
 struct Sized<'s, T, const N: usize>(PhantomData<(&'s (), T)>);
 
 impl<'s, T, const STATES: usize, const RUNS: usize, const N: usize> Sized<'s, T, N>
@@ -162,7 +168,7 @@ where
     }
 }
 
-/// Calls a function with the least of some lengths that is enough.
+/// Calls the function `$made` of `Sized` for the least of the lengths `$n` that is at least `$len`.
 macro_rules! of_size {
     ($len:expr, $made:ident, $T:ident: $($n:literal)*) => {
         match $len {
@@ -193,8 +199,8 @@ where
 }
 
 impl<const STATES: usize, const RUNS: usize> Unpacked<STATES, RUNS> {
-    /// Returns the numbers of the states: those that have a row come first. Returns also the
-    /// layout, and the column of each class.
+    /// Returns the number of each state, where the states that have a row come first. Returns also
+    /// the layout, and the column of each class, followed by the number of columns.
     pub(crate) const fn laid_out(&self) -> ([u32; STATES], Layout, [u16; SYMBOLS + 1]) {
         let (mut column, mut symbol) = ([0; SYMBOLS], 0);
         let (mut number, mut state, mut rows) = ([u32::MAX; STATES], 0, 0);
@@ -249,7 +255,8 @@ impl<const STATES: usize, const RUNS: usize> Unpacked<STATES, RUNS> {
         is_inside && state != self.data.root && !self.data.by_bytes()
     }
 
-    /// Returns for each class the number of its column, and then the number of columns.
+    /// Returns the column of each class, followed by the number of columns, where the states whose
+    /// number is below `rows` have a row.
     const fn columns_of_classes(&self, number: &[u32; STATES], rows: u32) -> [u16; SYMBOLS + 1] {
         let (mut columns, mut is_first, mut state) = ([0; SYMBOLS + 1], [false; SYMBOLS + 1], 0);
         let (width, runs) = (self.data.width, &self.runs);
@@ -274,7 +281,7 @@ impl<const STATES: usize, const RUNS: usize> Unpacked<STATES, RUNS> {
         columns
     }
 
-    /// Returns the state of each number.
+    /// Returns the states in the order of their numbers.
     const fn numbered(&self) -> [u32; STATES] {
         let (mut states, mut state) = ([0; STATES], 0);
         while state < STATES {
@@ -284,7 +291,7 @@ impl<const STATES: usize, const RUNS: usize> Unpacked<STATES, RUNS> {
         states
     }
 
-    /// Returns values of states by the numbers of these.
+    /// Returns `values`, one for each state, in the order of the states' numbers.
     const fn by_numbers(&self, values: &[u32]) -> [u32; STATES] {
         let (mut by_numbers, mut state) = ([0; STATES], 0);
         while state < STATES {
@@ -294,7 +301,7 @@ impl<const STATES: usize, const RUNS: usize> Unpacked<STATES, RUNS> {
         by_numbers
     }
 
-    /// Returns the offset of a state, where the states without a row begin at `first`.
+    /// Returns the row offset of a state. States without a row have the offsets from `first` on.
     pub(crate) const fn offset(&self, state: usize, first: usize) -> u32 {
         let (number, Layout { rows, columns, .. }) = (self.number[state] as usize, &self.layout);
         if number < *rows {
@@ -305,7 +312,7 @@ impl<const STATES: usize, const RUNS: usize> Unpacked<STATES, RUNS> {
 }
 
 impl<const STATES: usize> Sets<STATES> {
-    /// There are no sets yet.
+    /// The value before the steps of any state are made.
     pub(crate) const NONE: Sets<STATES> = Sets {
         insides: [NO_INSIDE; STATES],
         many: 0,
@@ -313,7 +320,7 @@ impl<const STATES: usize> Sets<STATES> {
 }
 
 impl Inside {
-    /// Returns the set of a row whose entries are at an index.
+    /// Returns the steps of a state whose entries are among the rows, from `index` on.
     pub(crate) const fn at(index: usize) -> Inside {
         Inside {
             bits: 0,
@@ -321,7 +328,8 @@ impl Inside {
         }
     }
 
-    /// Returns the set of a row with one or two entries, for the bits of the second one.
+    /// Returns the steps of a state with one or two distinct entries, given the bits of the second
+    /// one.
     pub(crate) const fn of(entries: [u32; 2], bits: u64) -> Inside {
         let [one, other] = entries;
         if bits == 0 || one == other {
@@ -334,7 +342,7 @@ impl Inside {
     }
 }
 
-/// Returns the number of symbols before each class that cannot continue a character.
+/// Returns for each class the number of symbols in lower classes that cannot continue a character.
 pub(crate) const fn others_before(classes: &[u16; SYMBOLS]) -> [u16; SYMBOLS + 1] {
     let (mut before, mut symbol, mut class) = ([0; SYMBOLS + 1], 0, 0);
     while symbol < SYMBOLS {
@@ -349,7 +357,7 @@ pub(crate) const fn others_before(classes: &[u16; SYMBOLS]) -> [u16; SYMBOLS + 1
     before
 }
 
-/// Returns for each class the bits of the bytes from 0x80 to 0xBF in classes before it.
+/// Returns for each class the bits of the bytes from 0x80 to 0xBF in lower classes.
 pub(crate) const fn continuing(classes: &[u16; SYMBOLS]) -> [u64; SYMBOLS + 1] {
     let (mut bits, mut byte, mut class) = ([0; SYMBOLS + 1], FIRST_CONTINUATION, 0);
     while byte < FIRST_CONTINUATION + CONTINUATIONS {

@@ -1,4 +1,4 @@
-//! Lexers: runs of generated code over an input.
+//! Lexers, which return the tokens of an input. Used by programs and by generated code.
 
 #[cfg(feature = "std")]
 use crate::ahead::Ahead;
@@ -9,28 +9,30 @@ use crate::{Logos, Source};
 use core::fmt;
 use core::ops::{Deref, DerefMut, Range};
 
-/// A part of an input, in byte offsets.
+/// A range of byte offsets in an input, without the offset at its end.
 pub type Span = Range<usize>;
 
-/// The setting when a lexer looks ahead.
+/// The setting that determines where a lexer looks ahead.
 #[derive(Clone, Copy, Debug, PartialEq, Eq)]
 pub enum Way {
-    /// If that saves time.
+    /// The lexer looks ahead where that saves time.
     ByRule,
-    /// Nowhere.
+    /// The lexer does not look ahead.
     Never,
-    /// Everywhere.
+    /// The lexer looks ahead everywhere.
     Always,
-    /// Everywhere, and it finds only the items that do not depend on the bytes after the input.
+    /// The lexer looks ahead everywhere, and returns only the items that do not depend on the bytes
+    /// after the input.
     Part,
 }
 
-/// The start of a token that the lexer has found ahead: only if it is read, it is looked up.
+/// The value of `start` for a token that was found ahead, whose start is looked up only when it is
+/// read.
 #[cfg(feature = "std")]
 const AHEAD: usize = usize::MAX;
 
-/// A run of a lexer over an input. As an iterator it yields each token, or an error for unmatched
-/// input.
+/// A lexer on an input. As an iterator it yields the tokens, and an error for each unmatched part
+/// of the input.
 pub struct Lexer<'source, Token: Logos<'source>> {
     source: &'source Token::Source,
     start: usize,
@@ -41,7 +43,7 @@ pub struct Lexer<'source, Token: Logos<'source>> {
 }
 
 impl<'source, Token: Logos<'source>> Lexer<'source, Token> {
-    /// Returns a lexer at the start of an input, with default extras.
+    /// Returns a lexer at the start of `source`, with default extras.
     pub fn new(source: &'source Token::Source) -> Self
     where
         Token::Extras: Default,
@@ -49,7 +51,7 @@ impl<'source, Token: Logos<'source>> Lexer<'source, Token> {
         Self::with_extras(source, Token::Extras::default())
     }
 
-    /// Returns a lexer at the start of an input, with these extras.
+    /// Returns a lexer at the start of `source`, with `extras`.
     pub fn with_extras(source: &'source Token::Source, extras: Token::Extras) -> Self {
         Lexer {
             source,
@@ -65,28 +67,28 @@ impl<'source, Token: Logos<'source>> Lexer<'source, Token> {
         self.source
     }
 
-    /// Returns the span of the last token.
+    /// Returns the span of the last token or error, or `0..0` before the first one.
     #[inline]
     pub fn span(&self) -> Span {
         self.start()..self.end
     }
 
-    /// Returns the text of the last token.
+    /// Returns the part of the input that the last token or error spans.
     pub fn slice(&self) -> <Token::Source as Source>::Slice<'source> {
         self.part(self.span())
     }
 
-    /// Returns the input after the last token.
+    /// Returns the part of the input after the last token or error.
     pub fn remainder(&self) -> <Token::Source as Source>::Slice<'source> {
         self.part(self.end..self.source.len())
     }
 
-    /// Makes the last token `n` bytes longer.
+    /// Makes the last token or error `n` bytes longer.
     ///
     /// # Panics
     ///
-    /// Panics if the token would end after the input, or inside a character. The lexer is unchanged
-    /// then.
+    /// Panics if the token would end after the end of the input, or inside a character. The lexer
+    /// is unchanged then.
     pub fn bump(&mut self, n: usize) {
         let end = self.end.checked_add(n);
         let is_end = |end: &usize| *end <= self.source.len() && self.source.is_boundary(*end);
@@ -95,7 +97,8 @@ impl<'source, Token: Logos<'source>> Lexer<'source, Token> {
         self.ahead.forget();
     }
 
-    /// Returns a lexer for another enum at the same offset of the same input.
+    /// Returns a lexer for another enum at the same offset of the same input. Its extras are made
+    /// from those of this lexer.
     pub fn morph<Other>(self) -> Lexer<'source, Other>
     where
         Other: Logos<'source, Source = Token::Source>,
@@ -110,12 +113,12 @@ impl<'source, Token: Logos<'source>> Lexer<'source, Token> {
         }
     }
 
-    /// Returns an iterator over tokens with their spans.
+    /// Returns an iterator over the tokens and errors that follow, with their spans.
     pub fn spanned(self) -> SpannedIter<'source, Token> {
         SpannedIter { lexer: self }
     }
 
-    /// Returns an iterator over the tokens that follow, with their spans: the items of
+    /// Returns an iterator over the tokens and errors that follow, with their spans: the items of
     /// [`Lexer::spanned`].
     pub fn scan(self) -> Scanner<'source, Token>
     where
@@ -124,11 +127,12 @@ impl<'source, Token: Logos<'source>> Lexer<'source, Token> {
         Scanner::new(self)
     }
 
-    /// Returns an iterator over the items that do not depend on the bytes after this part of the
-    /// input. At its end [`Lexer::remainder`] is the text with which the next part has to begin.
+    /// Returns an iterator over the tokens and errors that follow and do not depend on the bytes
+    /// after this input, which is a part of a longer one. At the iterator's end,
+    /// [`Lexer::remainder`] is the text with which the next part has to begin.
     ///
-    /// Callbacks must read only their match: other text that they read is that of the part, not of
-    /// the whole input.
+    /// Callbacks must read only their match: other text that they read is that of this part, not of
+    /// the longer input.
     pub fn scan_part(mut self) -> Scanner<'source, Token>
     where
         Token: Scan<'source>,
@@ -137,7 +141,7 @@ impl<'source, Token: Logos<'source>> Lexer<'source, Token> {
         Scanner::new(self)
     }
 
-    /// Changes when the lexer looks ahead.
+    /// Sets where the lexer looks ahead, and forgets the items that it has found ahead.
     pub(crate) fn set_way(&mut self, way: Way) {
         self.start = self.start();
         self.ahead = match way {
@@ -147,12 +151,12 @@ impl<'source, Token: Logos<'source>> Lexer<'source, Token> {
         };
     }
 
-    /// Sets the start of the token to the end of the last one.
+    /// Sets the start of the next token to the end of the last one.
     pub(crate) fn begin(&mut self) {
         self.start = self.end;
     }
 
-    /// Returns the start of the token.
+    /// Returns the byte offset at which the last token begins.
     #[inline(always)]
     fn start(&self) -> usize {
         #[cfg(feature = "std")]
@@ -162,7 +166,7 @@ impl<'source, Token: Logos<'source>> Lexer<'source, Token> {
         self.start
     }
 
-    /// Returns the start of the token, which the lexer has not found ahead.
+    /// Returns the byte offset at which the token begins, which must not have been found ahead.
     #[inline(always)]
     pub(crate) fn begun(&self) -> usize {
         self.start
@@ -177,7 +181,7 @@ impl<'source, Token: Logos<'source>> Lexer<'source, Token> {
         (self.start, self.end) = (span.start, span.end);
     }
 
-    /// Sets the span to that of the token of the word that ends at a byte offset.
+    /// Sets the span to that of the token that was found ahead and ends at byte offset `end`.
     #[cfg(feature = "std")]
     #[inline(always)]
     pub(crate) fn set_end_ahead(&mut self, end: usize) {
@@ -235,7 +239,7 @@ where
     }
 }
 
-/// An iterator over tokens with their spans.
+/// An iterator over the tokens and errors of a lexer, with their spans.
 pub struct SpannedIter<'source, Token: Logos<'source>> {
     lexer: Lexer<'source, Token>,
 }

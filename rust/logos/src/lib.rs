@@ -1,11 +1,11 @@
 //! Lexers from enums: `#[derive(Logos)]`, and the runtime of the generated lexers.
 //!
 //! An enum implements [`Logos`] by the derive macro, or by generated code that the program
-//! `logos_cli` prints. [`Logos::lexer`] begins a run over an input, and the run is an iterator over
-//! tokens. Where the lexer is tables, the run looks ahead by chunks of the input where that pays.
-//! A `for` loop is as fast as `for_each` if the run stays in registers: if there is one call of
-//! `next`, and each function that takes the run is inlined. With several calls of `next` the run is
-//! in memory, and each token costs some more loads and stores.
+//! `logos_cli` prints. [`Logos::lexer`] returns a lexer on an input, which is an iterator over
+//! tokens. Where the lexer is tables, it looks ahead by chunks of the input where that saves time.
+//! A `for` loop is as fast as `for_each` if the lexer stays in registers: if there is one call of
+//! `next`, and each function that takes the lexer is inlined. With several calls of `next` the
+//! lexer is in memory, and each token costs a few more loads and stores.
 //!
 //! # Features
 //!
@@ -58,19 +58,21 @@ pub use source::Source;
 
 /// An enum whose variants are tokens.
 pub trait Logos<'source>: Sized {
-    /// The state that callbacks can read and change.
+    /// The type of the state that callbacks can read and change.
     type Extras;
 
-    /// The type of inputs: `str`, or `[u8]` for bytes.
+    /// The type of inputs, such as `str`, or `[u8]` for bytes.
     type Source: Source + ?Sized + 'source;
 
     /// The type of the error for unmatched input.
     type Error: Default + Clone + PartialEq + core::fmt::Debug + 'source;
 
-    /// Reads the next token. Generated code implements it; programs iterate over a [`Lexer`].
+    /// Returns the next token, or the error for unmatched input; or `None` at the end of the input.
+    ///
+    /// Generated code implements this function. Programs iterate over a [`Lexer`] instead.
     fn lex(lexer: &mut Lexer<'source, Self>) -> Option<Result<Self, Self::Error>>;
 
-    /// Returns a lexer at the start of an input.
+    /// Returns a lexer at the start of `source`, with default extras.
     fn lexer(source: &'source Self::Source) -> Lexer<'source, Self>
     where
         Self::Extras: Default,
@@ -78,7 +80,7 @@ pub trait Logos<'source>: Sized {
         Lexer::new(source)
     }
 
-    /// Returns a lexer at the start of an input, with these extras.
+    /// Returns a lexer at the start of `source`, with `extras`.
     fn lexer_with_extras(
         source: &'source Self::Source,
         extras: Self::Extras,
@@ -87,17 +89,17 @@ pub trait Logos<'source>: Sized {
     }
 }
 
-/// A callback that skips the match, such as in `#[regex(" +", logos::skip)]`.
+/// Returns [`Skip`]: a callback that skips the match, such as in `#[regex(" +", logos::skip)]`.
 #[inline]
 pub fn skip<'source, Token: Logos<'source>>(_lexer: &mut Lexer<'source, Token>) -> Skip {
     Skip
 }
 
-/// The answer of a callback: the match is skipped.
+/// The result of a callback: the match is skipped.
 #[derive(Clone, Copy, Debug, PartialEq, Eq)]
 pub struct Skip;
 
-/// The answer of a callback: the match is a token with this value, or is skipped.
+/// The result of a callback: the match is a token with a value, or is skipped.
 #[derive(Clone, Copy, Debug, PartialEq, Eq)]
 pub enum Filter<Value> {
     /// A token with this value.
@@ -106,7 +108,7 @@ pub enum Filter<Value> {
     Skip,
 }
 
-/// The answer of a callback: the match is a token with this value, is skipped, or is an error.
+/// The result of a callback: the match is a token with a value, is skipped, or is an error.
 #[derive(Clone, Copy, Debug, PartialEq, Eq)]
 pub enum FilterResult<Value, Error> {
     /// A token with this value.

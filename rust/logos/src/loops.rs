@@ -1,19 +1,20 @@
-//! The loops over bytes that stay in a state: their tables, and the search for the end of the
-//! bytes.
+//! The loops over bytes that stay in a state: their tables, and the search for the end of these
+//! bytes. Used by `run`.
 
 use crate::data::{Unpacked, END, SYMBOLS};
 use crate::internal::Tables;
 
-/// For each byte 0 if it stays. Otherwise entry `k` has only bit `k`, so that eight bytes add up to
-/// the set of those that do not stay.
+/// The mask of a loop: for each byte eight zeros if it stays in the state, otherwise eight numbers
+/// of which number `k` has only bit `k`. The sum of number `k` of the `k`-th of eight bytes, over
+/// all `k`, is the set of the bytes that do not stay.
 pub type Mask = [[u8; 8]; 256];
 
 #[derive(Clone, Copy)]
 #[repr(align(16))]
 struct Bytes([u8; 16]);
 
-/// The ranges of the bytes that stay: their lowest bytes, and the distances of the highest ones
-/// from these, each sixteen times.
+/// A range of bytes that stay: its lowest byte, and the distance of its highest byte from that,
+/// each sixteen times.
 #[derive(Clone, Copy)]
 struct Range {
     lowest: Bytes,
@@ -22,8 +23,8 @@ struct Range {
 /// The maximum number of ranges that a search by ranges compares with.
 const MOST_RANGES: usize = 4;
 
-/// The ranges of the bytes that stay, and their number. If there are fewer than [`MOST_RANGES`],
-/// the first one is repeated.
+/// The ranges of the bytes that stay, and their number. If there are fewer than `MOST_RANGES`, the
+/// first range is repeated; if there are more, the others are left out.
 pub struct Ranges([Range; MOST_RANGES], usize);
 
 impl<const STATES: usize, const RUNS: usize> Unpacked<STATES, RUNS> {
@@ -31,7 +32,7 @@ impl<const STATES: usize, const RUNS: usize> Unpacked<STATES, RUNS> {
     ///
     /// # Panics
     ///
-    /// Panics if this is not the number of masks for all loops.
+    /// Panics if `LOOPS` is less than the number of loops, or is no power of two.
     pub(crate) const fn all_masks<const LOOPS: usize>(&self) -> [Mask; LOOPS] {
         assert!(LOOPS >= self.loops && LOOPS.is_power_of_two());
         let (mut masks, mut done, mut state) = ([[EACH; 256]; LOOPS], 0, 0);
@@ -47,7 +48,7 @@ impl<const STATES: usize, const RUNS: usize> Unpacked<STATES, RUNS> {
         masks
     }
 
-    /// Returns the mask of a row.
+    /// Returns the mask of the row whose steps begin in the run `run`, after `passed` of its steps.
     const fn mask(&self, run: usize, passed: usize) -> Mask {
         let (mut stays, mut class, mut run, mut passed) = ([false; SYMBOLS], 0, run, passed);
         while class < self.data.width {
@@ -69,15 +70,15 @@ impl<const STATES: usize, const RUNS: usize> Unpacked<STATES, RUNS> {
     }
 }
 
-/// The masks with one bit.
+/// The numbers in a mask for a byte that does not stay.
 const EACH: [u8; 8] = [1, 2, 4, 8, 16, 32, 64, 128];
 
 impl Ranges {
-    /// Returns the ranges of all masks of a lexer.
+    /// Returns the ranges for all masks of a lexer.
     ///
     /// # Panics
     ///
-    /// Panics if this is not the number of the masks.
+    /// Panics if `LOOPS` is not the number of the masks.
     pub const fn of<'source, T: Tables<'source>, const LOOPS: usize>() -> [Ranges; LOOPS] {
         let masks = T::MASKS;
         assert!(LOOPS == masks.len());
@@ -114,7 +115,8 @@ impl Ranges {
         ranges
     }
 
-    /// Returns the maximum number of ranges of a loop that a search by ranges compares with.
+    /// Returns the greatest number of ranges of any loop that is at most [`MOST_RANGES`], or 1 if
+    /// there is none.
     pub(crate) const fn most(all: &[Ranges]) -> usize {
         let (mut most, mut n) = (1, 0);
         while n < all.len() {
@@ -136,8 +138,8 @@ const NONE: Ranges = {
     Ranges([range; MOST_RANGES], 0)
 };
 
-/// Returns the bits of a block. The sum of distinct bits is their union, and keeps the compiler
-/// from making one long chain of all eight.
+/// Returns a bit for each byte of a block, which is set if the byte does not stay. The sum of
+/// distinct bits is their union, and keeps the compiler from making one long chain of all eight.
 #[inline(always)]
 fn bits(mask: &Mask, block: &[u8; 8]) -> u8 {
     let low = mask[block[0] as usize][0] | mask[block[1] as usize][1];
@@ -147,8 +149,9 @@ fn bits(mask: &Mask, block: &[u8; 8]) -> u8 {
     low | high
 }
 
-/// Returns for each byte of a block its distance from the end of the nearest of `most` ranges
-/// before it, and 0 if it stays. Compilers vectorize these loops.
+/// Returns for each byte of a block, the first one lowest, its distance from the end of the nearest
+/// of the first `most` ranges before it, and 0 if the byte stays. Compilers vectorize the loops of
+/// this function.
 #[inline(always)]
 fn past(ranges: &Ranges, most: usize, block: &[u8; 16]) -> u128 {
     let (mut past, mut k) = ([0u8; 16], 0);
@@ -168,8 +171,8 @@ fn past(ranges: &Ranges, most: usize, block: &[u8; 16]) -> u128 {
     u128::from_le_bytes(past)
 }
 
-/// Searches for the end of the bytes that stay. These are functions of the enum, so that the
-/// compiler puts them beside its loop.
+/// The searches for the end of the bytes that stay in a state. These are functions of the enum, so
+/// that the compiler puts them beside its loop.
 pub(crate) trait Loops<'source>: Tables<'source> {
     /// The maximum number of ranges that a search by ranges compares with.
     const MOST: usize = Ranges::most(Self::RANGES);
@@ -179,15 +182,15 @@ pub(crate) trait Loops<'source>: Tables<'source> {
     const VECTORS: bool = option_env!("LOGOS_VECTORS").is_some()
         && cfg!(any(target_feature = "sse2", target_feature = "neon"));
 
-    /// Returns whether a byte stays, according to the loop with this number.
+    /// Returns whether a byte stays in the state, according to the loop with the number `number`.
     #[inline(always)]
     fn stays(number: usize, byte: u8) -> bool {
         Self::MASKS[number & Self::LOOP][byte as usize][0] == 0
     }
 
-    /// Returns the position from `from` on of the first byte that does not stay, according to the
-    /// loop with this number, or the end of the input. The part after the first bytes is out of
-    /// line, so that the loop over match attempts has all registers.
+    /// Returns the byte offset, from `from` on, of the first byte that does not stay, according to
+    /// the loop with the number `number`, or the end of the input. The part after the first bytes
+    /// is out of line, so that the loop over match attempts has all registers.
     #[inline(always)]
     fn stop(number: usize, bytes: &[u8], from: usize) -> usize {
         let Some(rest) = bytes.get(from..) else {
@@ -206,8 +209,8 @@ pub(crate) trait Loops<'source>: Tables<'source> {
 
     /// Like [`Loops::stop`], for bytes after the first ones. Each of the first four loops has its
     /// own function, chosen by a branch, so that the search does not wait for a table load. The
-    /// masks are those of the caller, which may be in another part of the program: so that has the
-    /// only copy.
+    /// masks are those of the caller, which may be in another part of the program, so that this
+    /// part needs no copy.
     #[inline(never)]
     fn stop_far(masks: &'static [Mask], number: usize, bytes: &[u8], from: usize) -> usize {
         match number {

@@ -1,4 +1,4 @@
-//! The rows that the loop over match attempts reads.
+//! The rows that the loop over match attempts reads. Used by `layout` and `run`.
 //!
 //! A row has an entry for each byte and for the end of the input, or for each class. An entry below
 //! [`STAYS`] leads to a state: it is the row offset of that state. Otherwise its upper bits are its
@@ -9,38 +9,40 @@ use crate::layout::{Inside, Sets, CONTINUATIONS, FIRST_CONTINUATION, NO_INSIDE};
 
 const KIND_BIT: u32 = 29;
 const ONE_KIND: u32 = 1 << KIND_BIT;
-/// The bits of a number.
+/// The bits of an entry with the number of a leaf or of a loop.
 pub(crate) const NUMBERS: u32 = ONE_KIND - 1;
-/// The byte stays in the state, in the loop with this number. [`SINGLY`] is added if each of the
-/// next bytes has its own branch.
+/// The kind of an entry whose byte stays in the state, in the loop with the entry's number.
+/// [`SINGLY`] is added if each of the next bytes has its own branch.
 pub(crate) const STAYS: u32 = ONE_KIND;
 pub(crate) const SINGLY: u32 = ONE_KIND / 2;
-/// A match of the leaf ends before the byte. In the next kind the leaf is skipped without a
-/// callback.
-pub(crate) const ENDS: u32 = 2 * ONE_KIND;
-/// A match of the leaf ends after the byte, and no byte continues it. In the next kind the leaf is
+/// The kind of an entry before whose byte a match of the leaf ends. In the next kind the leaf is
 /// skipped without a callback.
+pub(crate) const ENDS: u32 = 2 * ONE_KIND;
+/// The kind of an entry after whose byte a match of the leaf ends, which no byte continues. In the
+/// next kind the leaf is skipped without a callback.
 pub(crate) const CLOSES: u32 = 4 * ONE_KIND;
-/// The byte leads to no state, and no match ends before it.
+/// The entry of a byte that leads to no state, and before which no match ends.
 pub(crate) const NOWHERE: u32 = 6 * ONE_KIND;
-/// The end of the input leads to a state. Another attempt finds the last match.
+/// The entry of the end of the input where it leads to a state: another attempt finds the last
+/// match.
 pub(crate) const AGAIN: u32 = 7 * ONE_KIND;
 
-/// There is no last match, or it depends on the bytes.
+/// The values for a state in which there is no last match, and for one in which it depends on the
+/// bytes.
 pub(crate) const NEVER: u32 = 1;
 pub(crate) const VARIES: u32 = 2;
-/// It ended this many bytes after the start.
+/// The bit of a last match whose distance is counted from the start of the attempt.
 pub(crate) const FORTH: u32 = 128;
 const FARTHEST: u32 = 30;
 
 impl<const STATES: usize, const RUNS: usize> Unpacked<STATES, RUNS> {
-    /// Returns the number of the entries, where the entries of `many` states without a row are
-    /// among the rows.
+    /// Returns the number of entries of the rows, where the entries of `many` states without a row
+    /// are among the rows.
     pub(crate) const fn rows_len(&self, many: usize) -> usize {
         self.many_start() + many * CONTINUATIONS
     }
 
-    /// Returns the index of the first entry of a state without a row.
+    /// Returns the index in the rows at which the entries of states without a row begin.
     const fn many_start(&self) -> usize {
         self.first_inside() + self.layout.insides + 256
     }
@@ -50,12 +52,14 @@ impl<const STATES: usize, const RUNS: usize> Unpacked<STATES, RUNS> {
         self.layout.rows * self.layout.columns
     }
 
-    /// Returns the rows of all states, given the sets of those without a row. There are at least as
-    /// many entries that the offset of each row plus a byte or a class is the index of an entry.
+    /// Returns the rows of all states, given the steps `insides` of those without a row. The offset
+    /// of each row plus a byte or a class is the index of an entry: after the last row there are
+    /// more entries.
     ///
     /// # Panics
     ///
-    /// Panics if there are more entries than `N`.
+    /// Panics if there are more entries than `N`, or more entries or leaves than an entry can
+    /// number.
     pub(crate) const fn all_rows<const N: usize>(&self, insides: &[Inside]) -> [u32; N] {
         assert!(N >= self.many_start(), "the number of the entries");
         assert!(self.many_start() < STAYS as usize, "too many entries");
@@ -110,7 +114,7 @@ impl<const STATES: usize, const RUNS: usize> Unpacked<STATES, RUNS> {
         rows
     }
 
-    /// Returns the sets of the states without a row.
+    /// Returns the steps of the states without a row.
     pub(crate) const fn row_sets(&self) -> Sets<STATES> {
         let (mut sets, mut state, rows) = (Sets::NONE, 0, self.layout.rows);
         while self.layout.insides > 0 && state < STATES {
@@ -128,7 +132,7 @@ impl<const STATES: usize, const RUNS: usize> Unpacked<STATES, RUNS> {
         sets
     }
 
-    /// Returns the entry of a step in a state.
+    /// Returns the entry of `step` in `state`.
     const fn entry(&self, state: usize, step: usize) -> u32 {
         match step {
             0 if self.marks[state] % 2 == 0 => self.ended(self.marks[state], ENDS),
@@ -150,7 +154,7 @@ impl<const STATES: usize, const RUNS: usize> Unpacked<STATES, RUNS> {
         }
     }
 
-    /// Returns the entry of a kind for a mark.
+    /// Returns the entry of the kind `kind` for a mark, or [`NOWHERE`] for mark 0.
     const fn ended(&self, mark: u32, kind: u32) -> u32 {
         if mark == 0 {
             return NOWHERE;
@@ -203,12 +207,13 @@ impl<const STATES: usize, const RUNS: usize> Unpacked<STATES, RUNS> {
     }
 }
 
-/// The last match before a state, without the match of the state itself: as bytes before, as bytes
-/// after the start, and as [`FORTH`] plus the bytes since the start. All are 0 for a state to which
-/// no bytes are known to lead.
+/// The last match before a state, without the match of the state itself: by its distance from the
+/// state, and by its distance from the start of the attempt; and [`FORTH`] plus the number of bytes
+/// since that start. All are 0 for a state to which no bytes are known to lead.
 type Before = [u32; 3];
 
-/// Returns the last match in a state, and the last match before the states after it.
+/// Returns the last match in a state, and the last match before the states after it, given that
+/// before the state. `loops` is whether a byte stays in the state.
 const fn last_in(mark: u32, loops: bool, before: Before) -> (u32, Before) {
     let (leaf, late) = ((mark / 2) << 8, mark % 2);
     let [mut back, mut forth, mut since] = before;
@@ -247,7 +252,7 @@ const fn last_in(mark: u32, loops: bool, before: Before) -> (u32, Before) {
     (last, [back, forth, since])
 }
 
-/// Returns the last match before a state that is reached in two ways, given that of each.
+/// Returns the last match before a state to which bytes lead in two ways, given that of each way.
 const fn met(before: Before, after: Before) -> Before {
     let [back, forth, since] = before;
     [

@@ -15,7 +15,8 @@ use crate::Way;
 use crate::{Lexer, Logos, Source};
 use core::ops::ControlFlow::{self, Break, Continue};
 
-/// The next item, or nothing at the end of the input; or otherwise how a lexer continues.
+/// A step of a lexer: `Break` with the next item, or with `None` at the end of the input; or
+/// `Continue` with the value by which the lexer continues.
 type Step<'source, Token, Next> =
     ControlFlow<Option<Result<Token, <Token as Logos<'source>>::Error>>, Next>;
 
@@ -29,11 +30,11 @@ fn away() {}
 pub(crate) trait Run<'source>: Loops<'source> {
     /// Whether a row has an entry for each byte instead of for each class.
     const BY_BYTES: bool = Self::DATA.by_bytes();
-    /// The columns of a row, and the column of the end of the input.
+    /// The number of columns of a row, and the column of the end of the input.
     const COLUMNS: usize = Self::LAYOUT.columns;
     const END_COLUMN: usize = Self::LAYOUT.column[END] as usize;
-    /// The bounds below which entries lead to a state with a row, and to a state, and the entry
-    /// that leads to the first state.
+    /// The bound below which an entry leads to a state with a row, the bound below which it leads
+    /// to any state, and the entry that leads to the first state.
     const LEADS: u32 = (Self::LAYOUT.rows * Self::COLUMNS) as u32;
     const ENTERS: u32 = Self::LEADS + Self::LAYOUT.insides as u32;
     const START: u32 = (Self::LAYOUT.root * Self::COLUMNS) as u32;
@@ -44,7 +45,7 @@ pub(crate) trait Run<'source>: Loops<'source> {
     const FIRST: &'static [u32; 256] =
         &first(Self::ENTRIES, Self::START as usize, &Self::LAYOUT.column);
 
-    /// Returns the entry of the first byte of an attempt.
+    /// Returns the entry of `byte` in the first state of an attempt.
     #[inline(always)]
     fn first_step(byte: u8) -> u32 {
         if Self::BY_BYTES {
@@ -54,7 +55,7 @@ pub(crate) trait Run<'source>: Loops<'source> {
         }
     }
 
-    /// Returns the entry of a byte in a state with a row. The column is added to the address of the
+    /// Returns the entry of `byte` in a state with a row. The column is added to the address of the
     /// table first, because the state is known last, from the step before.
     #[inline(always)]
     fn step(state: u32, byte: u8) -> u32 {
@@ -77,7 +78,7 @@ pub(crate) trait Run<'source>: Loops<'source> {
         entry >= Self::LEADS && entry < Self::ENTERS
     }
 
-    /// Returns the entry of a byte in any state.
+    /// Returns the entry of `byte` in `state`, which may have no row.
     #[inline(always)]
     fn any_step(rows: &'static [u32], state: u32, byte: u8) -> u32 {
         if !Self::HAS_INSIDES || !Self::is_inside(state) {
@@ -94,7 +95,7 @@ pub(crate) trait Run<'source>: Loops<'source> {
         }
     }
 
-    /// Returns the number of a state.
+    /// Returns the number of the state whose offset is `state`.
     #[inline(always)]
     fn number(state: u32) -> usize {
         if Self::HAS_INSIDES && Self::is_inside(state) {
@@ -103,9 +104,10 @@ pub(crate) trait Run<'source>: Loops<'source> {
         state as usize / Self::COLUMNS
     }
 
-    /// Continues an attempt in a state without a row, to the end of a character. Returns the first
-    /// entry that does not lead to such a state, the position after its byte, and the state before
-    /// it.
+    /// Continues an attempt at byte offset `from`, in the state `first` without a row, to the end
+    /// of a character. Returns the first entry that does not lead to such a state, the offset after
+    /// its byte, and the state before it. At the end of the input the entry is [`NOWHERE`], and the
+    /// offset is one more.
     #[inline(never)]
     fn walk_inside(
         rows: &'static [u32],
@@ -125,15 +127,15 @@ pub(crate) trait Run<'source>: Loops<'source> {
         (NOWHERE, at + 1, state)
     }
 
-    /// Returns whether the entry is of this kind, which has a leaf. The leaf is not extracted here,
-    /// which would cost a register more.
+    /// Returns whether `entry` is of the kind `kind`, whose entries have leaves. The leaf is not
+    /// extracted here, which would cost a register more.
     #[inline(always)]
     fn has_leaf(entry: u32, kind: u32) -> bool {
         entry.wrapping_sub(kind) < Self::LEAVES as u32
     }
 
-    /// Returns the entry of the end of the input. If it leads to a state, another attempt finds the
-    /// match.
+    /// Returns the entry of the end of the input in `state`. If it leads to a state, returns
+    /// [`AGAIN`]: another attempt finds the match.
     #[cold]
     #[inline(never)]
     fn end_entry(rows: &'static [u32], state: u32) -> u32 {
@@ -145,10 +147,10 @@ pub(crate) trait Run<'source>: Loops<'source> {
         }
     }
 
-    /// Repeats an attempt, byte by byte, with the marks on its way. Returns the last leaf and the
-    /// end of its match; or a number that no leaf has, and the offset at which the attempt ended.
-    /// The rows are those of the caller, which may be in another part of the program: so that has
-    /// the only copy.
+    /// Repeats the attempt from byte offset `start`, byte by byte, with the marks on its way.
+    /// Returns the last leaf and the end of its match; or a number that no leaf has, and the offset
+    /// at which the attempt ended. The rows are those of the caller, which may be in another part
+    /// of the program, so that this part needs no copy.
     #[cold]
     #[inline(never)]
     fn try_again(rows: &'static [u32], bytes: &[u8], start: usize) -> (usize, usize) {
@@ -182,9 +184,9 @@ pub(crate) trait Run<'source>: Loops<'source> {
         }
     }
 
-    /// Returns the match of an attempt that ends before a byte with this entry, where no match
-    /// ends: its leaf and its end; or a number that no leaf has, and the offset at which the
-    /// attempt ended.
+    /// Returns the last match of the attempt that began at byte offset `start` and ended in
+    /// `state`, at the byte at `at` with `entry`, before which no match ends. Returns its leaf and
+    /// its end; or a number that no leaf has, and the offset at which the attempt ended.
     #[inline(always)]
     fn match_before(
         bytes: &[u8],
@@ -209,8 +211,9 @@ pub(crate) trait Run<'source>: Loops<'source> {
         ((last >> 8) as usize - 1, end)
     }
 
-    /// Returns the first entry of an attempt that leads to no state, the position after its byte,
-    /// and its state, if the first byte leads to a state.
+    /// Continues an attempt at byte offset `from`, in the state `first`. Returns the first entry
+    /// that leads to no state, the offset after its byte, and the state before that byte. The end
+    /// of the input counts as a byte.
     #[inline(always)]
     fn walk(bytes: &[u8], from: usize, first: u32) -> (u32, usize, u32) {
         let (mut state, mut at) = (first, from);
@@ -280,7 +283,7 @@ pub(crate) trait Run<'source>: Loops<'source> {
         }
     }
 
-    /// Finds the next token, or the error instead of it.
+    /// Returns the next token or error, or `None` at the end of the input.
     #[inline(always)]
     fn lex_on(lex: &mut Lexer<'source, Self>) -> Option<Result<Self, Self::Error>> {
         loop {
@@ -307,7 +310,8 @@ pub(crate) trait Run<'source>: Loops<'source> {
         }
     }
 
-    /// Completes a match of a leaf that does not become a token directly.
+    /// Calls [`Tables::act`] for the lexer's match of `leaf`, and returns the token or error, or
+    /// `Continue` if the match is skipped.
     #[inline(always)]
     fn act_on(lex: &mut Lexer<'source, Self>, leaf: usize) -> Step<'source, Self, ()> {
         let end = lex.end();
@@ -326,7 +330,9 @@ pub(crate) trait Run<'source>: Loops<'source> {
         }))
     }
 
-    /// Takes the items that the lexer has found ahead.
+    /// Takes the next item that the lexer has found ahead, or looks ahead further. Returns
+    /// `Continue` with a leaf if [`Run::act_on`] is to complete its match, and with `None` if there
+    /// is no item yet.
     #[cfg(feature = "std")]
     #[inline(always)]
     fn look(lex: &mut Lexer<'source, Self>) -> Step<'source, Self, Option<usize>> {
@@ -376,7 +382,9 @@ pub(crate) trait Run<'source>: Loops<'source> {
         }
     }
 
-    /// Finds the match that the walk over the input leaves undecided.
+    /// Returns the item of a match of `leaf` that has the lexer's span: the error if no leaf has
+    /// the number, a token, or `Continue` with the leaf if [`Run::act_on`] is to complete the
+    /// match.
     #[cfg(feature = "std")]
     #[inline(always)]
     fn found(lex: &mut Lexer<'source, Self>, leaf: usize) -> Step<'source, Self, Option<usize>> {
@@ -396,8 +404,8 @@ pub(crate) trait Run<'source>: Loops<'source> {
         Self::plain(leaf)
     }
 
-    /// Makes the error that the lexer has found ahead. It ends at the first boundary from its end
-    /// on.
+    /// Returns the error that the lexer has found ahead, and moves its end to the first boundary at
+    /// or after that end.
     #[cfg(feature = "std")]
     #[inline(always)]
     fn error_ahead(lex: &mut Lexer<'source, Self>) -> Self::Error {
@@ -409,8 +417,8 @@ pub(crate) trait Run<'source>: Loops<'source> {
         Self::error(lex)
     }
 
-    /// Makes the error of an attempt that is over at a position. It ends at the first boundary from
-    /// there on.
+    /// Returns the error of an attempt that was over at byte offset `over`. The error ends at the
+    /// first boundary from there on, and has at least one byte.
     #[inline(always)]
     fn error_to(lex: &mut Lexer<'source, Self>, over: usize) -> Self::Error {
         let end = over.max(lex.begun() + 1);
@@ -418,8 +426,8 @@ pub(crate) trait Run<'source>: Loops<'source> {
         Self::error(lex)
     }
 
-    /// Returns whether the match that begins at a position does not depend on the bytes after the
-    /// input: whether a byte ends the attempt.
+    /// Returns whether the match that begins at byte offset `start` does not depend on the bytes
+    /// after the input: whether a byte ends the attempt.
     #[cfg(not(feature = "std"))]
     #[cold]
     fn is_sure(bytes: &[u8], start: usize) -> bool {
@@ -440,7 +448,8 @@ pub(crate) trait Run<'source>: Loops<'source> {
         false
     }
 
-    /// Finds the next item by attempts, or a match of a leaf with which more is to be done.
+    /// Returns the next item, found by match attempts, or `Continue` with the leaf of a match that
+    /// [`Run::act_on`] is to complete.
     #[inline(always)]
     fn attempt(lex: &mut Lexer<'source, Self>) -> Step<'source, Self, usize> {
         let bytes = Self::bytes(lex.source());

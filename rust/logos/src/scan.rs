@@ -1,4 +1,4 @@
-//! [`Scan::scan`] and [`Scan::scan_part`], for lexers that are tables.
+//! The trait [`Scan`] of lexers that are tables, and its iterator over tokens with their spans.
 
 use crate::internal::Tables;
 use crate::{Lexer, Span, Way};
@@ -7,16 +7,16 @@ use core::ops::{Deref, DerefMut};
 
 /// An enum whose lexer is tables.
 ///
-/// The derive macro, and `logos_cli`, implement it with [`Logos`](crate::Logos) in the shape
-/// `tables`.
+/// The derive macro, and `logos_cli`, implement this trait with [`Logos`](crate::Logos) in the
+/// shape `tables`.
 #[diagnostic::on_unimplemented(
     message = "`{Self}` has no lexer that scans",
     label = "its lexer is no table",
     note = "`scan` is there for lexers in the shape `tables`, which is the default one"
 )]
 pub trait Scan<'source>: Tables<'source> {
-    /// Returns an iterator over the tokens of an input, with their spans. It is another name of
-    /// `Token::lexer(source).spanned()`, and equally fast.
+    /// Returns an iterator over the tokens and errors of `source`, with their spans. It is another
+    /// name of `Token::lexer(source).spanned()`, and equally fast.
     fn scan(source: &'source Self::Source) -> Scanner<'source, Self>
     where
         Self::Extras: Default,
@@ -24,8 +24,8 @@ pub trait Scan<'source>: Tables<'source> {
         Lexer::new(source).scan()
     }
 
-    /// Returns an iterator over the items of an input that do not depend on the bytes after this
-    /// first part. See [`Lexer::scan_part`].
+    /// Returns an iterator over the tokens and errors of `source`, the first part of an input, that
+    /// do not depend on the bytes after this part. See [`Lexer::scan_part`].
     fn scan_part(source: &'source Self::Source) -> Scanner<'source, Self>
     where
         Self::Extras: Default,
@@ -36,7 +36,8 @@ pub trait Scan<'source>: Tables<'source> {
 
 impl<'source, T: Tables<'source>> Scan<'source> for T {}
 
-/// An iterator over tokens with their spans. It dereferences to its lexer.
+/// An iterator over the tokens and errors of a lexer, with their spans. It dereferences to its
+/// lexer.
 pub struct Scanner<'source, Token: Scan<'source>> {
     lexer: Lexer<'source, Token>,
 }
@@ -46,7 +47,7 @@ impl<'source, Token: Scan<'source>> Scanner<'source, Token> {
         Scanner { lexer }
     }
 
-    /// Returns the lexer, positioned after the last token.
+    /// Returns the lexer, positioned after the last token or error.
     pub fn into_lexer(self) -> Lexer<'source, Token> {
         let mut lexer = self.lexer;
         lexer.set_way(Way::ByRule);

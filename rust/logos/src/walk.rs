@@ -1,4 +1,4 @@
-//! The walk over an input, chunk by chunk. A lexer takes its tokens.
+//! The walk over an input, chunk by chunk. Used by `ahead`, which takes the tokens of the walk.
 
 use crate::chunk::{Chunk, CHUNK, WORD};
 use crate::folded::{Folded, Last};
@@ -18,52 +18,55 @@ const ENTER: usize = 19;
 /// The factor of the cost of guesses. With 1, walks were chosen on texts on which many guesses
 /// fail, and were slower there.
 const GUESSES: usize = 2;
-/// If more than three of these many bytes end a match, walks are slower than match attempts:
-/// processors foresee these then.
+/// The denominator of the limit beyond which walks are slower than match attempts: if more than
+/// three of every four bytes end a match, processors predict the branches of match attempts.
 const ALMOST_ALL: usize = 4;
-/// The numbers of chunks that match attempts process if walks do not save time: the least, and the
-/// greatest after several such decisions in a row.
+/// The numbers of chunks that match attempts process if walks do not save time: the least number,
+/// and the greatest, after several such decisions in a row.
 const FEWEST_PLAIN: usize = 4;
 const MOST_PLAIN: usize = 64;
 /// The greatest number of bytes whose bits are set one by one.
 const FEW: usize = 6;
-/// One of this many words is examined to decide whether walks pay off.
+/// One of this many words is examined to decide whether walks save time.
 const SAMPLED: usize = 18;
 
 /// The number of bytes that are walked over after match attempts, to determine whether walks save
 /// time.
 const TRIAL: usize = 768;
 
-/// A walk over an input.
+/// A walk over an input: its latest chunk, and the word of that whose tokens the lexer takes.
 pub(crate) struct Walk {
     chunk: Chunk,
     /// The word whose tokens the lexer takes.
     pub(crate) word: Word,
-    /// The word does not follow the last item.
+    /// Whether the lexer was moved, so that the word does not follow its last item.
     pub(crate) is_moved: bool,
     pub(crate) way: Way,
-    /// The byte of the chunk before which the word is cut, since its entry needs a match attempt.
+    /// The byte of the chunk before which the word is cut, if the byte's entry needs a match
+    /// attempt.
     cut: Option<usize>,
-    /// The offset and the length of the chunk, and the row offsets before and after it.
+    /// The byte offset of the chunk in the input, its length, and the row offsets before and after
+    /// it.
     base: usize,
     len: usize,
     first: u32,
     row_start: u32,
-    /// The number of steps that were repeated in the chunk, the cost of moves of the lexer since
+    /// The cost of guesses and of repeated steps in the chunk, the cost of moves of the lexer since
     /// the walk over it, and the time that the last walks saved.
     cost: usize,
     moves: usize,
     gain: isize,
-    /// The number of chunks that are not walked if walks do not pay off.
+    /// The number of chunks that were left to match attempts when walks last did not save time,
+    /// halved by each later walk that did.
     plain: usize,
-    /// Fewer bytes than a chunk has are walked over next.
+    /// Whether the next walk is over only [`TRIAL`] bytes.
     tries: bool,
     guesser: Guesser,
 }
 
 pub(crate) type Room = std::boxed::Box<Walk>;
 
-/// Returns a walk that has not begun.
+/// Returns a walk that has not begun, of a lexer that looks ahead in the way `way`.
 #[cold]
 pub(crate) fn new_room(way: Way) -> Room {
     const NEW: Walk = Walk {
@@ -90,7 +93,8 @@ pub(crate) fn new_room(way: Way) -> Room {
 }
 
 impl Walk {
-    /// Returns the leaf and the end of the first of some tokens of the word.
+    /// Returns the leaf and the end of the first token of the bits `tokens` of the word, which must
+    /// not be 0. Returns `None` if that bit is after the chunk.
     #[inline(always)]
     pub(crate) fn token(&self, tokens: u64) -> Option<(usize, usize)> {
         let bit = tokens.trailing_zeros() as usize;
@@ -98,7 +102,8 @@ impl Walk {
         Some((leaf, self.word.here + bit))
     }
 
-    /// Moves to the next word of the chunk, if there is one, and returns its tokens.
+    /// Moves to the next word of the chunk, and returns its tokens. Returns `None` if the chunk has
+    /// no next word, the word is cut, or the lexer was moved.
     #[inline(always)]
     pub(crate) fn next_word(&mut self) -> Option<u64> {
         let word = &self.word;
@@ -109,8 +114,9 @@ impl Walk {
         Some(self.begin_word(at, word.here + WORD, !0, word.last_end()))
     }
 
-    /// Moves to the word that begins at a byte of the chunk, and of the input, and returns its
-    /// tokens: of the bits `from`, up to an entry that needs a match attempt.
+    /// Moves to the word that begins at byte `at` of the chunk, at byte offset `here` of the input,
+    /// where the next match begins at `start`. Returns the word's tokens: of the bits `from`, up to
+    /// an entry that needs a match attempt.
     #[inline(always)]
     fn begin_word(&mut self, at: usize, here: usize, from: u64, start: usize) -> u64 {
         let (ends, tokens) = self.chunk.bits(at);
@@ -129,23 +135,24 @@ impl Walk {
         tokens & left
     }
 
-    /// Returns whether no byte is walked over.
+    /// Returns whether the chunk has no bytes, as before the first walk or after the lexer was
+    /// moved away.
     pub(crate) fn is_empty(&self) -> bool {
         self.len == 0
     }
 
-    /// Returns the offset of the bytes that are not walked.
+    /// Returns the byte offset in the input of the bytes after the chunk.
     pub(crate) fn end(&self) -> usize {
         self.base + self.len
     }
 
-    /// Returns the byte before which the word is cut.
+    /// Returns the byte of the chunk before which the word is cut, if it is.
     pub(crate) fn cut(&self) -> Option<usize> {
         self.cut
     }
 
-    /// Walks over the next chunk, after the match that ended at a byte offset. Returns the tokens
-    /// of its first word.
+    /// Walks over the next chunk, after the match that ended at byte offset `start`. Returns the
+    /// tokens of the chunk's first word.
     #[inline]
     pub(crate) fn walk<'s, T: Tables<'s>>(&mut self, bytes: &[u8], start: usize) -> u64 {
         self.base += self.len;
@@ -162,7 +169,8 @@ impl Walk {
         self.begin_word(0, self.base, !0, start)
     }
 
-    /// Walks over a whole chunk.
+    /// Walks over `input` as a whole chunk, and sets the length of the chunk, the row offset after
+    /// it, and the cost.
     #[inline]
     fn walk_chunk<'s, T: Tables<'s>>(&mut self, input: &[u8; CHUNK]) {
         let guesser = &mut self.guesser;
@@ -170,16 +178,17 @@ impl Walk {
         (self.len, self.row_start, self.cost) = (CHUNK, walked.row_start, walked.cost);
     }
 
-    /// Walks over fewer bytes than a chunk has.
+    /// Walks over `rest`, which has fewer bytes than a whole chunk, and sets the length of the
+    /// chunk, the row offset after it, and the cost.
     #[inline]
     fn walk_rest<'s, T: Tables<'s>>(&mut self, rest: &[u8]) {
         let walked = self.chunk.walk_rest::<T>(rest, self.row_start);
         (self.len, self.row_start, self.cost) = (rest.len(), walked.row_start, walked.cost);
     }
 
-    /// Returns the leaf of the match attempt that ended at a byte of the chunk and began at a byte
-    /// offset, and the end of its match; or a number that no leaf has, and the offset at which the
-    /// attempt ended. Returns nothing if the attempt must be repeated.
+    /// Returns the result of the match attempt that ended at byte `cut` of the chunk and began at
+    /// byte offset `start`: its leaf and the end of its match; or a number that no leaf has, and
+    /// the offset at which the attempt ended. Returns `None` if the attempt must be repeated.
     #[inline]
     pub(crate) fn found_at<'s, T: Tables<'s>>(
         &mut self,
@@ -206,7 +215,9 @@ impl Walk {
         }
     }
 
-    /// Lets the next match begin at a byte offset. Returns the tokens of its word.
+    /// Lets the next match begin at byte offset `start`, and walks again as far as that changes
+    /// entries. Returns the tokens of the word there. If the offset is not in the chunk, forgets
+    /// the chunk and returns 0.
     #[inline]
     pub(crate) fn begin_at<'s, T: Tables<'s>>(&mut self, bytes: &[u8], start: usize) -> u64 {
         let root = <T as Folded>::ROOT;
@@ -236,15 +247,16 @@ impl Walk {
         self.begin_word(at - begun, start - begun, !0 << begun, start)
     }
 
-    /// Forgets the chunk, and lets the next match begin at a byte offset.
+    /// Forgets the chunk, and lets the next match begin at byte offset `start`, in the row at
+    /// `root`.
     pub(crate) fn begin_anew(&mut self, start: usize, root: u32) {
         (self.cut, self.len, self.base, self.row_start) = (None, 0, start, root);
         (self.word, self.is_moved) = (Word::empty(start), false);
     }
 
-    /// Decides from the walks over this chunk and the ones before whether taking the tokens of this
-    /// one saves time. If it does not, returns the byte offset up to which match attempts find the
-    /// items.
+    /// Returns the byte offset up to which match attempts find the items, or `None` if taking the
+    /// tokens of this chunk saves time. The decision is based on the walks over this chunk and the
+    /// ones before.
     pub(crate) fn plain_to(&mut self) -> Option<usize> {
         let sampled = if self.len < CHUNK {
             SAMPLED / 6

@@ -1,20 +1,22 @@
-//! A word of a chunk, with a bit for each byte before which a match ends.
+//! 64 bytes of a chunk as a word: its bit for a byte is set if a match ends before the byte. Used
+//! by `walk` and `ahead`.
 
-/// A word of a chunk. The tokens that end before its bytes are stored separately, since they are
-/// taken one by one.
+/// 64 bytes of a chunk, with the matches that end before these bytes. The bits of tokens are stored
+/// in `Ahead`, since tokens are taken one by one.
 #[derive(Clone, Copy)]
 pub(crate) struct Word {
-    /// A bit for each byte before which a match ends.
+    /// The bits of the bytes, the lowest for the first byte: each is set if a match ends before the
+    /// byte.
     pub(crate) ends: u64,
-    /// The offset of the word, in the input and in the chunk.
+    /// The byte offset of the word in the input, and in the chunk.
     pub(crate) here: usize,
     pub(crate) at: usize,
-    /// The end of the last match that is not among `ends`.
+    /// The byte offset in the input at which the first match of `ends` begins.
     pub(crate) start: usize,
 }
 
 impl Word {
-    /// Returns the word without ends, where the next match begins at a byte offset.
+    /// Returns a word without ends, whose next match begins at byte offset `start` of the input.
     pub(crate) const fn empty(start: usize) -> Word {
         Word {
             ends: 0,
@@ -24,21 +26,21 @@ impl Word {
         }
     }
 
-    /// Returns the start of the match that ends at a byte offset of the word.
+    /// Returns the start of the match of the word that ends at byte offset `end` of the input.
     #[inline(always)]
     pub(crate) fn start_of(&self, end: usize) -> usize {
         let bit = 1 << (end.wrapping_sub(self.here) & 63);
         self.after(self.ends & (bit - 1))
     }
 
-    /// Returns whether a match of the word ends at a byte offset.
+    /// Returns whether a match of the word ends at byte `offset` of the input.
     #[inline(always)]
     pub(crate) fn ends_at(&self, offset: usize) -> bool {
         let bit = offset.wrapping_sub(self.here);
         bit < 64 && self.ends >> bit & 1 == 1
     }
 
-    /// Ends the match that ends at a byte offset of the word one byte before.
+    /// Moves the end of the match that ends at byte offset `end` of the input one byte back.
     #[inline(always)]
     pub(crate) fn end_before(&mut self, end: usize) {
         let bit = 1 << (end.wrapping_sub(self.here) & 63);
@@ -48,13 +50,13 @@ impl Word {
         }
     }
 
-    /// Returns the end of the last match.
+    /// Returns the end of the last match of the word, or `start` if none ends in it.
     #[inline(always)]
     pub(crate) fn last_end(&self) -> usize {
         self.after(self.ends)
     }
 
-    /// Returns the end of the last match, after some of the ends.
+    /// Returns the byte offset of the last of `ends`, or `start` if there is none.
     #[inline(always)]
     fn after(&self, ends: u64) -> usize {
         if ends == 0 {

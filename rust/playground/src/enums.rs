@@ -1,17 +1,18 @@
-//! The enums of a source, from which the page selects one.
+//! The list of the enums of a source, from which the page selects one. Used by the program `enums`.
 
 use logos_build::logos_rust_file::{enums_in, path_of};
 use rattle_std::alloc::{AllocError, Global};
 use rattle_std::io::Write;
 use rattle_std::vec::Vec;
 
-/// Writes a line for each enum that derives `Logos`: its span in bytes, and its path.
+/// Appends a line to `out` for each enum of `source` that derives `Logos`: the enum's span in bytes
+/// of the source, and its path.
 ///
-/// A source that cannot be read has none. `logos_show` reports why.
+/// Appends nothing if the source cannot be read. `logos_show` reports the reason.
 ///
 /// # Errors
 ///
-/// Returns `AllocError` if memory runs out. Then some lines may be written.
+/// Returns `AllocError` if memory runs out. Some lines may have been appended then.
 pub fn print(source: &[u8], out: &mut Vec<u8>) -> Result<(), AllocError> {
     let Ok(text) = str::from_utf8(source) else {
         return Ok(());

@@ -1,5 +1,5 @@
-//! The system on which the programs run in a page: two texts as files, no standard input, no clock
-//! and no variables.
+//! The system on which the programs run in a page: two texts as files, an empty standard input, no
+//! clock and no variables.
 
 use logos_build::logos_host::{ComparableFiles, FileError, Files, Occurrence, Reason};
 use rattle_std::alloc::{AllocError, Global};
@@ -14,7 +14,7 @@ const SOURCE: &str = "lexer.rs";
 /// The path of the input.
 const INPUT: &str = "text";
 
-/// The two texts as files, which cannot be written.
+/// The source and the input as files that cannot be written.
 pub struct Texts<'t> {
     /// The bytes of the source.
     pub source: &'t [u8],
@@ -82,7 +82,7 @@ impl Env for NoSystem {
     }
 }
 
-/// A reader of nothing.
+/// A reader that is at its end.
 pub struct Empty;
 
 impl Read for Empty {

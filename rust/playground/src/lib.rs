@@ -1,9 +1,9 @@
-//! The programs `logos_show` and `logos` as WebAssembly. The worker of the playground's page calls
-//! them.
+//! The programs `logos_show` and `logos` as WebAssembly. Used by the worker of the playground's
+//! page.
 //!
 //! A slot is a list of bytes. The page fills [`ARGUMENTS`], [`SOURCE`] and [`INPUT`], calls
-//! [`run`], and reads [`OUTPUT`] and [`MESSAGES`]. The programs are those that Cargo builds: their
-//! only files are the two texts, and they write into the two last slots.
+//! [`run`], and reads [`OUTPUT`] and [`MESSAGES`]. The programs are those that Cargo builds: the
+//! source and the input are their only files, and their output is written to the last two slots.
 
 #![deny(unsafe_code)]
 #![warn(missing_docs)]
@@ -19,7 +19,8 @@ use rattle_std::string::String as Argument;
 use rattle_std::vec::Vec as List;
 use std::sync::{Mutex, MutexGuard, PoisonError};
 
-/// The slot of the arguments: a line for each, the name of the program first.
+/// The slot of the arguments: the name of the program, and after it the arguments, each on its own
+/// line.
 pub const ARGUMENTS: usize = 0;
 /// The slot of the bytes of the file `lexer.rs`.
 pub const SOURCE: usize = 1;
@@ -33,23 +34,25 @@ pub const MESSAGES: usize = 4;
 /// The most memory that a program may use, in bytes.
 const BUDGET: usize = 256 << 20;
 
-/// The exit status for arguments in an unknown form.
+/// The exit status if the arguments are not UTF-8 or name no known program.
 const MISUSE: u8 = 2;
 
 /// The exit status if memory runs out.
 const FAILED: u8 = 3;
 
-/// The slots.
+/// The bytes of each slot.
 static SLOTS: Mutex<[Vec<u8>; 5]> = Mutex::new([const { Vec::new() }; 5]);
 
-/// Returns the slots. A program that panics ends the instance, so no other one finds them locked.
+/// Returns the slots, locked. A program that panics ends the instance, so no other one finds them
+/// locked.
 fn slots() -> MutexGuard<'static, [Vec<u8>; 5]> {
     SLOTS.lock().unwrap_or_else(PoisonError::into_inner)
 }
 
-/// Sets the length of a slot, in bytes, and returns its address. The page then writes the bytes.
+/// Sets a slot to `length` zeros, and returns the address of its first byte. The page writes its
+/// bytes there.
 ///
-/// An unknown slot has the address 0.
+/// Returns 0, and changes nothing, if there is no such slot.
 #[allow(unsafe_code)]
 #[unsafe(no_mangle)]
 pub extern "C" fn resize(slot: usize, length: usize) -> usize {
@@ -60,21 +63,22 @@ pub extern "C" fn resize(slot: usize, length: usize) -> usize {
     })
 }
 
-/// Returns the address of a slot, or 0 if it is unknown.
+/// Returns the address of the first byte of a slot, or 0 if there is no such slot.
 #[allow(unsafe_code)]
 #[unsafe(no_mangle)]
 pub extern "C" fn address(slot: usize) -> usize {
     slots().get(slot).map_or(0, |bytes| bytes.as_ptr().addr())
 }
 
-/// Returns the length of a slot in bytes, or 0 if it is unknown.
+/// Returns the length of a slot in bytes, or 0 if there is no such slot.
 #[allow(unsafe_code)]
 #[unsafe(no_mangle)]
 pub extern "C" fn length(slot: usize) -> usize {
     slots().get(slot).map_or(0, Vec::len)
 }
 
-/// Runs the program that the slots request, and returns its exit status.
+/// Runs the program that the slot [`ARGUMENTS`] names, and returns its exit status. Sets the slots
+/// [`OUTPUT`] and [`MESSAGES`].
 ///
 /// The program is `logos_show`, `logos`, or `enums`, which prints the enums of the source.
 #[allow(unsafe_code)]
@@ -89,7 +93,8 @@ pub extern "C" fn run() -> u32 {
     u32::from(status)
 }
 
-/// Runs the requested program.
+/// Runs the program that the slot [`ARGUMENTS`] names, and returns its exit status. Appends its
+/// output to `out` and `messages`.
 fn answer(slots: &[Vec<u8>; 5], out: &mut List<u8>, messages: &mut List<u8>) -> u8 {
     let Ok(text) = str::from_utf8(&slots[ARGUMENTS]) else {
         return MISUSE;
@@ -113,7 +118,7 @@ fn answer(slots: &[Vec<u8>; 5], out: &mut List<u8>, messages: &mut List<u8>) -> 
     }
 }
 
-/// Returns the lines of a text as arguments.
+/// Returns the lines of `text` as arguments, or `AllocError` if memory runs out.
 fn words_of(text: &str) -> Result<List<Argument>, AllocError> {
     let mut words = List::new(Global);
     for line in text.lines() {

@@ -11,7 +11,7 @@ pub(crate) use budget::{claim, release};
 #[derive(Clone, Copy, Debug, Default, PartialEq, Eq)]
 pub struct Global;
 
-/// Memory was refused.
+/// The error that memory was refused.
 #[derive(Clone, Copy, Debug, PartialEq, Eq)]
 pub struct AllocError;
 
@@ -23,7 +23,7 @@ impl fmt::Display for AllocError {
 
 impl core::error::Error for AllocError {}
 
-/// Memory to store a value was refused.
+/// The error that memory to store a value was refused, with the value.
 pub struct AllocFailed<T> {
     /// The value that was not stored.
     pub value: T,
@@ -57,13 +57,14 @@ impl From<AllocError> for fmt::Error {
 }
 
 /// Returns the capacity to which a block with `capacity` items of `size` bytes grows so that
-/// `additional` items fit after the first `len`, and claims the additional bytes.
+/// `additional` items fit after the first `len`, and claims the bytes that this adds.
 ///
-/// The capacity at least doubles, so that adding items one by one takes linear time.
+/// The capacity at least doubles, so that adding items one at a time takes linear time.
 ///
 /// # Errors
 ///
-/// Returns `AllocError` if the number of bytes overflows or the budget does not allow it.
+/// Returns `AllocError` if the number of bytes overflows or the budget does not allow the
+/// additional bytes. No bytes are claimed then.
 pub(crate) fn grown(
     len: usize,
     capacity: usize,

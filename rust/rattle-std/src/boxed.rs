@@ -1,4 +1,4 @@
-//! Replaces Rattle's `std::boxed`.
+//! Replaces Rattle's `std::boxed`: values in a separate allocation, which may fail.
 
 use crate::alloc::{AllocError, AllocFailed, Global, claim, release};
 use crate::clone::Clone;
@@ -7,17 +7,17 @@ use core::ops::{Deref, DerefMut};
 
 /// A value in a separate allocation.
 ///
-/// Stable Rust has no fallible allocation of boxes, but one of vectors, and a vector with one value
-/// becomes a box of an array with one value. It is `Some` until [`Box::into_inner`].
+/// Stable Rust has no fallible allocation of boxes. It has one of vectors, and a vector with one
+/// value becomes a box of an array with one value. The field is `Some` until [`Box::into_inner`].
 #[derive(PartialEq, Eq, PartialOrd, Ord, Hash)]
 pub struct Box<T>(Option<std::boxed::Box<[T; 1]>>);
 
 impl<T> Box<T> {
-    /// Allocates a value.
+    /// Returns a box with `value`, which is moved to a new allocation.
     ///
     /// # Errors
     ///
-    /// Returns the value if memory is refused.
+    /// Returns `AllocFailed` with the value if memory is refused.
     #[inline]
     pub fn new(_alloc: Global, value: T) -> Result<Box<T>, AllocFailed<T>> {
         let size = size_of::<T>();
@@ -36,7 +36,7 @@ impl<T> Box<T> {
         }
     }
 
-    /// Returns the value.
+    /// Returns the value in the box, whose allocation is released.
     #[inline]
     pub fn into_inner(mut boxed: Box<T>) -> T {
         release(size_of::<T>());

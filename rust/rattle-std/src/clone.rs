@@ -1,4 +1,4 @@
-//! Replaces Rattle's `std::clone`: copies whose allocation may fail.
+//! Replaces Rattle's `std::clone`: copies of values, whose allocation may fail.
 //!
 //! A derive of `Clone` in an erased file is Rust's, and is always combined with one of `Copy`.
 
@@ -8,7 +8,7 @@ use core::ops::RangeInclusive;
 
 /// A value that can be copied if memory suffices.
 pub trait Clone: Sized {
-    /// Returns a copy.
+    /// Returns a copy of the value.
     ///
     /// # Errors
     ///
@@ -48,9 +48,9 @@ impl<T: Copy> Clone for RangeInclusive<T> {
     }
 }
 
-/// Copies of referenced values, made by `cloned()` in Rattle.
+/// An optional reference whose value can be copied. The method is named `cloned` in Rattle.
 pub trait Clones<T> {
-    /// Returns the copy, if there is a value.
+    /// Returns a copy of the referenced value, or `None` if there is none.
     ///
     /// # Errors
     ///

@@ -1,4 +1,5 @@
-//! Replaces the crates of the toolchain's kit that the erased crates use.
+//! Replaces the crates of the toolchain's kit that the erased crates use, each by a module of its
+//! name.
 
 pub mod indexmap;
 pub mod itoa;

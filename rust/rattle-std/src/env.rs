@@ -7,24 +7,28 @@ use crate::string::String;
 use crate::vec::{IntoIter, Vec};
 use std::ffi::OsStr;
 
-/// A system that knows the arguments with which the program was called, and variables.
+/// A system with the arguments with which the program was called, and with variables.
 pub trait Env {
-    /// Writes the argument with index `i` to the beginning of `buf`, and returns its length.
+    /// Writes the argument with index `i` to the beginning of `buf`, and returns its length in
+    /// bytes. The argument with index 0 is the name of the program.
     ///
     /// # Errors
     ///
-    /// Returns an error if there is no such argument or it is too long.
+    /// Returns `NotPresent` if there is no such argument, and `TooLong` if the argument is longer
+    /// than `buf`.
     fn arg(&self, i: usize, buf: &mut [u8]) -> Result<usize, FillError>;
 
-    /// Writes the value of a variable to the beginning of `buf`, and returns its length.
+    /// Writes the value of the variable `name` to the beginning of `buf`, and returns its length in
+    /// bytes.
     ///
     /// # Errors
     ///
-    /// Returns an error if the variable is not set or its value is too long.
+    /// Returns `NotPresent` if the variable is not set, and `TooLong` if its value is longer than
+    /// `buf`.
     fn var(&self, name: &str, buf: &mut [u8]) -> Result<usize, FillError>;
 }
 
-/// The reasons why an argument or a value was not written.
+/// The reason that an argument or a value was not written.
 #[derive(Clone, Copy, Debug, PartialEq, Eq)]
 pub enum FillError {
     /// There is no argument with this index, or no variable of this name.
@@ -45,7 +49,7 @@ impl Env for HostRuntime {
     }
 }
 
-/// Writes a text to the beginning of a buffer, and returns its length.
+/// Writes `text` to the beginning of `buf`, and returns its length in bytes.
 fn fill(buf: &mut [u8], text: &OsStr) -> Result<usize, FillError> {
     let bytes = text.as_encoded_bytes();
     let front = buf.get_mut(..bytes.len()).ok_or(FillError::TooLong)?;
@@ -53,7 +57,7 @@ fn fill(buf: &mut [u8], text: &OsStr) -> Result<usize, FillError> {
     Ok(bytes.len())
 }
 
-/// Returns the arguments with which the program was called, its name first.
+/// Returns an iterator over the arguments with which the program was called, its name first.
 ///
 /// # Errors
 ///

@@ -1,8 +1,8 @@
-//! Replaces Rattle's `std::fs`.
+//! Replaces Rattle's `std::fs`: files, folders and links, by their paths.
 //!
 //! Paths are texts in the form of Unix. On other systems some paths of Linux that the crates use
 //! have their meaning too: `/dev/stdin` is standard input, and `/proc/self` is a link to the
-//! process id.
+//! process ID.
 
 mod metadata;
 
@@ -15,29 +15,30 @@ use std::sync::OnceLock;
 
 pub use metadata::{Metadata, MetadataExt, Permissions, PermissionsExt, metadata, set_permissions};
 
-/// The path of standard input in the crates.
+/// The path by which the crates open standard input.
 const STANDARD_INPUT: &str = "/dev/stdin";
 
-/// The link from which the crates read the process id.
+/// The path of the link from which the crates read the process ID.
 const OWN_PROCESS: &str = "/proc/self";
 
-/// The path from which the crates read the program itself.
+/// The path from which the crates read the file of the program itself.
 const PROGRAM: &str = "/proc/self/exe";
 
-/// The bytes that are read as the program itself.
+/// The bytes that are read instead of the file of the program itself, once they are set.
 static PROGRAM_BYTES: OnceLock<&'static [u8]> = OnceLock::new();
 
-/// Sets the bytes that are read instead of the file of the program, at `/proc/self/exe`.
+/// Sets the bytes that are read instead of the file of the program itself, at `/proc/self/exe`.
 ///
-/// The programs search them for the commit from which they were built. They call this first, and
-/// only the first call has an effect.
+/// The programs search these bytes for the commit from which they were built. They call this
+/// function first. Only the first call has an effect.
 pub fn set_program(bytes: &'static [u8]) {
     let _ = PROGRAM_BYTES.set(bytes);
 }
 
 /// A system with files.
 pub trait Files {
-    /// Sets the owner and the group of a file, if the system has them.
+    /// Sets the owner and the group of the file at `path`, each if it is not `None`. Does nothing
+    /// on a system without owners.
     ///
     /// # Errors
     ///
@@ -57,11 +58,16 @@ impl Files for HostRuntime {
     }
 }
 
-/// A path from the system.
+/// A path that the system has returned.
 pub struct PathBuf(String);
 
 impl PathBuf {
-    /// Returns the text of a path, with `/` between its names.
+    /// Returns the text of `path`, with `/` between its names.
+    ///
+    /// # Errors
+    ///
+    /// Returns an error of the kind `InvalidData` if the path is not UTF-8, or one of the kind
+    /// `OutOfMemory` if memory is refused.
     fn of(path: &std::path::Path) -> io::Result<PathBuf> {
         let text = path.to_str().ok_or(ErrorKind::InvalidData)?;
         let mut made = String::new(Global);
@@ -79,7 +85,7 @@ impl PathBuf {
     }
 }
 
-/// Returns all bytes of a file.
+/// Returns all bytes of the file at `path`.
 ///
 /// # Errors
 ///
@@ -93,7 +99,7 @@ pub fn read<R: Files>(rt: &R, path: &str) -> io::Result<Vec<u8>> {
     Ok(bytes)
 }
 
-/// Returns the text of a file.
+/// Returns the text of the file at `path`.
 ///
 /// # Errors
 ///
@@ -103,20 +109,21 @@ pub fn read_to_string<R: Files>(rt: &R, path: &str) -> io::Result<String> {
     String::from_utf8(read(rt, path)?).map_err(|_| Error::from(ErrorKind::InvalidData))
 }
 
-/// Writes a file: creates it, or replaces its content.
+/// Writes `bytes` to the file at `path`: creates it, or replaces its contents.
 ///
 /// # Errors
 ///
-/// Returns the error of the system.
+/// Returns the error of the system. The file may have been created, or written in part, then.
 pub fn write<R: Files>(_rt: &R, path: &str, bytes: &[u8]) -> io::Result<()> {
     Ok(std::fs::write(path, bytes)?)
 }
 
-/// Returns the target of a link.
+/// Returns the target of the link at `path`.
 ///
 /// # Errors
 ///
-/// Returns the error of the system, or one of the kind `InvalidData` if the path is not UTF-8.
+/// Returns the error of the system, one of the kind `InvalidData` if the target is not UTF-8, or
+/// one of the kind `OutOfMemory` if memory is refused.
 pub fn read_link<R: Files>(_rt: &R, path: &str) -> io::Result<PathBuf> {
     if cfg!(not(target_os = "linux")) && path == OWN_PROCESS {
         let number = std::process::id();
@@ -125,16 +132,17 @@ pub fn read_link<R: Files>(_rt: &R, path: &str) -> io::Result<PathBuf> {
     PathBuf::of(&std::fs::read_link(path)?)
 }
 
-/// Returns the absolute path of a file, with all links resolved.
+/// Returns the absolute path of the file or folder at `path`, with all links resolved.
 ///
 /// # Errors
 ///
-/// Returns the error of the system, or one of the kind `InvalidData` if the path is not UTF-8.
+/// Returns the error of the system, one of the kind `InvalidData` if the absolute path is not
+/// UTF-8, or one of the kind `OutOfMemory` if memory is refused.
 pub fn canonicalize<R: Files>(_rt: &R, path: &str) -> io::Result<PathBuf> {
     PathBuf::of(&std::fs::canonicalize(path)?)
 }
 
-/// Renames a file, and replaces a file that has the new path.
+/// Renames the file at the path `from` to the path `to`, and replaces a file that is there.
 ///
 /// # Errors
 ///
@@ -143,7 +151,7 @@ pub fn rename<R: Files>(_rt: &R, from: &str, to: &str) -> io::Result<()> {
     Ok(std::fs::rename(from, to)?)
 }
 
-/// Removes a file.
+/// Removes the file at `path`.
 ///
 /// # Errors
 ///
@@ -152,7 +160,7 @@ pub fn remove_file<R: Files>(_rt: &R, path: &str) -> io::Result<()> {
     Ok(std::fs::remove_file(path)?)
 }
 
-/// Creates a folder, and the missing folders of its path.
+/// Creates the folder at `path` and the missing folders that contain it. Does nothing if it exists.
 ///
 /// # Errors
 ///
@@ -163,22 +171,23 @@ pub fn create_dir_all<R: Files>(_rt: &R, path: &str) -> io::Result<()> {
     Ok(std::fs::create_dir_all(folder.as_path())?)
 }
 
-/// An entry of a folder.
+/// An entry of a folder: a file, or another folder.
 pub struct DirEntry(String);
 
 impl DirEntry {
-    /// Returns the name of the file.
+    /// Returns the name of the entry, without its folder.
     pub fn file_name(&self) -> &str {
         &self.0
     }
 }
 
-/// Returns the entries of a folder.
+/// Returns an iterator over the entries of the folder at `path`.
 ///
 /// # Errors
 ///
-/// Returns the error of the system. An entry may be an error too: its name is not UTF-8, or memory
-/// is refused.
+/// Returns the error of the system. An entry may be an error too: the error of the system, one of
+/// the kind `InvalidData` if its name is not UTF-8, or one of the kind `OutOfMemory` if memory is
+/// refused.
 pub fn read_dir<R: Files>(
     _rt: &R,
     path: &str,
@@ -190,7 +199,7 @@ pub fn read_dir<R: Files>(
     }))
 }
 
-/// Opens a file to read it.
+/// Opens the file at `path` for reading.
 ///
 /// # Errors
 ///
@@ -199,7 +208,7 @@ pub fn open<R: Files>(rt: &R, path: &str) -> io::Result<File> {
     File::open(rt, path)
 }
 
-/// An open file.
+/// An open file, standard input, or the bytes of the program itself.
 pub struct File(Opened);
 
 enum Opened {
@@ -209,7 +218,7 @@ enum Opened {
 }
 
 impl File {
-    /// Opens a file to read it.
+    /// Opens the file at `path` for reading.
     ///
     /// # Errors
     ///
@@ -228,16 +237,17 @@ impl File {
         }
     }
 
-    /// Creates a file that does not exist, to write it.
+    /// Creates the file at `path`, and opens it for writing.
     ///
     /// # Errors
     ///
-    /// Returns the error of the system.
+    /// Returns the error of the system, which is of the kind `AlreadyExists` if the file exists.
     pub fn create_new<R: Files>(_rt: &R, path: &str) -> io::Result<File> {
         Ok(File(Opened::File(std::fs::File::create_new(path)?)))
     }
 
-    /// Returns the length that the system reports for the file, up to a bound.
+    /// Returns the length in bytes that the system reports for the file, but at most 64 MiB.
+    /// Returns 0 if there is no such length.
     fn len_hint(&self) -> usize {
         const MOST: u64 = 1 << 26;
         match &self.0 {

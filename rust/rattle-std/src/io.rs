@@ -13,27 +13,28 @@ pub use buffered::BufWriter;
 pub use error::{Error, ErrorKind, Result};
 pub use standard::{Input, IsTerminal, Print, Stderr, Stdin, Stdout};
 
-/// The number of bytes that are reserved at first.
+/// The number of bytes that are reserved for a vector without capacity.
 const FIRST_BLOCK: usize = 8192;
 
-/// The maximum number of bytes that are read at once.
+/// The maximum number of bytes by which a vector is lengthened at once.
 const LARGEST_BLOCK: usize = 1 << 20;
 
 /// A source of bytes.
 pub trait Read {
-    /// Reads bytes, and returns their number. If it is 0 and `buf` is not empty, no bytes are left.
+    /// Reads bytes into the beginning of `buf`, and returns their number. If it is 0 and `buf` is
+    /// not empty, no bytes are left.
     ///
     /// # Errors
     ///
-    /// Returns the error of the system. Then nothing was read.
+    /// Returns the error of the system. No bytes were read then.
     fn read(&mut self, buf: &mut [u8]) -> Result<usize>;
 
-    /// Appends all remaining bytes to a vector, and returns their number.
+    /// Appends all remaining bytes to `buf`, and returns their number.
     ///
     /// # Errors
     ///
     /// Returns the error of the system, or one of the kind `OutOfMemory` if memory is refused. The
-    /// bytes that were read before are appended.
+    /// bytes that were read before have been appended then.
     fn read_to_end(&mut self, buf: &mut Vec<u8>) -> Result<usize> {
         let start = buf.len();
         let mut end = start;
@@ -54,7 +55,7 @@ pub trait Read {
         done
     }
 
-    /// Returns a reader of at most `limit` bytes of this one.
+    /// Returns a reader of the next bytes of this one, at most `limit`.
     fn take(self, limit: u64) -> Take<Self>
     where
         Self: Sized,
@@ -63,8 +64,9 @@ pub trait Read {
     }
 }
 
-/// Appends zeros to a vector, which are then replaced by the bytes that are read. Their number is
-/// the free capacity, or the length of the vector.
+/// Appends zeros to `buf`, which the bytes that are read replace. The number of zeros is the free
+/// capacity, or without one the length of `buf`, but at least [`FIRST_BLOCK`]; in both cases at
+/// most [`LARGEST_BLOCK`].
 fn lengthen(buf: &mut Vec<u8>) -> core::result::Result<(), AllocError> {
     let len = buf.len();
     let room = match buf.capacity() - len {
@@ -89,7 +91,7 @@ impl Read for &[u8] {
     }
 }
 
-/// A reader of the first bytes of another one.
+/// A reader of at most `limit` bytes of the reader `inner`.
 pub struct Take<R> {
     inner: R,
     limit: u64,
@@ -107,7 +109,7 @@ impl<R: Read> Read for Take<R> {
     }
 }
 
-/// Returns the remaining text of a reader.
+/// Returns the remaining bytes of `reader` as a text.
 ///
 /// # Errors
 ///
@@ -121,25 +123,26 @@ pub fn read_to_string<R: Read>(alloc: Global, mut reader: R) -> Result<String> {
 
 /// A destination of bytes.
 pub trait Write {
-    /// Writes bytes, and returns their number.
+    /// Writes bytes from the beginning of `buf`, and returns their number.
     ///
     /// # Errors
     ///
-    /// Returns the error of the system. Then nothing was written.
+    /// Returns the error of the system. No bytes were written then.
     fn write(&mut self, buf: &[u8]) -> Result<usize>;
 
-    /// Writes the buffered bytes.
+    /// Writes the bytes that are buffered, if any.
     ///
     /// # Errors
     ///
     /// Returns the error of the system.
     fn flush(&mut self) -> Result<()>;
 
-    /// Writes all bytes.
+    /// Writes all bytes of `buf`.
     ///
     /// # Errors
     ///
-    /// Returns the error of the system. Then a part of the bytes may be written.
+    /// Returns the error of the system, or one of the kind `WriteZero` if a call of `write` writes
+    /// no bytes. A part of the bytes may have been written then.
     fn write_all(&mut self, mut buf: &[u8]) -> Result<()> {
         while !buf.is_empty() {
             match self.write(buf) {
@@ -152,11 +155,12 @@ pub trait Write {
         Ok(())
     }
 
-    /// Writes formatted text. Called by `write!`.
+    /// Writes the formatted text `text`. Called by `write!`.
     ///
     /// # Errors
     ///
-    /// Returns the error of the system. Then a part of the text may be written.
+    /// Returns the error of [`Write::write_all`], or one of the kind `Other` if formatting fails. A
+    /// part of the text may have been written then.
     fn write_fmt(&mut self, text: fmt::Arguments<'_>) -> Result<()> {
         let mut pieces = Pieces {
             to: self,
@@ -169,7 +173,8 @@ pub trait Write {
     }
 }
 
-/// A writer that receives formatted text in pieces.
+/// A writer of formatted text, which comes in pieces, to the writer `to`, and the error of that
+/// writer if there was one.
 struct Pieces<'w, W: ?Sized> {
     to: &'w mut W,
     error: Option<Error>,

@@ -1,11 +1,11 @@
 //! The part of Rattle's standard library that the erased crates use, over Rust's.
 //!
-//! Rattle is Rust with contracts. Its library differs from Rust's in allocation: a function that
-//! allocates takes an allocator and returns a `Result`. Erased crates name this crate `std`, and
-//! each of their files imports the [`prelude`].
+//! Rattle is Rust with contracts. Its standard library differs from Rust's in allocation: a
+//! function that allocates takes an allocator and returns a `Result`. Erased crates name this crate
+//! `std`, and each of their files imports the [`prelude`].
 //!
-//! Modules that are equal in Rust are re-exported. Each other module names the one that it
-//! replaces.
+//! Modules that are equal in Rust are re-exported. The docs of each other module name the module of
+//! Rattle that it replaces.
 
 #![deny(unsafe_code)]
 #![warn(missing_docs)]

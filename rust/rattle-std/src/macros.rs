@@ -1,6 +1,7 @@
-//! Macros of Rattle's prelude.
+//! The macros of Rattle's prelude. Used by erased files.
 
-/// Formats into a [`String`](crate::string::String): `format!(in alloc; "..", ..)`.
+/// Formats into a new [`String`](crate::string::String): `format!(in alloc; "..", ..)`. The value
+/// is a `Result`, which is `AllocError` if memory is refused.
 #[macro_export]
 macro_rules! format {
     (in $alloc:expr; $($part:tt)*) => {
@@ -12,7 +13,8 @@ macro_rules! format {
 }
 
 /// Makes a [`Vec`](crate::vec::Vec) of values, `vec![in alloc; a, b]`, or of copies of one,
-/// `vec![in alloc; value; count]`.
+/// `vec![in alloc; value; count]`. The value is a `Result`, which is `AllocError` if memory is
+/// refused.
 #[macro_export]
 macro_rules! vec {
     (in $alloc:expr; $value:expr; $count:expr) => {
@@ -23,7 +25,8 @@ macro_rules! vec {
     };
 }
 
-/// Prints a line to standard output: `println!(rt; "..", ..)`.
+/// Prints a line to the standard output of the system `rt`: `println!(rt; "..", ..)`. The value is
+/// a `Result` with the error of the system.
 #[macro_export]
 macro_rules! println {
     ($rt:expr; $($part:tt)*) => {
@@ -31,7 +34,8 @@ macro_rules! println {
     };
 }
 
-/// Prints to standard output: `print!(rt; "..", ..)`.
+/// Prints to the standard output of the system `rt`: `print!(rt; "..", ..)`. The value is a
+/// `Result` with the error of the system.
 #[macro_export]
 macro_rules! print {
     ($rt:expr; $($part:tt)*) => {
@@ -42,7 +46,8 @@ macro_rules! print {
     };
 }
 
-/// Prints a line to standard error: `eprintln!(rt; "..", ..)`.
+/// Prints a line to the standard error of the system `rt`: `eprintln!(rt; "..", ..)`. The value is
+/// a `Result` with the error of the system.
 #[macro_export]
 macro_rules! eprintln {
     ($rt:expr; $($part:tt)*) => {
@@ -50,7 +55,8 @@ macro_rules! eprintln {
     };
 }
 
-/// Prints to standard error: `eprint!(rt; "..", ..)`.
+/// Prints to the standard error of the system `rt`: `eprint!(rt; "..", ..)`. The value is a
+/// `Result` with the error of the system.
 #[macro_export]
 macro_rules! eprint {
     ($rt:expr; $($part:tt)*) => {

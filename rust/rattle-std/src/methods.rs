@@ -1,18 +1,18 @@
-//! Methods of Rust's own types that take an allocator in Rattle. In erased files they have another
-//! name of the same width.
+//! The methods of Rust's own types that take an allocator in Rattle. In erased files they have
+//! another name of the same width. Used by erased files, and by the macros `format` and `vec`.
 
 use crate::alloc::{AllocError, Global};
 use crate::string::String;
 use crate::vec::Vec;
 use core::fmt;
 
-/// Replaces Rattle's `collect`.
+/// An iterator whose items can be collected. Replaces Rattle's `collect`.
 pub trait ListIn: Iterator + Sized {
-    /// Returns a collection of all items.
+    /// Returns a collection of all items of the iterator.
     ///
     /// # Errors
     ///
-    /// Returns `AllocError` if memory is refused.
+    /// Returns `AllocError` if memory is refused. The items that were taken are lost then.
     fn list_in<C: FromItems<Self::Item>>(self, alloc: Global) -> Result<C, AllocError> {
         C::from_items(alloc, self)
     }
@@ -20,9 +20,9 @@ pub trait ListIn: Iterator + Sized {
 
 impl<I: Iterator> ListIn for I {}
 
-/// A collection that is made from items.
+/// A collection that is made from the items of an iterator.
 pub trait FromItems<T>: Sized {
-    /// Returns the collection of all items.
+    /// Returns the collection of all of `items`.
     ///
     /// # Errors
     ///
@@ -48,9 +48,9 @@ impl FromItems<char> for String {
     }
 }
 
-/// Replaces Rattle's `to_vec`.
+/// A slice that can be copied to a vector. Replaces Rattle's `to_vec`.
 pub trait VecIn<T> {
-    /// Returns a vector of copies.
+    /// Returns a vector of copies of the values of the slice.
     ///
     /// # Errors
     ///
@@ -64,9 +64,9 @@ impl<T: Copy> VecIn<T> for [T] {
     }
 }
 
-/// Replaces Rattle's `to_string`.
+/// A value that can be formatted as a text. Replaces Rattle's `to_string`.
 pub trait StringIn: fmt::Display {
-    /// Returns the text of a value.
+    /// Returns the value formatted as a text.
     ///
     /// # Errors
     ///
@@ -78,9 +78,9 @@ pub trait StringIn: fmt::Display {
 
 impl<T: fmt::Display + ?Sized> StringIn for T {}
 
-/// Replaces Rattle's `to_ascii_lowercase`.
+/// A text that can be copied in lower case. Replaces Rattle's `to_ascii_lowercase`.
 pub trait AsciiLowercaseIn {
-    /// Returns a copy with ASCII letters in lower case.
+    /// Returns a copy of the text with ASCII letters in lower case.
     ///
     /// # Errors
     ///
@@ -99,7 +99,7 @@ impl AsciiLowercaseIn for str {
     }
 }
 
-/// Returns formatted text. Called by `format!`.
+/// Returns the formatted text `text`. Called by `format!`.
 ///
 /// # Errors
 ///
@@ -110,7 +110,7 @@ pub fn formatted(alloc: Global, text: fmt::Arguments<'_>) -> Result<String, Allo
     Ok(made)
 }
 
-/// Returns a vector of `count` copies of a value. Called by `vec!`.
+/// Returns a vector of `count` copies of `value`. Called by `vec!`.
 ///
 /// # Errors
 ///
@@ -121,7 +121,7 @@ pub fn repeated<T: Clone>(alloc: Global, value: T, count: usize) -> Result<Vec<T
     Ok(values)
 }
 
-/// Returns a vector of values. Called by `vec!`.
+/// Returns a vector of `values`. Called by `vec!`.
 ///
 /// # Errors
 ///

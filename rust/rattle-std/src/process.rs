@@ -1,3 +1,3 @@
-//! Replaces Rattle's `std::process`.
+//! Replaces Rattle's `std::process`: the exit status of a program.
 
 pub use std::process::{ExitCode, Termination};

@@ -8,7 +8,7 @@ pub use crate::fs::Files;
 
 /// A system with an allocator.
 pub trait AllocGlobal {
-    /// Returns the allocator.
+    /// Returns the allocator of the system.
     fn alloc(&self) -> Global;
 }
 
@@ -17,12 +17,12 @@ pub trait AllocGlobal {
 pub struct HostRuntime;
 
 impl HostRuntime {
-    /// Returns standard input.
+    /// Returns the standard input of the process.
     pub fn stdin(&self) -> Stdin {
         Stdin(std::io::stdin())
     }
 
-    /// Returns standard error.
+    /// Returns the standard error of the process.
     pub fn stderr(&self) -> Stderr {
         Stderr(std::io::stderr())
     }

@@ -1,14 +1,14 @@
-//! Replaces Rattle's `std::simd`, which is Rust's portable one: vectors of bytes.
+//! Replaces Rattle's `std::simd`, which is Rust's portable module of this name: vectors of numbers.
 //!
 //! A vector is an array. Operations for which loops would be slow call functions of `blocks` for 16
-//! bytes at a time, which use instructions of x86-64 and of 64-bit ARM, and loops on other
+//! bytes at a time. These use instructions of x86-64 and of 64-bit ARM, and loops on other
 //! machines.
 
 mod blocks;
 
 use core::ops::{BitAnd, BitOr, Shr};
 
-/// The names that files import.
+/// The types of vectors, which erased files import.
 pub mod prelude {
     pub use super::{u8x16, u8x32, u8x64, u32x16};
 }
@@ -29,11 +29,11 @@ pub type u8x32 = Simd<u8, 32>;
 #[allow(non_camel_case_types)]
 pub type u8x64 = Simd<u8, 64>;
 
-/// A vector of 16 words.
+/// A vector of 16 words of 32 bits.
 #[allow(non_camel_case_types)]
 pub type u32x16 = Simd<u32, 16>;
 
-/// The set of entries, of at most 64, for which a comparison of two vectors holds.
+/// The set of the entries of two vectors, at most 64, for which a comparison holds.
 #[derive(Clone, Copy, Debug, PartialEq, Eq)]
 pub struct Mask<const N: usize>(u64);
 
@@ -46,13 +46,13 @@ impl<const N: usize> Mask<N> {
 }
 
 impl<T: Copy, const N: usize> Simd<T, N> {
-    /// Returns the vector of the numbers of an array.
+    /// Returns the vector of the numbers in `array`.
     #[inline(always)]
     pub fn from_array(array: [T; N]) -> Self {
         Simd(array)
     }
 
-    /// Returns the vector of the first numbers of a slice.
+    /// Returns the vector of the first `N` numbers of `slice`.
     ///
     /// # Panics
     ///
@@ -65,20 +65,24 @@ impl<T: Copy, const N: usize> Simd<T, N> {
         }
     }
 
-    /// Returns the vector with one number `N` times.
+    /// Returns the vector whose `N` numbers are all `value`.
     #[inline(always)]
     pub fn splat(value: T) -> Self {
         Simd([value; N])
     }
 
-    /// Returns the numbers as an array.
+    /// Returns the numbers of the vector as an array.
     #[inline(always)]
     pub fn to_array(self) -> [T; N] {
         self.0
     }
 
     /// Returns the vector of the numbers at `indices` in the concatenation of this vector and
-    /// another one.
+    /// `other`.
+    ///
+    /// # Panics
+    ///
+    /// Panics if an index is not less than `2 * N`.
     #[inline(always)]
     pub fn shuffle<const M: usize>(self, other: Self, indices: [usize; M]) -> Simd<T, M> {
         // Known at compile time, so one of the two branches remains.
@@ -95,9 +99,9 @@ impl<T: Copy, const N: usize> Simd<T, N> {
     }
 }
 
-/// Returns whether 16, 32 or 64 indices begin with `first`, and each is `step` above its
-/// predecessor. The compiler knows the result if it knows the indices, but not through nested
-/// loops.
+/// Returns whether the 16, 32 or 64 `indices` begin with `first`, and each other index is `step`
+/// above its predecessor. The compiler knows the result if it knows the indices, but not through
+/// nested loops.
 #[inline(always)]
 fn have_steps<const M: usize>(indices: &[usize; M], first: usize, step: usize) -> bool {
     const { assert!(M == 16 || M == 32 || M == 64) };
@@ -107,7 +111,7 @@ fn have_steps<const M: usize>(indices: &[usize; M], first: usize, step: usize) -
         && (M < 64 || have_16_steps(indices, 48, first, step))
 }
 
-/// Returns whether the 16 indices from `at` on begin with `first` and have this step.
+/// Returns whether each of the 16 indices from `at` on is `first` plus `step` times its own index.
 #[inline(always)]
 fn have_16_steps(indices: &[usize], at: usize, first: usize, step: usize) -> bool {
     let mut have = true;
@@ -118,7 +122,7 @@ fn have_16_steps(indices: &[usize], at: usize, first: usize, step: usize) -> boo
 }
 
 impl<const N: usize> Simd<u8, N> {
-    /// Returns the 16 bytes from `at` on.
+    /// Returns the 16 bytes of the vector from the index `at` on.
     #[inline(always)]
     fn block(&self, at: usize) -> &[u8; 16] {
         match self.0[at..].first_chunk() {
@@ -127,7 +131,8 @@ impl<const N: usize> Simd<u8, N> {
         }
     }
 
-    /// Returns the vector of the results of a function for blocks of 16 bytes of two vectors.
+    /// Returns the vector of the results of `f` for the blocks of 16 bytes of this vector and
+    /// `other`.
     #[inline(always)]
     fn by_blocks(self, other: Self, f: impl Fn([u8; 16], [u8; 16]) -> [u8; 16]) -> Self {
         let mut made = [0; N];
@@ -137,7 +142,7 @@ impl<const N: usize> Simd<u8, N> {
         Simd(made)
     }
 
-    /// Returns which entries are equal.
+    /// Returns the set of the entries that are equal in this vector and `other`.
     #[inline(always)]
     pub fn simd_eq(self, other: Self) -> Mask<N> {
         let mut bits = 0;
@@ -148,13 +153,14 @@ impl<const N: usize> Simd<u8, N> {
         Mask(bits)
     }
 
-    /// Returns which entries differ.
+    /// Returns the set of the entries that differ in this vector and `other`.
     #[inline(always)]
     pub fn simd_ne(self, other: Self) -> Mask<N> {
         Mask(self.simd_eq(other).0 ^ (u64::MAX >> (64 - N)))
     }
 
-    /// Returns the vector of the bytes at `indices` in this one. The indices are below 16.
+    /// Returns the vector of the bytes at `indices` in this one. The vectors have 16 bytes, and the
+    /// indices must be below 16.
     #[inline(always)]
     pub fn swizzle_dyn_within<const M: usize>(self, indices: Self) -> Self {
         const { assert!(N == 16 && M == 16) };
@@ -162,6 +168,10 @@ impl<const N: usize> Simd<u8, N> {
     }
 
     /// Returns the vector of the bytes at `indices` in this one.
+    ///
+    /// # Panics
+    ///
+    /// Panics if an index is not less than `N`.
     #[inline(always)]
     pub fn swizzle<const M: usize>(self, indices: [usize; M]) -> Simd<u8, M> {
         Simd(indices.map(|k| self.0[k]))
@@ -181,7 +191,11 @@ impl Simd<u32, 16> {
 }
 
 impl WordBytes {
-    /// Returns the vector of the bytes at indices.
+    /// Returns the vector of the bytes at `indices`.
+    ///
+    /// # Panics
+    ///
+    /// Panics if an index is not less than 64.
     #[inline(always)]
     pub fn swizzle(self, indices: [usize; 16]) -> Simd<u8, 16> {
         // Known at compile time, so one of the two branches remains.

@@ -8,18 +8,18 @@ use core::fmt;
 use core::ops::Deref;
 use core::str::Utf8Error;
 
-/// A text in UTF-8.
+/// A text in UTF-8, whose growth may fail, and is limited by the budget of memory.
 #[derive(PartialEq, Eq, PartialOrd, Ord, Hash)]
 pub struct String(std::string::String);
 
 impl String {
-    /// Returns an empty text, which has allocated nothing.
+    /// Returns an empty text, without an allocation.
     #[inline]
     pub fn new(_alloc: Global) -> String {
         String(std::string::String::new())
     }
 
-    /// Returns a copy of a text.
+    /// Returns a copy of `s`.
     ///
     /// # Errors
     ///
@@ -31,11 +31,11 @@ impl String {
         Ok(copy)
     }
 
-    /// Returns bytes as a text.
+    /// Returns the text with these bytes, in the same allocation.
     ///
     /// # Errors
     ///
-    /// Returns an error, which contains the bytes, if they are not UTF-8.
+    /// Returns `FromUtf8Error`, which contains the bytes, if they are not UTF-8.
     pub fn from_utf8(mut bytes: Vec<u8>) -> Result<String, FromUtf8Error> {
         match std::string::String::from_utf8(bytes.take_claimed()) {
             Ok(text) => Ok(String(text)),
@@ -46,7 +46,7 @@ impl String {
         }
     }
 
-    /// Makes room for `additional` bytes after the text, in a new block.
+    /// Makes room for `additional` bytes after those of the text, in a new allocation.
     #[cold]
     fn grow(&mut self, additional: usize) -> Result<(), AllocError> {
         let before = self.0.capacity();
@@ -56,7 +56,7 @@ impl String {
         done.map_err(|_| AllocError)
     }
 
-    /// Makes room for `additional` bytes.
+    /// Makes room for `additional` bytes after those of the text.
     ///
     /// # Errors
     ///
@@ -69,16 +69,16 @@ impl String {
         self.grow(additional)
     }
 
-    /// Returns the allocator.
+    /// Returns the allocator of the text.
     pub fn allocator(&self) -> &Global {
         &Global
     }
 
-    /// Appends a text.
+    /// Appends `string` to the text.
     ///
     /// # Errors
     ///
-    /// Returns `AllocError` if memory is refused. Then the text is unchanged.
+    /// Returns `AllocError` if memory is refused. The text is unchanged then.
     #[inline]
     pub fn push_str(&mut self, string: &str) -> Result<(), AllocError> {
         self.reserve(string.len())?;
@@ -86,11 +86,11 @@ impl String {
         Ok(())
     }
 
-    /// Appends a character.
+    /// Appends the character `ch` to the text.
     ///
     /// # Errors
     ///
-    /// Returns `AllocError` if memory is refused. Then the text is unchanged.
+    /// Returns `AllocError` if memory is refused. The text is unchanged then.
     #[inline]
     pub fn push(&mut self, ch: char) -> Result<(), AllocError> {
         self.reserve(ch.len_utf8())?;
@@ -98,37 +98,42 @@ impl String {
         Ok(())
     }
 
-    /// Removes the last character and returns it.
+    /// Removes the last character and returns it, or returns `None` if the text is empty.
     pub fn pop(&mut self) -> Option<char> {
         self.0.pop()
     }
 
-    /// Removes all except the first `n` bytes.
+    /// Removes all except the first `n` bytes. Does nothing if there are not more.
+    ///
+    /// # Panics
+    ///
+    /// Panics if `n` is inside a character.
     pub fn truncate(&mut self, n: usize) {
         self.0.truncate(n);
     }
 
-    /// Removes all text.
+    /// Removes all characters. The capacity remains.
     pub fn clear(&mut self) {
         self.0.clear();
     }
 
-    /// Returns the text.
+    /// Returns the text as a `str`.
     #[inline]
     pub fn as_str(&self) -> &str {
         &self.0
     }
 
-    /// Returns the bytes of the text.
+    /// Returns the bytes of the text, in the same allocation.
     pub fn into_bytes(mut self) -> Vec<u8> {
         Vec::from_claimed(core::mem::take(&mut self.0).into_bytes())
     }
 
-    /// Appends formatted text. Called by `write!`.
+    /// Appends the formatted text `text`. Called by `write!`.
     ///
     /// # Errors
     ///
-    /// Returns `AllocError` if memory is refused. Then a part of the text may be appended.
+    /// Returns `AllocError` if memory is refused or formatting fails. A part of the text may have
+    /// been appended then.
     pub fn write_fmt(&mut self, text: fmt::Arguments<'_>) -> Result<(), AllocError> {
         fmt::Write::write_fmt(self, text).map_err(|_| AllocError)
     }
@@ -180,7 +185,7 @@ impl Clone for String {
     }
 }
 
-/// The error for bytes that are not UTF-8.
+/// The error that bytes are not UTF-8, with the bytes.
 #[derive(Debug)]
 pub struct FromUtf8Error {
     bytes: Vec<u8>,
@@ -188,12 +193,12 @@ pub struct FromUtf8Error {
 }
 
 impl FromUtf8Error {
-    /// Returns the offset of the first invalid byte, and the kind of the error.
+    /// Returns Rust's own error, which has the offset of the first invalid byte.
     pub fn utf8_error(&self) -> Utf8Error {
         self.error
     }
 
-    /// Returns the bytes.
+    /// Returns the bytes that are not UTF-8.
     pub fn into_bytes(self) -> Vec<u8> {
         self.bytes
     }

@@ -1,4 +1,4 @@
-//! Replaces Rattle's `std::time`.
+//! Replaces Rattle's `std::time`: points in time, and the clock of a system.
 
 use crate::io;
 use crate::rt::HostRuntime;
@@ -11,7 +11,7 @@ pub trait Clock {
     ///
     /// # Errors
     ///
-    /// Returns an error if the system has no clock.
+    /// Returns an error of the kind `Unsupported` if the system has no clock.
     fn monotonic(&self) -> io::Result<Duration>;
 }
 
@@ -23,30 +23,30 @@ impl Clock for HostRuntime {
     }
 }
 
-/// A point in time.
+/// A point in time, as the time of a [`Clock`].
 #[derive(Clone, Copy, Debug, PartialEq, Eq, PartialOrd, Ord)]
 pub struct Instant(Duration);
 
 impl Instant {
-    /// Returns the current time.
+    /// Returns the current time of `clock`.
     ///
     /// # Errors
     ///
-    /// Returns an error if the system has no clock.
+    /// Returns the error of [`Clock::monotonic`].
     pub fn now(clock: &impl Clock) -> io::Result<Instant> {
         Ok(Instant(clock.monotonic()?))
     }
 
-    /// Returns the time since this point.
+    /// Returns the time from this point to the current time of `clock`.
     ///
     /// # Errors
     ///
-    /// Returns an error if the system has no clock.
+    /// Returns the error of [`Clock::monotonic`].
     pub fn elapsed(&self, clock: &impl Clock) -> io::Result<Duration> {
         Ok(Instant::now(clock)?.duration_since(*self))
     }
 
-    /// Returns the time from an earlier point to this one.
+    /// Returns the time from the point `earlier` to this one, or 0 if `earlier` is later.
     pub fn duration_since(&self, earlier: Instant) -> Duration {
         self.0.saturating_sub(earlier.0)
     }

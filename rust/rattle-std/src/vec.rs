@@ -7,18 +7,18 @@ use core::ops::RangeBounds;
 
 pub use std::vec::IntoIter;
 
-/// A vector whose growth is limited by the budget.
+/// A vector whose growth may fail, and is limited by the budget of memory.
 #[derive(PartialEq, Eq, PartialOrd, Ord, Hash)]
 pub struct Vec<T>(std::vec::Vec<T>);
 
 impl<T> Vec<T> {
-    /// Returns an empty vector, which has allocated nothing.
+    /// Returns an empty vector, without an allocation.
     #[inline]
     pub fn new(_alloc: Global) -> Vec<T> {
         Vec(std::vec::Vec::new())
     }
 
-    /// Returns an empty vector with room for `capacity` values.
+    /// Returns an empty vector with room for at least `capacity` values.
     ///
     /// # Errors
     ///
@@ -29,7 +29,7 @@ impl<T> Vec<T> {
         Ok(values)
     }
 
-    /// Returns a vector of copies of the items.
+    /// Returns a vector of copies of `items`.
     ///
     /// # Errors
     ///
@@ -43,23 +43,24 @@ impl<T> Vec<T> {
         Ok(copies)
     }
 
-    /// Returns one of Rust's vectors with the values.
+    /// Returns the values as one of Rust's vectors, which the budget does not count.
     pub fn into_std(mut self) -> std::vec::Vec<T> {
         release(self.0.capacity().wrapping_mul(size_of::<T>()));
         self.take_claimed()
     }
 
-    /// Takes the values out. Their bytes remain claimed.
+    /// Returns the values as one of Rust's vectors, and leaves an empty vector. Their bytes remain
+    /// claimed.
     pub(crate) fn take_claimed(&mut self) -> std::vec::Vec<T> {
         core::mem::take(&mut self.0)
     }
 
-    /// Returns a vector of values whose bytes are claimed.
+    /// Returns a vector of `values`, whose bytes must have been claimed.
     pub(crate) fn from_claimed(values: std::vec::Vec<T>) -> Vec<T> {
         Vec(values)
     }
 
-    /// Makes room for `additional` values after the first `len`, in a new block.
+    /// Makes room for `additional` values after those of the vector, in a new allocation.
     #[cold]
     fn grow(&mut self, additional: usize) -> Result<(), AllocError> {
         let (len, size) = (self.0.len(), size_of::<T>());
@@ -73,11 +74,11 @@ impl<T> Vec<T> {
         done.map_err(|_| AllocError)
     }
 
-    /// Makes room for `additional` values.
+    /// Makes room for `additional` values after those of the vector.
     ///
     /// # Errors
     ///
-    /// Returns `AllocError` if memory is refused. Then the vector is unchanged.
+    /// Returns `AllocError` if memory is refused. The vector is unchanged then.
     #[inline]
     pub fn reserve(&mut self, additional: usize) -> Result<(), AllocError> {
         if additional <= self.0.capacity() - self.0.len() {
@@ -86,28 +87,28 @@ impl<T> Vec<T> {
         self.grow(additional)
     }
 
-    /// Returns the allocator.
+    /// Returns the allocator of the vector.
     pub fn allocator(&self) -> &Global {
         &Global
     }
 
-    /// Returns the number of values for which there is room.
+    /// Returns the number of values for which the vector has room, with those that it contains.
     #[inline]
     pub fn capacity(&self) -> usize {
         self.0.capacity()
     }
 
-    /// Returns the values.
+    /// Returns the values as a slice.
     #[inline]
     pub fn as_slice(&self) -> &[T] {
         &self.0
     }
 
-    /// Appends a value.
+    /// Appends `value` to the vector.
     ///
     /// # Errors
     ///
-    /// Returns the value if memory is refused. Then the vector is unchanged.
+    /// Returns `AllocFailed` with the value if memory is refused. The vector is unchanged then.
     #[inline]
     pub fn push(&mut self, value: T) -> Result<(), AllocFailed<T>> {
         if self.0.len() == self.0.capacity() && self.grow(1).is_err() {
@@ -117,17 +118,21 @@ impl<T> Vec<T> {
         Ok(())
     }
 
-    /// Removes the last value and returns it.
+    /// Removes the last value and returns it, or returns `None` if the vector is empty.
     #[inline]
     pub fn pop(&mut self) -> Option<T> {
         self.0.pop()
     }
 
-    /// Inserts a value at an index.
+    /// Inserts `element` before the value at `index`, or at the end.
     ///
     /// # Errors
     ///
-    /// Returns the value if memory is refused. Then the vector is unchanged.
+    /// Returns `AllocFailed` with the value if memory is refused. The vector is unchanged then.
+    ///
+    /// # Panics
+    ///
+    /// Panics if `index` is greater than the length.
     pub fn insert(&mut self, index: usize, element: T) -> Result<(), AllocFailed<T>> {
         if self.reserve(1).is_err() {
             return Err(AllocFailed { value: element });
@@ -136,19 +141,19 @@ impl<T> Vec<T> {
         Ok(())
     }
 
-    /// Removes all values.
+    /// Removes all values. The capacity remains.
     #[inline]
     pub fn clear(&mut self) {
         self.0.clear();
     }
 
-    /// Removes all except the first `n` values.
+    /// Removes all except the first `n` values. Does nothing if there are not more.
     #[inline]
     pub fn truncate(&mut self, n: usize) {
         self.0.truncate(n);
     }
 
-    /// Removes all except the first of consecutive equal values.
+    /// Removes each value that is equal to the one before it.
     pub fn dedup(&mut self)
     where
         T: PartialEq,
@@ -157,11 +162,11 @@ impl<T> Vec<T> {
     }
 
     /// Sets the length of the vector to `n`: removes values at its end, or appends copies of
-    /// `value`.
+    /// `value` there.
     ///
     /// # Errors
     ///
-    /// Returns `AllocError` if memory is refused. Then the vector is unchanged.
+    /// Returns `AllocError` if memory is refused. The vector is unchanged then.
     #[inline]
     pub fn resize(&mut self, n: usize, value: T) -> Result<(), AllocError>
     where
@@ -172,33 +177,37 @@ impl<T> Vec<T> {
         Ok(())
     }
 
-    /// Moves all values of another vector to the end.
+    /// Moves all values of `other` to the end of this vector. Leaves `other` empty.
     ///
     /// # Errors
     ///
-    /// Returns `AllocError` if memory is refused. Then both vectors are unchanged.
+    /// Returns `AllocError` if memory is refused. Both vectors are unchanged then.
     pub fn append(&mut self, other: &mut Vec<T>) -> Result<(), AllocError> {
         self.reserve(other.len())?;
         self.0.append(&mut other.0);
         Ok(())
     }
 
-    /// Removes the values from an index on, and returns them.
+    /// Removes the values from the index `at` on, and returns them as another vector.
     ///
     /// # Errors
     ///
-    /// Returns `AllocError` if memory is refused. Then the vector is unchanged.
+    /// Returns `AllocError` if memory is refused. The vector is unchanged then.
+    ///
+    /// # Panics
+    ///
+    /// Panics if `at` is greater than the length.
     pub fn split_off(&mut self, at: usize) -> Result<Vec<T>, AllocError> {
         let mut rest = Vec::with_capacity(Global, self.0.len() - at)?;
         rest.0.extend(self.0.drain(at..));
         Ok(rest)
     }
 
-    /// Appends copies of the values of a slice.
+    /// Appends copies of the values of `other` to the vector.
     ///
     /// # Errors
     ///
-    /// Returns `AllocError` if memory is refused. Then the vector is unchanged.
+    /// Returns `AllocError` if memory is refused. The vector is unchanged then.
     #[inline]
     pub fn extend_from_slice(&mut self, other: &[T]) -> Result<(), AllocError>
     where
@@ -209,11 +218,12 @@ impl<T> Vec<T> {
         Ok(())
     }
 
-    /// Appends the items of an iterator.
+    /// Appends the items of an iterator to the vector.
     ///
     /// # Errors
     ///
-    /// Returns `AllocError` if memory is refused. The items before the failure are appended.
+    /// Returns `AllocError` if memory is refused. The items before the failure have been appended
+    /// then.
     pub fn extend<I: IntoIterator<Item = T>>(&mut self, items: I) -> Result<(), AllocError> {
         let items = items.into_iter();
         self.reserve(items.size_hint().0)?;
@@ -223,11 +233,16 @@ impl<T> Vec<T> {
         Ok(())
     }
 
-    /// Replaces the values in a range by the items of an iterator, and returns the replaced ones.
+    /// Replaces the values at the indices in `range` by `items`, and returns an iterator over the
+    /// replaced values.
     ///
     /// # Errors
     ///
-    /// Returns `AllocError` if memory is refused. Then the vector is unchanged.
+    /// Returns `AllocError` if memory is refused. The vector is unchanged then.
+    ///
+    /// # Panics
+    ///
+    /// Panics if the range is not in order or ends after the end of the vector.
     pub fn splice<R: RangeBounds<usize>, I: IntoIterator<Item = T>>(
         &mut self,
         range: R,

@@ -1,4 +1,5 @@
-//! The program `logos`: prints the lexer of an enum or its state diagram, and lexes files with it.
+//! The program `logos`, which prints the lexer of an enum or its state diagram, and lexes files
+//! with the lexer.
 
 use std::process::ExitCode;
 

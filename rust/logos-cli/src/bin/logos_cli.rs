@@ -1,4 +1,4 @@
-//! The program `logos_cli`: expands the lexers in Rust files.
+//! The program `logos_cli`, which expands the lexers in Rust files.
 
 use std::process::ExitCode;
 

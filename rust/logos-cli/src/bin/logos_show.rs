@@ -1,4 +1,4 @@
-//! The program `logos_show`: shows the properties of a lexer.
+//! The program `logos_show`, which prints the properties of a lexer.
 
 use std::process::ExitCode;
 

@@ -1,29 +1,31 @@
 //! The budget of memory: the number of bytes that may be in use.
 //!
-//! It is set by programs and macros that read untrusted input. Beyond it growth fails as if memory
-//! ran out. The capacity of everything that this crate allocates is counted; the overhead of the
-//! system's allocator is not.
+//! Programs and macros that read untrusted input set it. An allocation that would exceed it fails
+//! as if memory ran out. The capacity of everything that this crate allocates is counted; the
+//! overhead of the system's allocator is not.
 
 use super::AllocError;
 use core::fmt;
 use core::sync::atomic::{AtomicUsize, Ordering::Relaxed};
 
-/// The budget that programs set if the variable does not name another one: 1 GiB.
+/// The budget in bytes that programs set if the variable `LOGOS_MEMORY` names no other one: 1 GiB.
 pub const DEFAULT_BUDGET: usize = 1 << 30;
 
-/// The environment variable that names another budget.
+/// The name of the environment variable that names another budget.
 const VARIABLE: &str = "LOGOS_MEMORY";
 
-/// The maximum number of bytes in use. The greatest number means that there is no budget.
+/// The maximum number of bytes in use. `usize::MAX` means that there is no budget.
 static BUDGET: AtomicUsize = AtomicUsize::new(usize::MAX);
 
-/// The bytes in use that were claimed while there was a budget.
+/// The number of bytes in use that were claimed while there was a budget, less those that were
+/// released.
 static IN_USE: AtomicUsize = AtomicUsize::new(0);
 
-/// Sets the maximum number of bytes in use, or removes the budget. At the start there is none.
+/// Sets the maximum number of bytes in use, or removes the budget if `bytes` is `None`. At the
+/// start of the process there is no budget.
 ///
-/// Earlier allocations are not counted, so this is called first. The setting applies to the whole
-/// process.
+/// Earlier allocations are not counted, so programs call this function first. The setting applies
+/// to the whole process.
 pub fn set_budget(bytes: Option<usize>) {
     BUDGET.store(bytes.unwrap_or(usize::MAX), Relaxed);
 }
@@ -32,8 +34,8 @@ pub fn set_budget(bytes: Option<usize>) {
 ///
 /// # Errors
 ///
-/// Returns an error if the variable is not a number of bytes. Then the budget is
-/// [`DEFAULT_BUDGET`].
+/// Returns `BudgetError` if the value of the variable is not a number of bytes. The budget is
+/// [`DEFAULT_BUDGET`] then.
 pub fn set_budget_of_program() -> Result<(), BudgetError> {
     set_budget(Some(DEFAULT_BUDGET));
     if let Some(text) = std::env::var_os(VARIABLE) {
@@ -43,8 +45,8 @@ pub fn set_budget_of_program() -> Result<(), BudgetError> {
     Ok(())
 }
 
-/// Returns the number of bytes in a text: digits, optionally followed by `M` for MiB or `G` for
-/// GiB.
+/// Returns the number of bytes that `text` names: digits, optionally followed by `M` for MiB or `G`
+/// for GiB. Returns `None` for any other text, or if the number overflows.
 pub fn budget_of(text: &str) -> Option<usize> {
     let (digits, unit) = match text.as_bytes() {
         [.., b'M'] => (&text[..text.len() - 1], 1 << 20),
@@ -57,7 +59,7 @@ pub fn budget_of(text: &str) -> Option<usize> {
     digits.parse::<usize>().ok()?.checked_mul(unit)
 }
 
-/// The variable `LOGOS_MEMORY` is not a number of bytes.
+/// The error that the value of the variable `LOGOS_MEMORY` is not a number of bytes.
 #[derive(Clone, Copy, Debug, PartialEq, Eq)]
 pub struct BudgetError;
 
@@ -69,11 +71,12 @@ impl fmt::Display for BudgetError {
 
 impl core::error::Error for BudgetError {}
 
-/// Claims bytes that are about to be allocated.
+/// Counts bytes that are about to be allocated as in use, if there is a budget.
 ///
 /// # Errors
 ///
-/// Returns `AllocError` if more bytes would be in use than the budget allows.
+/// Returns `AllocError` if more bytes would be in use than the budget allows. The bytes are not
+/// counted then.
 #[inline]
 pub(crate) fn claim(bytes: usize) -> Result<(), AllocError> {
     let budget = BUDGET.load(Relaxed);
@@ -90,7 +93,7 @@ pub(crate) fn claim(bytes: usize) -> Result<(), AllocError> {
     Ok(())
 }
 
-/// Releases bytes that were claimed.
+/// Counts bytes that were claimed as no longer in use, if there is a budget.
 #[inline]
 pub(crate) fn release(bytes: usize) {
     if bytes != 0 && BUDGET.load(Relaxed) != usize::MAX {

@@ -1,4 +1,4 @@
-//! A sorted set.
+//! A sorted set, whose growth may fail.
 
 use crate::alloc::{AllocError, AllocFailed, Global};
 use crate::vec::Vec;
@@ -6,7 +6,7 @@ use core::borrow::Borrow;
 use core::iter::Flatten;
 use core::slice::Iter;
 
-/// The maximum number of values of a run. Inserting a value moves at most as many.
+/// The maximum number of values in a run. Inserting a value moves no more values than this.
 const RUN: usize = 512;
 
 /// A sorted set of values.
@@ -27,8 +27,8 @@ impl<T: Ord> BTreeSet<T> {
         }
     }
 
-    /// Returns the run that contains a value, or into which it would be inserted: the last one for
-    /// the greatest.
+    /// Returns the index of the run that contains `value`, or into which it would be inserted: the
+    /// last run for a value greater than all others. Returns 0 if there are no runs.
     fn run_of<Q: ?Sized + Ord>(&self, value: &Q) -> usize
     where
         T: Borrow<Q>,
@@ -38,11 +38,12 @@ impl<T: Ord> BTreeSet<T> {
         run.min(self.runs.len().saturating_sub(1))
     }
 
-    /// Adds a value, and returns whether it is new.
+    /// Adds `value` to the set, and returns whether it is new. A value that is not new is dropped.
     ///
     /// # Errors
     ///
-    /// Returns the value if memory is refused. Then the set has its former values.
+    /// Returns `AllocFailed` with the value if memory is refused. The set has its former values
+    /// then.
     pub fn insert(&mut self, value: T) -> Result<bool, AllocFailed<T>> {
         let mut run = self.run_of(&value);
         if self.make_room(run).is_err() {
@@ -61,7 +62,7 @@ impl<T: Ord> BTreeSet<T> {
         }
     }
 
-    /// Adds the first run, or splits a full one.
+    /// Adds a first run if there is none, or splits the run with the index `run` if it is full.
     fn make_room(&mut self, run: usize) -> Result<(), AllocError> {
         if self.runs.is_empty() {
             self.runs.push(Vec::new(Global))?;
@@ -73,7 +74,7 @@ impl<T: Ord> BTreeSet<T> {
         Ok(())
     }
 
-    /// Returns whether the set has a value.
+    /// Returns whether the set contains `value`.
     pub fn contains<Q: ?Sized + Ord>(&self, value: &Q) -> bool
     where
         T: Borrow<Q>,
@@ -84,7 +85,7 @@ impl<T: Ord> BTreeSet<T> {
         run.binary_search_by(|it| it.borrow().cmp(value)).is_ok()
     }
 
-    /// Returns the values in order.
+    /// Returns an iterator over the values in ascending order.
     pub fn iter(&self) -> Flatten<Iter<'_, Vec<T>>> {
         self.runs.iter().flatten()
     }

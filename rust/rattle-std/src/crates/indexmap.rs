@@ -13,7 +13,7 @@ use crate::vec::Vec;
 use core::hash::{Hash, Hasher};
 use folded::Folded;
 
-/// Entries, and their indices by the hashes of their keys.
+/// A list of entries, and a table of their indices by the hashes of their keys.
 struct Entries<E> {
     list: Vec<E>,
     table: Table,
@@ -27,19 +27,21 @@ impl<E> Entries<E> {
         }
     }
 
-    /// Makes room for `additional` entries.
+    /// Makes room for `additional` entries after those of the list.
     fn reserve(&mut self, additional: usize) -> Result<(), AllocError> {
         self.table.reserve(self.list.len(), additional)?;
         self.list.reserve(additional)
     }
 
-    /// Returns the index of the entry with this hash for which `is_it` holds.
+    /// Returns the index of the entry with the hash `hash` for which `is_it` holds, or `None` if
+    /// there is none.
     #[inline]
     fn find(&self, hash: u32, is_it: impl Fn(&E) -> bool) -> Option<usize> {
         self.table.find(hash, |index| is_it(&self.list[index]))
     }
 
-    /// Adds a new entry, and returns its index.
+    /// Adds an entry, whose key must be new, and returns its index. If memory is refused, returns
+    /// the entry in the error, and changes nothing.
     #[inline]
     fn push(&mut self, hash: u32, entry: E) -> Result<usize, AllocFailed<E>> {
         let index = self.list.len();
@@ -52,7 +54,8 @@ impl<E> Entries<E> {
     }
 }
 
-/// A hash, and 1 plus the index of the entry that has it. An empty slot has index 0.
+/// A slot of a table: the hash of an entry, and 1 plus the entry's index, which is 0 for an empty
+/// slot.
 #[derive(Clone, Copy)]
 struct Place {
     hash: u32,
@@ -61,11 +64,12 @@ struct Place {
 
 const EMPTY: Place = Place { hash: 0, entry: 0 };
 
-/// The indices of entries by their hashes. The number of slots is a power of two, and at most half
-/// of them are used. If a slot is used by another entry, the next one is tried.
+/// The indices of entries by their hashes, in slots. The number of slots is 0 or a power of two,
+/// and at most half of them are used. If the slot of a hash is used by another entry, the next slot
+/// is examined.
 ///
-/// The hashes differ between executions. No result depends on them, since entries are only listed
-/// in the order of their indices.
+/// The hashes differ between executions of a program. No result depends on them, since entries are
+/// only listed in the order of their indices.
 struct Table {
     places: Vec<Place>,
     nothing: Folded,
@@ -86,7 +90,8 @@ impl Table {
         hash.finish() as u32
     }
 
-    /// Returns the index of the entry with this hash for which `is_it` holds.
+    /// Returns the index of the entry with the hash `hash` for whose index `is_it` holds, or `None`
+    /// if there is none.
     #[inline]
     fn find<F: Fn(usize) -> bool>(&self, hash: u32, is_it: F) -> Option<usize> {
         let mask = self.places.len().wrapping_sub(1);
@@ -101,7 +106,8 @@ impl Table {
         None
     }
 
-    /// Sets the hash of the entry with an index. There must be an empty slot.
+    /// Stores the entry with the index `index` and the hash `hash` in a slot. There must be an
+    /// empty slot.
     fn set(&mut self, hash: u32, index: usize) {
         let mask = self.places.len() - 1;
         let mut at = hash as usize & mask;
@@ -114,7 +120,7 @@ impl Table {
         };
     }
 
-    /// Makes room for `additional` entries in addition to `len`.
+    /// Makes room for `additional` entries after `len` ones.
     #[inline]
     fn reserve(&mut self, len: usize, additional: usize) -> Result<(), AllocError> {
         let needed = len.checked_add(additional).ok_or(AllocError)?;
@@ -139,7 +145,8 @@ impl Table {
         Ok(())
     }
 
-    /// Removes the entry with a hash and an index. Entries that had skipped its slot move back.
+    /// Removes the entry with the hash `hash` and the index `index`, which must be in the table.
+    /// Entries in later slots move back where their hash allows that.
     fn remove(&mut self, hash: u32, index: usize) {
         let mask = self.places.len() - 1;
         let mut hole = hash as usize & mask;
@@ -149,7 +156,7 @@ impl Table {
         self.close(hole);
     }
 
-    /// Empties a slot.
+    /// Empties the slot `hole`, and moves back the entries in later slots whose hash allows that.
     fn close(&mut self, mut hole: usize) {
         let mask = self.places.len() - 1;
         let mut at = (hole + 1) & mask;
@@ -164,7 +171,7 @@ impl Table {
         self.places[hole] = EMPTY;
     }
 
-    /// Removes all entries.
+    /// Empties all slots.
     fn clear(&mut self) {
         self.places.fill(EMPTY);
     }

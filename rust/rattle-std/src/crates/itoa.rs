@@ -13,12 +13,13 @@ const fn pairs() -> [[u8; 2]; 100] {
     pairs
 }
 
-/// Writes the digits of a number to the bytes that end at index `end`, and returns the index at
-/// which they begin. The other bytes stay unchanged.
+/// Writes the decimal digits of `number` to the bytes of `buf` before the index `end`, and returns
+/// the index at which they begin. The other bytes stay unchanged.
 ///
 /// # Panics
 ///
-/// Panics if there are more digits than bytes before the index.
+/// Panics if there are more digits than bytes before `end`, or if `end` is greater than the length
+/// of `buf`.
 #[inline(always)]
 pub fn write_digits(number: u64, buf: &mut [u8], end: usize) -> usize {
     // A single check of the room suffices for all digits of a number that has at most eight.
@@ -39,13 +40,14 @@ pub fn write_digits(number: u64, buf: &mut [u8], end: usize) -> usize {
     from
 }
 
-/// Returns the two digits of a number below 100.
+/// Returns the two digits of `number`, which is below 100.
 #[inline(always)]
 fn pair(number: u32) -> [u8; 2] {
     PAIRS[number as usize]
 }
 
-/// Writes the digits of a number below 10,000, and returns the number of bytes left before them.
+/// Writes the digits of `number`, which is below 10,000, to the last of four bytes, and returns the
+/// number of bytes before the digits.
 #[inline(always)]
 fn write_four(number: u32, [a, b, c, d]: [&mut u8; 4]) -> usize {
     if number < 100 {
@@ -55,7 +57,8 @@ fn write_four(number: u32, [a, b, c, d]: [&mut u8; 4]) -> usize {
     write_two(number / 100, [a, b])
 }
 
-/// Writes like `write_four`, for a number below 100.
+/// Writes the digits of `number`, which is below 100, to the last of two bytes, and returns the
+/// number of bytes before the digits.
 #[inline(always)]
 fn write_two(number: u32, [a, b]: [&mut u8; 2]) -> usize {
     if number < 10 {
@@ -66,7 +69,7 @@ fn write_two(number: u32, [a, b]: [&mut u8; 2]) -> usize {
     0
 }
 
-/// Writes like `write_digits`, one digit at a time.
+/// Writes the digits of any number like `write_digits`, one digit at a time.
 #[cold]
 #[inline(never)]
 fn write_each(number: u64, buf: &mut [u8], end: usize) -> usize {

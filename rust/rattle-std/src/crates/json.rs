@@ -1,13 +1,13 @@
-//! Replaces the writer of the kit's `json`.
+//! Replaces the kit's `json`: a writer of JSON.
 
 use crate::alloc::AllocError;
 use crate::crates::itoa::write_digits;
 use crate::vec::Vec;
 
-/// Appends JSON to the bytes of a vector, one token at a time.
+/// A writer of JSON, which appends to the bytes of a vector one token at a time.
 ///
-/// It writes the commas and the colons. The caller is responsible for the nesting. If memory is
-/// refused, nothing of a token is written.
+/// The writer adds the commas and the colons. The caller is responsible for the nesting. Each
+/// method returns `AllocError` if memory is refused, and has then written nothing of its token.
 #[derive(Debug)]
 pub struct Writer {
     out: Vec<u8>,
@@ -16,7 +16,7 @@ pub struct Writer {
 }
 
 impl Writer {
-    /// Returns a writer that appends to bytes.
+    /// Returns a writer that appends to `out`.
     pub fn new(out: Vec<u8>) -> Writer {
         Writer {
             out,
@@ -24,64 +24,97 @@ impl Writer {
         }
     }
 
-    /// Returns the bytes.
+    /// Returns the bytes, with all that were written.
     pub fn into_inner(self) -> Vec<u8> {
         self.out
     }
 
-    /// Begins an object.
+    /// Writes the beginning of an object.
     ///
     /// # Errors
     ///
-    /// Like all methods, returns `AllocError` if memory is refused.
+    /// Returns `AllocError` if memory is refused.
     pub fn begin_object(&mut self) -> Result<(), AllocError> {
         self.token(self.after_value, b"{", false)
     }
 
-    /// Ends an object.
+    /// Writes the end of an object.
+    ///
+    /// # Errors
+    ///
+    /// Returns `AllocError` if memory is refused.
     pub fn end_object(&mut self) -> Result<(), AllocError> {
         self.token(false, b"}", true)
     }
 
-    /// Begins an array.
+    /// Writes the beginning of an array.
+    ///
+    /// # Errors
+    ///
+    /// Returns `AllocError` if memory is refused.
     pub fn begin_array(&mut self) -> Result<(), AllocError> {
         self.token(self.after_value, b"[", false)
     }
 
-    /// Ends an array.
+    /// Writes the end of an array.
+    ///
+    /// # Errors
+    ///
+    /// Returns `AllocError` if memory is refused.
     pub fn end_array(&mut self) -> Result<(), AllocError> {
         self.token(false, b"]", true)
     }
 
-    /// Writes the name of a member.
+    /// Writes the name of a member of an object.
+    ///
+    /// # Errors
+    ///
+    /// Returns `AllocError` if memory is refused.
     pub fn key(&mut self, name: &str) -> Result<(), AllocError> {
         self.quoted(name, b"\":", false)
     }
 
-    /// Writes a text.
+    /// Writes `text` as a value, escaped and in quotes.
+    ///
+    /// # Errors
+    ///
+    /// Returns `AllocError` if memory is refused.
     pub fn string(&mut self, text: &str) -> Result<(), AllocError> {
         self.quoted(text, b"\"", true)
     }
 
-    /// Writes a number.
+    /// Writes `number` as a value, in decimal.
+    ///
+    /// # Errors
+    ///
+    /// Returns `AllocError` if memory is refused.
     pub fn u64(&mut self, number: u64) -> Result<(), AllocError> {
         let mut digits = [0; 20];
         let at = write_digits(number, &mut digits, 20);
         self.token(self.after_value, &digits[at..], true)
     }
 
-    /// Writes `true` or `false`.
+    /// Writes `true` or `false` as a value.
+    ///
+    /// # Errors
+    ///
+    /// Returns `AllocError` if memory is refused.
     pub fn boolean(&mut self, value: bool) -> Result<(), AllocError> {
         let text: &[u8] = if value { b"true" } else { b"false" };
         self.token(self.after_value, text, true)
     }
 
-    /// Writes `null`.
+    /// Writes `null` as a value.
+    ///
+    /// # Errors
+    ///
+    /// Returns `AllocError` if memory is refused.
     pub fn null(&mut self) -> Result<(), AllocError> {
         self.token(self.after_value, b"null", true)
     }
 
-    /// Writes a token, after a comma if one is needed.
+    /// Writes the token `text`, after a comma if `comma`. `is_value` is whether the next value
+    /// needs a comma before it.
     fn token(&mut self, comma: bool, text: &[u8], is_value: bool) -> Result<(), AllocError> {
         self.out.reserve(text.len() + 1)?;
         if comma {
@@ -92,7 +125,8 @@ impl Writer {
         Ok(())
     }
 
-    /// Writes a text in quotes, and the bytes after it.
+    /// Writes `text`, escaped, after an opening quote, and before `close`, which begins with the
+    /// closing one. `is_value` is whether the next value needs a comma before it.
     fn quoted(&mut self, text: &str, close: &[u8], is_value: bool) -> Result<(), AllocError> {
         let len = self.out.len();
         let done = self.escaped(text, close);
@@ -122,7 +156,7 @@ impl Writer {
         self.out.extend_from_slice(close)
     }
 
-    /// Writes the escape of a byte.
+    /// Writes the escape of `byte`, a quote, a backslash or a control character.
     fn escape(&mut self, byte: u8) -> Result<(), AllocError> {
         let letter = match byte {
             b'"' | b'\\' => byte,

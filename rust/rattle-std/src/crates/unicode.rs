@@ -5,30 +5,30 @@ pub(super) mod ranges;
 
 pub(super) use ranges::{contains, number_at};
 
-/// The sets with a name, such as in `\p{Greek}`.
+/// The sets of code points that have a name, such as in `\p{Greek}`.
 pub mod sets {
     use super::ranges::ranges_of;
     use crate::alloc::{AllocError, Global};
     use crate::crates::unicode_tables::{ASSIGNED, NAMES};
     use crate::vec::Vec;
 
-    /// A set of code points that a property names.
+    /// A set of code points that has a name.
     #[derive(Clone, Copy, Debug, PartialEq, Eq, Hash)]
     pub enum Set {
         /// All code points.
         Any,
         /// The code points of ASCII.
         Ascii,
-        /// The assigned code points.
+        /// The code points that Unicode has assigned.
         Assigned,
-        /// The code points with a binary property, a general category or a script, given by its
-        /// number.
+        /// The code points with a binary property, a general category or a script, which has this
+        /// number in the tables.
         Named(u16),
     }
 
     impl Set {
-        /// Returns the members as sorted ranges, each with its first and its last code point. They
-        /// may contain surrogates.
+        /// Returns the code points of the set as sorted ranges, each with its first and its last
+        /// code point. The ranges may contain surrogates.
         ///
         /// # Errors
         ///
@@ -43,18 +43,19 @@ pub mod sets {
         }
     }
 
-    /// The error for a name that has no set.
+    /// The error that no set has a name.
     #[derive(Clone, Copy, Debug, PartialEq, Eq, Hash)]
     pub enum LookupError {
-        /// No property has the name.
+        /// No binary property, general category or script has the name.
         PropertyNotFound,
     }
 
-    /// Returns the set of a binary property, a general category or a script with a normalized name.
+    /// Returns the set of the binary property, the general category or the script with the
+    /// normalized name `name`.
     ///
     /// # Errors
     ///
-    /// Returns `PropertyNotFound` if none has the name.
+    /// Returns `PropertyNotFound` if none of these has the name.
     pub fn by_name(name: &[u8]) -> Result<Set, LookupError> {
         match NAMES.binary_search_by(|(it, _)| it.as_bytes().cmp(name)) {
             Ok(at) => Ok(Set::Named(NAMES[at].1)),
@@ -62,8 +63,8 @@ pub mod sets {
         }
     }
 
-    /// Returns the form in which names are compared: in lower case, without the prefix `is`,
-    /// spaces, `_`, `-` and characters other than ASCII.
+    /// Returns `name` in the form in which names are compared: in lower case, without the prefix
+    /// `is`, spaces, `_`, `-` and characters other than ASCII.
     ///
     /// # Errors
     ///
@@ -94,27 +95,36 @@ pub mod perl {
     use crate::crates::unicode_tables::{DIGIT, SPACE, WORD};
     use crate::vec::Vec;
 
-    /// Returns the ranges of `\d`.
+    /// Returns the code points of `\d` as sorted ranges, each with its first and its last code
+    /// point.
     ///
     /// # Errors
     ///
-    /// Like the next two functions, returns `AllocError` if memory is refused.
+    /// Returns `AllocError` if memory is refused.
     pub fn digit_ranges(alloc: Global) -> Result<Vec<(u32, u32)>, AllocError> {
         ranges_of(alloc, DIGIT)
     }
 
-    /// Returns the ranges of `\s`.
+    /// Returns the code points of `\s`, like [`digit_ranges`].
+    ///
+    /// # Errors
+    ///
+    /// Returns `AllocError` if memory is refused.
     pub fn space_ranges(alloc: Global) -> Result<Vec<(u32, u32)>, AllocError> {
         ranges_of(alloc, SPACE)
     }
 
-    /// Returns the ranges of `\w`.
+    /// Returns the code points of `\w`, like [`digit_ranges`].
+    ///
+    /// # Errors
+    ///
+    /// Returns `AllocError` if memory is refused.
     pub fn word_ranges(alloc: Global) -> Result<Vec<(u32, u32)>, AllocError> {
         ranges_of(alloc, WORD)
     }
 }
 
-/// Case folding.
+/// The simple case folding of characters.
 pub mod case {
     use super::number_at;
     use crate::crates::unicode_tables::{FOLD_COUNT, FOLDS};
@@ -127,7 +137,7 @@ pub mod case {
         &PAIRS
     }
 
-    /// Reads the table of pairs, at compile time.
+    /// Returns the pairs of the table `FOLDS`, read at compile time.
     const fn pairs() -> [(u32, u32); FOLD_COUNT] {
         let mut pairs = [(0, 0); FOLD_COUNT];
         let (mut pair, mut at, mut first) = (0, 0, 0);
@@ -145,19 +155,19 @@ pub mod case {
     }
 }
 
-/// Properties of characters.
+/// The properties of characters that the crates need.
 pub mod properties {
     use super::contains;
     use super::ranges::{ALPHABETIC, NUMBER};
 
-    /// The general category of a character, as far as the crates need it.
+    /// The general category of a character, as far as the crates need it: whether it is a number.
     #[derive(Clone, Copy, Debug, PartialEq, Eq)]
     pub struct GeneralCategory {
         is_number: bool,
     }
 
     impl GeneralCategory {
-        /// Returns the category of a character.
+        /// Returns the general category of the character `c`.
         pub fn for_char(c: char) -> GeneralCategory {
             GeneralCategory {
                 is_number: contains(&NUMBER, c),
@@ -168,12 +178,12 @@ pub mod properties {
     /// A group of general categories.
     #[derive(Clone, Copy, Debug, PartialEq, Eq)]
     pub enum GeneralCategoryGroup {
-        /// Decimal numbers, letters that are numbers, and others.
+        /// Decimal numbers, letters that are numbers, and other numbers.
         Number,
     }
 
     impl GeneralCategoryGroup {
-        /// Returns whether a category is in the group.
+        /// Returns whether the category `value` is in the group.
         pub fn contains(self, value: GeneralCategory) -> bool {
             match self {
                 GeneralCategoryGroup::Number => value.is_number,
@@ -181,7 +191,7 @@ pub mod properties {
         }
     }
 
-    /// Returns whether a character is alphabetic.
+    /// Returns whether a character has the property Alphabetic of Unicode.
     pub fn is_alphabetic(c: char) -> bool {
         contains(&ALPHABETIC, c)
     }

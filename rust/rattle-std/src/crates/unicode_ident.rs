@@ -2,7 +2,8 @@
 
 use super::unicode::{contains, ranges};
 
-/// Returns whether a character has the property XID_Start.
+/// Returns whether a character has the property XID_Start of Unicode: an identifier may begin with
+/// it.
 #[inline]
 pub fn is_xid_start(ch: char) -> bool {
     if ch.is_ascii() {
@@ -11,7 +12,8 @@ pub fn is_xid_start(ch: char) -> bool {
     contains(&ranges::XID_START, ch)
 }
 
-/// Returns whether a character has the property XID_Continue.
+/// Returns whether a character has the property XID_Continue of Unicode: it may occur in an
+/// identifier.
 #[inline]
 pub fn is_xid_continue(ch: char) -> bool {
     if ch.is_ascii() {

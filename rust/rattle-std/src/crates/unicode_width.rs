@@ -5,15 +5,16 @@ use super::unicode_tables::WIDTHS;
 
 /// A character that has a width.
 pub trait UnicodeWidthChar {
-    /// Returns the number of columns. A control character has no width.
+    /// Returns the number of columns of the character on a terminal, or `None` for a control
+    /// character.
     fn width(self) -> Option<usize>;
 }
 
-/// The number of runs of characters with one width.
+/// The number of runs of consecutive characters with equal width.
 const RUNS: usize = count();
 
-/// The last character of each run, and the width of its characters. A width of 4 means that they
-/// have none.
+/// The last character of each run, and the width of the run's characters, where 4 means that they
+/// have no width.
 static WIDTH_RUNS: [(u32, u8); RUNS] = runs();
 
 const fn count() -> usize {

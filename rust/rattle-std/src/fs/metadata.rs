@@ -1,4 +1,4 @@
-//! The metadata of a file.
+//! The metadata and the permissions of files. Used by `fs`.
 
 use super::Files;
 use crate::io::{self, ErrorKind};
@@ -7,13 +7,13 @@ use crate::io::{self, ErrorKind};
 #[derive(Clone)]
 pub struct Metadata {
     found: std::fs::Metadata,
-    /// The hash of its absolute path, which serves as the number of the file.
+    /// The hash of the file's absolute path, which serves as the number of the file.
     #[cfg(not(unix))]
     name: u64,
 }
 
 impl Metadata {
-    /// Returns whether it is a regular file.
+    /// Returns whether the file is a regular one.
     pub fn is_file(&self) -> bool {
         self.found.is_file()
     }
@@ -24,17 +24,18 @@ impl Metadata {
         self.found.len()
     }
 
-    /// Returns the permissions of the file.
+    /// Returns the permissions of the file, as a value that can be changed.
     pub fn permissions(&self) -> Permissions {
         Permissions(self.found.permissions())
     }
 }
 
-/// Returns the metadata of the file at a path.
+/// Returns the metadata of the file at `path`, with links resolved.
 ///
 /// # Errors
 ///
-/// Returns the error of the system.
+/// Returns the error of the system, or one of the kind `Unsupported` for a path in `/proc` on a
+/// system other than Linux.
 pub fn metadata<R: Files>(_rt: &R, path: &str) -> io::Result<Metadata> {
     if cfg!(not(target_os = "linux")) && path.starts_with("/proc/") {
         // Whether a process runs is unknown on this system, so no process is assumed to have ended.
@@ -47,7 +48,7 @@ pub fn metadata<R: Files>(_rt: &R, path: &str) -> io::Result<Metadata> {
     })
 }
 
-/// Returns a hash of the absolute path of a file.
+/// Returns a hash of the absolute path of the file at `path`.
 #[cfg(not(unix))]
 fn name_of(path: &str) -> io::Result<u64> {
     use std::hash::{DefaultHasher, Hash, Hasher};
@@ -59,7 +60,7 @@ fn name_of(path: &str) -> io::Result<u64> {
 /// The permissions of a file.
 pub struct Permissions(std::fs::Permissions);
 
-/// Sets the permissions of a file.
+/// Sets the permissions of the file at `path` to the value `to`.
 ///
 /// # Errors
 ///
@@ -70,7 +71,8 @@ pub fn set_permissions<R: Files>(_rt: &R, path: &str, to: Permissions) -> io::Re
 
 macro_rules! known_to_unix {
     ($($(#[$doc:meta])* $name:ident: $type:ty, $elsewhere:expr;)*) => {
-        /// Further metadata of Unix. On other systems a file is identified by its absolute path.
+        /// The metadata of Unix. On other systems a file is identified by its absolute path, and
+        /// the other numbers are 0.
         pub trait MetadataExt {
             $($(#[$doc])* fn $name(&self) -> $type;)*
         }
@@ -87,21 +89,21 @@ macro_rules! known_to_unix {
 }
 
 known_to_unix! {
-    /// Returns the number of the device.
+    /// Returns the number of the device that contains the file.
     dev: u64, |_| 0;
     /// Returns the number of the file on its device.
     ino: u64, |file: &Metadata| file.name;
-    /// Returns the number of the owner.
+    /// Returns the number of the file's owner.
     uid: u32, |_| 0;
-    /// Returns the number of the group.
+    /// Returns the number of the file's group.
     gid: u32, |_| 0;
-    /// Returns the kind of the file, and its permissions.
+    /// Returns the kind and the permissions of the file as the bits of its mode.
     mode: u32, |_| 0;
 }
 
-/// The permissions of Unix.
+/// The permissions of a file as the bits of Unix.
 pub trait PermissionsExt {
-    /// Sets the permissions of the file.
+    /// Sets the permissions to the bits of `mode`. Does nothing on other systems than Unix.
     fn set_mode(&mut self, mode: u32);
 }
 

@@ -1,20 +1,20 @@
-//! A writer that collects bytes.
+//! A writer that collects bytes, and writes them in blocks.
 
 use super::{Result, Write};
 use crate::alloc::Global;
 use crate::vec::Vec;
 
-/// The number of bytes that are buffered before they are written.
+/// The maximum number of bytes that are buffered.
 const BLOCK: usize = 8192;
 
-/// A writer that buffers bytes, and writes them to another one in blocks.
+/// A writer that buffers bytes, and writes them to another writer in blocks.
 pub struct BufWriter<W: Write> {
     block: Vec<u8>,
     inner: W,
 }
 
 impl<W: Write> BufWriter<W> {
-    /// Returns a writer to another one.
+    /// Returns a writer that buffers the bytes for `inner`.
     ///
     /// # Errors
     ///

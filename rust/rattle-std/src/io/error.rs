@@ -1,4 +1,4 @@
-//! Errors of files and streams.
+//! The errors of files and streams.
 
 use crate::alloc::{AllocError, AllocFailed};
 use core::fmt;
@@ -6,11 +6,11 @@ use core::fmt;
 /// The result of reading or writing.
 pub type Result<T> = core::result::Result<T, Error>;
 
-/// An error of the system.
+/// An error of reading or writing.
 #[derive(Clone, Copy, Debug)]
 pub struct Error {
     kind: ErrorKind,
-    /// The number of the error in the system.
+    /// The system's number of the error, if it is one of the system.
     code: Option<i32>,
 }
 
@@ -62,7 +62,8 @@ impl From<std::io::Error> for Error {
     }
 }
 
-/// The system's number of the error for links that form a cycle. Rust's kind for it is unstable.
+/// The system's number of the error for links that form a cycle. Rust's kind of this error is
+/// unstable.
 const LINKS_LEAD_ROUND: i32 = if cfg!(any(target_os = "linux", target_os = "android")) {
     40
 } else if cfg!(windows) {
@@ -77,7 +78,7 @@ macro_rules! kinds {
         #[derive(Clone, Copy, Debug, PartialEq, Eq, Hash)]
         pub enum ErrorKind {
             $($(#[$doc])* $kind,)*
-            /// The links of a path form a cycle, or there are too many.
+            /// The links of a path form a cycle, or the path has too many links.
             FilesystemLoop,
             /// Another reason.
             Other,
@@ -95,9 +96,9 @@ macro_rules! kinds {
 }
 
 kinds! {
-    /// There is no such file.
+    /// There is no file with this path.
     NotFound,
-    /// The system does not allow it.
+    /// The system does not permit the operation.
     PermissionDenied,
     /// The file already exists.
     AlreadyExists,
@@ -107,7 +108,7 @@ kinds! {
     NotADirectory,
     /// A name is too long, or has invalid characters.
     InvalidFilename,
-    /// The data is invalid.
+    /// The data is not valid, such as a text that is not UTF-8.
     InvalidData,
     /// The disk is full.
     StorageFull,
@@ -125,10 +126,10 @@ kinds! {
     WouldBlock,
     /// The call took too long.
     TimedOut,
-    /// A call to write wrote nothing.
+    /// A call of `write` wrote no bytes.
     WriteZero,
-    /// The system has no such call.
+    /// The system does not have the operation.
     Unsupported,
-    /// Memory is refused.
+    /// Memory was refused.
     OutOfMemory,
 }

@@ -1,4 +1,4 @@
-//! Standard input, output and error.
+//! The standard input, output and error of a process.
 
 use super::{Read, Result, Write};
 use crate::rt::HostRuntime;
@@ -6,10 +6,10 @@ use crate::vec::Vec;
 
 /// A system with a standard input.
 pub trait Input {
-    /// The type of its reader.
+    /// The type of the reader of standard input.
     type Reader: Read;
 
-    /// Returns a reader of standard input.
+    /// Returns a reader of the standard input of the system.
     fn reader(&self) -> Self::Reader;
 }
 
@@ -21,12 +21,12 @@ impl Input for HostRuntime {
     }
 }
 
-/// A system with a standard output.
+/// A system with a standard output and a standard error.
 pub trait Print {
-    /// Returns standard output.
+    /// Returns the standard output of the system.
     fn stdout(&self) -> Stdout;
 
-    /// Returns standard error.
+    /// Returns the standard error of the system.
     fn stderr(&self) -> Stderr;
 }
 
@@ -62,7 +62,7 @@ impl IsTerminal for Vec<u8> {
     }
 }
 
-/// Standard input.
+/// The standard input of the process.
 pub struct Stdin(pub(crate) std::io::Stdin);
 
 impl Read for Stdin {
@@ -95,11 +95,11 @@ macro_rules! output {
 }
 
 output! {
-    /// Standard output.
+    /// The standard output of the process.
     Stdout
 }
 
 output! {
-    /// Standard error.
+    /// The standard error of the process.
     Stderr
 }

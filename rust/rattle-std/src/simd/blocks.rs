@@ -1,5 +1,6 @@
-//! Blocks of 16 bytes, with the instructions of the machine. This file has all `unsafe` code of the
-//! crate: calls of instructions that the machine is known to have.
+//! Operations on blocks of 16 bytes, with the instructions of the machine. Used by `simd`. This
+//! file has all `unsafe` code of the crate: calls of instructions that the machine is known to
+//! have.
 
 #![allow(unsafe_code)]
 
@@ -10,36 +11,38 @@ pub(super) use plain::{and, at, equal, or, shifted, tops};
 #[cfg(target_arch = "x86_64")]
 pub(super) use x86::{and, at, equal, or, shifted, tops};
 
-/// With loops. The tests compare the other implementations with these.
+/// The operations with loops. Tests compare the other implementations with these.
 #[cfg_attr(any(target_arch = "x86_64", target_arch = "aarch64"), allow(dead_code))]
 pub(super) mod plain {
     use core::array::from_fn;
 
-    /// Returns the bitwise AND.
+    /// Returns the bitwise AND of two blocks.
     #[inline(always)]
     pub fn and(a: [u8; 16], b: [u8; 16]) -> [u8; 16] {
         (u128::from_ne_bytes(a) & u128::from_ne_bytes(b)).to_ne_bytes()
     }
 
-    /// Returns the bitwise OR.
+    /// Returns the bitwise OR of two blocks.
     #[inline(always)]
     pub fn or(a: [u8; 16], b: [u8; 16]) -> [u8; 16] {
         (u128::from_ne_bytes(a) | u128::from_ne_bytes(b)).to_ne_bytes()
     }
 
-    /// Returns each byte shifted right by the corresponding one in `by`, which is below 8.
+    /// Returns each of `bytes` shifted right by the number in `by` with the same index, which must
+    /// be below 8.
     #[inline(always)]
     pub fn shifted(bytes: [u8; 16], by: [u8; 16]) -> [u8; 16] {
         from_fn(|k| bytes[k] >> by[k])
     }
 
-    /// Returns the bytes at indices, which are below 16.
+    /// Returns the bytes at `indices`, which must be below 16.
     #[inline(always)]
     pub fn at(bytes: [u8; 16], indices: [u8; 16]) -> [u8; 16] {
         indices.map(|k| bytes[usize::from(k % 16)])
     }
 
-    /// Returns the number whose bit `k` is set if the bytes with index `k` are equal.
+    /// Returns the number whose bit `k` is set if the bytes of the two blocks with index `k` are
+    /// equal.
     #[inline(always)]
     pub fn equal(a: [u8; 16], b: [u8; 16]) -> u16 {
         let mut bits = 0;
@@ -56,7 +59,8 @@ pub(super) mod plain {
     }
 }
 
-/// With instructions of x86-64: SSE2, which every one has, and `pshufb` if the machine has SSSE3.
+/// The operations with instructions of x86-64: SSE2, which each x86-64 has, and `pshufb` if the
+/// machine has SSSE3.
 #[cfg(target_arch = "x86_64")]
 mod x86 {
     use core::arch::asm;
@@ -101,7 +105,7 @@ mod x86 {
         and(bytes(words), [0xFF >> count; 16])
     }
 
-    /// Whether the machine is known to have SSSE3.
+    /// Whether the machine is already known to have SSSE3.
     static HAS_SHUFFLE: AtomicBool = AtomicBool::new(false);
 
     #[inline(always)]
@@ -123,7 +127,8 @@ mod x86 {
         bytes(found)
     }
 
-    /// Returns the result of `at`, on the first call or if the machine has no SSSE3.
+    /// Returns the result of `at` on the first call, or if the machine has no SSSE3. Sets
+    /// `HAS_SHUFFLE`.
     #[cold]
     #[inline(never)]
     fn at_first(table: __m128i, indices: __m128i) -> __m128i {
@@ -151,7 +156,7 @@ mod x86 {
     }
 }
 
-/// With instructions of 64-bit ARM: NEON, which every one has.
+/// The operations with instructions of 64-bit ARM: NEON, which each 64-bit ARM has.
 #[cfg(target_arch = "aarch64")]
 mod arm {
     use core::arch::aarch64::*;

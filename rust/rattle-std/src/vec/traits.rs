@@ -1,4 +1,4 @@
-//! Traits of vectors.
+//! The implementations of traits for vectors.
 
 use super::{IntoIter, Vec};
 use crate::alloc::{AllocError, Global};

@@ -1,13 +1,13 @@
-//! Hashes of keys.
+//! Hashes of keys. Used by `indexmap`.
 
 use core::hash::{BuildHasher, Hasher};
 use std::hash::RandomState;
 
-/// A hash of words: each is multiplied by a random number, and the halves of the product are
-/// combined. For the short keys of the crates, and for bytes that are hashed one by one, it takes a
-/// fraction of the time of Rust's own.
+/// A hash of a sequence of words: each word is combined with the hash before it and multiplied by a
+/// random number, and the halves of the product are combined. For the short keys of the crates, and
+/// for bytes that are hashed one at a time, this takes a fraction of the time of Rust's own hash.
 ///
-/// Its initial value is random too, so that keys with equal hashes are hard to find.
+/// The initial value of the hash is random too, so that keys with equal hashes are hard to find.
 #[derive(Clone, Copy)]
 pub(super) struct Folded {
     hash: u64,

@@ -1,4 +1,4 @@
-//! A map whose entries have indices.
+//! A map from keys to values, whose entries have indices in the order in which they were added.
 
 use super::Entries;
 use crate::alloc::{AllocError, AllocFailed, Global};
@@ -7,7 +7,7 @@ use core::hash::Hash;
 use core::iter::Map;
 use core::slice::Iter;
 
-/// A map whose entries have indices.
+/// A map from keys to values. Its entries have indices in the order in which they were added.
 pub struct IndexMap<K, V>(Entries<(K, V)>);
 
 impl<K: Eq + Hash, V> IndexMap<K, V> {
@@ -16,7 +16,7 @@ impl<K: Eq + Hash, V> IndexMap<K, V> {
         IndexMap(Entries::new(alloc))
     }
 
-    /// Makes room for `additional` keys.
+    /// Makes room for `additional` new keys.
     ///
     /// # Errors
     ///
@@ -25,7 +25,7 @@ impl<K: Eq + Hash, V> IndexMap<K, V> {
         self.0.reserve(additional)
     }
 
-    /// Returns the index of a key.
+    /// Returns the index of `key`, or `None` if the map does not have the key.
     fn find<Q: ?Sized + Eq + Hash>(&self, key: &Q) -> Option<usize>
     where
         K: Borrow<Q>,
@@ -34,7 +34,7 @@ impl<K: Eq + Hash, V> IndexMap<K, V> {
         self.0.find(hash, |entry| entry.0.borrow() == key)
     }
 
-    /// Returns whether the map has a key.
+    /// Returns whether the map has the key `key`.
     pub fn contains_key<Q: ?Sized + Eq + Hash>(&self, key: &Q) -> bool
     where
         K: Borrow<Q>,
@@ -42,7 +42,7 @@ impl<K: Eq + Hash, V> IndexMap<K, V> {
         self.find(key).is_some()
     }
 
-    /// Returns the value of a key.
+    /// Returns the value of `key`, or `None` if the map does not have the key.
     pub fn get<Q: ?Sized + Eq + Hash>(&self, key: &Q) -> Option<&V>
     where
         K: Borrow<Q>,
@@ -51,11 +51,12 @@ impl<K: Eq + Hash, V> IndexMap<K, V> {
         Some(&self.0.list[index].1)
     }
 
-    /// Sets the value of a key, and returns the former one, if there was one.
+    /// Sets the value of `key`, and returns its former value, or `None` if the key is new.
     ///
     /// # Errors
     ///
-    /// Returns the key and the value if memory is refused. Then the map is unchanged.
+    /// Returns `AllocFailed` with the key and the value if memory is refused. The map is unchanged
+    /// then.
     pub fn insert(&mut self, key: K, value: V) -> Result<Option<V>, AllocFailed<(K, V)>> {
         let hash = self.0.table.hash_of(&key);
         if let Some(index) = self.0.find(hash, |entry| entry.0 == key) {
@@ -66,11 +67,11 @@ impl<K: Eq + Hash, V> IndexMap<K, V> {
         Ok(None)
     }
 
-    /// Returns the keys and their values in the order of their indices.
+    /// Returns an iterator over the keys and their values, in the order of their indices.
     pub fn iter(&self) -> Pairs<'_, K, V> {
         self.0.list.iter().map(|(key, value)| (key, value))
     }
 }
 
-/// The iterator over the keys and the values of a map.
+/// An iterator over the keys and the values of a map.
 pub type Pairs<'v, K, V> = Map<Iter<'v, (K, V)>, fn(&'v (K, V)) -> (&'v K, &'v V)>;

@@ -1,4 +1,4 @@
-//! A set whose values have indices.
+//! A set whose values have indices, in the order in which they were added.
 
 use super::Entries;
 use crate::alloc::{AllocError, AllocFailed, Global};
@@ -8,7 +8,7 @@ use core::fmt;
 use core::hash::Hash;
 use core::slice::Iter;
 
-/// A set whose values have indices.
+/// A set of values, which have indices in the order in which they were added.
 pub struct IndexSet<T>(Entries<T>);
 
 impl<T: Eq + Hash> IndexSet<T> {
@@ -17,12 +17,12 @@ impl<T: Eq + Hash> IndexSet<T> {
         IndexSet(Entries::new(alloc))
     }
 
-    /// Returns the allocator.
+    /// Returns the allocator of the set.
     pub fn allocator(&self) -> &Global {
         &Global
     }
 
-    /// Makes room for `additional` values.
+    /// Makes room for `additional` new values.
     ///
     /// # Errors
     ///
@@ -42,24 +42,24 @@ impl<T: Eq + Hash> IndexSet<T> {
         self.0.list.is_empty()
     }
 
-    /// Returns the values in the order of their indices.
+    /// Returns the values as a slice, in the order of their indices.
     #[inline]
     pub fn as_slice(&self) -> &[T] {
         &self.0.list
     }
 
-    /// Returns the values in the order of their indices.
+    /// Returns an iterator over the values, in the order of their indices.
     pub fn iter(&self) -> Iter<'_, T> {
         self.0.list.iter()
     }
 
-    /// Returns the value with an index.
+    /// Returns the value with the index `index`, or `None` if there is none.
     #[inline]
     pub fn get_index(&self, index: usize) -> Option<&T> {
         self.0.list.get(index)
     }
 
-    /// Returns the index of a value.
+    /// Returns the index of `value`, or `None` if the set does not have the value.
     #[inline]
     pub fn get_index_of<Q: ?Sized + Eq + Hash>(&self, value: &Q) -> Option<usize>
     where
@@ -69,7 +69,7 @@ impl<T: Eq + Hash> IndexSet<T> {
         self.0.find(hash, |it| it.borrow() == value)
     }
 
-    /// Returns whether the set has a value.
+    /// Returns whether the set contains `value`.
     pub fn contains<Q: ?Sized + Eq + Hash>(&self, value: &Q) -> bool
     where
         T: Borrow<Q>,
@@ -77,20 +77,21 @@ impl<T: Eq + Hash> IndexSet<T> {
         self.get_index_of(value).is_some()
     }
 
-    /// Adds a value, and returns whether it is new.
+    /// Adds `value` to the set, and returns whether it is new. A value that is not new is dropped.
     ///
     /// # Errors
     ///
-    /// Returns the value if memory is refused. Then the set is unchanged.
+    /// Returns `AllocFailed` with the value if memory is refused. The set is unchanged then.
     pub fn insert(&mut self, value: T) -> Result<bool, AllocFailed<T>> {
         Ok(self.insert_full(value)?.1)
     }
 
-    /// Adds a value, and returns its index and whether it is new.
+    /// Adds `value` to the set, and returns its index and whether it is new. A value that is not
+    /// new is dropped.
     ///
     /// # Errors
     ///
-    /// Returns the value if memory is refused. Then the set is unchanged.
+    /// Returns `AllocFailed` with the value if memory is refused. The set is unchanged then.
     #[inline]
     pub fn insert_full(&mut self, value: T) -> Result<(usize, bool), AllocFailed<T>> {
         let hash = self.0.table.hash_of(&value);
@@ -106,7 +107,7 @@ impl<T: Eq + Hash> IndexSet<T> {
         self.0.table.clear();
     }
 
-    /// Removes all except the first `len` values.
+    /// Removes all except the first `len` values. Does nothing if there are not more.
     pub fn truncate(&mut self, len: usize) {
         for index in (len..self.len()).rev() {
             let hash = self.0.table.hash_of(&self.0.list[index]);

@@ -1,5 +1,5 @@
-//! Sets of characters as ranges. Those for functions that are called often are read from the tables
-//! at compile time.
+//! Sets of characters as ranges. The sets that are searched often are read from the tables at
+//! compile time. Used by `unicode`, `unicode_ident` and `unicode_width`.
 
 use crate::alloc::{AllocError, Global};
 use crate::crates::unicode_tables as tables;
@@ -7,7 +7,7 @@ use crate::crates::unicode_tables::{OFFSETS, RANGES};
 use crate::vec::Vec;
 use core::cmp::Ordering;
 
-/// A set whose ranges are read at compile time.
+/// Declares a set of characters whose ranges are read at compile time.
 macro_rules! set {
     ($name:ident) => {
         pub(crate) static $name: [(u32, u32); count(tables::$name)] = ranges(tables::$name);
@@ -19,7 +19,7 @@ set!(NUMBER);
 set!(XID_START);
 set!(XID_CONTINUE);
 
-/// Returns the number at an index of a table, and the index of the next one.
+/// Returns the number that begins at the index `at` of `table`, and the index of the next number.
 pub(crate) const fn number_at(table: &[u8], mut at: usize) -> (u32, usize) {
     let (mut number, mut shift) = (0, 0);
     while table[at] >= b']' {
@@ -30,7 +30,7 @@ pub(crate) const fn number_at(table: &[u8], mut at: usize) -> (u32, usize) {
     (number | ((table[at] - b'0') as u32) << shift, at + 1)
 }
 
-/// Returns the number of ranges of a set.
+/// Returns the number of ranges of the set with the number `set`.
 const fn count(set: usize) -> usize {
     let mut at = OFFSETS[set] as usize;
     let mut numbers = 0;
@@ -41,15 +41,15 @@ const fn count(set: usize) -> usize {
     numbers / 2
 }
 
-/// Returns the range at an index of the table, if its predecessor ends before `from`, and the index
-/// of the next one.
+/// Returns the range that begins at the index `at` of the table `RANGES`, and the index of the next
+/// range, given the character `from` after the range before it.
 const fn range_at(at: usize, from: u32) -> ((u32, u32), usize) {
     let (gap, at) = number_at(RANGES, at);
     let (more, at) = number_at(RANGES, at);
     ((from + gap, from + gap + more), at)
 }
 
-/// Returns the ranges of a set.
+/// Returns the ranges of the set with the number `set`, at compile time.
 const fn ranges<const COUNT: usize>(set: usize) -> [(u32, u32); COUNT] {
     let mut ranges = [(0, 0); COUNT];
     let (mut range, mut at, mut from) = (0, OFFSETS[set] as usize, 0);
@@ -61,7 +61,7 @@ const fn ranges<const COUNT: usize>(set: usize) -> [(u32, u32); COUNT] {
     ranges
 }
 
-/// Returns the ranges of a set.
+/// Returns the ranges of the set with the number `set`, or `AllocError` if memory is refused.
 pub(super) fn ranges_of(alloc: Global, set: usize) -> Result<Vec<(u32, u32)>, AllocError> {
     let mut ranges = Vec::new(alloc);
     let (mut at, mut from) = (OFFSETS[set] as usize, 0);
@@ -73,7 +73,7 @@ pub(super) fn ranges_of(alloc: Global, set: usize) -> Result<Vec<(u32, u32)>, Al
     Ok(ranges)
 }
 
-/// Returns whether sorted ranges contain a character.
+/// Returns whether `ranges`, which are sorted, contain the character `c`.
 pub(crate) fn contains(ranges: &[(u32, u32)], c: char) -> bool {
     let code = c as u32;
     let place = |&(first, last): &(u32, u32)| match (code < first, last < code) {
