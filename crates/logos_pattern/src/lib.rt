@@ -1,4 +1,4 @@
-//! The patterns and the leaves of a lexer. The readers of definitions make them, and the later
+//! The patterns and the leaves of a lexer. `logos_leaf` makes them from definitions, and the later
 //! stages read them.
 
 #![tactic(auto)]
