@@ -89,7 +89,7 @@ impl fmt::Display for RangeText {
     }
 }
 
-/// Ranges of bytes, displayed as their texts, with a separator before each.
+/// Ranges of bytes, displayed as their texts, each after a separator.
 #[derive(Clone, Copy)]
 struct NextRanges<'c> {
     ranges: &'c [RangeInclusive<u8>],
