@@ -211,8 +211,9 @@ fn after(
     clip(alloc, &rest.offsets, window)
 }
 
-/// Returns the number of the row after `row` and the continuation byte with the number `part`, or
-/// `None` if there is no such row.
+/// Returns the number of the row after `row` and the continuation byte with the number `part`, from
+/// 0 to 63, and adds the row to `rests` if it is new. Returns `None` if no character continues with
+/// that byte.
 ///
 /// # Errors
 ///

@@ -1,5 +1,4 @@
-//! Sets of positions, as ascending lists. Steps and exits search these sets. A position in a set is
-//! called a mark.
+//! Sets of positions, as ascending lists. Steps and exits search these sets.
 
 ghost use Rattle.std.specs.Prelude.{◌⊎◌, OnOk, ◌^◌, ◌≡◌, ℕ, ◌+◌, ◌-◌, ◌*◌, ◌<◌, ◌≤◌, ◌↔◌, IsTrue, IsFalse, length, slice_index};
 ghost use Rattle.logos_positions.specs.Marks.{IsRising, IsSet, Has, HasBetween, IsFirstFrom};
@@ -7,8 +6,8 @@ ghost use Rattle.logos_positions.specs.Marks.{IsRising, IsSet, Has, HasBetween, 
 use crate::node::Copies;
 use std::alloc::AllocError;
 
-/// Returns the index of the first mark that is at least `position`, which is known to be between
-/// the indexes `low` and `high`, inclusive.
+/// Returns the index of the first position in `marks` that is at least `position`. This index is
+/// known to be between `low` and `high`, inclusive.
 fn first_between(marks: &[usize], low: usize, high: usize, position: usize) -> usize
     requires rising { IsRising marks.now }
     requires order { low ≤ high }
@@ -30,8 +29,8 @@ fn first_between(marks: &[usize], low: usize, high: usize, position: usize) -> u
     low
 }
 
-/// Returns the index of the first mark that is at least the position `from`, or the number of marks
-/// if there is none.
+/// Returns the index of the first position in `marks` that is at least `from`, or the number of
+/// positions if there is none.
 pub fn first_from(marks: &[usize], from: usize) -> usize
     requires { IsRising marks.now }
     ensures { IsFirstFrom marks.now from result }
