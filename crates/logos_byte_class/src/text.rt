@@ -38,7 +38,7 @@ pub fn is_printable(byte: u8) -> bool
     (32..DELETE).contains(&byte)
 }
 
-/// Returns the hexadecimal digit of `value`, in lower case.
+/// Returns the hexadecimal digit of `value`, which must be below 16, in lower case.
 pub fn lower_digit(value: u8) -> char
     requires { value < 16 }
     ensures is { result ≡ lower_digit value }

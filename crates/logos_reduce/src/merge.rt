@@ -87,7 +87,7 @@ struct Cut {
     /// The block that is cut.
     home: usize,
     symbol: usize,
-    /// The block to which the states that leave `home` lead, or `None` if they lead to none.
+    /// The block to which the states that move lead on `symbol`, or `None` if they lead to none.
     to: Option<usize>,
     /// The number of the new block.
     fresh: usize,

@@ -1,4 +1,4 @@
-//! Determines whether an enum derives `Logos`. `finder` calls it for each enum.
+//! Determines whether an enum derives `Logos`. `finder` calls `derives` for each enum.
 
 ghost use Rattle.std.specs.Prelude.{◌≡◌, ◌<◌, ◌||◌, false, true, MatchOption};
 ghost use Rattle.logos_rust_file.specs.Imports.{count_of, tokens_of, begins_list, derives, derives_after, derives_in, lists_macro};

@@ -1,5 +1,5 @@
 //! Determines whether an enum derives `Logos` without a path, and thus through an import. `finder`
-//! calls it for each enum.
+//! calls `derives_by_name` for each enum.
 
 use logos_strip::helpers::{is_comma, is_macro_entry};
 use logos_token::token::{Delimiter, TokenTree, Tokens};

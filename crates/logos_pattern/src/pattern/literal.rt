@@ -42,7 +42,7 @@ fn is_metacharacter(character: char) -> bool
     .contains(&character)
 }
 
-/// Returns the hexadecimal digit of `value`, in upper case.
+/// Returns the hexadecimal digit of `value`, which is below 16, in upper case.
 fn upper_digit(value: u8) -> char
     requires { value < 16 }
     ensures { result ≡ upper_digit value }

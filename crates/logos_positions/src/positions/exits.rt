@@ -67,7 +67,8 @@ fn exits_marked(node: &Node, marks: &[usize], own: OwnPositions, at: Context) ->
     one | other
 }
 
-/// Returns whether the tree `node` at `spot` can be left at the point `at`, by its form.
+/// Returns whether the tree `node` at `spot` can be left at the point `at`, with a case for each
+/// form of tree.
 #[cycle(exits)]
 fn exits_node(node: &Node, marks: &[usize], spot: TreeSpot, at: Context) -> bool
     requires fits { spot.base + core.width (core_of node.now) < 2 ^ 64 }

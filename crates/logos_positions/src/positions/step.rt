@@ -339,7 +339,7 @@ fn step_marked(
     Ok(one | other)
 }
 
-/// Steps like `step` on a tree, by its form.
+/// Steps like `step` on the tree `node` at `spot`, with a case for each form of tree.
 ///
 /// # Errors
 ///

@@ -50,7 +50,8 @@ pub fn tagged(leaf: Option<usize>) -> (usize, usize)
     }
 }
 
-/// Returns the splits of `count` blocks that the marks of states separate.
+/// Returns `count` splits, one for each block, which state that the block was separated from block
+/// 0 by the marks of states.
 fn parted_by_marks(alloc: Global, count: usize) -> Result<Vec<Split>, AllocError>
     ensures len { IfOk result (λ v. vec_len v ≡ count) }
     ensures splits { IfOk result (λ v. (j : ℕ) →

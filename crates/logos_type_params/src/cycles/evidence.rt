@@ -21,7 +21,7 @@ pub(crate) struct Membership {
     /// An upper bound of the distance from the node to the root along the edges `toward`: it
     /// decreases with each of these edges.
     pub(crate) to_rank: usize,
-    /// A node of the component that has an edge to this node, and that the root reaches before it.
+    /// The node before this one on a path from the root of the component.
     pub(crate) from: usize,
     /// The index, among the edges of `from`, of the edge that leads to this node.
     pub(crate) edge: usize,
