@@ -114,7 +114,8 @@ pub fn end_key(trees: &Trees<'_>, key: &Key) -> Result<Key, AllocError>
     })
 }
 
-/// Returns the key of the state after the end of the input at which the trees `matches` match.
+/// Returns the key of the state after the end of the input, where the trees `matches` match all
+/// bytes.
 ///
 /// # Errors
 ///

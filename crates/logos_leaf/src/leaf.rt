@@ -130,7 +130,8 @@ fn folded_leaf<'s>(
     }
 }
 
-/// Returns the leaf of a `token` that matches the bytes of its literal's value.
+/// Returns the leaf of a `token` without flags, which matches exactly the bytes of its literal's
+/// value.
 fn plain_leaf<'s>(
     alloc: Global,
     definition: Definition<'s>,

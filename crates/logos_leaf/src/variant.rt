@@ -30,7 +30,8 @@ pub struct Types<'p, 's> {
     pub held: &'p HashSet<&'s str>,
 }
 
-/// Returns the kind of the variant `name` with one field.
+/// Returns the kind of the variant `name` with `field`, in whose type the parameters are replaced.
+/// Reports a type that becomes too deep.
 fn value_kind<'s>(
     types: Types<'_, 's>,
     name: Ident<'s>,
