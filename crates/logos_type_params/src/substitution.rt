@@ -21,8 +21,8 @@ pub struct TypeParam<'s> {
     pub span: Span,
 }
 
-/// The types given to the parameters, and the names that are not replaced: those of the parameters
-/// whose types contain them.
+/// The types given to the parameters, and the names that are not replaced: the name of each
+/// parameter whose type contains this parameter.
 #[derive(Clone, Copy)]
 pub struct Replacing<'p, 's> {
     pub types: &'p GivenTypes<'s>,

@@ -42,9 +42,8 @@ fn goes_toward(
     other.to_rank < membership.to_rank
 }
 
-/// Returns whether `node` is its own root, or the edge `edge` of the node `from`, as its
-/// `membership` names them, leads to `node` and `from` is in the same component with a lower
-/// `from_rank`.
+/// Returns whether `node` is its own root, or the edge `edge` of the node `from`, both in
+/// `membership`, leads to `node`, and `from` is in the same component with a lower `from_rank`.
 fn comes_from(
     lists: &[Vec<usize>],
     memberships: &[Membership],
