@@ -1,5 +1,5 @@
-//! Reads values in an attribute's argument, one after another. `parsed` is part of the public
-//! interface; in this repository only tests call it.
+//! Reads values in an attribute's argument, one after another. `AttributeParser::parsed` is part of
+//! the public interface; in this repository only tests call it.
 
 ghost use Rattle.std.specs.Prelude.{◌≡◌, ◌≢◌, List, Option, None, IfOk, OnOk, OnErr, MatchOption, option_map};
 ghost use Rattle.logos_attribute.specs.Imports.{result_ok, Fault, TokenList, none, run_span, tokens_of, type_tree, ReadsValue, literal_view, literal_report, up_to_comma, after_comma, pieces, IsReport};
@@ -14,7 +14,7 @@ use logos_type::TypeExpr;
 use logos_type_params::read_value;
 use std::alloc::Global;
 
-/// A fault was found and added to the list of faults.
+/// The mark of a value that could not be read: a fault was added to the list of faults.
 #[derive(Clone, Copy, Debug)]
 pub struct Reported;
 
@@ -23,8 +23,8 @@ pub trait FromRun<'s>: Sized {
     /// The run is read as this value, and the first list of faults becomes the second.
     ghost is_read: { TokenList → Option Self → List Fault → List Fault → Type 0 };
 
-    /// Reads the whole run as a value. Returns `None` and reports the run if it is not such a
-    /// value. A run without tokens that is read as a literal is not reported.
+    /// Reads the whole of `run` as a value. If it is not such a value, reports the run and returns
+    /// `None`. An empty run that is read as a literal is not reported.
     ///
     /// # Errors
     ///
@@ -40,7 +40,7 @@ pub trait FromRun<'s>: Sized {
 }
 
 /// Reads a string or a byte string. Reports another literal as `NotText` at the literal, and
-/// another run as `LiteralSyntax` at the run.
+/// another run that is not empty as `LiteralSyntax` at the run.
 impl<'s> FromRun<'s> for Literal<'s> {
     ghost is_read = { λ run read old new.
         IsReport (literal_report run) (option_map literal_view read) old new };
@@ -70,9 +70,9 @@ impl<'s> FromRun<'s> for TypeExpr<'s> {
 }
 
 impl<'t, 's> AttributeParser<'t, 's> {
-    /// Reads the tokens up to the next lone comma as one value, and removes them and that comma.
-    /// Returns `None` if no token comes before the comma, and `Some(Err(Reported))` if the tokens
-    /// are not a value of the type `T`.
+    /// Reads the tokens up to the next lone comma as one value, and removes these tokens and the
+    /// comma. Returns `None` if no token comes before the comma, and `Some(Err(Reported))` if the
+    /// tokens are not a value of the type `T`.
     ///
     /// # Errors
     ///

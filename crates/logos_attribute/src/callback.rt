@@ -1,5 +1,5 @@
 //! Reads callbacks in the arguments of attributes. The readers of definitions and of error types
-//! call it.
+//! call `read_callback` and `set_callback`.
 
 ghost use Rattle.std.specs.Prelude.{◌≡◌, ◌++◌, ◌∷◌, [], IfOk, OnOk, OnErr, option_map};
 ghost use Rattle.logos_attribute.specs.Views.{run_span, tokens_of, ident_slice, IsReport, AddsFault, body_in, bar_in, parameter_in, callback_in, callback_report, callback_set, twice_at, view_span, callback_closure, callback_body, callback_no_value, callback_view, run_view, callback_fault, read_view};
@@ -11,7 +11,7 @@ use logos_token::token::{Ident, Span, TokenTree, Tokens};
 use logos_token::util::is_punct;
 use std::alloc::Global;
 
-/// A callback as views of tokens.
+/// A callback as views of its tokens.
 #[derive(Clone, Copy)]
 enum CallbackRun<'t, 's> {
     /// The tokens that name a function.
@@ -20,14 +20,17 @@ enum CallbackRun<'t, 's> {
     Inline(Ident<'s>, Tokens<'t, 's>),
 }
 
-/// The reasons why a run is not a callback.
+/// The reason that a run is not a callback.
 #[derive(Clone, Copy)]
 enum CallbackFault {
+    /// It is empty, or it begins with `|` and has no single parameter between two `|`.
     Closure,
+    /// The closure has no body.
     Body,
 }
 
-/// Returns the closure with the parameter `arg` and the body at the front of the tokens.
+/// Returns the closure with the parameter `arg` and the body `tokens`, without the delimiters if it
+/// begins with a group. Returns `Body` if there are no tokens.
 fn body_in<'t, 's>(
     arg: Ident<'s>,
     tokens: Tokens<'t, 's>,
@@ -42,8 +45,8 @@ fn body_in<'t, 's>(
     }
 }
 
-/// Returns the closure with the parameter `arg` and the body after the `|` at the front of the
-/// tokens.
+/// Returns the closure with the parameter `arg`, and the body after the `|` at the front of
+/// `tokens`. Returns `Body` if there are no tokens, and `Closure` if another token comes first.
 fn bar_in<'t, 's>(
     arg: Ident<'s>,
     tokens: Tokens<'t, 's>,
@@ -58,7 +61,8 @@ fn bar_in<'t, 's>(
     }
 }
 
-/// Returns the closure whose parameter is at the front of the tokens.
+/// Returns the closure whose parameter is at the front of `tokens`, or the reason that they are not
+/// one.
 fn parameter_in<'t, 's>(tokens: Tokens<'t, 's>) -> Result<CallbackRun<'t, 's>, CallbackFault>
     ensures { (span : Span) → read_view span result ≡ parameter_in span (tokens_of tokens.entry) }
 {
@@ -68,7 +72,7 @@ fn parameter_in<'t, 's>(tokens: Tokens<'t, 's>) -> Result<CallbackRun<'t, 's>, C
     }
 }
 
-/// Returns the callback that a run spells.
+/// Returns the callback that a run spells, or the reason that it is not one.
 fn callback_in<'t, 's>(tokens: Tokens<'t, 's>) -> Result<CallbackRun<'t, 's>, CallbackFault>
     ensures { read_view (run_span (tokens_of tokens.entry)) result
         ≡ callback_in (tokens_of tokens.entry) }
@@ -80,7 +84,7 @@ fn callback_in<'t, 's>(tokens: Tokens<'t, 's>) -> Result<CallbackRun<'t, 's>, Ca
     }
 }
 
-/// Copies the tokens of a callback.
+/// Returns the callback with copies of its tokens. `span` is the span of a closure.
 fn copied<'s>(alloc: Global, run: CallbackRun<'_, 's>, span: Span) -> Result<Callback<'s>, Memory>
     ensures { IfOk result (λ callback. callback_view callback ≡ run_view span run.entry) }
 {
@@ -93,7 +97,7 @@ fn copied<'s>(alloc: Global, run: CallbackRun<'_, 's>, span: Span) -> Result<Cal
     }
 }
 
-/// Reports that a run is not a closure.
+/// Reports that the run at `span` is not a closure with one parameter.
 fn report_closure(errors: &mut Errors, span: Span) -> Result<(), Memory>
     ensures ok { OnOk result (AddsFault (callback_closure span) errors.old errors.new) }
     ensures unreported { OnErr result (errors.new ≡ errors.old) }
@@ -106,7 +110,7 @@ fn report_closure(errors: &mut Errors, span: Span) -> Result<(), Memory>
     Ok(())
 }
 
-/// Reports that a closure has no body.
+/// Reports that the closure at `span` has no body.
 fn report_body(errors: &mut Errors, span: Span) -> Result<(), Memory>
     ensures ok { OnOk result (AddsFault (callback_body span) errors.old errors.new) }
     ensures unreported { OnErr result (errors.new ≡ errors.old) }
@@ -115,7 +119,7 @@ fn report_body(errors: &mut Errors, span: Span) -> Result<(), Memory>
     Ok(())
 }
 
-/// Reports why a run is not a callback.
+/// Reports `cause`, the reason that the run at `span` is not a callback.
 fn report_callback(errors: &mut Errors, cause: CallbackFault, span: Span) -> Result<(), Memory>
     ensures ok { OnOk result (AddsFault (callback_fault span cause) errors.old errors.new) }
     ensures unreported { OnErr result (errors.new ≡ errors.old) }
@@ -127,8 +131,8 @@ fn report_callback(errors: &mut Errors, cause: CallbackFault, span: Span) -> Res
     Ok(())
 }
 
-/// Reads a callback without a name before it. Reports a run that is not a callback, and returns
-/// `None` for it.
+/// Reads a callback that has no name before it. If the run is not a callback, reports that and
+/// returns `None`.
 ///
 /// # Errors
 ///
@@ -152,8 +156,8 @@ pub fn read_callback<'s>(
     }
 }
 
-/// Reports a second callback, and the span of the first one. After an error the faults are
-/// unchanged.
+/// Reports a second callback at `span`, with its `name`, and the span of `former`, the first one.
+/// After an error the faults are unchanged.
 fn report_again(
     errors: &mut Errors,
     name: Ident<'_>,
@@ -180,8 +184,8 @@ fn report_again(
     errors.append(found)
 }
 
-/// Reports why the value of `callback = ..` is not a callback. After an error the faults are
-/// unchanged.
+/// Reports `cause`, the reason that the value of `callback = ..` at `span` is not a callback. After
+/// an error the faults are unchanged.
 fn report_no_callback(errors: &mut Errors, cause: CallbackFault, span: Span) -> Result<(), Memory>
     ensures ok { OnOk result (errors.new
         ≡ errors.old ++ callback_fault span cause ∷ callback_no_value span ∷ []) }
@@ -193,8 +197,9 @@ fn report_no_callback(errors: &mut Errors, cause: CallbackFault, span: Span) -> 
     errors.append(found)
 }
 
-/// Sets the callback of `callback = ..`. Reports and replaces a former one. Reports a run that is
-/// not a callback, and sets nothing in that case.
+/// Sets `callback` to `tokens`, the value of `callback = ..`, where `name` is the identifier
+/// `callback`. Reports and replaces a former callback. If the run is not a callback, reports that
+/// and sets nothing.
 ///
 /// # Errors
 ///

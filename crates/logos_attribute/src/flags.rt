@@ -1,4 +1,4 @@
-//! Reads the flags in `ignore(..)`. The reader of definitions calls it.
+//! Reads the flags in `ignore(..)`. The reader of definitions calls `read_flags`.
 
 ghost use Rattle.std.specs.Prelude.{◌≡◌, OnOk, OnErr, IfOk, false, string_bytes};
 ghost use Rattle.logos_attribute.specs.Views.{also, none, tokens_of, tree_of, printed, Slice, ident_slice, IsReport, AddsFault, flags_report, ignore_ascii, other_flag, ignore_empty, ignore_token, Continues, HasCase, IsSplit};
@@ -10,7 +10,8 @@ use logos_token::token::{Ident, TokenTree, Tokens, print};
 use logos_token::util::{is_punct, push_escaped};
 use std::alloc::Global;
 
-/// Returns the printed text of the first tree of a run.
+/// Returns the printed text of the first tree of `tokens`, where `rest` has the tokens after
+/// `tree`.
 fn first_printed(
     alloc: Global,
     tokens: Tokens<'_, '_>,
@@ -24,7 +25,8 @@ fn first_printed(
     Ok(text)
 }
 
-/// Reports the first token of a run, which is not the comma that is expected there.
+/// Reports `tree`, the first tree of `tokens`, which is not the comma that is expected there.
+/// `rest` has the tokens after it.
 fn report_no_comma(
     tokens: Tokens<'_, '_>,
     tree: TokenTree<'_, '_>,
@@ -43,7 +45,7 @@ fn report_no_comma(
     Ok(())
 }
 
-/// Reports the flag `ascii_case`.
+/// Reports `flag`, which is `ascii_case`.
 fn report_ascii(flag: Ident<'_>, errors: &mut Errors) -> Result<(), Memory>
     ensures { OnOk result
         (AddsFault (ignore_ascii (ident_slice flag.entry)) errors.old errors.new) }
@@ -56,7 +58,7 @@ fn report_ascii(flag: Ident<'_>, errors: &mut Errors) -> Result<(), Memory>
     )
 }
 
-/// Reports a flag other than `case`.
+/// Reports `flag`, which is not `case`.
 fn report_other(flag: Ident<'_>, errors: &mut Errors) -> Result<(), Memory>
     ensures { OnOk result (AddsFault (other_flag (ident_slice flag.entry)) errors.old errors.new) }
 {
@@ -72,7 +74,7 @@ fn report_other(flag: Ident<'_>, errors: &mut Errors) -> Result<(), Memory>
     )
 }
 
-/// Reports that there is no flag.
+/// Reports that `name`, the identifier `ignore`, has no flag.
 fn report_none(name: Ident<'_>, errors: &mut Errors) -> Result<(), Memory>
     ensures { OnOk result
         (AddsFault (ignore_empty (ident_slice name.entry)) errors.old errors.new) }
@@ -86,7 +88,7 @@ fn report_none(name: Ident<'_>, errors: &mut Errors) -> Result<(), Memory>
 }
 
 /// Returns the tokens after the comma that follows `case`. Returns `None` if there is no comma, and
-/// reports a token in place of the comma.
+/// reports the token that comes instead, if there is one.
 fn after_flag<'t, 's>(
     tokens: Tokens<'t, 's>,
     errors: &mut Errors,
@@ -104,8 +106,9 @@ fn after_flag<'t, 's>(
     Ok(None)
 }
 
-/// Returns the tokens after `case` if that comes first. Otherwise returns `None`, which ends the
-/// reading of flags, and reports the fault if there is one.
+/// Returns the tokens after `case` if `case` comes first. Otherwise returns `None`, which ends the
+/// reading of flags, and reports the fault, if there is one. No tokens are a fault if no flag was
+/// found before.
 fn read_case<'t, 's>(
     name: Ident<'s>,
     found: bool,
@@ -137,7 +140,8 @@ fn read_case<'t, 's>(
     }
 }
 
-/// Sets the flags, and reports the first fault among them. After an error some flags may be set.
+/// Sets `ignore_case` if `tokens` begin with the flag `case`, and reports the first fault among the
+/// flags. After an error `ignore_case` may have been set.
 fn set_flags<'s>(
     ignore_case: &mut bool,
     name: Ident<'s>,
@@ -161,8 +165,9 @@ fn set_flags<'s>(
     Ok(())
 }
 
-/// Sets the flags in the group after `ignore`, and reports the first fault among them. `name` is
-/// the identifier `ignore`. The flags before a fault remain set.
+/// Sets `ignore_case` if `tokens`, the group after `ignore`, begin with the flag `case`, and
+/// reports the first fault among the flags. `name` is the identifier `ignore`. A flag before a
+/// fault remains set.
 ///
 /// # Errors
 ///

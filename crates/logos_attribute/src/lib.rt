@@ -1,5 +1,5 @@
-//! Reads the arguments of attributes on an enum and its variants: their pieces, and the values in
-//! them. `logos_definition` calls it.
+//! Reads the arguments of attributes on an enum and its variants: their pieces, and the values of
+//! these. `logos_definition` calls the readers.
 
 #![tactic(auto)]
 

@@ -1,5 +1,5 @@
-//! Reads strings and byte strings in an attribute's argument. The readers of definitions,
-//! subpatterns and the path of `export_dir` call it.
+//! Reads strings and byte strings in an attribute's argument. The readers of definitions, of
+//! subpatterns and of the path of `export_dir` call these functions.
 
 ghost use Rattle.std.specs.Prelude.{◌≡◌, OnOk, OnErr, IfOk, option_map};
 ghost use Rattle.logos_attribute.specs.Imports.{tokens_of, literal_slice, IsReport, AddsFault, literal_syntax, not_text, text_in, text_report, literal_report, string_in, literal_view};
@@ -26,7 +26,7 @@ fn report_not_text(token: token::Literal<'_>, errors: &mut Errors) -> Result<(),
     Ok(())
 }
 
-/// Reports that a run is not a literal.
+/// Reports that the run `tokens` is not a literal.
 ///
 /// # Errors
 ///
@@ -44,7 +44,7 @@ pub fn report_syntax(tokens: Tokens<'_, '_>, errors: &mut Errors) -> Result<(), 
     )
 }
 
-/// Returns the string or byte string of a literal. Returns `None` if the literal is neither.
+/// Returns the string or byte string of `token`, or `None` if `token` is neither.
 fn text_in<'s>(alloc: Global, token: token::Literal<'s>) -> Result<Option<Literal<'s>>, Memory>
     ensures { IfOk result (λ literal.
         option_map literal_view literal ≡ text_in (literal_slice token.entry)) }
@@ -52,8 +52,8 @@ fn text_in<'s>(alloc: Global, token: token::Literal<'s>) -> Result<Option<Litera
     Ok(Literal::read(alloc, &token)?)
 }
 
-/// Reads a literal as a string or byte string. Reports any other literal, and returns `None` for
-/// it.
+/// Reads `token`, a literal, as a string or byte string. If it is neither, reports that and returns
+/// `None`.
 ///
 /// # Errors
 ///
@@ -75,8 +75,8 @@ pub fn read_text<'s>(
     Ok(Some(literal))
 }
 
-/// Reads a run as a string or byte string. Reports any other run that has tokens. Returns `None`
-/// for any other run.
+/// Reads the run `tokens` as a string or byte string. Returns `None` for any other run, and reports
+/// it unless it is empty.
 ///
 /// # Errors
 ///
@@ -103,7 +103,8 @@ pub fn read_literal<'s>(
     }
 }
 
-/// Returns the string or byte string that a run consists of. Returns `None` if it is neither.
+/// Returns the string or byte string that is the only token of a run. Returns `None` for any other
+/// run.
 ///
 /// # Errors
 ///

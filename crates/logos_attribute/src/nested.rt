@@ -7,27 +7,29 @@ ghost use Rattle.logos_attribute.specs.Views.{Token, TokenList, none, also, appe
 use logos_token::token::{Ident, Literal, TokenTree, Tokens};
 use logos_token::util::is_punct;
 
-/// The tokens after the name of a piece.
+/// The tokens of a piece after its name.
 #[derive(Clone, Copy)]
 pub enum NestedValue<'t, 's> {
-    /// `name = ..`
+    /// `name = ..`, with the tokens after the `=`.
     Assign(Tokens<'t, 's>),
-    /// `name "literal"`
+    /// `name "literal"`, with the literal.
     Literal(Literal<'s>),
-    /// `name(..)`, with the tokens inside.
+    /// `name(..)`, with the tokens inside the delimiters.
     Group(Tokens<'t, 's>),
-    /// `name ident = ..`
+    /// `name ident = ..` or `name ident, ..`, with the second name and the tokens after the `=` or
+    /// the comma, up to the next lone comma.
     KeywordAssign(Ident<'s>, Tokens<'t, 's>),
 }
 
 /// A piece of an attribute's argument: a view, which copies nothing.
 #[derive(Clone, Copy)]
 pub enum Nested<'t, 's> {
-    /// Tokens that do not begin with a name, or a name without a value.
+    /// Tokens that do not begin with a name, a name alone, or a name before other punctuation than
+    /// `=`.
     Unnamed(Tokens<'t, 's>),
     /// A name and its value.
     Named(Ident<'s>, NestedValue<'t, 's>),
-    /// Tokens that belong to no piece.
+    /// Tokens that do not fit after a group or after two names.
     Unexpected(Tokens<'t, 's>),
 }
 
@@ -36,11 +38,11 @@ pub enum Nested<'t, 's> {
 #[derive(Clone, Copy)]
 pub struct AttributeParser<'t, 's> {
     rest: Tokens<'t, 's>,
-    /// Whether the last piece was a name with a group, and no comma has followed it yet.
+    /// Whether the last piece was a name with a group, and no comma has followed that group yet.
     after_group: bool,
 }
 
-/// Returns the first tree and the trees after it, or `None` if the run is empty.
+/// Returns the first tree of `tokens` and the trees after it, or `None` if there are none.
 pub fn split<'t, 's>(tokens: Tokens<'t, 's>) -> Option<(TokenTree<'t, 's>, Tokens<'t, 's>)>
     ensures { MatchOption result
         (tokens_of tokens.entry ≡ none)
@@ -50,7 +52,8 @@ pub fn split<'t, 's>(tokens: Tokens<'t, 's>) -> Option<(TokenTree<'t, 's>, Token
     Some((tree, tokens.rest()))
 }
 
-/// Returns the tokens from the first lone comma on, or an empty run if there is no such comma.
+/// Returns the rest of `tokens` from the first lone comma on, or an empty run if there is no lone
+/// comma.
 fn comma_in<'t, 's>(tokens: Tokens<'t, 's>) -> Tokens<'t, 's>
     ensures parts { tokens_of tokens.entry
         ≡ append (up_to_comma (tokens_of tokens.entry)) (tokens_of result) }
@@ -66,7 +69,7 @@ fn comma_in<'t, 's>(tokens: Tokens<'t, 's>) -> Tokens<'t, 's>
     rest
 }
 
-/// Returns the run up to the first lone comma, and the tokens after that comma.
+/// Returns the run up to the first lone comma, and the tokens after that comma, if there are any.
 fn run_at<'t, 's>(tokens: Tokens<'t, 's>) -> (Tokens<'t, 's>, Tokens<'t, 's>)
     ensures run { tokens_of result.0 ≡ up_to_comma (tokens_of tokens.entry) }
     ensures after { tokens_of result.1 ≡ after_comma (tokens_of tokens.entry) }
@@ -75,8 +78,8 @@ fn run_at<'t, 's>(tokens: Tokens<'t, 's>) -> (Tokens<'t, 's>, Tokens<'t, 's>)
     (tokens.before(end), end.rest())
 }
 
-/// Returns the run that consists of the first tree of any kind and the trees up to the next lone
-/// comma. Also returns the tokens after that comma.
+/// Returns the run that consists of the first tree, even if it is a comma, and the trees up to the
+/// next lone comma. Also returns the tokens after that comma.
 fn run_from<'t, 's>(tokens: Tokens<'t, 's>) -> (Tokens<'t, 's>, Tokens<'t, 's>)
     ensures run { tokens_of result.0 ≡ first_run (tokens_of tokens.entry) }
     ensures after { tokens_of result.1 ≡ after_comma (rest_of (tokens_of tokens.entry)) }
@@ -85,7 +88,7 @@ fn run_from<'t, 's>(tokens: Tokens<'t, 's>) -> (Tokens<'t, 's>, Tokens<'t, 's>)
     (tokens.before(end), end.rest())
 }
 
-/// Returns a parser of the pieces of these tokens.
+/// Returns a parser of the pieces of `tokens`.
 fn begin<'t, 's>(tokens: Tokens<'t, 's>) -> AttributeParser<'t, 's>
     ensures pieces { pieces_left result ≡ pieces (tokens_of tokens.entry) }
     ensures rest { result.rest ≡ tokens.entry }
@@ -96,7 +99,8 @@ fn begin<'t, 's>(tokens: Tokens<'t, 's>) -> AttributeParser<'t, 's>
     }
 }
 
-/// Reads the value that is assigned to a name.
+/// Reads `tokens`, which follow `name =`. Returns the piece, and a parser of the tokens after its
+/// comma.
 fn assigned_at<'t, 's>(
     name: Ident<'s>,
     tokens: Tokens<'t, 's>,
@@ -111,7 +115,8 @@ fn assigned_at<'t, 's>(
     (Nested::Named(name, NestedValue::Assign(run)), begin(rest))
 }
 
-/// Reads the value that is assigned to a second name.
+/// Reads `tokens`, the value after two names. Returns the piece, and a parser of the tokens after
+/// its comma.
 fn keyed_at<'t, 's>(
     keyword: Ident<'s>,
     name: Ident<'s>,
@@ -131,7 +136,8 @@ fn keyed_at<'t, 's>(
     )
 }
 
-/// Reads a name and a literal, and skips the tokens up to the comma.
+/// Reads a name and a literal, and skips `tokens` up to the comma. Returns the piece, and a parser
+/// of the tokens after that comma.
 fn beside_at<'t, 's>(
     name: Ident<'s>,
     literal: Literal<'s>,
@@ -151,7 +157,8 @@ fn beside_at<'t, 's>(
     )
 }
 
-/// Reads tokens that belong to no piece.
+/// Reads tokens that belong to no piece, up to the comma. Returns them, and a parser of the tokens
+/// after that comma.
 fn unexpected_at<'t, 's>(tokens: Tokens<'t, 's>) -> (Nested<'t, 's>, AttributeParser<'t, 's>)
     ensures { Cuts (through_comma (λ run. unexpected run) (tokens_of tokens.entry))
         (after_comma (tokens_of tokens.entry)) result.0 result.1 }
@@ -160,7 +167,8 @@ fn unexpected_at<'t, 's>(tokens: Tokens<'t, 's>) -> (Nested<'t, 's>, AttributePa
     (Nested::Unexpected(run), begin(rest))
 }
 
-/// Reads the first tree of any kind, and the tokens up to the comma.
+/// Reads the first tree of any kind, and the tokens up to the comma. Returns the piece, and a
+/// parser of the tokens after that comma.
 fn unnamed_at<'t, 's>(tokens: Tokens<'t, 's>) -> (Nested<'t, 's>, AttributeParser<'t, 's>)
     ensures { (first : Token) (rest : TokenList) → tokens_of tokens.entry ≡ also first rest →
         Cuts (through_comma (λ run. unnamed (also first run)) rest) (after_comma rest)
@@ -170,7 +178,8 @@ fn unnamed_at<'t, 's>(tokens: Tokens<'t, 's>) -> (Nested<'t, 's>, AttributeParse
     (Nested::Unnamed(run), begin(rest))
 }
 
-/// Reads the tokens after two names.
+/// Reads `tokens`, which follow the names `keyword` and `name`. Returns the piece, and a parser of
+/// the tokens after it.
 fn keyword_at<'t, 's>(
     keyword: Ident<'s>,
     name: Ident<'s>,
@@ -194,8 +203,8 @@ fn keyword_at<'t, 's>(
     unexpected_at(tokens)
 }
 
-/// Reads the tokens after the name at the start of `whole`, the first of which is not a name,
-/// literal or group.
+/// Reads the tokens after `name`, the name at the start of `whole`: `tree`, which is not a name,
+/// literal or group, and `tokens`. Returns the piece, and a parser of the tokens after it.
 fn mark_at<'t, 's>(
     whole: Tokens<'t, 's>,
     name: Ident<'s>,
@@ -215,8 +224,8 @@ fn mark_at<'t, 's>(
     unnamed_at(whole)
 }
 
-/// Returns a parser of the pieces after a name and a group. A comma at the front is removed at
-/// once, so that a run that is read next begins after it.
+/// Returns a parser of the pieces in `tokens`, which follow a name and a group. A comma at the
+/// front is removed at once, so that `AttributeParser::run` begins after it.
 fn end_group<'t, 's>(tokens: Tokens<'t, 's>) -> AttributeParser<'t, 's>
     ensures pieces { pieces_left result ≡ after_group (tokens_of tokens.entry) }
     ensures rest { tokens_of result.rest ≡ without_comma (tokens_of tokens.entry) }
@@ -230,7 +239,8 @@ fn end_group<'t, 's>(tokens: Tokens<'t, 's>) -> AttributeParser<'t, 's>
     }
 }
 
-/// Reads the tokens after the name at the start of `whole`.
+/// Reads `tokens`, which follow `name`, the name at the start of `whole`. Returns the piece, and a
+/// parser of the tokens after it.
 fn name_at<'t, 's>(
     whole: Tokens<'t, 's>,
     name: Ident<'s>,
@@ -298,7 +308,7 @@ fn piece_after_group<'t, 's>(
 }
 
 impl<'t, 's> AttributeParser<'t, 's> {
-    /// Returns a parser of the pieces of a run.
+    /// Returns a parser of the pieces of `tokens`.
     pub fn new(tokens: Tokens<'t, 's>) -> AttributeParser<'t, 's>
         ensures pieces { pieces_left result ≡ pieces (tokens_of tokens.entry) }
         ensures rest { tokens_of result.rest ≡ tokens_of tokens.entry }
@@ -307,7 +317,7 @@ impl<'t, 's> AttributeParser<'t, 's> {
     }
 
     /// Removes and returns the tokens up to the next lone comma, and removes that comma. Returns
-    /// `None` if no token comes before the comma.
+    /// `None` if no token comes before the comma, which is still removed.
     pub fn run(&mut self) -> Option<Tokens<'t, 's>>
         ensures run { MatchOption result
             (up_to_comma (tokens_of self.old.rest) ≡ none)
@@ -345,8 +355,8 @@ impl<'t, 's> Iterator for AttributeParser<'t, 's> {
 
     ghost remaining = { item_count pieces_left };
 
-    /// Returns the next piece and removes the comma that ends it, so that `run` and `parsed`
-    /// continue after that comma. If the result is `None`, nothing has changed.
+    /// Returns the next piece and removes it with the comma that ends it, so that `run` and
+    /// `parsed` continue after that comma. If the result is `None`, nothing has changed.
     fn next(&mut self) -> Option<Nested<'t, 's>> {
         let (nested, rest) = self.read()?;
         *self = rest;

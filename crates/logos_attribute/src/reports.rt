@@ -1,5 +1,5 @@
 //! Reports faults whose messages contain texts of the source. Each function adds one fault. The
-//! readers of attributes and of subpatterns call it.
+//! readers of attributes and of subpatterns call these functions.
 
 ghost use Rattle.std.specs.Prelude.{◌≡◌, OnOk, OnErr};
 ghost use Rattle.logos_attribute.specs.Imports.{run_span, tokens_of, ident_slice, AddsFault, fault, fault_about};
@@ -8,7 +8,7 @@ use logos_token::error::{Errors, FaultCode, Memory};
 use logos_token::token::{Ident, Tokens};
 use logos_type_params::reports::report_about;
 
-/// Reports a fault of a name. The message has the name between two texts.
+/// Reports a fault of `name` at its span. The message is `before`, the name and `after`.
 ///
 /// # Errors
 ///
@@ -28,7 +28,7 @@ pub fn report_named(
     report_about(errors, code, before, name, after)
 }
 
-/// Reports a fault at the span of a run.
+/// Reports a fault at the span of the run `tokens`.
 ///
 /// # Errors
 ///
@@ -48,7 +48,7 @@ pub fn report_run(
     Ok(())
 }
 
-/// Reports a fault at the span of a name.
+/// Reports a fault at the span of `name`.
 ///
 /// # Errors
 ///

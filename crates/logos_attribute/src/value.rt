@@ -1,5 +1,5 @@
 //! Reads numbers and booleans in an attribute's argument. The readers of definitions and options
-//! call it.
+//! call `number_in` and `boolean_in`.
 
 ghost use Rattle.std.specs.Prelude.{◌≡◌};
 ghost use Rattle.logos_attribute.specs.Imports.{all_ascii_digits, tokens_of, decimal, number_in, boolean_named, boolean_in};
@@ -7,7 +7,7 @@ ghost use Rattle.logos_attribute.specs.Imports.{all_ascii_digits, tokens_of, dec
 use crate::nested::split;
 use logos_token::token::{TokenTree, Tokens};
 
-/// Returns whether all bytes are digits.
+/// Returns whether each of `bytes` is an ASCII digit.
 fn all_digits(bytes: &[u8]) -> bool
     ensures { result ≡ all_ascii_digits bytes.now }
 {
@@ -19,8 +19,8 @@ fn all_digits(bytes: &[u8]) -> bool
     true
 }
 
-/// Returns the number that decimal digits spell, or `None` if a byte is not a digit or the number
-/// does not fit `usize`.
+/// Returns the number that `text` spells in decimal digits, or `None` if it has no byte, a byte is
+/// not a digit, or the number does not fit `usize`.
 #[tactic(auto, using(crate::proofs::NumberLemmas::decimal_parsed))]
 fn decimal(text: &str) -> Option<usize>
     ensures { result ≡ decimal text.now }
@@ -42,7 +42,7 @@ pub fn number_in(tokens: Tokens<'_, '_>) -> Option<usize>
     }
 }
 
-/// Returns the boolean that a word spells, or `None` if it is neither `true` nor `false`.
+/// Returns the boolean that `text` spells, or `None` if it is neither `true` nor `false`.
 fn boolean_named(text: &str) -> Option<bool>
     ensures { result ≡ boolean_named text.now }
 {

@@ -1,6 +1,6 @@
-//! Finds the bytes whose steps on a tree differ from those of the byte before them, in one pass
-//! over the tree from the positions that read the last byte. `byte_equivalence` and the steps of
-//! trees call it.
+//! Finds the bytes whose steps on a tree differ from those of the byte before, in one pass over the
+//! tree from the positions that read the last byte. `byte_equivalence` and
+//! `tree_steps::construction` call `mark_tree`.
 
 ghost use Rattle.std.specs.Prelude.{◌≡◌, ◌<◌, ◌^◌, ◌+◌, ◌*◌, ◌==◌, ℕ, IsTrue, IsFalse, length, slice_index};
 ghost use Rattle.logos_automaton.specs.Views.{byte_in, core_of, is_measured, reader_of, spelled, Has, IsFirstFrom, IsRising, GoesAlike, IsCopyAlike, MayLeave, MayPass, OpensAlike, SetsFlags};
@@ -14,7 +14,7 @@ use logos_positions::positions::set::{
     OwnPositions, alike_copies, any_mark, has_mark, next_copy, own_positions,
 };
 
-/// Returns whether the rows differ.
+/// Returns whether the rows differ, where `None` is no row.
 fn differ(row: Option<usize>, other: Option<usize>) -> bool
     ensures { IsFalse result → row ≡ other }
 {
@@ -25,8 +25,8 @@ fn differ(row: Option<usize>, other: Option<usize>) -> bool
     }
 }
 
-/// Marks each byte whose transition from the start of a class of characters differs from that of
-/// the byte before it.
+/// Marks each byte from 1 on whose transition from the start of a class of characters differs from
+/// that of the byte before it.
 fn mark_first(table: &CharacterTable, marked: &mut [bool; 256])
     ensures { SetsFlags (OpensAlike (core.character (reader_of table.now))) marked.old marked.new }
 {
@@ -36,8 +36,8 @@ fn mark_first(table: &CharacterTable, marked: &mut [bool; 256])
     }
 }
 
-/// Marks each byte whose transition from a row of a class of characters differs from that of the
-/// byte before it.
+/// Marks each byte whose transition from the row `row` of a class of characters differs from that
+/// of the byte before it.
 fn mark_row(table: &CharacterTable, row: usize, marked: &mut [bool; 256])
     requires { row < table.now.rows }
     ensures { SetsFlags (λ x y. (reader_of table.now).follow row x ≡ (reader_of table.now).follow row y)
@@ -50,8 +50,8 @@ fn mark_row(table: &CharacterTable, row: usize, marked: &mut [bool; 256])
     }
 }
 
-/// Marks each byte whose transitions from the rows of a class of characters that read the last byte
-/// differ from those of the byte before it.
+/// Marks each byte for which, from a row of a class of characters that is in `marks`, the
+/// transition differs from that of the byte before. The positions of the class begin at `base`.
 fn mark_rows(table: &CharacterTable, marks: &[usize], base: usize, marked: &mut [bool; 256])
     requires rising { IsRising marks.now }
     requires fits { base + table.now.rows < 2 ^ 64 }
@@ -71,7 +71,7 @@ fn mark_rows(table: &CharacterTable, marks: &[usize], base: usize, marked: &mut 
     }
 }
 
-/// Marks a byte and the byte after it.
+/// Marks `byte` and the byte after it, if there is one.
 fn mark_byte(byte: u8, marked: &mut [bool; 256])
     ensures { SetsFlags (OpensAlike (byte_in (λ x. x == byte))) marked.old marked.new }
 {
@@ -79,7 +79,8 @@ fn mark_byte(byte: u8, marked: &mut [bool; 256])
     mark_range(Range::new(value, value), marked);
 }
 
-/// Marks the byte of a literal at an index, if there is one, and the byte after it.
+/// Marks the byte of the literal `text` at the index `at` and the byte after it, or nothing if
+/// there is no such index.
 fn mark_at(text: &[u8], at: usize, marked: &mut [bool; 256])
     ensures { SetsFlags (λ x y. at < length text.now →
         (x == slice_index text.now at) ≡ (y == slice_index text.now at)) marked.old marked.new }
@@ -89,8 +90,8 @@ fn mark_at(text: &[u8], at: usize, marked: &mut [bool; 256])
     }
 }
 
-/// Marks each byte whose transition from the start of a literal differs from that of the byte
-/// before it. Returns whether the literal is empty.
+/// Marks each byte whose transition from the start of the literal `text` differs from that of the
+/// byte before it. Returns whether the literal is empty.
 fn open_literal(text: &[u8], marked: &mut [bool; 256]) -> bool
     ensures marks { SetsFlags (OpensAlike (spelled text.now)) marked.old marked.new }
     ensures passes { MayPass (spelled text.now) → IsTrue result }
@@ -136,7 +137,8 @@ fn open(node: &Node, marked: &mut [bool; 256]) -> bool
     }
 }
 
-/// Calls `open` if the tree is entered, and otherwise marks nothing and returns false.
+/// Marks as `open` does if the tree is entered, and returns the result of `open`. Otherwise marks
+/// nothing and returns `false`.
 fn open_if(entered: bool, node: &Node, marked: &mut [bool; 256]) -> bool
     ensures marks { SetsFlags (λ x y. IsTrue entered → OpensAlike (core_of node.now) x y)
         marked.old marked.new }
@@ -148,8 +150,9 @@ fn open_if(entered: bool, node: &Node, marked: &mut [bool; 256]) -> bool
     open(node, marked)
 }
 
-/// Marks each byte whose transitions from the positions of a literal differ from those of the byte
-/// before it. Returns whether the last position of the literal is in the set.
+/// Marks each byte whose transitions from the positions of the literal `text` in `marks` differ
+/// from those of the byte before it. The positions of the literal begin at `base`. Returns whether
+/// its last position is in `marks`.
 fn follow_literal(text: &[u8], marks: &[usize], base: usize, marked: &mut [bool; 256]) -> bool
     requires rising { IsRising marks.now }
     requires fits { base + length text.now < 2 ^ 64 }
@@ -174,8 +177,9 @@ fn follow_literal(text: &[u8], marks: &[usize], base: usize, marked: &mut [bool;
     has_mark(marks, base + (text.len() - 1))
 }
 
-/// Marks each byte whose transitions from the positions of a tree that is not entered differ from
-/// those of the byte before it. Returns whether the tree may be left.
+/// Marks each byte whose transitions from the positions of `node` in `marks` differ from those of
+/// the byte before it. The tree is not entered, and its positions begin at `base`. Returns whether
+/// the tree can be left if look-around assertions allow it.
 #[cycle(follow)]
 fn follow(node: &Node, marks: &[usize], base: usize, marked: &mut [bool; 256]) -> bool
     requires fits { base + core.width (core_of node.now) < 2 ^ 64 }
@@ -195,8 +199,8 @@ fn follow(node: &Node, marks: &[usize], base: usize, marked: &mut [bool; 256]) -
     follow_node(node, marks, base, marked)
 }
 
-/// Does the same as `follow` on a tree whose positions in the set are `own`. Skips branches without
-/// a position.
+/// Marks and returns the same as `follow`, on a tree whose positions in `marks` are `own`, at least
+/// one. Skips branches of alternations without a position.
 #[cycle(follow)]
 fn follow_marked(node: &Node, marks: &[usize], own: OwnPositions, marked: &mut [bool; 256]) -> bool
     requires fits { own.base + core.width (core_of node.now) < 2 ^ 64 }
@@ -230,7 +234,7 @@ fn follow_marked(node: &Node, marks: &[usize], own: OwnPositions, marked: &mut [
     one | other
 }
 
-/// Does the same as `follow`, dispatching on the form of the tree.
+/// Marks and returns the same as `follow`, with a case for each form of tree.
 #[cycle(follow)]
 fn follow_node(node: &Node, marks: &[usize], base: usize, marked: &mut [bool; 256]) -> bool
     requires fits { base + core.width (core_of node.now) < 2 ^ 64 }
@@ -276,9 +280,9 @@ fn follow_node(node: &Node, marks: &[usize], base: usize, marked: &mut [bool; 25
     }
 }
 
-/// Marks each byte whose transitions from the positions of copies of a body differ from those of
-/// the byte before it. Returns whether one of the copies may be left, in which case the body may be
-/// entered again. Copies with the same positions are visited once.
+/// Marks each byte whose transitions from the positions of `copies` of `body` differ from those of
+/// the byte before it. Returns whether one of the copies can be left if look-around assertions
+/// allow it; the body can then be entered again. Copies with the same positions are visited once.
 #[cycle(follow)]
 fn follow_copies(body: &Node, copies: Copies, marks: &[usize], marked: &mut [bool; 256]) -> bool
     requires fits { copies.base + copies.each * copies.count < 2 ^ 64 }
@@ -303,8 +307,9 @@ fn follow_copies(body: &Node, copies: Copies, marks: &[usize], marked: &mut [boo
     any
 }
 
-/// Marks each byte whose transitions from the positions of a tree, entered or not, differ from
-/// those of the byte before it.
+/// Marks each byte whose transitions from the positions of `node` in `marks` differ from those of
+/// the byte before it. The positions of the tree begin at `base`, and `entered` is whether it is
+/// entered.
 pub fn mark_tree(node: &Node, marks: &[usize], base: usize, entered: bool, marked: &mut [bool; 256])
     requires fits { base + core.width (core_of node.now) < 2 ^ 64 }
     requires measured { IsTrue (is_measured node.now) }

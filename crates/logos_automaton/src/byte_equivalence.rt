@@ -1,6 +1,6 @@
-//! Bytes that no pattern distinguishes. The rows of states and the steps of trees compute
-//! transitions only for the bytes that are marked here; each other byte has the transition of the
-//! byte before it.
+//! Finds the bytes that a pattern distinguishes from the byte before. `row` and `tree_steps`
+//! compute transitions only for these bytes; each other byte has the transition of the byte before
+//! it.
 
 ghost use Rattle.std.specs.Prelude.{◌≡◌, ◌≢◌, ◌∷◌, ◌++◌, ◌+◌, ◌<◌, ℕ, [], IsTrue, IsFalse, OnOk, false, slice_index_or, if◌then◌else◌};
 ghost use Rattle.logos_automaton.specs.Views.{is_in, pairs, byte_in, kind_of_byte, IsRising, Has, SetsFlags, OpensAlike, AreKindBytes, AreFirstBytes, IsPrepared, cores_of};
@@ -12,7 +12,7 @@ use logos_positions::positions::look::kind_of;
 use logos_positions::positions::trees::next_tree;
 use std::alloc::{AllocError, Global};
 
-/// Marks a number, if it is a byte.
+/// Marks `byte`, if the number is a byte: if it is below 256.
 fn mark(byte: usize, marked: &mut [bool; 256])
     ensures { (x : ℕ) → x < 256 → slice_index_or marked.new x false ≡ false →
         (slice_index_or marked.old x false ≡ false) × (x ≢ byte) }
@@ -22,7 +22,7 @@ fn mark(byte: usize, marked: &mut [bool; 256])
     }
 }
 
-/// Marks the first byte of a range, and the byte after its last one.
+/// Marks the first byte of `range`, and the byte after its last one, if these are bytes.
 pub fn mark_range(range: Range, marked: &mut [bool; 256])
     ensures { SetsFlags (OpensAlike (byte_in (is_in ((range.first, range.last) ∷ []))))
         marked.old marked.new }
@@ -31,7 +31,7 @@ pub fn mark_range(range: Range, marked: &mut [bool; 256])
     mark(range.last as usize + 1, marked);
 }
 
-/// Marks each byte that a class of bytes distinguishes from the byte before it.
+/// Marks each byte that a class of bytes with `ranges` distinguishes from the byte before it.
 pub fn mark_ranges(ranges: &[Range], marked: &mut [bool; 256])
     ensures { SetsFlags (OpensAlike (byte_in (is_in (pairs ranges.now)))) marked.old marked.new }
 {
@@ -40,7 +40,7 @@ pub fn mark_ranges(ranges: &[Range], marked: &mut [bool; 256])
     }
 }
 
-/// Adds the byte if `is_one` is true.
+/// Appends `byte` to `bytes` if `is_one` is `true`.
 ///
 /// # Errors
 ///
@@ -55,15 +55,15 @@ pub fn note(bytes: &mut Vec<u8>, byte: u8, is_one: bool) -> Result<(), AllocErro
     Ok(())
 }
 
-/// Returns whether look-around assertions can distinguish the bytes.
+/// Returns whether look-around assertions can distinguish the two bytes.
 fn kinds_differ(one: u8, other: u8) -> bool
     ensures { IsFalse result → kind_of_byte one ≡ kind_of_byte other }
 {
     kind_of(one) != kind_of(other)
 }
 
-/// Returns flags of the bytes that look-around assertions can distinguish from the byte before
-/// them.
+/// Returns a flag for each byte: whether look-around assertions can distinguish it from the byte
+/// before it. The flag of the byte 0 is set.
 pub fn kind_bytes() -> [bool; 256]
     ensures { AreKindBytes result }
 {
@@ -74,7 +74,7 @@ pub fn kind_bytes() -> [bool; 256]
     first
 }
 
-/// Marks the bytes.
+/// Sets the flag of each of `bytes` in `first`.
 pub fn add_bytes(bytes: &[u8], first: &mut [bool; 256])
     ensures { (byte : ℕ) → byte < 256 → slice_index_or first.new byte false ≡ false →
         (slice_index_or first.old byte false ≡ false) × ¬ (Has bytes.now byte) }
@@ -84,8 +84,8 @@ pub fn add_bytes(bytes: &[u8], first: &mut [bool; 256])
     }
 }
 
-/// Returns flags of the bytes that look-around assertions can distinguish from the byte before
-/// them, if some tree has an assertion.
+/// Returns the flags `kinds` if `looks` is `true`: if some tree has a look-around assertion.
+/// Otherwise no flag is set.
 pub fn first_by_kind(looks: bool, kinds: &[bool; 256]) -> [bool; 256]
     requires kinds { AreKindBytes kinds.now }
     ensures { (x : ℕ) → x + 1 < 256 → slice_index_or result (x + 1) false ≡ false →
@@ -94,8 +94,8 @@ pub fn first_by_kind(looks: bool, kinds: &[bool; 256]) -> [bool; 256]
     if looks { *kinds } else { [false; 256] }
 }
 
-/// Returns flags of the bytes that look-around assertions, or the trees that are entered or have a
-/// position, can distinguish from the byte before them.
+/// Returns a flag for each byte: whether it can be distinguished from the byte before it by
+/// look-around assertions, or by a tree that is entered or has a position in `marks`.
 pub fn first_bytes(trees: &Trees<'_>, marks: &[usize], entered: bool) -> [bool; 256]
     requires prepared { IsPrepared trees.now }
     requires rising { IsRising marks.now }

@@ -1,5 +1,5 @@
-//! The steps of trees, which are computed once for each state of a tree. `row` reads the steps from
-//! this cache while it fills the row of a state.
+//! The steps of trees, which are computed once for each state of a tree. `row` looks up these steps
+//! while it fills the row of a state.
 
 ghost use Rattle.std.specs.Prelude.{◌≡◌, ◌∷◌, ◌++◌, ◌+◌, ◌<◌, ◌≤◌, ◌↔◌, List, ℕ, [], false, IfOk, IsTrue, OnOk, length, slice_index, slice_index_or, if◌then◌else◌};
 ghost use Rattle.logos_automaton.specs.Views.{Node, kind_of_byte, Has, IsRising, state_of, Trees, AreKindBytes, IsPrepared, IsCacheOf, AreAlmostCached, AreCached, AreLive, HasSteps, IsTreeState, Keeps, state_after, step_of, tree_view};
@@ -14,11 +14,11 @@ use logos_positions::positions::set::first_from;
 use logos_positions::positions::trees::next_tree;
 use std::alloc::{AllocError, Global};
 
-/// The greatest number of states of trees that are stored. Before more are added, all are removed,
-/// which bounds the memory of the cache.
+/// The number of states of trees at which the cache is full. Before more are added, all are
+/// removed, which bounds the memory of the cache.
 const MAX_TREE_STATES: usize = 32_768;
 
-/// The states of trees that have occurred, and the steps from each.
+/// The states of trees that have occurred, and the steps from each of these states.
 #[derive(Drop)]
 pub struct StepCache {
     /// The states.
@@ -27,7 +27,7 @@ pub struct StepCache {
     pub steps: Vec<TreeSteps>,
 }
 
-/// A tree that has a position that read the last byte.
+/// A tree that has a position that read the last byte, with its steps.
 #[derive(Clone, Copy)]
 pub struct LiveTree {
     /// The number of the tree.
@@ -36,7 +36,7 @@ pub struct LiveTree {
     pub steps: usize,
 }
 
-/// Returns the positions from `low` up to but not including `high`.
+/// Returns the positions of `marks` from `low` to `high`, without `high`.
 ///
 /// # Errors
 ///
@@ -58,7 +58,7 @@ fn marks_between(
     Vec::from_slice(alloc, &marks[from..to])
 }
 
-/// Returns the state of a tree in a state of all trees.
+/// Returns the state of the tree `tree` in the state of all trees with the key `key`.
 ///
 /// # Errors
 ///
@@ -97,7 +97,8 @@ impl StepCache {
         }
     }
 
-    /// Removes all states and steps if the cache is full.
+    /// Removes all states and steps if the cache is full: if it has `MAX_TREE_STATES` states or
+    /// more.
     pub fn trim(&mut self)
         ensures { (trees : Trees) → IsCacheOf trees self.old → IsCacheOf trees self.new }
     {
@@ -108,7 +109,7 @@ impl StepCache {
         self.steps.clear();
     }
 
-    /// Adds the steps from the last state, if it has none yet.
+    /// Computes and stores the steps from the last state, if that state has none yet.
     ///
     /// # Errors
     ///
@@ -131,7 +132,8 @@ impl StepCache {
         }
     }
 
-    /// Returns the index of the steps from a state. The steps are computed if the state is new.
+    /// Returns the index of the steps from `state`. If the state is new, adds it and computes its
+    /// steps.
     ///
     /// # Errors
     ///
@@ -150,7 +152,8 @@ impl StepCache {
         Ok(index)
     }
 
-    /// Returns the live trees of a state that is not the start.
+    /// Returns the live trees of the state with the key `key`, which is not the start, ascending.
+    /// Adds the steps that are not stored yet.
     ///
     /// # Errors
     ///
@@ -176,21 +179,21 @@ impl StepCache {
     }
 }
 
-/// The steps from a state for each byte: those of its live trees.
+/// The steps from a state for each byte, which are the steps of its live trees.
 #[derive(Clone, Copy)]
 pub struct StateSteps<'c> {
-    /// The allocator of the states that the steps lead to.
+    /// The allocator of the states to which the steps lead.
     pub alloc: Global,
     /// The live trees of the state, ascending.
     pub lives: &'c [LiveTree],
-    /// The steps that the live trees index.
+    /// The steps of the cache, in which live trees have their indexes.
     pub steps: &'c [TreeSteps],
     /// Whether some tree has a look-around assertion.
     pub looks: bool,
 }
 
-/// Appends the positions of a tree that read a byte, and returns whether the tree can be left
-/// before it.
+/// Appends to `positions` those positions of a live tree that read `byte`. Returns whether the tree
+/// can be left before the byte.
 ///
 /// # Errors
 ///
@@ -216,7 +219,7 @@ fn push_positions(
     Ok(step.left)
 }
 
-/// Appends the number if `is_one` is true.
+/// Appends `number` to `numbers` if `is_one` is `true`.
 ///
 /// # Errors
 ///
@@ -231,7 +234,8 @@ fn push_if(numbers: &mut Vec<usize>, number: usize, is_one: bool) -> Result<(), 
     Ok(())
 }
 
-/// Marks each byte whose step on a tree differs from that of the byte before it.
+/// Sets the flag in `first` of each byte whose step on a live tree differs from that of the byte
+/// before it.
 fn add_changes(steps: &[TreeSteps], live: LiveTree, first: &mut [bool; 256])
     ensures { (x : ℕ) → x + 1 < 256 → slice_index_or first.new (x + 1) false ≡ false →
         (slice_index_or first.old (x + 1) false ≡ false)
@@ -243,7 +247,7 @@ fn add_changes(steps: &[TreeSteps], live: LiveTree, first: &mut [bool; 256])
 }
 
 impl StateSteps<'_> {
-    /// Returns the key of the state after one more byte.
+    /// Returns the key of the state that `byte` leads to.
     ///
     /// # Errors
     ///
@@ -265,7 +269,8 @@ impl StateSteps<'_> {
         })
     }
 
-    /// Returns flags of the bytes that can lead to another state than the byte before them.
+    /// Returns a flag for each byte: whether it can lead to another state than the byte before it.
+    /// `kinds` are the flags of the bytes that look-around assertions can distinguish.
     pub fn changes(self, kinds: &[bool; 256]) -> [bool; 256]
         requires kinds { AreKindBytes kinds.now }
         ensures { (x : ℕ) → x + 1 < 256 → slice_index_or result (x + 1) false ≡ false →

@@ -1,5 +1,5 @@
-//! Faults of rules, and the reasons why an automaton is not built. `faults` and `dfa::builder`
-//! return them.
+//! The faults of rules, and the reasons that an automaton is not built. `faults` and `dfa::builder`
+//! return these errors.
 
 ghost use Rattle.std.specs.Prelude.{◌≡◌};
 ghost use Rattle.logos_automaton.specs.declared.errors.BuildError.TheVariants.{Memory};
@@ -7,22 +7,22 @@ ghost use Rattle.logos_automaton.specs.declared.errors.BuildError.TheVariants.{M
 use logos_hir::leaf::LeafId;
 use std::alloc::{AllocError, AllocFailed};
 
-/// A fault of a list of leaves.
+/// A fault of the leaves of a lexer.
 #[derive(Debug, Drop)]
 pub enum GraphError {
-    /// A pattern can have a look-around assertion before its first byte.
+    /// A pattern that can have a look-around assertion before its first byte.
     NoUniversalStart,
-    /// The leaf's pattern can match the empty string.
+    /// The leaf whose pattern can match the empty string.
     EmptyMatch(LeafId),
-    /// These leaves have the highest priority among all that match some text. There are two or
+    /// The leaves that have the highest priority among all leaves that match some text, two or
     /// more, in ascending order.
     Disambiguation(Vec<LeafId>),
 }
 
-/// The reasons why a graph is not built.
+/// The reason that a graph is not built.
 #[derive(Clone, Copy, Debug, PartialEq, Eq)]
 pub enum BuildError {
-    /// The size of all trees exceeds 1,048,576.
+    /// The size of all trees together exceeds 1,048,576.
     LimitSize,
     /// The automaton has more than 65,536 states.
     LimitStates,

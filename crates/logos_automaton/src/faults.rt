@@ -1,4 +1,4 @@
-//! Finds the faults of a list of rules. `Graph::new` of `logos_graph` calls it once the automaton
+//! Finds the faults of rules. `Graph::new` of `logos_graph` calls `graph_errors` once the automaton
 //! is built.
 
 ghost use Rattle.std.specs.Prelude.{◌≡◌, ℕ, ◌≤◌, ◌⊎◌, ◌↔◌, IfOk, OnOk, List, map, Contains, vec_len};
@@ -13,7 +13,7 @@ use logos_hir::leaf::LeafId;
 use std::alloc::{AllocError, Global};
 use std::collections::BTreeSet;
 
-/// Returns the leaves whose trees match the empty string, ascending.
+/// Returns the leaves whose trees can match the empty string, ascending.
 ///
 /// # Errors
 ///
@@ -30,7 +30,7 @@ pub fn passable_leaves(alloc: Global, rules: &[RuleView<'_>]) -> Result<Vec<Leaf
     Ok(passed)
 }
 
-/// Returns the priority of a leaf, or 0 if there is no leaf with this number.
+/// Returns the priority of the leaf with the number `leaf`, or 0 if there is no such leaf.
 pub fn priority_at(rules: &[RuleView<'_>], leaf: usize) -> usize
     ensures { result ≡ priority_of (rules_of rules.now) leaf }
 {
@@ -40,7 +40,7 @@ pub fn priority_at(rules: &[RuleView<'_>], leaf: usize) -> usize
     }
 }
 
-/// Returns the highest priority among `listed`, or 0 if there are none.
+/// Returns the highest priority among the leaves `listed`, or 0 if there are none.
 fn highest(rules: &[RuleView<'_>], listed: &[usize]) -> usize
     ensures { result ≡ highest_of (rules_of rules.now) listed.now }
 {
@@ -51,7 +51,7 @@ fn highest(rules: &[RuleView<'_>], listed: &[usize]) -> usize
     highest
 }
 
-/// Returns the leaves of `listed` that have this priority.
+/// Returns the leaves of `listed` that have the priority `priority`, in order.
 ///
 /// # Errors
 ///
@@ -74,8 +74,8 @@ fn with_priority(
     Ok(chosen)
 }
 
-/// Adds the set of the leaves with the highest priority among `listed`, if there are two or more of
-/// them.
+/// Adds the set of the leaves with the highest priority among `listed` to `sets`, if it has two or
+/// more leaves.
 ///
 /// # Errors
 ///
@@ -100,7 +100,7 @@ fn add_top_set(
     add_set(sets, top)
 }
 
-/// Adds a set, if it is new.
+/// Adds `set` to `sets`, if it is new.
 ///
 /// # Errors
 ///
@@ -113,8 +113,8 @@ fn add_set(sets: &mut BTreeSet<Vec<usize>>, set: Vec<usize>) -> Result<(), Alloc
     Ok(())
 }
 
-/// Returns the sets of two or more leaves that have the highest priority among all leaves that a
-/// state lists.
+/// Returns, for the leaves of each state, the set of those with the highest priority, if it has two
+/// or more leaves.
 ///
 /// # Errors
 ///
@@ -135,7 +135,7 @@ fn top_sets(
     Ok(sets)
 }
 
-/// Returns the leaves with these numbers.
+/// Returns the identifiers of the leaves whose numbers are in `set`.
 ///
 /// # Errors
 ///
@@ -150,7 +150,7 @@ fn leaf_ids(alloc: Global, set: &[usize]) -> Result<Vec<LeafId>, AllocError>
     Ok(ids)
 }
 
-/// Returns the sets in ascending order.
+/// Returns the sets of leaves in ascending order.
 ///
 /// # Errors
 ///
@@ -188,7 +188,7 @@ pub fn ambiguous_sets(
     in_order(alloc, &sets)
 }
 
-/// Returns a fault for each leaf that can match the empty string.
+/// Returns a fault for each of the leaves `passed`, which can match the empty string.
 ///
 /// # Errors
 ///
@@ -204,7 +204,7 @@ fn empty_matches(alloc: Global, passed: Vec<LeafId>) -> Result<Vec<GraphError>, 
     Ok(errors)
 }
 
-/// Returns a fault for each set of leaves that length and priority do not distinguish.
+/// Returns a fault for each of `sets`: a set of leaves that length and priority do not distinguish.
 ///
 /// # Errors
 ///
@@ -220,7 +220,8 @@ fn disambiguations(alloc: Global, sets: Vec<Vec<LeafId>>) -> Result<Vec<GraphErr
     Ok(errors)
 }
 
-/// Returns the faults of rules and of their automaton.
+/// Returns the faults of rules and of their automaton: one `NoUniversalStart`, if there is that
+/// fault; otherwise each `EmptyMatch`, if there are any; otherwise each `Disambiguation`.
 ///
 /// # Errors
 ///

@@ -1,5 +1,5 @@
-//! The keys of states, by which a state is looked up while the automaton is built. The loop of
-//! `dfa::builder` begins with the key of the start, and `row` computes the key of each target.
+//! The keys of states, by which a state is looked up while the automaton is built. `dfa::builder`
+//! begins with the key of the start, and `row` computes the key of each target.
 
 ghost use Rattle.std.specs.Prelude.{◌≡◌, ◌<◌, ◌≤◌, ◌+◌, Bool, List, IfOk, OnOk, length};
 ghost use Rattle.logos_automaton.specs.Views.{Core, IsRising, IsPrepared, cores_of};
@@ -17,15 +17,15 @@ use std::alloc::{AllocError, Global};
 pub struct Key {
     /// The positions that can have read the last byte, ascending.
     pub positions: Vec<usize>,
-    /// The kind of that byte, if it is remembered.
+    /// The kind of that byte, or `Unseen` if look-around assertions cannot depend on it.
     pub kind: ByteKind,
     /// The numbers of the trees that match all bytes before that byte, or all bytes if the end was
     /// read, ascending.
     pub matches: Vec<usize>,
 }
 
-/// Returns the kind of a byte that is read at `positions`, or `Unseen` if there are no positions or
-/// no tree has a look-around assertion.
+/// Returns the kind of `byte`, which is read at `positions`, or `Unseen` if there are no positions
+/// or `looks` is `false`: no tree has a look-around assertion.
 pub fn next_kind(looks: bool, positions: &[usize], byte: u8) -> ByteKind
     ensures { result ≡ keys.next_kind looks positions.now byte }
 {
@@ -36,7 +36,7 @@ pub fn next_kind(looks: bool, positions: &[usize], byte: u8) -> ByteKind
     }
 }
 
-/// Returns whether no byte was read.
+/// Returns whether no byte was read, where `kind` is the kind of the last byte.
 pub fn is_start(kind: ByteKind) -> bool
     ensures { result ≡ keys.is_start kind }
 {
@@ -54,7 +54,7 @@ pub fn start_key(alloc: Global) -> Key
     }
 }
 
-/// Returns the key of the state after one more byte.
+/// Returns the key of the state that `byte` leads to from the state with the key `key`.
 ///
 /// # Errors
 ///
@@ -86,7 +86,8 @@ pub fn step_key(trees: &Trees<'_>, key: &Key, byte: u8) -> Result<Key, AllocErro
     })
 }
 
-/// Returns the key of the state after the end.
+/// Returns the key of the state that the end of the input leads to from the state with the key
+/// `key`.
 ///
 /// # Errors
 ///
@@ -113,7 +114,8 @@ pub fn end_key(trees: &Trees<'_>, key: &Key) -> Result<Key, AllocError>
     })
 }
 
-/// Returns the key of the state after the end that lists the trees `matches`.
+/// Returns the key of the state after the end of the input, where the trees `matches` match all
+/// bytes.
 ///
 /// # Errors
 ///
@@ -128,7 +130,7 @@ pub fn ended_key(alloc: Global, matches: &[usize]) -> Result<Key, AllocError>
     })
 }
 
-/// Returns the number of the state with this key, which is added if it is new.
+/// Returns the number of the state with the key `key`, and adds the state to `states` if it is new.
 ///
 /// # Errors
 ///

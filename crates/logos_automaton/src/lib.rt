@@ -1,5 +1,5 @@
-//! The automaton of rules, which lists matches one byte late, and the faults of rules.
-//! `logos_graph` builds graphs from it.
+//! The automaton of rules, whose states name matches one byte late, and the faults of rules.
+//! `logos_graph` builds graphs of automata.
 
 #![tactic(auto)]
 

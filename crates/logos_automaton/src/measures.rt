@@ -1,6 +1,5 @@
-//! Measures of trees. None of them allocates. `rule` and `faults` use them to decide whether a tree
-//! matches the empty string or has a look-around assertion, and `logos_graph` computes the size of
-//! trees with them.
+//! Measures of trees. None of them allocates. `rule` and `faults` decide whether a tree can match
+//! the empty string or has a look-around assertion, and `logos_graph` computes the size of trees.
 
 ghost use Rattle.std.specs.Prelude.{◌≡◌, ℕ, ◌+◌, ◌*◌, ◌^◌, ◌≤◌, ◌↔◌, IsTrue, length, max, map};
 ghost use Rattle.logos_automaton.specs.Imports.{class_tree, tree_of, trees, IsWithinLimit, size, sizes};
@@ -12,7 +11,8 @@ use logos_hir::hir::{Class, Hir};
 /// The greatest size that all trees together can have.
 const SIZE_LIMIT: usize = 1 << 20;
 
-/// Returns whether a tree matches the empty string.
+/// Returns whether a tree can match the empty string: whether it does if each look-around assertion
+/// holds.
 #[cycle(passable)]
 pub fn passable(hir: &Hir) -> bool
     ensures { result ≡ tree.passable (tree_of hir.now) }
@@ -28,7 +28,7 @@ pub fn passable(hir: &Hir) -> bool
     }
 }
 
-/// Returns whether all of the trees match the empty string.
+/// Returns whether each of the trees can match the empty string.
 #[cycle(passable)]
 fn all_passable(parts: &[Hir]) -> bool
     ensures { result ≡ tree.all_passable (trees (map tree_of parts.now)) }
@@ -41,7 +41,7 @@ fn all_passable(parts: &[Hir]) -> bool
     true
 }
 
-/// Returns whether one of the trees matches the empty string.
+/// Returns whether one of the trees can match the empty string.
 #[cycle(passable)]
 fn some_passable(branches: &[Hir]) -> bool
     ensures { result ≡ tree.some_passable (trees (map tree_of branches.now)) }
@@ -69,7 +69,7 @@ pub fn leads(hir: &Hir) -> bool
 }
 
 /// Returns whether one of the trees can have a look-around assertion before its first byte, and all
-/// trees before it match the empty string.
+/// trees before that one can match the empty string.
 #[cycle(leads)]
 fn leads_in_order(parts: &[Hir]) -> bool
     ensures { result ≡ tree.leads_in_order (trees (map tree_of parts.now)) }
@@ -126,7 +126,7 @@ fn some_has_look(hirs: &[Hir]) -> bool
 
 // In the following functions `None` is a size that exceeds the limit.
 
-/// Returns the size, or `None` if it exceeds the limit.
+/// Returns `size`, or `None` if it exceeds the limit.
 fn limited(size: usize) -> Option<usize>
     ensures { IsWithinLimit size result }
 {
@@ -143,7 +143,7 @@ pub fn plus(a: Option<usize>, b: Option<usize>) -> Option<usize>
     limited(a?.checked_add(b?)?)
 }
 
-/// Returns the factor by which the body of a repetition counts in its size.
+/// Returns the factor by which the body of a repetition counts in the repetition's size.
 fn copies(min: u32, max: Option<u32>) -> usize
     ensures count { result ≡ positions.copies min max }
     ensures some { 1 ≤ result }
@@ -155,15 +155,15 @@ fn copies(min: u32, max: Option<u32>) -> usize
     }
 }
 
-/// Returns the size of a repetition with a body of this size, or `None` if one of them exceeds the
-/// limit.
+/// Returns the size of a repetition with a body of the size `body`, or `None` if that size or the
+/// result exceeds the limit.
 fn times(body: Option<usize>, min: u32, max: Option<u32>) -> Option<usize>
     ensures { (n : ℕ) → IsWithinLimit n body → IsWithinLimit (n * positions.copies min max) result }
 {
     limited(body?.checked_mul(copies(min, max))?)
 }
 
-/// Returns the size of a class, or `None` if it exceeds the limit.
+/// Returns the size of a class, or `None` if the size exceeds the limit.
 fn class_size(class: &Class) -> Option<usize>
     ensures { IsWithinLimit (size (class_tree class.now)) result }
 {
@@ -173,8 +173,8 @@ fn class_size(class: &Class) -> Option<usize>
     }
 }
 
-/// Returns the size of a class of characters with `ranges` ranges, or `None` if it exceeds the
-/// limit.
+/// Returns the size of a class of characters with `ranges` ranges, or `None` if the size exceeds
+/// the limit.
 fn ranges_size(ranges: usize) -> Option<usize>
     ensures { IsWithinLimit (max 1 (4 * ranges)) result }
 {
@@ -184,7 +184,7 @@ fn ranges_size(ranges: usize) -> Option<usize>
     limited((4 * ranges).max(1))
 }
 
-/// Returns the size of a tree, or `None` if it exceeds the limit.
+/// Returns the size of a tree, or `None` if the size exceeds the limit.
 #[cycle(size)]
 pub fn limited_size(hir: &Hir) -> Option<usize>
     ensures { IsWithinLimit (size (tree_of hir.now)) result }
@@ -200,7 +200,7 @@ pub fn limited_size(hir: &Hir) -> Option<usize>
     }
 }
 
-/// Returns the sum of the sizes of trees, or `None` if it exceeds the limit.
+/// Returns the sum of the sizes of trees, or `None` if the sum exceeds the limit.
 #[cycle(size)]
 fn limited_sizes(hirs: &[Hir]) -> Option<usize>
     ensures { IsWithinLimit (sizes (trees (map tree_of hirs.now))) result }

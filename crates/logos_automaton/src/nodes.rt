@@ -1,4 +1,4 @@
-//! Prepares the trees of rules for the automaton. `dfa::builder` calls it before its loop.
+//! Prepares the trees of rules for the automaton. `dfa::builder` calls `nodes_of` before its loop.
 
 ghost use Rattle.std.specs.Prelude.{◌^◌, ◌≤◌, IfOk, map};
 ghost use Rattle.logos_automaton.specs.Views.{core_of, AreMeasured, AreRuleCores, size_of, rules_of};
@@ -8,7 +8,7 @@ use logos_positions::node::Node;
 use logos_positions::preparation::prepare;
 use std::alloc::{AllocError, Global};
 
-/// Prepares the trees of rules. Their size must be within the limit.
+/// Returns the prepared trees of `rules`, whose size must be within the limit.
 ///
 /// # Errors
 ///

@@ -1,5 +1,5 @@
-//! Computes the targets of states while the automaton is built. The loop of `dfa::builder` calls it
-//! for each state in turn.
+//! Computes the targets of states while the automaton is built. The loop of `dfa::builder` calls
+//! `row_of` and `end_after` for each state in turn.
 
 ghost use Rattle.std.specs.Prelude.{Bool, List, ℕ, ◌≡◌, ◌^◌, ◌<◌, ◌≤◌, ◌+◌, IfOk, IfSome, IsFalse, OnOk, false, length, slice_index};
 ghost use Rattle.logos_automaton.specs.Views.{Core, AreKindBytes, IsCacheOf, IsPrepared, cores_of, Foresees, IsNotStart, state_after, AreRising, AreReached, AreFirstIn, Extends, Grows, IsAt, LeadsTo, EndsIn, IsRow};
@@ -17,11 +17,12 @@ pub type Row = [u16; 256];
 /// The number of symbols: all bytes, and the end of the input.
 pub const SYMBOLS: usize = 257;
 
-/// The targets of a state, indexed by byte, while the automaton is built and may have a few more
+/// The targets of a state, indexed by byte, while the automaton is built and can have a few more
 /// states than the limit.
 pub type DraftRow = [u32; 256];
 
-/// Returns the target of a state for `byte`, which is added if it is new.
+/// Returns the target of the state `state` for `byte`, and adds the target to `states` if it is
+/// new.
 ///
 /// # Errors
 ///
@@ -50,7 +51,8 @@ fn target_of(
     Ok(target as u32)
 }
 
-/// Returns the target of a state for the end, which is added if it is new.
+/// Returns the target of the state `state` for the end, and adds the target to `states` if it is
+/// new.
 ///
 /// # Errors
 ///
@@ -73,9 +75,9 @@ fn end_of(trees: &Trees<'_>, states: &mut IndexSet<Key>, state: usize) -> Result
     Ok(target as u32)
 }
 
-/// Returns the target of a state for the end, if no tree has a look-around assertion. The leaves
-/// that match before the end are those that match before a byte, so they are listed by `by_zero`,
-/// the target for the byte 0. The target for the end is added if it is new.
+/// Returns the target of a state for the end, if no tree has a look-around assertion, and adds the
+/// target to `states` if it is new. The leaves that match before the end are those that match
+/// before a byte, and are thus the leaves of `by_zero`, the state's target for the byte 0.
 ///
 /// # Errors
 ///
@@ -103,8 +105,8 @@ fn end_as_by_zero(
     Ok(target as u32)
 }
 
-/// Returns the target of a state for the end, where `by_zero` is its target for the byte 0. The
-/// target for the end is added if it is new.
+/// Returns the target of the state `state` for the end, and adds the target to `states` if it is
+/// new. `by_zero` is the state's target for the byte 0.
 ///
 /// # Errors
 ///
@@ -131,7 +133,8 @@ pub fn end_after(
     end_as_by_zero(trees, states, state, by_zero)
 }
 
-/// Returns the target of a state for `byte`, which is `known` if that is not `None`.
+/// Returns the target of the state `state` for `byte`: `known`, if that is not `None`. Otherwise
+/// adds the target to `states` if it is new.
 ///
 /// # Errors
 ///
@@ -161,7 +164,8 @@ fn next_target(
     }
 }
 
-/// Returns flags of the bytes that a state distinguishes from the byte before them.
+/// Returns a flag for each byte: whether the state `state` can distinguish it from the byte before
+/// it.
 fn first_in(trees: &Trees<'_>, states: &IndexSet<Key>, state: usize) -> [bool; 256]
     requires prepared { IsPrepared trees.now }
     requires within { state < length states.now.keys }
@@ -174,7 +178,8 @@ fn first_in(trees: &Trees<'_>, states: &IndexSet<Key>, state: usize) -> [bool; 2
     }
 }
 
-/// Returns all targets of a state for bytes, without the cache of steps.
+/// Returns the targets of the state `state` for all bytes, without the cache of steps, and adds the
+/// targets that are new to `states`.
 ///
 /// # Errors
 ///
@@ -205,7 +210,8 @@ fn plain_row(
     Ok(row)
 }
 
-/// Returns the target of a state for `byte`, computed from the steps of its live trees.
+/// Returns the target of a state for `byte`, computed from the steps of its live trees, and adds
+/// the target to `states` if it is new.
 ///
 /// # Errors
 ///
@@ -225,8 +231,8 @@ fn target_by(steps: StateSteps<'_>, states: &mut IndexSet<Key>, byte: u8) -> Res
     Ok(target as u32)
 }
 
-/// Returns the target of a state for `byte`, which is `known` if that is not `None`, and computed
-/// from the steps of its live trees otherwise.
+/// Returns the target of a state for `byte`: `known`, if that is not `None`. Otherwise computes the
+/// target from the steps of the state's live trees, and adds it to `states` if it is new.
 ///
 /// # Errors
 ///
@@ -254,7 +260,9 @@ fn known_or_target_by(
     }
 }
 
-/// Returns all targets of a state for bytes, computed from the steps of its live trees.
+/// Returns the targets of a state for all bytes, computed from the steps of its live trees, and
+/// adds the targets that are new to `states`. `kinds` are the flags of the bytes that look-around
+/// assertions can distinguish.
 ///
 /// # Errors
 ///
@@ -284,7 +292,7 @@ fn row_by(
     Ok(row)
 }
 
-/// Returns the live trees of a state that is not the start.
+/// Returns the live trees of the state `state`, which is not the start, ascending.
 ///
 /// # Errors
 ///
@@ -310,7 +318,7 @@ fn live_in(
     }
 }
 
-/// Returns whether a state is the start.
+/// Returns whether the state `state` is the start.
 fn is_start_at(states: &IndexSet<Key>, state: usize) -> bool
     requires within { state < length states.now.keys }
     ensures { IsFalse result → IsNotStart states.now.keys state }
@@ -321,9 +329,10 @@ fn is_start_at(states: &IndexSet<Key>, state: usize) -> bool
     }
 }
 
-/// Returns all targets of a state for bytes. The steps of the start are not stored, since it enters
-/// each tree and no other state shares its steps. The steps of a single tree are not stored either,
-/// since its states seldom occur twice.
+/// Returns the targets of the state `state` for all bytes, and adds the targets that are new to
+/// `states`. The steps of the start are not stored, since it enters each tree and no other state
+/// shares its steps. The steps of a single tree are not stored either, since its states seldom
+/// occur twice.
 ///
 /// # Errors
 ///
@@ -361,7 +370,7 @@ pub fn row_of(
     row_by(steps, trees.kinds, states)
 }
 
-/// Returns the row in half the memory. Each target must be less than 65,536.
+/// Returns `row` in half the memory. Each target must be less than 65,536.
 pub fn narrowed(row: &DraftRow) -> Row
     requires { (byte : ℕ) → byte < 256 → slice_index row.now byte < 2 ^ 16 }
     ensures wide { length result ≡ 256 }

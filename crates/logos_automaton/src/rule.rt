@@ -1,4 +1,5 @@
-//! The parts of a leaf that an automaton needs. `logos_graph` creates one for each of its leaves.
+//! Rules: the parts of leaves that an automaton needs. `logos_graph` creates a rule for each of its
+//! leaves.
 
 ghost use Rattle.std.specs.Prelude.{◌≡◌};
 ghost use Rattle.logos_automaton.specs.Faults as faults;
@@ -21,7 +22,7 @@ pub struct RuleView<'h> {
     pub calls_back: bool,
 }
 
-/// Returns whether the tree of some rule can have a look-around assertion before its first byte.
+/// Returns whether the tree of a rule can have a look-around assertion before its first byte.
 pub fn some_leads(rules: &[RuleView<'_>]) -> bool
     ensures { result ≡ faults.some_leads (rules_of rules.now) }
 {
@@ -33,7 +34,7 @@ pub fn some_leads(rules: &[RuleView<'_>]) -> bool
     false
 }
 
-/// Returns whether the tree of some rule matches the empty string.
+/// Returns whether the tree of a rule can match the empty string.
 pub fn some_passable(rules: &[RuleView<'_>]) -> bool
     ensures { result ≡ faults.some_passable (rules_of rules.now) }
 {
@@ -45,7 +46,7 @@ pub fn some_passable(rules: &[RuleView<'_>]) -> bool
     false
 }
 
-/// Returns whether the tree of some rule has a look-around assertion.
+/// Returns whether the tree of a rule has a look-around assertion.
 pub fn some_look(rules: &[RuleView<'_>]) -> bool
     ensures { result ≡ inner.some_look (rules_of rules.now) }
 {

@@ -1,4 +1,4 @@
-//! The steps of one tree for each byte. `tree_steps::construction` computes them, and `cache`
+//! The steps of one tree for each byte. `tree_steps::construction` computes the steps, and `cache`
 //! stores them.
 
 ghost use Rattle.logos_automaton.specs.inside.Alike.{AreChangesOf};
@@ -8,14 +8,14 @@ pub mod construction;
 use logos_positions::positions::look::ByteKind;
 use logos_positions::positions::tree::TreeStep;
 
-/// A state of one tree that is not entered: all that its steps depend on.
+/// A state of one tree that is not entered, which determines the tree's steps.
 #[derive(PartialEq, Eq, Hash, Drop)]
 pub struct TreeState {
     /// The number of the tree.
     pub tree: usize,
     /// The positions of the tree that read the last byte, ascending.
     pub positions: Vec<usize>,
-    /// The kind of that byte, if it is remembered.
+    /// The kind of the last byte, or `Unseen` if look-around assertions cannot depend on it.
     pub kind: ByteKind,
 }
 
@@ -24,9 +24,9 @@ pub struct TreeState {
 pub struct TreeSteps {
     /// The distinct steps.
     pub found: Vec<TreeStep>,
-    /// The index of the step for each byte.
+    /// For each byte, the index of its step in `found`.
     pub by_byte: [u8; 256],
-    /// The bytes whose step differs from that of the byte before them, ascending.
+    /// The bytes whose step differs from that of the byte before, ascending.
     pub changes: Vec<u8>,
     ghost changed: { AreChangesOf by_byte changes.items },
 }

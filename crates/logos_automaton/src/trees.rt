@@ -1,4 +1,5 @@
-//! The input of the construction of states. `dfa::builder` creates it before its loop.
+//! The input of the construction of states. `dfa::builder` makes a value of `Trees` before its
+//! loop.
 
 ghost use Rattle.std.specs.Prelude.{◌^◌, ◌<◌, IfOk, map};
 ghost use Rattle.logos_automaton.specs.Imports.{AreMeasured, AreStarts, core_of, width_of};
@@ -16,14 +17,14 @@ pub struct Trees<'n> {
     pub nodes: &'n [Node],
     /// The first position of each tree, and the position after the last tree.
     pub starts: &'n [usize],
-    /// Whether some tree has a look-around assertion, so that states remember the kind of the last
+    /// Whether some tree has a look-around assertion. Only then do states have the kind of the last
     /// byte.
     pub looks: bool,
-    /// Flags of the bytes that look-around assertions can distinguish from the byte before them.
+    /// For each byte, whether look-around assertions can distinguish it from the byte before it.
     pub kinds: &'n [bool; 256],
 }
 
-/// Returns the first position of each tree, and the end of the positions of the last tree.
+/// Returns the first position of each tree, and at the end the position after the last tree.
 ///
 /// # Errors
 ///

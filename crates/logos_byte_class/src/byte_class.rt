@@ -11,12 +11,12 @@ use std::ops::RangeInclusive;
 /// A set of bytes, as ranges.
 #[derive(Clone, Debug, PartialEq, Eq, Hash, Drop)]
 pub struct ByteClass {
-    /// The bytes from each range's start to its end, both included.
+    /// The ranges of the bytes, each from its start to its end, both included.
     pub ranges: Vec<RangeInclusive<u8>>,
 }
 
 impl ByteClass {
-    /// Returns whether the class contains the byte.
+    /// Returns whether the class contains `byte`.
     fn has(&self, byte: u8) -> bool
         ensures { result ≡ has_byte self.now byte }
     {
@@ -28,7 +28,7 @@ impl ByteClass {
         false
     }
 
-    /// Returns whether each range is non-empty and the ranges ascend with at least one byte between
+    /// Returns whether each range has a byte, and the ranges ascend with at least one byte between
     /// any two.
     pub fn is_separated(&self) -> bool
         ensures { IsTrue result ↔ AreSeparated (ranges_of self.now) }
@@ -45,7 +45,7 @@ impl ByteClass {
         true
     }
 
-    /// Returns a table with an entry for each byte, which is whether the class contains it.
+    /// Returns a table with an entry for each byte: whether the class contains the byte.
     pub fn to_table(&self) -> [bool; 256]
         ensures { (b : ℕ) → b < 256 → slice_index_or result b false ≡ has_byte self.now b }
     {
@@ -58,7 +58,7 @@ impl ByteClass {
 }
 
 impl ByteClass {
-    /// Adds the bytes of the other class. Afterwards the ranges ascend with at least one byte
+    /// Adds the bytes of `other` to the class. Afterwards the ranges ascend with at least one byte
     /// between any two, regardless of their order before.
     ///
     /// # Errors
@@ -76,8 +76,8 @@ impl ByteClass {
         Ok(())
     }
 
-    /// Returns a table with an entry for each byte, which is whether one of the two classes
-    /// contains it.
+    /// Returns a table with an entry for each byte: whether one of the two classes contains the
+    /// byte.
     fn table_with(&self, other: &ByteClass) -> [bool; 256]
         ensures { (b : ℕ) → b < 256 → slice_index_or result b false
             ≡ (has_byte self.now b || has_byte other.now b) }
@@ -115,7 +115,8 @@ impl ByteClass {
     }
 }
 
-/// Returns the first byte from `from` on whose flag is `wanted`, or 256 if there is none.
+/// Returns the first byte from `from` on whose flag in `table` is `wanted`, or 256 if there is
+/// none.
 fn first_where(table: &[bool], from: usize, wanted: bool) -> usize
     requires long { length table.now ≡ 256 }
     requires within { from ≤ 256 }
@@ -133,7 +134,7 @@ fn first_where(table: &[bool], from: usize, wanted: bool) -> usize
     256
 }
 
-/// Returns the ranges of the bytes whose flags are set.
+/// Returns the ranges of the bytes whose flags in `table` are set, ascending.
 fn ranges_of_table(alloc: Global, table: &[bool]) -> Result<Vec<RangeInclusive<u8>>, AllocError>
     requires { length table.now ≡ 256 }
     ensures members { IfOk result (λ made. (b : ℕ) → b < 256 →
@@ -150,8 +151,8 @@ fn ranges_of_table(alloc: Global, table: &[bool]) -> Result<Vec<RangeInclusive<u
     Ok(made)
 }
 
-/// Returns one comparison for as many of the first ranges as possible, and the number of these
-/// ranges.
+/// Returns one comparison for as many of the first `ranges` as have exactly one byte between each
+/// two, and the number of these ranges.
 fn first_comparison(
     alloc: Global,
     ranges: &[RangeInclusive<u8>],
@@ -179,18 +180,18 @@ fn first_comparison(
     ))
 }
 
-/// A range of bytes, except for some of them.
+/// A comparison of a byte with a range, except for some bytes of the range.
 #[derive(Debug, Drop)]
 pub struct Comparisons {
-    /// The bytes from its start to its end, both included.
+    /// The range, from its start to its end, both included.
     pub range: RangeInclusive<u8>,
     /// The bytes of the range that are excluded.
     pub except: Vec<u8>,
 }
 
 impl Comparisons {
-    /// Returns the comparison for the whole range, with no exceptions. The list of exceptions takes
-    /// its memory from `alloc` when it grows; this call takes none.
+    /// Returns the comparison with the whole of `range`, without exceptions. The list of exceptions
+    /// takes its memory from `alloc` when it grows; this call takes none.
     pub fn new(alloc: Global, range: RangeInclusive<u8>) -> Comparisons
         ensures range { result.range ≡ range }
         ensures except { result.except.items ≡ [] }
@@ -215,7 +216,7 @@ impl Comparisons {
         (first > 0) as usize + (last < 255) as usize + exceptions
     }
 
-    /// Returns whether the byte is in the range and is not an exception.
+    /// Returns whether `byte` is in the range and is not an exception.
     pub fn holds(&self, byte: u8) -> bool
         ensures { result ≡ compares (comparison_of self.now) byte }
     {

@@ -1,4 +1,4 @@
-//! Prints bytes and sets of bytes. State diagrams and generated code print them with it.
+//! Prints bytes and sets of bytes. State diagrams and generated code show classes in this form.
 
 ghost use Rattle.std.specs.Prelude.{◌≡◌, ◌<◌, ◌≤◌, ◌↔◌, IsTrue, IsFalse, IfSome, Some, codes, map};
 ghost use Rattle.logos_byte_class.specs.Views.{letter_of, lower_digit, byte_text, range_text, next_ranges_text, class_text, bounds, ranges_of};
@@ -7,13 +7,14 @@ use crate::byte_class::ByteClass;
 use std::fmt;
 use std::ops::RangeInclusive;
 
-/// The characters below this one are ASCII.
+/// The number of characters in ASCII, which are those below it.
 const ASCII: u32 = 128;
 
-/// The control character after the last byte that prints as itself.
+/// The control character DEL, the byte after the last one that prints as itself.
 const DELETE: u8 = 127;
 
-/// Returns the letter that follows `\` if the byte prints as an escape with a letter.
+/// Returns the character that follows `\` if `byte` prints as an escape with one character, and
+/// `None` otherwise.
 pub fn letter_of(byte: u8) -> Option<char>
     ensures is { result ≡ letter_of byte }
     ensures ascii { IfSome result (λ letter. letter < ASCII) }
@@ -29,14 +30,15 @@ pub fn letter_of(byte: u8) -> Option<char>
     }
 }
 
-/// Returns whether the byte prints as itself.
+/// Returns whether `byte` is printable ASCII. Such a byte prints as itself unless `letter_of`
+/// returns an escape.
 pub fn is_printable(byte: u8) -> bool
     ensures { IsTrue result ↔ ((32 ≤ byte) × (byte < DELETE)) }
 {
     (32..DELETE).contains(&byte)
 }
 
-/// Returns a hexadecimal digit in lower case.
+/// Returns the hexadecimal digit of `value`, which must be below 16, in lower case.
 pub fn lower_digit(value: u8) -> char
     requires { value < 16 }
     ensures is { result ≡ lower_digit value }
@@ -108,14 +110,15 @@ impl fmt::Display for NextRanges<'_> {
     }
 }
 
-/// Returns the separator between two ranges.
+/// Returns the separator between two ranges: a line end in the alternate form, and `|` otherwise.
 fn between(alternate: bool) -> &'static str
     ensures { IsFalse alternate → result.now ≡ codes "|" }
 {
     if alternate { "\n" } else { "|" }
 }
 
-/// Prints the ranges, separated by `|`, or by line ends in the alternate form.
+/// Prints the ranges, separated by `|`, or by line ends in the alternate form. Prints nothing for
+/// an empty class.
 impl fmt::Display for ByteClass {
     ghost output = { λ class. Some (class_text (codes "|") (ranges_of class)) };
 

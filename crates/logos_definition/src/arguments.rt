@@ -1,5 +1,5 @@
 //! Reads the callbacks among the arguments of definitions and of error types. `definition` and
-//! `error_type` call it.
+//! `error_type` call `add_callback` and `add_unnamed`.
 
 ghost use Rattle.std.specs.Prelude.{◌≡◌, OnOk, OnErr, option_map};
 ghost use Rattle.logos_definition.specs.Imports.{tokens_of, callback_view, value_of, IsReport, ident_slice, named_callback, unnamed_callback};
@@ -11,7 +11,8 @@ use logos_pattern::leaf::Callback;
 use logos_token::error::{Errors, Memory};
 use logos_token::token::{Ident, Tokens};
 
-/// Sets the callback from the argument `callback`. After an error the callback is unchanged.
+/// Sets `callback` from the argument `callback`, or reports the fault of that argument. After an
+/// error `callback` is unchanged.
 pub(crate) fn add_callback<'s>(
     callback: &mut Option<Callback<'s>>,
     name: Ident<'s>,
@@ -31,7 +32,8 @@ pub(crate) fn add_callback<'s>(
     Ok(())
 }
 
-/// Adds an argument without a name. Only the first argument can be a callback.
+/// Reads an argument without a name: sets `callback` if it is the first argument, and reports it
+/// otherwise. A first argument that is not a callback is reported, and sets `None`.
 pub(crate) fn add_unnamed<'s>(
     callback: &mut Option<Callback<'s>>,
     first: bool,

@@ -1,5 +1,6 @@
 //! Reads definitions: the literal of a `token`, `regex` or `skip(..)`, and the arguments after it.
-//! `logos_leaf` reads one for each `token` and `regex`, and the parser one for each `skip(..)`.
+//! `logos_leaf` reads a definition for each `token` and `regex`, and the parser one for each
+//! `skip(..)`.
 
 ghost use Rattle.std.specs.Prelude.{◌≡◌, OnOk, OnErr, IfOk, option_map, true};
 ghost use Rattle.logos_definition.specs.Views.{tokens_of, ident_slice, IsReport, priority_set, greedy_set, definition_report, value_of, piece_of, pieces_left, literal_view, plain, priority_report, ignore_report, greedy_report, named_report, argument_report, arguments_report, definition_view};
@@ -34,7 +35,8 @@ pub struct Definition<'s> {
     pub ignore_flags: IgnoreFlags,
 }
 
-/// Sets the priority. Reports and replaces a former one. After an error the priority is unchanged.
+/// Sets `priority` to the number that `tokens` spell. Reports and replaces a former one. Reports
+/// tokens that are not a number, and sets nothing. After an error the priority is unchanged.
 fn set_priority(
     priority: &mut Option<usize>,
     tokens: Tokens<'_, '_>,
@@ -56,8 +58,9 @@ fn set_priority(
     Ok(())
 }
 
-/// Sets the value of `allow_greedy`. Reports and replaces a former one. After an error the value is
-/// unchanged.
+/// Sets `allow`, the value of `allow_greedy`, to the boolean that `tokens` spell. Reports and
+/// replaces a former one. Reports tokens that are not a boolean, and sets nothing. After an error
+/// the value is unchanged.
 fn set_greedy(
     allow: &mut Option<bool>,
     tokens: Tokens<'_, '_>,
@@ -80,7 +83,7 @@ fn set_greedy(
 }
 
 impl<'s> Definition<'s> {
-    /// Returns the definition with this literal and no arguments.
+    /// Returns the definition with `literal` and no arguments.
     pub fn new(literal: Literal<'s>) -> Definition<'s>
         ensures { definition_view result ≡ plain (literal_view literal.entry) }
     {
@@ -93,7 +96,8 @@ impl<'s> Definition<'s> {
         }
     }
 
-    /// Adds the argument `priority`. After an error the definition is unchanged.
+    /// Sets the priority from the argument `priority`, or reports the fault of that argument. After
+    /// an error the definition is unchanged.
     fn add_priority(
         &mut self,
         name: Ident<'s>,
@@ -113,7 +117,8 @@ impl<'s> Definition<'s> {
         Ok(())
     }
 
-    /// Adds the flags in `ignore(..)`. After an error the definition is unchanged.
+    /// Sets the flags in `ignore(..)`, and reports the fault of that argument. After an error the
+    /// definition is unchanged.
     fn add_ignore(
         &mut self,
         name: Ident<'s>,
@@ -134,7 +139,8 @@ impl<'s> Definition<'s> {
         Ok(())
     }
 
-    /// Adds the argument `allow_greedy`. After an error the definition is unchanged.
+    /// Sets the value of `allow_greedy`, or reports the fault of that argument. After an error the
+    /// definition is unchanged.
     fn add_greedy(
         &mut self,
         name: Ident<'s>,
@@ -153,7 +159,8 @@ impl<'s> Definition<'s> {
         Ok(())
     }
 
-    /// Adds a named argument, and reports its faults. After an error the definition is unchanged.
+    /// Adds the argument `name` with `value` to the definition, and reports the argument's faults.
+    /// After an error the definition is unchanged.
     pub(crate) fn add_named(
         &mut self,
         name: Ident<'s>,
@@ -180,7 +187,8 @@ impl<'s> Definition<'s> {
         report_unknown(name, errors)
     }
 
-    /// Adds an argument after the literal. Only the first one can be a callback without a name.
+    /// Adds an argument after the literal to the definition, and reports its faults. A callback
+    /// without a name can only be the `first` argument.
     fn add_argument(
         &mut self,
         first: bool,
@@ -199,7 +207,7 @@ impl<'s> Definition<'s> {
         Ok(())
     }
 
-    /// Adds all arguments after the literal.
+    /// Adds all arguments after the literal to the definition, and reports their faults.
     fn add_arguments(
         &mut self,
         pieces: AttributeParser<'_, 's>,
@@ -219,9 +227,9 @@ impl<'s> Definition<'s> {
     }
 }
 
-/// Reads the definition in the parentheses of `token`, `regex` or `skip`. Returns `None` if they do
-/// not begin with a literal, and reports tokens in place of the literal. After `Memory` some of the
-/// faults may have been added.
+/// Reads the definition in the parentheses of `token`, `regex` or `skip`. Returns `None` if
+/// `tokens` do not begin with a string or byte string, and reports the tokens that come instead, if
+/// there are any. After `Memory` some of the faults may have been added.
 pub(crate) fn read_definition<'s>(
     tokens: Tokens<'_, 's>,
     errors: &mut Errors,

@@ -1,4 +1,5 @@
-//! Reads error types and their callbacks. The parser calls it at `error` in `logos(..)`.
+//! Reads error types and their callbacks. The parser calls `error_in` at `error(..)` in
+//! `logos(..)`.
 
 ghost use Rattle.std.specs.Prelude.{OnOk, IfOk, option_map, true, ◌≡◌, OnErr, string_bytes};
 ghost use Rattle.logos_definition.specs.Views.{type_tree, tokens_of, ident_slice, pieces_left, AddsFault, IsReport, unknown_error_argument, error_read, error_arguments_report, error_empty, ErrorGroup, stream_tokens, value_of, piece_of, error_alone, no_error, error_span, error_text, error_named_report, error_argument_report, error_view};
@@ -16,18 +17,18 @@ use logos_type_params::read_value;
 use logos_type_params::reports::report_about_with;
 use std::alloc::Global;
 
-/// The error type of a lexer, and the callback that creates an error.
+/// The error type of a lexer, with the callback that creates an error.
 #[derive(Drop)]
 pub struct ErrorType<'s> {
-    /// The tokens of the type. Without tokens the type is `()`.
+    /// The tokens of the type, or `Void` for the type `()`.
     pub ty: MaybeVoid<'s>,
-    /// The type that was read from these tokens: set for `error(..)`, but not for `error = ..`.
+    /// The type that was read from the tokens: `Some` for `error(..)`, and `None` for `error = ..`.
     pub type_expr: Option<TypeExpr<'s>>,
     /// The callback that creates an error, if there is one.
     pub callback: Option<Callback<'s>>,
 }
 
-/// Reports an unknown name in `error(..)`.
+/// Reports `name`, an unknown name in `error(..)`.
 fn report_unknown(name: Ident<'_>, errors: &mut Errors) -> Result<(), Memory>
     ensures { OnOk result
         (AddsFault (unknown_error_argument (ident_slice name.entry)) errors.old errors.new) }
@@ -43,7 +44,7 @@ fn report_unknown(name: Ident<'_>, errors: &mut Errors) -> Result<(), Memory>
 }
 
 impl<'s> ErrorType<'s> {
-    /// Returns the error type of these tokens, without a callback.
+    /// Returns the error type with the tokens `ty`, without a callback.
     pub fn new(ty: TokenStream<'s>) -> ErrorType<'s>
         ensures { error_view result ≡ error_alone (stream_tokens ty.entry) }
     {
@@ -54,7 +55,7 @@ impl<'s> ErrorType<'s> {
         }
     }
 
-    /// Returns the error type `()`, without a callback. This takes no memory.
+    /// Returns the error type `()`, without a callback. Takes no memory.
     pub fn default(_alloc: Global) -> ErrorType<'s>
         ensures { error_view result ≡ no_error }
     {
@@ -65,9 +66,8 @@ impl<'s> ErrorType<'s> {
         }
     }
 
-    /// Returns the text of the type: the text of the type that was read, if one was, and otherwise
-    /// the text of the tokens, or `()` if there are none. Its lifetimes and parameters are those in
-    /// the source.
+    /// Returns the text of the type: that of `type_expr` if the type was read, and otherwise that
+    /// of its tokens, or `()` if there are none. Lifetimes and parameters are those in the source.
     ///
     /// # Errors
     ///
@@ -92,7 +92,8 @@ impl<'s> ErrorType<'s> {
         }
     }
 
-    /// Adds a named argument, and reports its faults. After an error the type is unchanged.
+    /// Adds the argument `name` with `value`, and reports the argument's faults. After an error the
+    /// type is unchanged.
     pub(crate) fn add_named(
         &mut self,
         name: Ident<'s>,
@@ -110,7 +111,8 @@ impl<'s> ErrorType<'s> {
         report_unknown(name, errors)
     }
 
-    /// Adds an argument after the type. Only the first one can be a callback without a name.
+    /// Adds an argument after the type, and reports its faults. A callback without a name can only
+    /// be the `first` argument.
     fn add_argument(
         &mut self,
         first: bool,
@@ -129,7 +131,7 @@ impl<'s> ErrorType<'s> {
         Ok(())
     }
 
-    /// Adds all arguments after the type.
+    /// Adds all arguments after the type, and reports their faults.
     pub(crate) fn add_arguments(
         &mut self,
         pieces: AttributeParser<'_, 's>,
@@ -149,7 +151,7 @@ impl<'s> ErrorType<'s> {
     }
 }
 
-/// Reports that `error(..)` has no type.
+/// Reports that `group`, the tokens in `error(..)`, has no type.
 fn report_empty(group: Tokens<'_, '_>, errors: &mut Errors) -> Result<(), Memory>
     ensures { OnOk result (AddsFault (error_empty (tokens_of group.entry)) errors.old errors.new) }
 {
@@ -161,8 +163,8 @@ fn report_empty(group: Tokens<'_, '_>, errors: &mut Errors) -> Result<(), Memory
     )
 }
 
-/// Returns the error type that was read from the run, with the arguments after it. The first
-/// argument can be a callback without a name.
+/// Returns the error type `type_expr`, which was read from `run`, with the arguments after it. The
+/// first argument can be a callback without a name.
 fn with_arguments<'s>(
     run: Tokens<'_, 's>,
     type_expr: TypeExpr<'s>,
@@ -183,8 +185,8 @@ fn with_arguments<'s>(
     Ok(error)
 }
 
-/// Reads the error type in `error(..)`. Reports a group without a type, at the span of the whole
-/// group, and returns `None` for it.
+/// Reads the error type in `error(..)`. If the group does not begin with a type, reports that at
+/// the span of the whole group and returns `None`.
 pub(crate) fn error_in<'s>(
     group: Tokens<'_, 's>,
     errors: &mut Errors,

@@ -1,5 +1,5 @@
 //! Reads the attributes of an enum and its variants: definitions, and the options of a lexer.
-//! `logos_leaf` calls it for each attribute.
+//! `logos_leaf` calls its `Parser` for each attribute.
 
 #![tactic(auto)]
 

@@ -1,5 +1,5 @@
 //! Reads the names and the arguments of attributes. The readers of enums and variants distinguish
-//! attributes by it.
+//! attributes by the result of `meta_of`.
 
 ghost use Rattle.std.specs.Prelude.{◌≡◌, MatchOption, None, Some};
 ghost use Rattle.logos_definition.specs.Views.{tokens_of, ident_slice, attribute_value, after_name, meta_of, meta_view};
@@ -12,12 +12,12 @@ use logos_token::token::{Ident, TokenTree, Tokens};
 #[derive(Clone, Copy)]
 pub struct Meta<'t, 's> {
     pub name: Ident<'s>,
-    /// The tokens inside its group, or `None` if it has no group.
+    /// The tokens inside the group after the name, or `None` if no group follows.
     pub arguments: Option<Tokens<'t, 's>>,
 }
 
-/// Returns the attribute with this name, where `tokens` are the tokens after the name. Returns
-/// `None` if its path continues.
+/// Returns the attribute `name`, where `tokens` are the tokens after the name. Returns `None` if
+/// its path continues with `:`.
 fn after_name<'t, 's>(name: Ident<'s>, tokens: Tokens<'t, 's>) -> Option<Meta<'t, 's>>
     ensures { MatchOption result
         (after_name (ident_slice name.entry) (tokens_of tokens.entry) ≡ None)
@@ -38,7 +38,7 @@ fn after_name<'t, 's>(name: Ident<'s>, tokens: Tokens<'t, 's>) -> Option<Meta<'t
 }
 
 /// Returns the name and the arguments of an attribute. Returns `None` for a documentation comment,
-/// and if the path is not one identifier.
+/// and for an attribute whose path is not one identifier.
 pub fn meta_of<'t, 's>(attribute: Attribute<'t, 's>) -> Option<Meta<'t, 's>>
     ensures { MatchOption result
         (meta_of (attribute_value attribute.entry) ≡ None)

@@ -3,8 +3,8 @@
 ghost use Rattle.std.specs.Prelude.{◌≡◌, IfOk, OnOk, OnErr, option_map, true, false, []};
 ghost use Rattle.logos_definition.specs.Views.{tokens_of, literal_slice, IsReport, AddsFault, fault, pieces, text_report, literal_view, definition_report, no_options, utf8_mode, ReadsPieces, ident_slice, value_of, named_report, error_named_report, flags_report, definition_view, parser_view, HasNotFailed, error_view};
 
-/// Runs a call that changes a parser, unless the parser has failed. A parser has failed after an
-/// error.
+/// Runs `$call`, which changes `$parser`, and returns its result. Returns `Memory` at once if the
+/// parser has failed, and lets the parser fail if the call returns an error.
 macro_rules! unless_failed {
     ($parser:expr, $call:expr) => {{
         if $parser.failed {
@@ -35,37 +35,37 @@ use logos_token::util::MaybeVoid;
 use logos_type_params::TypeParams;
 use std::alloc::Global;
 
-/// The UTF-8 mode: whether inputs are UTF-8, and the span of that value in the source.
+/// The UTF-8 mode: whether inputs are UTF-8, and the span of the option's value in the source.
 #[derive(Clone, Copy)]
 pub struct Utf8Mode {
     pub value: bool,
-    /// The span of the value in the source.
+    /// The span of the value in the source, in bytes.
     pub span: Span,
 }
 
-/// The path of the exported state diagram, and its span in the source.
+/// The path of the exported state diagram, and the span of the option's value in the source.
 #[derive(Drop)]
 pub struct ExportPath {
     pub path: String,
-    /// The span of the value in the source.
+    /// The span of the value in the source, in bytes.
     pub span: Span,
 }
 
-/// The options in the attributes of an enum, as they are collected, and the faults found in them.
+/// The options in the attributes of an enum, as far as they have been read, and the faults in them.
 /// If memory runs out in a call that changes the parser, the parser has failed, and each later call
-/// returns `Memory`.
+/// that changes it returns `Memory`.
 #[derive(Drop)]
 pub struct Parser<'s> {
     pub errors: Errors,
     pub utf8_mode: Option<Utf8Mode>,
-    /// The definitions of `skip` that are not leaves yet, in source order. Once the leaves of the
-    /// enum are read there are none.
+    /// The definitions of `skip` that are not leaves yet, in source order. There are none once the
+    /// leaves of the enum have been read.
     pub skips: Vec<Definition<'s>>,
     pub extras: MaybeVoid<'s>,
     /// The subpatterns with their names, in source order.
     pub subpatterns: Vec<(Ident<'s>, Literal<'s>)>,
     pub error_type: Option<ErrorType<'s>>,
-    /// The path of the crate in the generated code.
+    /// The path of the crate in the generated code, or `None` if the option `crate` does not occur.
     pub logos_path: Option<TokenStream<'s>>,
     pub export_path: Option<ExportPath>,
     /// The declared type parameters, and the types given to them.
@@ -75,7 +75,7 @@ pub struct Parser<'s> {
 }
 
 impl<'s> Parser<'s> {
-    /// Returns a parser without options. It takes its memory from `alloc`.
+    /// Returns a parser without options or faults, which takes its memory from `alloc`.
     pub fn new(alloc: Global) -> Parser<'s>
         ensures options { parser_view result ≡ no_options }
         ensures errors { result.errors ≡ [] }
@@ -106,7 +106,8 @@ impl<'s> Parser<'s> {
         }
     }
 
-    /// Adds the arguments in the parentheses of a `logos` attribute, and reports their faults.
+    /// Adds the arguments `tokens`, those in the parentheses of a `logos` attribute, and reports
+    /// their faults.
     ///
     /// # Errors
     ///
@@ -121,7 +122,7 @@ impl<'s> Parser<'s> {
         unless_failed!(self, self.add_pieces(AttributeParser::new(tokens)))
     }
 
-    /// Adds a fault after the others.
+    /// Adds a fault with `code`, `message` and `span` after the others.
     ///
     /// # Errors
     ///
@@ -136,8 +137,8 @@ impl<'s> Parser<'s> {
         unless_failed!(self, self.errors.err(code, message, span))
     }
 
-    /// Reads a literal as a string or byte string. Reports any other literal, and returns `None`
-    /// for it.
+    /// Reads `literal` as a string or byte string. If it is neither, reports that and returns
+    /// `None`.
     ///
     /// # Errors
     ///
@@ -156,8 +157,9 @@ impl<'s> Parser<'s> {
         unless_failed!(self, read_text(self.alloc, literal, &mut self.errors))
     }
 
-    /// Reads the definition in the parentheses of a `token` or `regex`. Returns `None` if they do
-    /// not begin with a literal, and reports tokens in place of the literal.
+    /// Reads the definition in the parentheses of a `token` or `regex`. Returns `None` if `tokens`
+    /// do not begin with a string or byte string, and reports the tokens that come instead, if
+    /// there are any.
     ///
     /// # Errors
     ///
@@ -178,8 +180,8 @@ impl<'s> Parser<'s> {
 }
 
 impl<'s> Definition<'s> {
-    /// Adds a named argument, and adds its faults to `parser`, which is otherwise unchanged. Memory
-    /// is taken from the allocator of `parser`.
+    /// Adds the argument `name` with `value` to the definition, and adds the argument's faults to
+    /// `parser`, which is otherwise unchanged. Memory is taken from the allocator of `parser`.
     ///
     /// # Errors
     ///
@@ -206,8 +208,8 @@ impl<'s> Definition<'s> {
 }
 
 impl<'s> ErrorType<'s> {
-    /// Adds a named argument, and adds its faults to `parser`, which is otherwise unchanged. Memory
-    /// is taken from the allocator of `parser`.
+    /// Adds the argument `name` with `value` to the error type, and adds the argument's faults to
+    /// `parser`, which is otherwise unchanged. Memory is taken from the allocator of `parser`.
     ///
     /// # Errors
     ///
@@ -233,9 +235,9 @@ impl<'s> ErrorType<'s> {
 }
 
 impl IgnoreFlags {
-    /// Sets the flags in the group after `ignore`, and adds the first fault among them to `parser`,
-    /// which is otherwise unchanged. `name` is the identifier `ignore`. Memory is taken from the
-    /// allocator of `parser`.
+    /// Sets the flags in `tokens`, the group after `ignore`, and adds the first fault among them to
+    /// `parser`, which is otherwise unchanged. `name` is the identifier `ignore`. Memory is taken
+    /// from the allocator of `parser`.
     ///
     /// # Errors
     ///

@@ -1,4 +1,4 @@
-//! Reports the faults of leaves. Each function adds one fault. `leaf` calls it.
+//! Reports the faults of leaves, one for each function. `leaf` calls these functions.
 
 ghost use Rattle.std.specs.Prelude.{OnOk};
 ghost use Rattle.logos_leaf.specs.Imports.{AddsFault, greedy_dot, priority_overflow};
@@ -10,14 +10,15 @@ use logos_token::token::Span;
 const GREEDY_DOT: &str =
     "This pattern contains an unbounded greedy dot repetition, i.e. `.*` or `.+` (or a character class that is equivalent to a dot, i.e., `[^\\n]*`). This will cause the entirety of the input to be read for every token. Consider making your repetition non-greedy or changing it to a more specific character class. If this is the intended behavior, add #[regex(..., allow_greedy = true)] or#[logos(skip(..., allow_greedy = true))]";
 
-/// Reports a greedy dot.
+/// Reports a greedy dot in the pattern whose literal is at `span`.
 pub(crate) fn report_greedy_dot(span: Span, errors: &mut Errors) -> Result<(), Memory>
     ensures { OnOk result (AddsFault (greedy_dot span) errors.old errors.new) }
 {
     errors.err(FaultCode::GreedyDot, GREEDY_DOT, span)
 }
 
-/// Reports a default priority that does not fit `usize`.
+/// Reports that the default priority of the pattern whose literal is at `span` does not fit
+/// `usize`.
 pub(crate) fn report_overflow(span: Span, errors: &mut Errors) -> Result<(), Memory>
     ensures { OnOk result (AddsFault (priority_overflow span) errors.old errors.new) }
 {

@@ -1,5 +1,5 @@
-//! Makes the leaves of definitions. The readers of skips and of the attributes of variants call it,
-//! once for each leaf.
+//! Makes leaves of definitions. The readers of skips and of the attributes of variants call
+//! `token_leaf` or `regex_leaf` for each definition.
 
 ghost use Rattle.std.specs.Prelude.{◌≡◌, ◌++◌, IfOk, IfSome, OnOk, OnErr, true, false, option_map, chars, string_bytes};
 ghost use Rattle.logos_leaf.specs.Imports.{literal_tree, KindValue, pattern_tree, source_of, is_token, kind_value, token_of, literal_view, IsReport, definition_view, IsRead, pattern_text, subst_report, names_of, bytes_of, is_string, escaped_of, leaf_with, options_of, token_priority, token_leaf, regex_priority, greedy_faults, tree_report, IsTokenLeaf, IsRegexLeaf, leaf_view, leaf_by, IsFoldedLeaf, IsWholeLeaf};
@@ -13,7 +13,7 @@ use logos_pattern::pattern::{Literal, Pattern, token_priority};
 use logos_token::error::{Errors, Memory};
 use std::alloc::Global;
 
-/// Returns the options of a definition.
+/// Returns the options of the leaf of `definition`.
 fn options_of(definition: &Definition<'_>) -> LeafOptions
     ensures { result ≡ options_of (definition_view definition.now) }
 {
@@ -23,7 +23,7 @@ fn options_of(definition: &Definition<'_>) -> LeafOptions
     }
 }
 
-/// Returns the leaf of a definition with this pattern and this priority.
+/// Returns the leaf of `definition` with `kind`, `pattern` and `priority`.
 fn leaf_with<'s>(
     definition: Definition<'s>,
     kind: VariantKind<'s>,
@@ -44,8 +44,8 @@ fn leaf_with<'s>(
         .options(options)
 }
 
-/// Returns the priority of a `token`: the given one, or twice the number of bytes of its literal's
-/// value.
+/// Returns the priority of a `token`: that of its definition, or else twice the number of bytes of
+/// its literal's value.
 fn priority_of(definition: &Definition<'_>) -> usize
     ensures { result ≡ token_priority (definition_view definition.now) }
 {
@@ -63,7 +63,7 @@ fn is_string(literal: &Literal<'_>) -> bool
     }
 }
 
-/// Returns the text of a pattern that matches exactly the value of a literal.
+/// Returns the text of a pattern that matches exactly the value of `literal`.
 fn escaped_of(alloc: Global, literal: &Literal<'_>) -> Result<String, Memory>
     ensures { IfOk result (λ text. string_bytes text ≡ escaped_of (literal_view literal.now).held) }
 {
@@ -74,8 +74,8 @@ fn escaped_of(alloc: Global, literal: &Literal<'_>) -> Result<String, Memory>
     }
 }
 
-/// Returns the pattern of a `token` whose letters match in either case. Returns `None` if its text
-/// is not a pattern, and reports that.
+/// Returns the pattern of a `token` whose letters match in either case. If the escaped text of
+/// `literal` is not read as a pattern, reports the reason and returns `None`.
 fn folded_pattern<'s>(
     literal: &Literal<'s>,
     errors: &mut Errors,
@@ -100,8 +100,8 @@ fn folded_pattern<'s>(
     read_pattern(text.as_str(), written, mode, errors)
 }
 
-/// Returns the leaf of a `token` whose letters match in either case. Returns `None` if its text is
-/// not a pattern, and reports that.
+/// Returns the leaf of a `token` whose letters match in either case. If its text is not read as a
+/// pattern, reports the reason and returns `None`.
 fn folded_leaf<'s>(
     definition: Definition<'s>,
     kind: VariantKind<'s>,
@@ -130,7 +130,8 @@ fn folded_leaf<'s>(
     }
 }
 
-/// Returns the leaf of a `token` that matches the bytes of its literal's value.
+/// Returns the leaf of a `token` without flags, which matches exactly the bytes of its literal's
+/// value.
 fn plain_leaf<'s>(
     alloc: Global,
     definition: Definition<'s>,
@@ -153,7 +154,8 @@ fn plain_leaf<'s>(
     }
 }
 
-/// Returns the leaf of a `token`. Returns `None` if its text is not a pattern, and reports that.
+/// Returns the leaf of a `token`. If `definition` ignores case and its text is not read as a
+/// pattern, reports the reason and returns `None`.
 ///
 /// # Errors
 ///
@@ -174,7 +176,7 @@ pub fn token_leaf<'s>(
     Ok(Some(plain_leaf(errors.alloc(), definition, kind)?))
 }
 
-/// Reports a greedy dot of a pattern, unless the definition allows it.
+/// Reports a greedy dot of `pattern`, unless `definition` allows it.
 fn check_greedy(
     definition: &Definition<'_>,
     pattern: &Pattern<'_>,
@@ -190,7 +192,8 @@ fn check_greedy(
     Ok(())
 }
 
-/// Returns the priority of a pattern: the given one, or its default if that fits `usize`.
+/// Returns the priority of a `regex` or `skip`: that of its definition, or else the default of
+/// `pattern`. Returns `None` if that default does not fit `usize`.
 fn regex_priority(definition: &Definition<'_>, pattern: &Pattern<'_>) -> Option<usize>
     ensures { result
         ≡ regex_priority (definition_view definition.now) (pattern_tree pattern.now) }
@@ -198,9 +201,9 @@ fn regex_priority(definition: &Definition<'_>, pattern: &Pattern<'_>) -> Option<
     definition.priority.or(pattern.priority())
 }
 
-/// Returns a pattern with its priority: the given one, or its default. Returns `None` if its
-/// default does not fit `usize`, and reports that. A greedy dot is reported before that, unless the
-/// definition allows it.
+/// Returns `pattern` with its priority: that of its definition, or else its default. If the default
+/// does not fit `usize`, reports that and returns `None`. A greedy dot is reported first, unless
+/// the definition allows it.
 fn fitted_pattern<'s>(
     definition: &Definition<'s>,
     pattern: Pattern<'s>,
@@ -228,8 +231,9 @@ fn fitted_pattern<'s>(
     Ok(Some((pattern, priority)))
 }
 
-/// Returns the pattern of a text with all subpatterns substituted, and its priority. Returns `None`
-/// if the text is not a pattern or the priority does not fit `usize`, and reports that.
+/// Reads `text`, in which all subpatterns are substituted, and returns its pattern and priority. If
+/// the text is not read as a pattern or the default priority does not fit `usize`, reports that and
+/// returns `None`.
 fn whole_pattern<'s>(
     definition: &Definition<'s>,
     text: &str,
@@ -261,8 +265,8 @@ fn whole_pattern<'s>(
     }
 }
 
-/// Returns the pattern text that a literal's value spells, with all subpatterns substituted.
-/// Returns `None` if a subpattern is missing, and reports that.
+/// Returns the pattern text that the value of `literal` spells, with all subpatterns substituted.
+/// If a subpattern is missing, reports that and returns `None`.
 fn whole_text(
     literal: &Literal<'_>,
     subpatterns: &Subpatterns<'_>,
@@ -278,9 +282,9 @@ fn whole_text(
     subpatterns.subst_subpatterns(alloc, text.as_str(), literal.span(), errors)
 }
 
-/// Returns the pattern of a `regex` or `skip`, and its priority. Returns `None` if a subpattern is
-/// missing, if its text is not a pattern, or if its priority does not fit `usize`, and reports
-/// that.
+/// Returns the pattern of a `regex` or `skip`, and its priority. If a subpattern is missing, the
+/// text is not read as a pattern, or the default priority does not fit `usize`, reports that and
+/// returns `None`.
 fn regex_pattern<'s>(
     definition: &Definition<'s>,
     subpatterns: &Subpatterns<'s>,
@@ -300,8 +304,8 @@ fn regex_pattern<'s>(
     }
 }
 
-/// Returns the leaf of a `regex` or `skip`, if it has one, and reports its faults. After an error
-/// some faults may have been added.
+/// Returns the leaf of a `regex` or `skip`, or `None` for a fault that prevents it, and reports all
+/// faults. After an error some faults may have been added.
 fn read_leaf<'s>(
     definition: Definition<'s>,
     kind: VariantKind<'s>,
@@ -327,9 +331,9 @@ fn read_leaf<'s>(
     }
 }
 
-/// Returns the leaf of a `regex` or `skip`. Returns `None` if a subpattern is missing, if its text
-/// is not a pattern, or if its priority does not fit `usize`, and reports that. A greedy dot is
-/// also reported, but the leaf is returned.
+/// Returns the leaf of a `regex` or `skip`. If a subpattern is missing, the text is not read as a
+/// pattern, or the default priority does not fit `usize`, reports that and returns `None`. A greedy
+/// dot is also reported, unless the definition allows it, but the leaf is returned.
 ///
 /// # Errors
 ///

@@ -15,7 +15,7 @@ use logos_token::token::Tokens;
 use std::collections::HashSet;
 use std::mem;
 
-/// Reads the generic parameters of an enum into a parser, in order.
+/// Reads the generic parameters of an enum into `parser`, in order.
 fn read_parameters<'s>(
     parameters: &[Parameter<'_, 's>],
     parser: &mut Parser<'s>,
@@ -29,7 +29,7 @@ fn read_parameters<'s>(
     Ok(())
 }
 
-/// Reads the attributes of an enum into a parser, in order.
+/// Reads the attributes of an enum into `parser`, in order.
 fn read_attributes<'s>(attributes: Tokens<'_, 's>, parser: &mut Parser<'s>) -> Result<(), Memory>
     ensures { OnOk result (ReadsAttributes (parser_view parser.old) (parser_view parser.new)
         parser.old.errors parser.new.errors (tokens_of attributes.entry)) }
@@ -42,7 +42,8 @@ fn read_attributes<'s>(attributes: Tokens<'_, 's>, parser: &mut Parser<'s>) -> R
     Ok(())
 }
 
-/// Adds the leaves of the definitions of `skip`, in source order.
+/// Appends to `leaves` the leaves of `skips`, the definitions of `skip`, in source order, and
+/// reports their faults.
 fn add_skips<'s>(
     skips: Vec<Definition<'s>>,
     subpatterns: &Subpatterns<'s>,
@@ -60,8 +61,8 @@ fn add_skips<'s>(
     Ok(())
 }
 
-/// Removes the skips from a parser, and makes their leaves and those of these variants. `held`
-/// contains the names of the parameters whose types contain them.
+/// Removes the skips from `parser`, and returns their leaves and then the leaves of `variants`.
+/// `held` contains the name of each type parameter whose type contains that parameter.
 fn leaves_with<'s>(
     variants: &[Variant<'_, 's>],
     held: &HashSet<&'s str>,
@@ -83,8 +84,8 @@ fn leaves_with<'s>(
     Ok(leaves)
 }
 
-/// Reports each parameter whose type contains it, reads the subpatterns, and makes the leaves of
-/// the skips and of these variants.
+/// Reports each type parameter whose type contains that parameter, reads the subpatterns, and
+/// returns the leaves of the skips and of `variants`.
 fn make_leaves<'s>(
     variants: &[Variant<'_, 's>],
     parser: &mut Parser<'s>,
@@ -106,10 +107,10 @@ fn make_leaves<'s>(
     }
 }
 
-/// Reads an enum into a new parser, and returns its leaves: those of its skips first, then those of
-/// its variants, in source order. Reads the generic parameters, the attributes, the subpatterns,
-/// the skips and the variants, in this order, and performs each step regardless of earlier faults.
-/// The parser then has the options without the skips, and all faults.
+/// Reads an enum into `parser`, a new parser, and returns its leaves: those of its skips first,
+/// then those of its variants, in source order. Reads the generic parameters, the attributes, the
+/// subpatterns, the skips and the variants, in this order, and performs each step regardless of
+/// earlier faults. Afterwards the parser has the options without the skips, and all faults.
 ///
 /// # Errors
 ///

@@ -36,19 +36,20 @@ pub struct Subpattern<'s> {
 pub struct Subpatterns<'s> {
     /// The subpatterns, in the order in which their names first occur.
     list: Vec<Subpattern<'s>>,
-    /// For each name, its index in the list.
+    /// For the name of each subpattern, its index in `list`.
     slots: HashMap<&'s str, usize>,
     ghost found: { FindSlots (map stored_of list.items) slots.entries },
 }
 
-/// The flags with which the text of a subpattern is tested. The text sets its own flags.
+/// The flags with which the text of a subpattern is tested. The group around the text sets its own
+/// flags.
 const TEST_MODE: ReadingMode = ReadingMode {
     is_literal: false,
     unicode: true,
     ignore_case: false,
 };
 
-/// Returns whether a name can contain a byte.
+/// Returns whether the name of a subpattern can contain `byte`.
 fn is_word(byte: u8) -> bool
     ensures { result ≡ is_word byte }
 {
@@ -57,7 +58,7 @@ fn is_word(byte: u8) -> bool
         | (((b'`' < byte) & (byte < b'{')) | (byte == b'_'))
 }
 
-/// Returns whether a name can contain all these bytes.
+/// Returns whether the name of a subpattern can contain each of `bytes`.
 fn are_words(bytes: &[u8]) -> bool
     ensures { result ≡ list_all is_word bytes.now }
 {
@@ -69,7 +70,8 @@ fn are_words(bytes: &[u8]) -> bool
     true
 }
 
-/// Returns whether a text is a name: one or more digits, ASCII letters and `_`.
+/// Returns whether `text` can be the name of a subpattern: one or more digits, ASCII letters and
+/// `_`.
 fn is_name(text: &str) -> bool
     ensures { result ≡ is_name text.now }
 {
@@ -80,7 +82,8 @@ fn is_name(text: &str) -> bool
     are_words(bytes)
 }
 
-/// Returns the text that opens the group of a subpattern, and sets its flags.
+/// Returns the text that opens the group of a subpattern and sets the group's flags: `(?u:` for a
+/// string, and `(?-u:` for a byte string.
 pub(crate) fn flags_of(literal: &Literal<'_>) -> &'static str
     ensures { result.now ≡ flags_of (literal_view literal.now).held }
 {
@@ -90,7 +93,7 @@ pub(crate) fn flags_of(literal: &Literal<'_>) -> &'static str
     }
 }
 
-/// Returns the pattern text that a literal's value spells.
+/// Returns the pattern text that the value of `literal` spells.
 ///
 /// # Errors
 ///
@@ -104,8 +107,8 @@ pub fn pattern_text(alloc: Global, literal: &Literal<'_>) -> Result<String, Memo
     }
 }
 
-/// Returns the pattern text of a literal in a group that sets its flags, as other patterns contain
-/// it.
+/// Returns the pattern text of `literal` in a group that sets its flags. Other patterns contain it
+/// in this form.
 pub(crate) fn wrapped(alloc: Global, literal: &Literal<'_>) -> Result<String, Memory>
     ensures { IfOk result (λ text. string_bytes text ≡ wrapped (literal_view literal.now).held) }
 {
@@ -116,7 +119,7 @@ pub(crate) fn wrapped(alloc: Global, literal: &Literal<'_>) -> Result<String, Me
     Ok(text)
 }
 
-/// Reports a name that no subpattern can have.
+/// Reports `name`, which no subpattern can have.
 fn report_name(name: Ident<'_>, errors: &mut Errors) -> Result<(), Memory>
     ensures { OnOk result
         (AddsFault (subpattern_name (ident_slice name.entry)) errors.old errors.new) }
@@ -130,7 +133,7 @@ fn report_name(name: Ident<'_>, errors: &mut Errors) -> Result<(), Memory>
     )
 }
 
-/// Reports a second subpattern with the same name.
+/// Reports the second subpattern that is called `name`.
 fn report_second(name: Ident<'_>, errors: &mut Errors) -> Result<(), Memory>
     ensures { OnOk result
         (AddsFault (subpattern_twice (ident_slice name.entry)) errors.old errors.new) }
@@ -144,7 +147,8 @@ fn report_second(name: Ident<'_>, errors: &mut Errors) -> Result<(), Memory>
     )
 }
 
-/// Reports a second subpattern with the same name, and the span of the first one.
+/// Reports the second subpattern that is called `name`, and `former`, the span of the first one's
+/// name.
 fn report_twice(name: Ident<'_>, former: Span, errors: &mut Errors) -> Result<(), Memory>
     ensures { OnOk result (errors.new ≡ errors.old
         ++ (subpattern_twice (ident_slice name.entry) ∷ previous former ∷ [])) }
@@ -154,7 +158,7 @@ fn report_twice(name: Ident<'_>, former: Span, errors: &mut Errors) -> Result<()
     Ok(())
 }
 
-/// Returns the message for a subpattern that can match invalid UTF-8.
+/// Returns the message for a subpattern, its name and its literal, that can match invalid UTF-8.
 fn utf8_text(alloc: Global, named: &(Ident<'_>, Literal<'_>)) -> Result<String, Memory>
     ensures { IfOk result (λ text. string_bytes text ≡ utf8_text (named_literal_view named.now)) }
 {
@@ -166,7 +170,7 @@ fn utf8_text(alloc: Global, named: &(Ident<'_>, Literal<'_>)) -> Result<String, 
     Ok(text)
 }
 
-/// Reports that a subpattern can match invalid UTF-8.
+/// Reports that a subpattern, its name and its literal, can match invalid UTF-8.
 fn report_utf8(named: &(Ident<'_>, Literal<'_>), errors: &mut Errors) -> Result<(), Memory>
     ensures { OnOk result
         (AddsFault (utf8_subpattern (named_literal_view named.now)) errors.old errors.new) }
@@ -178,7 +182,7 @@ fn report_utf8(named: &(Ident<'_>, Literal<'_>), errors: &mut Errors) -> Result<
 impl<'s> Subpatterns<'s> {
     ghost use Rattle.logos_leaf.specs.subpattern.SubpatternViews.{names_of};
 
-    /// Returns the index of the subpattern with this name, if there is one.
+    /// Returns the index of the subpattern that is called `name`, or `None` if there is none.
     fn slot(&self, name: &str) -> Option<usize>
         ensures slot { result ≡ slot_in (names_of self.now) name.now }
         ensures within { IfSome result (λ slot. slot < vec_len self.now.list) }
@@ -187,7 +191,7 @@ impl<'s> Subpatterns<'s> {
         Some(*slot)
     }
 
-    /// Returns the text of the subpattern with this name, if there is one.
+    /// Returns the text of the subpattern that is called `name`, or `None` if there is none.
     pub(crate) fn find(&self, name: &str) -> Option<&str>
         ensures { option_map (λ (text : Bor (List ℕ)). text.now) result
             ≡ text_of (names_of self.now) name.now }
@@ -196,8 +200,8 @@ impl<'s> Subpatterns<'s> {
         Some(self.list[slot].pattern.as_str())
     }
 
-    /// Returns the length of the text of the subpattern with this name, and the span of the name at
-    /// its definition, if there is one.
+    /// Returns the length in bytes of the text of the subpattern that is called `name`, and the
+    /// span of the name at its definition. Returns `None` if there is none.
     pub(crate) fn stored(&self, name: &str) -> Option<(usize, Span)> {
         let slot = self.slot(name)?;
         let subpattern = &self.list[slot];
@@ -217,8 +221,8 @@ impl<'s> Subpatterns<'s> {
         Ok(())
     }
 
-    /// Replaces the subpattern with the same name, and returns the former one. Appends the
-    /// subpattern if there is no such one. After an error the subpatterns are unchanged.
+    /// Replaces the subpattern with the same name, and returns the former one. If there is none,
+    /// appends the subpattern and returns `None`. After an error the subpatterns are unchanged.
     fn put(&mut self, subpattern: Subpattern<'s>) -> Result<Option<Subpattern<'s>>, Memory>
         ensures former { IfOk result (λ former. option_map stored_of former
             ≡ stored_at (names_of self.old) subpattern.entry.name.text.now) }
@@ -233,7 +237,8 @@ impl<'s> Subpatterns<'s> {
         Ok(Some(mem::replace(&mut self.list[slot], subpattern)))
     }
 
-    /// Stores a subpattern. Replaces and reports a former one with the same name.
+    /// Stores the subpattern `name` with the text `pattern`. Replaces and reports a former one with
+    /// the same name.
     fn store(&mut self, name: Ident<'s>, pattern: String, errors: &mut Errors) -> Result<(), Memory>
         ensures { OnOk result (IsReport
             (stored_report (ident_slice name.entry) (string_bytes pattern) (names_of self.old))
@@ -246,7 +251,8 @@ impl<'s> Subpatterns<'s> {
         Ok(())
     }
 
-    /// Stores a subpattern, unless the UTF-8 mode does not allow it; in that case reports it.
+    /// Stores a subpattern with the text `pattern`, or reports it if `refused` is `true`: if the
+    /// UTF-8 mode does not allow it.
     fn store_tested(
         &mut self,
         refused: bool,
@@ -265,7 +271,8 @@ impl<'s> Subpatterns<'s> {
         self.store(named.0, pattern, errors)
     }
 
-    /// Tests the text of a subpattern, and stores it if it is a pattern that the UTF-8 mode allows.
+    /// Reads `text`, the text of a subpattern, as a pattern. Stores the subpattern if the text is a
+    /// pattern that the UTF-8 mode allows, and reports the fault otherwise.
     fn test(
         &mut self,
         utf8_mode: bool,
@@ -288,7 +295,7 @@ impl<'s> Subpatterns<'s> {
         self.store_tested(refused, named, text, errors)
     }
 
-    /// Adds a subpattern after the earlier ones, and reports its faults.
+    /// Adds a subpattern after the earlier ones, or reports the fault that it has.
     fn add(
         &mut self,
         utf8_mode: bool,
@@ -310,8 +317,8 @@ impl<'s> Subpatterns<'s> {
         self.test(utf8_mode, named, whole, errors)
     }
 
-    /// Returns the subpatterns with these names and literals, and reports their faults. After an
-    /// error some of these may be in the list.
+    /// Returns the subpatterns with the names and literals of `list`, and reports their faults.
+    /// After an error some of these faults may have been added.
     fn add_all(
         list: &[(Ident<'s>, Literal<'s>)],
         utf8_mode: bool,
@@ -331,9 +338,9 @@ impl<'s> Subpatterns<'s> {
         Ok(subpatterns)
     }
 
-    /// Returns the subpatterns with these names and literals, in order. Each may use the ones
-    /// before it. A later one replaces an earlier one with the same name. Reports the faults, and
-    /// leaves out subpatterns with faults.
+    /// Returns the subpatterns with the names and literals of `list`, in order. Each can use the
+    /// ones before it. A later one replaces an earlier one with the same name. Reports the faults,
+    /// and leaves out each subpattern that has a fault of its own.
     ///
     /// # Errors
     ///
@@ -355,9 +362,9 @@ impl<'s> Subpatterns<'s> {
         Ok(subpatterns)
     }
 
-    /// Returns the text with each `(?&name)`, from the left, replaced by the text of that
-    /// subpattern. The substituted texts are not searched for names. Returns `None` if a name has
-    /// no subpattern, and reports that at `span`, once for each use.
+    /// Returns `pattern` with each `(?&name)`, from the left, replaced by the text of the
+    /// subpattern `name`. The substituted texts are not searched for names. If a name has no
+    /// subpattern, reports that at `span`, once for each use, and returns `None`.
     ///
     /// # Errors
     ///

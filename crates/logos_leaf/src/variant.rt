@@ -1,4 +1,5 @@
-//! Makes the leaves of variants from their attributes. `read_leaves` calls it for each variant.
+//! Makes the leaves of variants from their attributes. `read_leaves` calls `add_variants` for all
+//! variants.
 
 ghost use Rattle.std.specs.Prelude.{◌≡◌, ◌++◌, IfOk, OnOk, map, option_map};
 ghost use Rattle.logos_leaf.specs.Imports.{option_to_list, tokens_of, texts, params_with, attribute_value, field_value, fields_value, in_parenthesis, variant_value, kind_value, names_of, parser_view, leaf_view, HoldsType, KindIs, TokenYields, RegexYields, AttributeYields, AttributesAdd, VariantAdds, VariantsAdd};
@@ -21,14 +22,16 @@ use logos_type_params::TypeParams;
 use std::alloc::AllocError;
 use std::collections::HashSet;
 
-/// The declared type parameters of an enum, and the names of those whose types contain them.
+/// The declared type parameters of an enum, and the name of each type parameter whose type contains
+/// that parameter.
 #[derive(Clone, Copy)]
 pub struct Types<'p, 's> {
     pub params: &'p TypeParams<'s>,
     pub held: &'p HashSet<&'s str>,
 }
 
-/// Returns the kind of a variant with this field.
+/// Returns the kind of the variant `name` with `field`, in whose type the parameters are replaced.
+/// Reports a type that becomes too deep.
 fn value_kind<'s>(
     types: Types<'_, 's>,
     name: Ident<'s>,
@@ -46,8 +49,9 @@ fn value_kind<'s>(
     Ok(VariantKind::Value(name, got))
 }
 
-/// Returns the kind of a variant with these fields in the parentheses at `span`. Reports the
-/// variant if it does not have exactly one field.
+/// Returns the kind of the variant `name` with `fields` in the parentheses at `span`. Reports the
+/// variant if it does not have exactly one field. Without fields it is skipped, and of several
+/// fields the first one counts.
 fn tuple_kind<'s>(
     types: Types<'_, 's>,
     name: Ident<'s>,
@@ -68,7 +72,8 @@ fn tuple_kind<'s>(
     value_kind(types, name, first, errors)
 }
 
-/// Returns the kind of a variant with these fields, and reports fields that are not supported.
+/// Returns the kind of the variant `name` with `fields`. Reports fields that are not supported: a
+/// variant with named fields is skipped.
 fn kind_of<'s>(
     types: Types<'_, 's>,
     name: Ident<'s>,
@@ -89,7 +94,8 @@ fn kind_of<'s>(
     }
 }
 
-/// Reads a `token` attribute into its leaf, if it has one.
+/// Reads a `token` attribute and returns its leaf. Returns `None` and reports the fault if it has
+/// no leaf.
 fn read_token<'s>(
     attribute: Attribute<'_, 's>,
     kind: &VariantKind<'s>,
@@ -108,7 +114,8 @@ fn read_token<'s>(
     token_leaf(definition, kind, &mut parser.errors)
 }
 
-/// Reads a `regex` attribute into its leaf, if it has one.
+/// Reads a `regex` attribute and returns its leaf. Returns `None` and reports the fault if it has
+/// no leaf.
 fn read_regex<'s>(
     attribute: Attribute<'_, 's>,
     kind: &VariantKind<'s>,
@@ -128,7 +135,8 @@ fn read_regex<'s>(
     regex_leaf(definition, kind, subpatterns, &mut parser.errors)
 }
 
-/// Reads an attribute of a variant into its leaf, if it has one.
+/// Reads an attribute of a variant and returns its leaf. Returns `None` if it is not a `token` or
+/// `regex`, or has a fault without a leaf. Reports each fault.
 fn read_attribute<'s>(
     attribute: Attribute<'_, 's>,
     kind: &VariantKind<'s>,
@@ -156,7 +164,7 @@ fn read_attribute<'s>(
     Ok(None)
 }
 
-/// Appends a leaf, if there is one.
+/// Appends `leaf` to `leaves`, if there is one.
 pub(crate) fn push_leaf<'s>(
     leaves: &mut Vec<Leaf<'s>>,
     leaf: Option<Leaf<'s>>,
@@ -170,7 +178,7 @@ pub(crate) fn push_leaf<'s>(
     }
 }
 
-/// Adds the leaves of all attributes of a variant.
+/// Appends to `leaves` the leaves of all attributes of a variant, and reports their faults.
 fn add_attributes<'s>(
     attributes: Tokens<'_, 's>,
     kind: &VariantKind<'s>,
@@ -192,7 +200,7 @@ fn add_attributes<'s>(
     Ok(())
 }
 
-/// Adds the leaves of a variant.
+/// Appends to `leaves` the leaves of a variant, and reports its faults.
 fn add_variant<'s>(
     variant: &Variant<'_, 's>,
     held: &HashSet<&'s str>,
@@ -213,7 +221,7 @@ fn add_variant<'s>(
     add_attributes(variant.attributes, &kind, subpatterns, parser, leaves)
 }
 
-/// Adds the leaves of all variants, in source order.
+/// Appends to `leaves` the leaves of all variants, in source order, and reports their faults.
 pub(crate) fn add_variants<'s>(
     variants: &[Variant<'_, 's>],
     held: &HashSet<&'s str>,

@@ -1,4 +1,4 @@
-//! The analysis of a source. `generate` of `logos_codegen` calls `analyze` first.
+//! Analyzes sources. `generate` of `logos_codegen` calls `analyze` first.
 
 ghost use Rattle.std.specs.Prelude.{◌≡◌, ◌<◌, ◌≤◌, ◌∷◌, ◌++◌, [], length, map, option_map, IfOk, IfErr, IsErrAnd, OnOk};
 ghost use Rattle.logos_parser.specs.Views.{source_limit, Fault, run_span, stream_tokens, tokens_of, enum_value, generics_of, generics, parser_view, leaf_view, utf8_mode, IsShallow, too_long, EndsReading, EndsTokens, type_faults, HasItsType, IsEnumAnalysis, IsTokenAnalysis, IsAnalysis, ReadsEnum, no_options, type_tree, utf8_faults, Refuses, analysis_view};
@@ -29,12 +29,14 @@ pub struct Analysis<'s> {
     pub this: TypeExpr<'s>,
     /// The leaves: those of the skips first, then those of the variants, in source order.
     pub leaves: Vec<Leaf<'s>>,
-    /// The options without the skips, which are leaves, and the faults, in order.
+    /// The options except the skips, which are in `leaves`, and the faults, in the order in which
+    /// they were found.
     pub parser: Parser<'s>,
 }
 
-/// Reports each leaf that can match invalid UTF-8 if inputs are UTF-8, and each type parameter
-/// without a type. Returns the generic arguments that follow the enum's name, if there are any.
+/// Reports to `parser` each leaf that can match invalid UTF-8, if inputs are UTF-8, and each type
+/// parameter without a type. Returns the generic arguments that follow the enum's name, or `None`
+/// if there are none.
 fn check_leaves<'s>(
     leaves: &[Leaf<'s>],
     parser: &mut Parser<'s>,
@@ -51,8 +53,8 @@ fn check_leaves<'s>(
     parser.types.generics(&mut parser.errors)
 }
 
-/// Reads the leaves of an enum into a new parser, and checks them. Returns the leaves and the type
-/// of the enum.
+/// Reads the leaves of `item` with `parser`, a new parser, which takes the options and the faults,
+/// and checks the leaves. Returns the leaves and the type of the enum.
 fn read_typed<'s>(
     alloc: Global,
     item: &ItemEnum<'_, 's>,
@@ -71,7 +73,8 @@ fn read_typed<'s>(
     Ok((leaves, this))
 }
 
-/// Analyzes an enum whose tokens have the span `span`. Faults do not stop the analysis.
+/// Analyzes `item`, an enum whose tokens have the span `span`. Faults do not stop the analysis: the
+/// result's parser has them.
 ///
 /// # Errors
 ///
@@ -97,7 +100,7 @@ pub fn analyze_enum<'s>(
     }
 }
 
-/// Analyzes the tokens of a source.
+/// Analyzes the tokens of a source. Returns the refusal with one fault if they are not an enum.
 fn analyze_tokens<'s>(alloc: Global, stream: &TokenStream<'s>) -> Result<Analysis<'s>, Refusal>
     ensures ok { IfOk result (λ analysis.
         IsTokenAnalysis (stream_tokens stream.now) (analysis_view analysis)) }
@@ -115,14 +118,14 @@ fn analyze_tokens<'s>(alloc: Global, stream: &TokenStream<'s>) -> Result<Analysi
 }
 
 /// Analyzes a source: reads its enum, and finds its leaves, its options, and all faults but those
-/// of its graph. Faults do not stop the analysis.
+/// of its graph. These faults do not stop the analysis: the result's parser has them.
 ///
 /// # Errors
 ///
 /// Returns `Errors` with the one fault that ends the reading: `LimitSource` if the source is longer
-/// than 16 MiB; `Lexical` or `LimitTokenNesting` if it has no tokens; `NotAnEnum`, `Grammar`,
-/// `TypeUnsupported` or `LimitTypeNesting` if its tokens are not an enum. Returns `Memory` if
-/// memory runs out.
+/// than 16 MiB; `Lexical` if it cannot be split into tokens; `LimitTokenNesting` if its groups are
+/// nested too deeply; `NotAnEnum`, `Grammar`, `TypeUnsupported` or `LimitTypeNesting` if its tokens
+/// are not an enum. Returns `Memory` if memory runs out.
 pub fn analyze<'s>(alloc: Global, src: &'s str) -> Result<Analysis<'s>, Refusal>
     ensures ok { IfOk result (λ analysis. IsAnalysis src.now (analysis_view analysis)) }
     ensures short { IfOk result (λ analysis. length src.now ≤ source_limit) }

@@ -11,7 +11,8 @@ use logos_token::token::{LexicalKind, Span, TokenError};
 use logos_type_params::reports::type_nesting_text;
 use std::alloc::Global;
 
-/// Returns the refusal with one fault.
+/// Returns the refusal with one fault, which has `code`, `message` and `span`, or `Memory` if
+/// memory runs out.
 fn refused(alloc: Global, code: FaultCode, message: &str, span: Span) -> Refusal
     ensures { Refuses (λ faults. faults ≡ only (fault code message.now span)) result }
 {
@@ -22,7 +23,7 @@ fn refused(alloc: Global, code: FaultCode, message: &str, span: Span) -> Refusal
     }
 }
 
-/// Returns the message of a lexical fault.
+/// Returns the message of a lexical fault of `kind`.
 fn lexical_text(kind: LexicalKind) -> &'static str
     ensures { result.now ≡ lexical_text kind }
 {
@@ -34,7 +35,8 @@ fn lexical_text(kind: LexicalKind) -> &'static str
     }
 }
 
-/// Returns the refusal of a source that cannot be cut into tokens.
+/// Returns the refusal of a source that cannot be split into tokens, with the lexical fault of
+/// `kind` at `span`, or `Memory` if memory runs out.
 fn unlexed(alloc: Global, kind: LexicalKind, span: Span) -> Refusal
     ensures { Refuses (λ faults. faults ≡ only (lexical_fault kind span)) result }
 {
@@ -50,7 +52,8 @@ fn unlexed(alloc: Global, kind: LexicalKind, span: Span) -> Refusal
     }
 }
 
-/// Returns the refusal of tokens that are not an enum, with the fault for `error`.
+/// Returns the refusal of tokens that are not an enum: one fault for `error`, or `Memory` if memory
+/// ran out.
 pub fn misread(alloc: Global, error: ReadError) -> Refusal
     ensures { Refuses (IsMisread error) result }
 {
@@ -83,7 +86,8 @@ pub fn misread(alloc: Global, error: ReadError) -> Refusal
     }
 }
 
-/// Returns the refusal of a source that has no tokens, with the fault for `error`.
+/// Returns the refusal of `src`, a source that cannot be read into tokens: one fault for `error`,
+/// or `Memory` if memory ran out.
 pub fn unreadable(alloc: Global, src: &str, error: TokenError) -> Refusal
     requires { IsRefusal src.now error }
     ensures ends { Refuses (λ faults. (ending : Fault) × EndsReading src.now ending

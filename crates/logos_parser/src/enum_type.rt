@@ -1,4 +1,4 @@
-//! Builds the type of an enum. `analyze` calls it last.
+//! Builds the type of an enum. `analysis` calls `enum_type` last.
 
 ghost use Rattle.std.specs.Prelude.{◌≡◌, ◌∷◌, ◌++◌, [], IfOk, OnOk, map, option_map};
 ghost use Rattle.logos_parser.specs.Imports.{tree_of, type_tree, generics_of, argument, arguments, lifetime_argument, bracketed, enum_type};
@@ -7,7 +7,7 @@ use logos_type::{TypeExpr, TypePart, TypeToken};
 use logos_type_params::Generics;
 use std::alloc::{AllocError, Global};
 
-/// Appends a part of a type.
+/// Appends `part` to the parts of a type.
 fn push_part<'s>(parts: &mut Vec<TypePart<'s>>, part: TypePart<'s>) -> Result<(), AllocError>
     ensures { OnOk result (map tree_of parts.new.items
         ≡ map tree_of parts.old.items ++ tree_of part.entry ∷ []) }
@@ -16,7 +16,8 @@ fn push_part<'s>(parts: &mut Vec<TypePart<'s>>, part: TypePart<'s>) -> Result<()
     Ok(())
 }
 
-/// Appends an argument of a type, with a comma before it unless it is the first one.
+/// Appends `part`, an argument, to the parts of a type, with a comma before it unless it is the
+/// first argument.
 fn push_argument<'s>(
     parts: &mut Vec<TypePart<'s>>,
     is_first: bool,
@@ -32,7 +33,8 @@ fn push_argument<'s>(
     Ok(())
 }
 
-/// Appends types as arguments, with a comma before each unless it is the first argument.
+/// Appends `types`, as arguments, to the parts of a type, with a comma before each unless it is the
+/// first argument.
 fn push_arguments<'s>(
     parts: &mut Vec<TypePart<'s>>,
     is_first: bool,
@@ -49,7 +51,7 @@ fn push_arguments<'s>(
     Ok(())
 }
 
-/// Appends the lifetime `'s`, if the enum has one.
+/// Appends the lifetime `'s` to the parts of a type if `lifetime` is `true`.
 fn push_lifetime<'s>(parts: &mut Vec<TypePart<'s>>, lifetime: bool) -> Result<(), AllocError>
     ensures { OnOk result (map tree_of parts.new.items
         ≡ map tree_of parts.old.items ++ lifetime_argument lifetime) }
@@ -60,7 +62,8 @@ fn push_lifetime<'s>(parts: &mut Vec<TypePart<'s>>, lifetime: bool) -> Result<()
     Ok(())
 }
 
-/// Returns the type with this name and these generic arguments.
+/// Returns the type of the enum `name` with generic arguments: `'s` if `lifetime` is `true`, and
+/// `types`.
 fn bracketed<'s>(
     alloc: Global,
     name: &'s str,
@@ -80,7 +83,8 @@ fn bracketed<'s>(
     Ok(TypeExpr { part })
 }
 
-/// Returns the type of an enum: its name, and the generic arguments that follow it.
+/// Returns the type of the enum `name`: its name, and the generic arguments that follow it, if
+/// there are any.
 ///
 /// # Errors
 ///

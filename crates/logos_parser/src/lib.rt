@@ -1,6 +1,5 @@
-//! Reads enums, with the attributes on them and on their variants. It re-exports the modules of the
-//! crates below, and has the analysis of a source: its leaves, its options, and all its faults but
-//! those of its graph.
+//! Analyzes the enum of a source: its leaves, its options, and all its faults but those of its
+//! graph. Re-exports the modules of the crates below. `logos_codegen` calls `analyze`.
 
 #![tactic(auto)]
 

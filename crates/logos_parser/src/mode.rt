@@ -1,4 +1,5 @@
-//! Reports leaves that can match invalid UTF-8. `analyze` calls it once the leaves are made.
+//! Reports leaves that can match invalid UTF-8. `analysis` calls `report_not_utf8` for all leaves
+//! at once.
 
 ghost use Rattle.std.specs.Prelude.{◌≡◌, ◌++◌, map, IfOk, OnOk, string_bytes};
 ghost use Rattle.logos_parser.specs.Imports.{AddsFault, leaf_view, utf8_text, utf8_fault, leaf_faults, utf8_faults};
@@ -19,7 +20,7 @@ fn utf8_text(alloc: Global, leaf: &Leaf<'_>) -> Result<String, AllocError>
     Ok(text)
 }
 
-/// Reports that the pattern of a leaf can match invalid UTF-8.
+/// Reports that the pattern of `leaf` can match invalid UTF-8.
 fn report_utf8_fault(leaf: &Leaf<'_>, errors: &mut Errors) -> Result<(), Memory>
     ensures { OnOk result (AddsFault (utf8_fault (leaf_view leaf.now)) errors.old errors.new) }
 {
@@ -27,7 +28,7 @@ fn report_utf8_fault(leaf: &Leaf<'_>, errors: &mut Errors) -> Result<(), Memory>
     errors.err(FaultCode::Utf8Pattern, text.as_str(), leaf.span)
 }
 
-/// Reports a leaf if its pattern can match invalid UTF-8.
+/// Reports `leaf` if its pattern can match invalid UTF-8.
 fn report_if_not_utf8(leaf: &Leaf<'_>, errors: &mut Errors) -> Result<(), Memory>
     ensures { OnOk result (errors.new ≡ errors.old ++ leaf_faults (leaf_view leaf.now)) }
 {
@@ -37,7 +38,8 @@ fn report_if_not_utf8(leaf: &Leaf<'_>, errors: &mut Errors) -> Result<(), Memory
     report_utf8_fault(leaf, errors)
 }
 
-/// Reports each leaf whose pattern can match invalid UTF-8, in UTF-8 mode.
+/// Reports each leaf whose pattern can match invalid UTF-8 if `utf8_mode` is `true`, and none
+/// otherwise.
 pub(crate) fn report_not_utf8(
     utf8_mode: bool,
     leaves: &[Leaf<'_>],

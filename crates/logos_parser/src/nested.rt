@@ -1,4 +1,4 @@
-//! Re-exports the arguments of an attribute, as runs of its tokens.
+//! Re-exports the arguments of attributes and their readers from `logos_attribute`.
 
 pub use logos_attribute::arguments::{FromRun, Reported};
 pub use logos_attribute::nested::{AttributeParser, Nested, NestedValue};

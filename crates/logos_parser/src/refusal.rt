@@ -1,4 +1,4 @@
-//! The refusal of a source. All calls that read a whole source return it.
+//! The refusal of a source. Each function that reads a whole source returns it as its error.
 
 ghost use Rattle.std.specs.Prelude.{◌≡◌};
 ghost use Rattle.logos_parser.specs.Views.{Memory as OutOfMemory};
@@ -6,10 +6,10 @@ ghost use Rattle.logos_parser.specs.Views.{Memory as OutOfMemory};
 use logos_token::error::{Errors, Memory};
 use std::alloc::{AllocError, AllocFailed};
 
-/// The reasons why a source has no lexer.
+/// The reason that a source has no lexer.
 #[derive(Debug, Drop)]
 pub enum Refusal {
-    /// The source has these faults, or exceeds a limit.
+    /// The faults of the source, which can be limits that it exceeds.
     Errors(Errors),
     /// Memory ran out.
     Memory,

@@ -12,21 +12,21 @@ pub use logos_type::TypeExpr;
 use std::alloc::AllocError;
 use std::fmt;
 
-/// The result of the lexer for a match of a leaf.
+/// The use of the matches of a leaf: the variant that the lexer returns for a match, or a skip.
 #[derive(Drop)]
 pub enum VariantKind<'s> {
-    /// A variant without a field.
+    /// A variant without a field, by its name.
     Unit(Ident<'s>),
-    /// A variant with a field of this type.
+    /// A variant with a field, by its name and the type of the field.
     Value(Ident<'s>, TypeExpr<'s>),
-    /// Nothing: the lexer skips the match.
+    /// No variant: the lexer skips the match.
     Skip,
 }
 
 /// A function that the lexer calls on a match.
 #[derive(Drop)]
 pub enum Callback<'s> {
-    /// The tokens of a function's name.
+    /// The tokens that name a function, such as a path.
     Label(TokenStream<'s>),
     /// A closure.
     Inline(InlineCallback<'s>),
@@ -35,15 +35,16 @@ pub enum Callback<'s> {
 /// A callback that is written as a closure, `|lex| body`.
 #[derive(Drop)]
 pub struct InlineCallback<'s> {
-    /// The parameter.
+    /// The name of the closure's parameter.
     pub arg: Ident<'s>,
+    /// The tokens of the closure's body.
     pub body: TokenStream<'s>,
     /// The span of the whole callback in the source, in bytes.
     pub span: Span,
 }
 
 impl<'s> VariantKind<'s> {
-    /// Returns the name of the variant, or `None` for a skip.
+    /// Returns the name of the variant, or `None` for `Skip`.
     pub fn name(&self) -> Option<Ident<'s>>
         ensures { result ≡ variant_name (kind_value self.now) }
     {
@@ -126,10 +127,13 @@ pub struct LeafOptions {
 /// A pattern with its priority, and the use of its matches.
 #[derive(Drop)]
 pub struct Leaf<'s> {
+    /// The pattern that the leaf matches.
     pub pattern: Pattern<'s>,
     /// The span of the pattern's literal in the source, in bytes.
     pub span: Span,
+    /// The number that decides between leaves with a match of equal span: the highest wins.
     pub priority: usize,
+    /// The variant that the lexer returns for a match, or a skip.
     pub kind: VariantKind<'s>,
     /// The function that the lexer calls on a match, if there is one.
     pub callback: Option<Callback<'s>>,
@@ -138,8 +142,8 @@ pub struct Leaf<'s> {
 }
 
 impl<'s> Leaf<'s> {
-    /// Returns a leaf that skips its matches, of priority 0, without a callback and without
-    /// options.
+    /// Returns a leaf for `pattern` with its literal at `span`. The leaf skips its matches, and has
+    /// priority 0, no callback and no options.
     pub fn new(span: Span, pattern: Pattern<'s>) -> Leaf<'s>
         ensures { result ≡ record {
           pattern = pattern.entry;
@@ -163,7 +167,7 @@ impl<'s> Leaf<'s> {
         }
     }
 
-    /// Returns the leaf with this priority.
+    /// Returns the leaf with `priority` as its priority.
     pub fn priority(mut self, priority: usize) -> Leaf<'s>
         ensures { result ≡ record self.entry { priority = priority } }
     {
@@ -171,7 +175,7 @@ impl<'s> Leaf<'s> {
         self
     }
 
-    /// Returns the leaf with this kind.
+    /// Returns the leaf with `kind` as its kind.
     pub fn variant_kind(mut self, kind: VariantKind<'s>) -> Leaf<'s>
         ensures { result ≡ record self.entry { kind = kind.entry } }
     {
@@ -179,7 +183,7 @@ impl<'s> Leaf<'s> {
         self
     }
 
-    /// Returns the leaf with this callback, or without one if it is `None`.
+    /// Returns the leaf with `callback` as its callback, or without a callback for `None`.
     pub fn callback(mut self, callback: Option<Callback<'s>>) -> Leaf<'s>
         ensures { result ≡ record self.entry { callback = callback.entry } }
     {
@@ -187,7 +191,7 @@ impl<'s> Leaf<'s> {
         self
     }
 
-    /// Returns the leaf with these options.
+    /// Returns the leaf with `options` as its options.
     pub fn options(mut self, options: LeafOptions) -> Leaf<'s>
         ensures { result ≡ record self.entry { options = options } }
     {

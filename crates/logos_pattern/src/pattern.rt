@@ -1,5 +1,5 @@
-//! Patterns, read from the text of a literal. `logos_leaf` makes one for each leaf and for each
-//! subpattern.
+//! Patterns, read from the texts of literals. `logos_leaf` makes a pattern for each leaf and for
+//! each subpattern.
 
 ghost use Rattle.std.specs.Prelude.{◌≡◌, ◌≤◌, ◌++◌, ℕ, chars, IfOk, IfErr, IsTrue, Some};
 ghost use Rattle.logos_pattern.specs.Views.{tree_of, literal_tree, value, fitted, is_text, has_greedy_dot, IsTooDeep, IsSpelled, IsFound, Refuses, first_flags, pattern_tree, source_of, is_token, pattern_text, token_of, held_bytes, literal_value};
@@ -33,16 +33,16 @@ pub struct Pattern<'s> {
 }
 
 impl<'s> Pattern<'s> {
-    /// Reads the pattern that `regex` spells. At the start of the pattern the flag `u` is on if
+    /// Reads the pattern that `regex` spells. At the start of `regex` the flag `u` is on if
     /// `unicode` is `true`, the flag `i` is on if `ignore_case` is `true`, and all other flags are
-    /// off. `source` is the literal in the source, and `is_literal` is whether it is the literal of
-    /// a `token`.
+    /// off. The pattern stores `source`, the text of its literal in the source, and `is_literal`,
+    /// which is `true` for the literal of a `token`.
     ///
     /// # Errors
     ///
-    /// Returns `Syntax` if the text breaks the grammar, with the kind and the byte offset of the
-    /// fault; `LimitPatternNesting` if groups, brackets and operators are nested more than 250
-    /// deep; and `Memory` if memory runs out.
+    /// Returns `Syntax` if `regex` breaks the grammar, with the kind of the fault and its byte
+    /// offset in `regex`; `LimitPatternNesting` if groups, brackets and operators are nested more
+    /// than 250 deep; and `Memory` if memory runs out.
     pub fn compile(
         alloc: Global,
         is_literal: bool,
@@ -108,8 +108,8 @@ impl<'s> Pattern<'s> {
         })
     }
 
-    /// Returns the default priority of a `regex` or `skip`, computed from its tree, or `None` if it
-    /// does not fit `usize`. The default priority of a `token` is `token_priority`.
+    /// Returns the default priority of a `regex` or `skip`, computed from its tree, or `None` if
+    /// that priority does not fit `usize`. The default priority of a `token` is `token_priority`.
     pub fn priority(&self) -> Option<usize>
         ensures { result ≡ fitted (value (pattern_tree self.now)) }
     {
@@ -165,7 +165,7 @@ impl fmt::Display for Pattern<'_> {
     }
 }
 
-/// Returns the tree that matches exactly these bytes.
+/// Returns the tree that matches exactly `bytes`: `Hir::Empty` if there are none.
 fn literal_hir(alloc: Global, bytes: &[u8]) -> Result<Hir, AllocError>
     ensures { IfOk result (λ hir. tree_of hir ≡ literal_tree bytes.now) }
 {

@@ -1,5 +1,5 @@
-//! Trees, prepared for the automaton. `prepare` makes them, and steps read them. A tree is entered
-//! where a match of it begins, and can be left where a match of it ends.
+//! Trees, prepared for the automaton. `prepare` makes these trees, and steps read them. A tree is
+//! entered where a match of it begins, and can be left where a match of it ends.
 
 ghost use Rattle.std.specs.Prelude.{◌≡◌, ◌+◌, ◌*◌, ◌^◌, ◌<◌, ◌≤◌, ◌-◌, IsTrue, false};
 ghost use Rattle.logos_positions.specs.Views.{count_of, core_of, is_measured};
@@ -11,15 +11,15 @@ use logos_hir::hir::{Look, Range};
 /// A tree whose parts and branches are in pairs, with the numbers of their positions.
 #[derive(Drop)]
 pub enum Node {
-    /// Matches nothing.
+    /// A tree that matches nothing.
     Void,
-    /// Matches the empty string.
+    /// A tree that matches the empty string.
     Empty,
-    /// These bytes, in order.
+    /// A run of bytes, matched in order.
     Literal(Vec<u8>),
-    /// One byte of these ranges.
+    /// One byte of a class, with its ranges.
     Bytes(Vec<Range>),
-    /// One character of a class.
+    /// One character of a class, with the table that reads it.
     Characters(CharacterTable),
     /// A look-around assertion: a condition on a point of the input.
     Look(Look),
@@ -47,7 +47,8 @@ pub enum Node {
     },
 }
 
-/// Returns the number of copies of the body of a repetition that have their own positions.
+/// Returns the number of copies of the body of a repetition that have their own positions: `most`,
+/// or at least one copy and `least` if `most` is `None`.
 pub fn copy_count(least: usize, most: Option<usize>) -> usize
     ensures { result ≡ count_of least most }
 {
@@ -100,7 +101,8 @@ impl TreeSpot {
         }
     }
 
-    /// Returns the spot after the next `width` positions.
+    /// Returns the spot of the tree after this one, whose positions are the next `width`. `entered`
+    /// is whether that tree is entered.
     pub fn after(self, width: usize, entered: bool) -> TreeSpot
         requires { self.base + width < 2 ^ 64 }
         ensures base { result.base ≡ self.base + width }
@@ -142,7 +144,8 @@ impl Copies {
         }
     }
 
-    /// Returns the copies from `number` on. `entered` is whether the first of them is entered.
+    /// Returns the copies from the one with the number `number` on. `entered` is whether the first
+    /// of these is entered.
     pub fn from(self, number: usize, entered: bool) -> Copies
         requires fits { self.base + self.each * number < 2 ^ 64 }
         requires within { number ≤ self.count }
@@ -159,7 +162,8 @@ impl Copies {
         }
     }
 
-    /// Returns the spot of the copy with this number.
+    /// Returns the spot of the copy with the number `number`. `entered` is whether that copy is
+    /// entered.
     pub fn at(self, number: usize, entered: bool) -> TreeSpot
         requires { self.base + self.each * number < 2 ^ 64 }
         ensures base { result.base ≡ self.base + self.each * number }

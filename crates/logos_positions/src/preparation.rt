@@ -1,5 +1,5 @@
-//! Prepares a pattern's tree for the steps of the automaton. `logos_automaton` calls it once for
-//! each rule, before it builds states.
+//! Prepares a pattern's tree for the steps of the automaton. `logos_automaton` calls `prepare` once
+//! for each leaf, before it builds states.
 
 ghost use Rattle.std.specs.Prelude.{◌≡◌, ℕ, ◌+◌, ◌^◌, ◌<◌, ◌≤◌, IsTrue, IfOk, Bool, true, length, map, vec_len};
 ghost use Rattle.logos_positions.specs.Views.{trees, literal, repetition, class_tree, tree_of, IsCoreOf, pair_up, of_none, IsPair, IsJoined, AreCoresOf, width_of, sizes, core_of, is_measured, AreMeasured};
@@ -14,7 +14,7 @@ use crate::preparation::classes::joined_class;
 use logos_hir::hir::{Class, Hir, Range};
 use std::alloc::{AllocError, Global};
 
-/// Prepares a literal. One byte becomes a class.
+/// Returns the prepared tree of a literal. One byte becomes a class.
 ///
 /// # Errors
 ///
@@ -31,7 +31,7 @@ fn prepare_literal(alloc: Global, bytes: &[u8]) -> Result<Node, AllocError>
     Ok(Node::Literal(Vec::from_slice(alloc, bytes)?))
 }
 
-/// Prepares a class.
+/// Returns the prepared tree of a class.
 ///
 /// # Errors
 ///
@@ -46,7 +46,8 @@ fn prepare_class(alloc: Global, class: &Class) -> Result<Node, AllocError>
     }
 }
 
-/// Returns one tree after the other, or the choice of the two, each with its own positions.
+/// Returns the tree `first` followed by `second` if `in_order` is `true`, and the choice of the two
+/// otherwise. Each has its own positions.
 ///
 /// # Errors
 ///
@@ -76,8 +77,8 @@ fn apart(alloc: Global, in_order: bool, first: Node, second: Node) -> Result<Nod
     })
 }
 
-/// Returns one tree after the other, or the choice of the two. The choice of two classes of bytes
-/// is one class.
+/// Returns the tree `first` followed by `second` if `in_order` is `true`, and the choice of the two
+/// otherwise. The choice of two classes of bytes is one class.
 ///
 /// # Errors
 ///
@@ -99,7 +100,8 @@ fn pair(alloc: Global, in_order: bool, first: Node, second: Node) -> Result<Node
     }
 }
 
-/// Returns the combination of no trees.
+/// Returns the combination of no trees: the empty string if `in_order` is `true`, and nothing
+/// otherwise.
 fn none_of(in_order: bool) -> Node
     ensures occurs { core_of result ≡ of_none in_order }
     ensures measured { IsTrue (is_measured result) }
@@ -110,7 +112,7 @@ fn none_of(in_order: bool) -> Node
     Node::Void
 }
 
-/// Returns the only tree, or the combination of no trees.
+/// Returns the only tree of `nodes`, or the combination of no trees if there is none.
 fn sole(in_order: bool, mut nodes: Vec<Node>) -> Node
     requires measured { AreMeasured nodes.items }
     requires few { vec_len nodes < 2 }
@@ -123,8 +125,8 @@ fn sole(in_order: bool, mut nodes: Vec<Node>) -> Node
     node
 }
 
-/// Combines trees in pairs of about the same length: all of them in order, or the choice of one of
-/// them.
+/// Combines trees in pairs of about the same length: all of them in order if `in_order` is `true`,
+/// and the choice of one of them otherwise.
 ///
 /// # Errors
 ///
@@ -145,7 +147,7 @@ fn join(alloc: Global, in_order: bool, mut nodes: Vec<Node>) -> Result<Node, All
     pair(alloc, in_order, first, second)
 }
 
-/// Returns a count, if there is one, as a `usize`.
+/// Returns a count as a `usize`, or `None` if there is none.
 fn widen(count: Option<u32>) -> Option<usize>
     ensures { result ≡ count }
 {
@@ -155,7 +157,7 @@ fn widen(count: Option<u32>) -> Option<usize>
     }
 }
 
-/// Prepares a tree. Its size must be within the limit.
+/// Returns the prepared tree of `hir`, whose size must be within the limit.
 ///
 /// # Errors
 ///
@@ -184,7 +186,8 @@ pub fn prepare(alloc: Global, hir: &Hir) -> Result<Node, AllocError>
     }
 }
 
-/// Prepares a repetition. Its size must be within the limit.
+/// Returns the prepared tree of a repetition of `sub`, from `min` to `max` times, whose size must
+/// be within the limit.
 ///
 /// # Errors
 ///
@@ -219,7 +222,7 @@ fn prepare_repetition(
     })
 }
 
-/// Prepares each tree of a list. Their size must be within the limit.
+/// Returns the prepared tree of each of `hirs`, whose size must be within the limit.
 ///
 /// # Errors
 ///

@@ -1,5 +1,5 @@
 //! Reduces a table of targets and marks to the least one, numbers its states by first visit, and
-//! records how they were separated. `logos_graph` calls it for each graph.
+//! records how they were separated. `logos_graph` calls `reduce` for each graph.
 
 #![tactic(auto)]
 

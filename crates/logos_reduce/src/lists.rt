@@ -1,4 +1,5 @@
-//! Vectors of lists of states, with one list for each state or block. Merging and pruning use them.
+//! Vectors of lists of states, with one list for each state or block. Merging and pruning store
+//! edges and blocks in such vectors.
 
 ghost use Rattle.std.specs.Prelude.{true, ◌≡◌, ◌≢◌, ℕ, ◌+◌, ◌-◌, ◌<◌, ◌≤◌, ◌⊎◌, Some, OnOk, IfOk, IsTrue, IsFalse, length, slice_get, vec_len, slice_index};
 ghost use Rattle.logos_reduce.specs.Views.{has, has_in, Rises, AreRising, ArePredecessors, target_by, size, to};
@@ -7,7 +8,7 @@ use crate::rows::{Row, WIDTH, run_end, target_at};
 use crate::table::Table;
 use std::alloc::{AllocError, Global};
 
-/// Returns `len` empty lists.
+/// Returns a vector of `len` empty lists.
 ///
 /// # Errors
 ///
@@ -24,7 +25,7 @@ pub fn empty_lists(alloc: Global, len: usize) -> Result<Vec<Vec<usize>>, AllocEr
     Ok(lists)
 }
 
-/// Returns whether the last number of a list is `s`.
+/// Returns whether the last number of `list` is `s`. It is not if the list is empty.
 fn ends_with(list: &Vec<usize>, s: usize) -> bool
     ensures hit { IsTrue result → has list.now.items s ≡ true }
     ensures miss { IsFalse result → slice_get list.now.items (vec_len list.now - 1) ≢ Some s }
@@ -35,7 +36,7 @@ fn ends_with(list: &Vec<usize>, s: usize) -> bool
     }
 }
 
-/// Appends a number to a list, unless it is already the last one.
+/// Appends the number `s` to `list`, unless it is already the last one.
 ///
 /// # Errors
 ///
@@ -52,7 +53,7 @@ pub fn add(list: &mut Vec<usize>, s: usize) -> Result<(), AllocError>
     Ok(())
 }
 
-/// Appends the state `s` to the list at the index `b`, unless it is already the last one.
+/// Appends the state `s` to the list at the index `b`, unless it is already the last one there.
 ///
 /// # Errors
 ///
@@ -71,7 +72,8 @@ pub fn file(lists: &mut Vec<Vec<usize>>, b: usize, s: usize) -> Result<(), Alloc
     Ok(())
 }
 
-/// Appends the state `s` to the list of a target, if there is a target.
+/// Appends the state `s` to the list of `target`, unless that is `None` or the state is already the
+/// last one there.
 fn file_target(
     lists: &mut Vec<Vec<usize>>,
     target: Option<usize>,
@@ -92,7 +94,8 @@ fn file_target(
     Ok(())
 }
 
-/// Appends a state to the list of each of its targets on the first `width` symbols.
+/// Appends the state `s`, whose row is `row`, to the list of each of its targets on the first
+/// `width` symbols.
 fn file_row(
     lists: &mut Vec<Vec<usize>>,
     row: &Row,

@@ -1,4 +1,4 @@
-//! Numbers states by first visit. It is the last step of the reduction.
+//! Numbers states by first visit. `reduce` calls `number` as its last step.
 
 ghost use Rattle.std.specs.Prelude.{◌≡◌, ℕ, ◌+◌, ◌-◌, ◌<◌, ◌≤◌, ◌++◌, ◌∷◌, ◌⊎◌, ◌^◌, [], Some, OnOk, IfOk, length, vec_len, slice_index, option_map, option_and_then};
 ghost use Rattle.logos_reduce.specs.Views.{IsMet, Grows, target_by, target_in, target_of, target_block, AreLeaders, size, to, mark, mark_in, IsInTurn, AreUsed, IsNumbered, rows_of};
@@ -10,7 +10,7 @@ use crate::rows::{Row, Rows, WIDTH, fill_run, run_end, target_at};
 use crate::table::{StateMarks, Table};
 use std::alloc::{AllocError, Global};
 
-/// Appends the block `target` to the order, if it is not `None` and not in the order yet.
+/// Appends the block `target` to `order`, if it is not `None` and not in the order yet.
 fn meet_target(order: &mut Order, target: Option<usize>) -> Result<(), AllocError>
     requires { (b : ℕ) → target ≡ Some b → b < vec_len order.old.numbers }
     ensures len { vec_len order.new.numbers ≡ vec_len order.old.numbers }
@@ -26,7 +26,8 @@ fn meet_target(order: &mut Order, target: Option<usize>) -> Result<(), AllocErro
     Ok(())
 }
 
-/// Appends the blocks to which the block at index `i` leads.
+/// Appends the blocks to which the block at the index `i` of `order` leads, if they are not in the
+/// order yet.
 fn meet_targets(
     order: &mut Order,
     table: &Table,
@@ -64,7 +65,8 @@ fn meet_targets(
     Ok(())
 }
 
-/// Returns the blocks in the order of first visits, breadth first from the block of the root.
+/// Returns the blocks to which the block of the state `root` leads, in the order of first visits,
+/// breadth first from that block.
 fn breadth_first(
     alloc: Global,
     table: &Table,
@@ -98,7 +100,8 @@ fn breadth_first(
     Ok(order)
 }
 
-/// Returns the row with each target replaced by the number of its block.
+/// Returns `row` with each target replaced by the new number of its block. `numbers` has one more
+/// than this number for each block.
 fn numbered_row(row: &Row, blocks: &Vec<usize>, numbers: &Vec<usize>) -> Row
     requires inside { (k t : ℕ) → target_by row.now k ≡ Some t → t < vec_len blocks.now }
     requires within { (s : ℕ) → s < vec_len blocks.now →
@@ -123,7 +126,7 @@ fn numbered_row(row: &Row, blocks: &Vec<usize>, numbers: &Vec<usize>) -> Row
     numbered
 }
 
-/// Returns the entry for the number of the block of a target, or 0 if there is no target.
+/// Returns the entry for the new number of the block of `target`, or 0 if there is no target.
 fn numbered_entry(target: Option<usize>, blocks: &Vec<usize>, numbers: &Vec<usize>) -> u32
     requires inside { (t : ℕ) → target ≡ Some t → t < vec_len blocks.now }
     requires within { (s : ℕ) → s < vec_len blocks.now →
@@ -139,7 +142,7 @@ fn numbered_entry(target: Option<usize>, blocks: &Vec<usize>, numbers: &Vec<usiz
     }
 }
 
-/// Returns the rows of the blocks, in their order.
+/// Returns the rows of the blocks, in the order of `order`.
 fn numbered_rows(
     alloc: Global,
     table: &Table,
@@ -173,7 +176,7 @@ fn numbered_rows(
     Ok(rows)
 }
 
-/// Returns the marks of the blocks, in their order.
+/// Returns the marks of the blocks, in the order of `order`.
 fn numbered_marks(
     alloc: Global,
     table: &Table,
@@ -196,7 +199,7 @@ fn numbered_marks(
     Ok(marks)
 }
 
-/// A table with the blocks of another one as its states, and the mapping between them.
+/// A table whose states are the blocks of another table, with the block of each state.
 #[derive(Drop)]
 pub struct Numbering {
     pub table: Table,
@@ -204,8 +207,8 @@ pub struct Numbering {
     pub states: Vec<usize>,
 }
 
-/// Returns the blocks as the states of a table, in the order of first visits from the block of the
-/// root.
+/// Returns the table whose states are the blocks of `table`, in the order of first visits from the
+/// block of the state `root`.
 ///
 /// # Errors
 ///

@@ -1,5 +1,5 @@
-//! States in the order in which they are visited. Pruning collects the states that remain in an
-//! `Order`, and numbering the states that it visits.
+//! States in the order in which they are visited. Pruning stores the states that remain in an
+//! `Order`, and `number` the blocks that it visits.
 
 ghost use Rattle.std.specs.Prelude.{true, ◌≡◌, ℕ, ◌+◌, ◌<◌, ◌++◌, ◌∷◌, ◌⊎◌, [], OnOk, IfOk, length, vec_len, slice_index};
 ghost use Rattle.logos_reduce.specs.Imports.{IsOrder, IsMet, Grows};
@@ -9,7 +9,7 @@ use std::alloc::{AllocError, Global};
 /// States without duplicates, in the order in which they were visited.
 #[derive(Drop)]
 pub struct Order {
-    /// For each state one more than its index, or 0 if it was not visited.
+    /// For each state, one more than its index in `states`, or 0 if it was not visited.
     pub numbers: Vec<usize>,
     /// The states that were visited, in order.
     pub states: Vec<usize>,
@@ -17,7 +17,7 @@ pub struct Order {
 }
 
 impl Order {
-    /// Returns an empty order for `len` states.
+    /// Returns an order without states, for `len` states that can be visited.
     ///
     /// # Errors
     ///
@@ -34,7 +34,8 @@ impl Order {
         })
     }
 
-    /// Returns one more than the index of a state, or 0 if it was not visited.
+    /// Returns one more than the index of the state `s` in the order, or 0 if it was not visited or
+    /// there is no such state.
     pub fn number_of(&self, s: usize) -> usize
         ensures { result ≡ slice_index self.now.numbers.items s }
     {
@@ -44,7 +45,7 @@ impl Order {
         0
     }
 
-    /// Appends a state to the order, if it is not in the order yet.
+    /// Appends the state `s` to the order, if it is not in the order yet.
     ///
     /// # Errors
     ///
@@ -68,7 +69,8 @@ impl Order {
         Ok(())
     }
 
-    /// Appends a state to the order, if `wanted` is `true` and the state is not in the order yet.
+    /// Appends the state `s` to the order, if `wanted` is `true` and the state is not in the order
+    /// yet.
     ///
     /// # Errors
     ///

@@ -1,5 +1,5 @@
-//! Removes the edges to states that have no mark and do not lead to one. It is the second step of
-//! the reduction, after marks are settled.
+//! Removes the edges to states that have no mark and do not lead to a state with one. `reduce`
+//! calls `prune` as its second step, after marks are settled.
 
 ghost use Rattle.std.specs.Prelude.{true, ◌≡◌, ℕ, ◌+◌, ◌<◌, ◌≤◌, ◌↔◌, ◌⊎◌, Some, OnOk, IfOk, IsTrue, IsSome, length, vec_len, slice_index};
 ghost use Rattle.logos_reduce.specs.Views.{has, IsMet, Grows, IsMarked, target_by, target_of, target_in, size, to, mark, type_of, IsSeed, AreUseful, met_target, IsPrunedTable, rows_of};
@@ -11,14 +11,14 @@ use crate::rows::{END, Row, Rows, WIDTH, run_end, set_run, target_at};
 use crate::table::{StateMarks, Table};
 use std::alloc::{AllocError, Global};
 
-/// Returns whether a state with this mark accepts a leaf, early or late.
+/// Returns whether a state with the marks `mark` has an early or a late mark.
 fn is_marked(mark: StateMarks) -> bool
     ensures { IsTrue result ↔ IsMarked (type_of mark) }
 {
     mark.early.is_some() || mark.accept.is_some()
 }
 
-/// Returns whether a state has a mark, or leads to one on the end.
+/// Returns whether the state `s` has a mark, or leads to a state with a mark on the end.
 fn is_seed(table: &Table, s: usize) -> bool
     requires { s < size table.now }
     ensures { IsTrue result ↔ IsSeed table.now s }
@@ -32,7 +32,7 @@ fn is_seed(table: &Table, s: usize) -> bool
     }
 }
 
-/// Returns the states that have a mark, or lead to one on the end.
+/// Returns the states that have a mark, or lead to a state with a mark on the end, ascending.
 fn seeds(alloc: Global, table: &Table) -> Result<Order, AllocError>
     ensures len { IfOk result (λ o. vec_len o.numbers ≡ size table.now) }
     ensures only { IfOk result (λ o. (s : ℕ) → IsMet o.numbers.items s → IsSeed table.now s) }
@@ -46,7 +46,7 @@ fn seeds(alloc: Global, table: &Table) -> Result<Order, AllocError>
     Ok(order)
 }
 
-/// Appends the states of a list that are not in the order yet.
+/// Appends the states of `list` that are not in the order yet.
 fn meet_all(order: &mut Order, list: &Vec<usize>) -> Result<(), AllocError>
     requires { (s : ℕ) → has list.now.items s ≡ true → s < vec_len order.old.numbers }
     ensures len { vec_len order.new.numbers ≡ vec_len order.old.numbers }
@@ -62,7 +62,7 @@ fn meet_all(order: &mut Order, list: &Vec<usize>) -> Result<(), AllocError>
     Ok(())
 }
 
-/// Returns the states that have a mark or lead to one.
+/// Returns the states that have a mark or lead to a state with a mark.
 fn useful_states(alloc: Global, table: &Table) -> Result<Order, AllocError>
     ensures len { IfOk result (λ o. vec_len o.numbers ≡ size table.now) }
     ensures useful { IfOk result (λ o. AreUseful table.now o.numbers.items) }
@@ -78,7 +78,7 @@ fn useful_states(alloc: Global, table: &Table) -> Result<Order, AllocError>
     Ok(order)
 }
 
-/// Removes the targets of a row that are not in the order.
+/// Removes the targets that are not in `order` from `row`.
 fn prune_row(row: &mut Row, order: &Order)
     ensures len { length row.new ≡ WIDTH }
     ensures pruned { (k : ℕ) → target_by row.new k
@@ -93,7 +93,7 @@ fn prune_row(row: &mut Row, order: &Order)
     }
 }
 
-/// Returns the entry of the row, or 0 if its target is not in the order.
+/// Returns the entry of `row` on the symbol `k`, or 0 if its target is not in `order`.
 fn pruned_entry(row: &Row, k: usize, order: &Order) -> u32
     requires { k < WIDTH }
     ensures { target_of result ≡ met_target order.now.numbers.items (target_by row.now k) }
@@ -104,7 +104,7 @@ fn pruned_entry(row: &Row, k: usize, order: &Order) -> u32
     }
 }
 
-/// Removes the targets of rows that are not in the order.
+/// Removes the targets that are not in `order` from each of `rows`.
 fn prune_all(rows: &mut Vec<Row>, order: &Order)
     ensures len { vec_len rows.new ≡ vec_len rows.old }
     ensures wide { AreWide rows.old.items → AreWide rows.new.items }
@@ -116,7 +116,7 @@ fn prune_all(rows: &mut Vec<Row>, order: &Order)
     }
 }
 
-/// Returns the rows of a list without the targets that are not in the order.
+/// Returns the rows of a list without the targets that are not in `order`.
 fn pruned_rows(rows: Rows, order: &Order) -> Rows
     ensures len { length (rows_of result) ≡ length (rows_of rows) }
     ensures rows { (s k : ℕ) → s < length (rows_of rows) → target_in (rows_of result) s k
@@ -130,7 +130,8 @@ fn pruned_rows(rows: Rows, order: &Order) -> Rows
     Rows { slots, distinct }
 }
 
-/// Returns the table without the edges to states that have no mark and do not lead to one.
+/// Returns the table without the edges to states that have no mark and do not lead to a state with
+/// one.
 ///
 /// # Errors
 ///

@@ -1,4 +1,4 @@
-//! Reduces a table. `logos_graph` calls it with the table of an automaton.
+//! Reduces a table. `logos_graph` calls `reduce` with the table of an automaton.
 
 ghost use Rattle.std.specs.Prelude.{◌<◌, IfOk};
 ghost use Rattle.logos_reduce.specs.Views.{IsRaw, IsReductionOf, IsLeast, IsInOrder, IsSpareless, size, YieldsEvidence};
@@ -11,24 +11,25 @@ use crate::settle::settle;
 use crate::table::Table;
 use std::alloc::{AllocError, Global};
 
-/// A reduced table, and the history of the blocks that are its states.
+/// A reduced table, with the splits that separated its states.
 #[derive(Drop)]
 pub struct Reduction {
-    /// The states, numbered by first visit from the root, which is 0.
+    /// The reduced table. Its states are numbered by first visit from the root, which is 0.
     pub table: Table,
-    /// For each state, its block.
+    /// For each state, the number of its block in `splits`.
     pub blocks: Vec<usize>,
     /// For each block, the split that separated it from a block with a lower number.
     pub splits: Vec<Split>,
 }
 
-/// Returns the least table that has the same marks after the same bytes from the root on.
+/// Returns the least table that records the same matches after the same bytes from the state `root`
+/// on.
 ///
 /// Early marks are set, and late marks that they make redundant are removed; edges to states that
-/// have no mark and do not lead to one are removed; states that no word distinguishes are merged;
-/// and the states to which the root leads are numbered by first visit. If each state can be
-/// reached, and there are only late marks, and none after the end, then each state is needed, and
-/// `splits` yields bytes that distinguish any two of them.
+/// have no mark and do not lead to a state with one are removed; states that no word distinguishes
+/// are merged; and the states to which the root leads are numbered by first visit. If each state
+/// can be reached, and there are only late marks, and none after the end, then each state is
+/// needed, and `splits` yields bytes that distinguish any two of them.
 ///
 /// # Errors
 ///

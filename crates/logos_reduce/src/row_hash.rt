@@ -1,4 +1,5 @@
-//! A hash of a row of targets. `rows` finds equal rows by it. No proof about rows depends on it.
+//! The hash of a row of targets. `rows` finds equal rows by their hash. No proof about rows depends
+//! on the hash.
 //!
 //! Each entry is mixed with its own key, and the results are summed. The entries of a row are
 //! therefore independent of each other, and several are mixed at once.
@@ -14,7 +15,7 @@ const STEP: u32 = 0x85eb_ca77;
 /// An odd number of 64 bits that look random.
 const SPREAD: u64 = 0x9e37_79b9_7f4a_7c15;
 
-/// Returns an entry mixed with its key.
+/// Returns `entry` mixed with `key`.
 #[inline(always)]
 fn mixed(entry: u32, key: u32) -> u32 {
     let both = (entry ^ key).wrapping_mul(MULTIPLIER);

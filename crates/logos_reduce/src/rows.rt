@@ -1,5 +1,5 @@
-//! A list of rows of targets, which stores equal rows once if it finds them. The table of an
-//! automaton has such a list, and so does each table that the reduction makes from it.
+//! A list of rows of targets, which stores equal rows once unless their hashes collide. Each
+//! `Table` stores its rows in such a list.
 
 ghost use Rattle.std.specs.Prelude.{◌≡◌, ◌≢◌, ℕ, ◌<◌, ◌≤◌, ◌+◌, ◌++◌, ◌∷◌, [], IfOk, IfSome, IsTrue, OnOk, length, vec_len, slice_index, slice_index_or};
 ghost use Rattle.logos_reduce.specs.Rows.{AreSame, AreWide, HasOnly, target_by};
@@ -8,22 +8,22 @@ use crate::row_hash::row_hash;
 use std::alloc::{AllocError, Global};
 use std::collections::HashMap;
 
-/// The number of symbols: the bytes, and the end.
+/// The number of symbols: the bytes, and the end of the input.
 pub const WIDTH: usize = 257;
 
-/// The symbol for the end.
+/// The symbol for the end of the input.
 pub const END: usize = 256;
 
 /// The target for each symbol: 0 if there is none, and otherwise one more than the number of the
-/// state. The symbols are the bytes, and then the end.
+/// state. The symbols are the bytes, and after them the end.
 pub type Row = [u32; WIDTH];
 
 /// Rows without duplicates, unless two different rows have the same hash.
 #[derive(Drop)]
 pub struct DistinctRows {
-    /// The rows.
+    /// The rows, in the order in which they were added.
     pub(crate) keys: Vec<Row>,
-    /// The index of a row for the hash that the row had when it was added.
+    /// For each hash, the index in `keys` of the last row that was added with it.
     found: HashMap<u64, usize>,
 }
 
@@ -42,7 +42,7 @@ pub struct Rows {
 impl Rows {
     ghost use Rattle.logos_reduce.specs.RowsView.{rows_of};
 
-    /// Returns an empty list.
+    /// Returns a list without rows.
     pub fn new(alloc: Global) -> Rows
         ensures { rows_of result ≡ [] }
     {
@@ -62,7 +62,7 @@ impl Rows {
         self.slots.len()
     }
 
-    /// Returns the row at an index.
+    /// Returns the row at the index `i` of the list.
     pub fn get(&self, i: usize) -> &Row
         requires { i < length (rows_of self.now) }
         ensures { result.now ≡ slice_index_or (rows_of self.now) i [] }
@@ -70,7 +70,7 @@ impl Rows {
         &self.distinct.keys[self.slots[i]]
     }
 
-    /// Returns the index of row `i` among the distinct rows.
+    /// Returns the index of row `i` of the list among the distinct rows.
     pub fn slot(&self, i: usize) -> usize
         requires { i < length (rows_of self.now) }
         ensures { result ≡ slice_index self.now.slots.items i }
@@ -85,7 +85,7 @@ impl Rows {
         self.distinct.keys.len()
     }
 
-    /// Returns the distinct row at an index.
+    /// Returns the distinct row at the index `slot`.
     pub(crate) fn distinct(&self, slot: usize) -> &Row
         requires { slot < length self.now.distinct.keys.items }
         ensures { result.now ≡ slice_index_or self.now.distinct.keys.items slot [] }
@@ -93,7 +93,8 @@ impl Rows {
         &self.distinct.keys[slot]
     }
 
-    /// Returns the index of a row among the distinct rows, if it is found by its hash.
+    /// Returns the index of `row` among the distinct rows, or `None` if its hash does not lead to
+    /// an equal row.
     fn find(&self, row: &Row, hash: u64) -> Option<usize>
         ensures { IfSome result (λ slot. (slot < vec_len self.now.distinct.keys)
             × (slice_index_or self.now.distinct.keys.items slot [] ≡ row.now)) }
@@ -105,7 +106,7 @@ impl Rows {
         None
     }
 
-    /// Appends a row to the distinct rows.
+    /// Appends `row` to the distinct rows, and returns its index there.
     fn add(&mut self, row: &Row, hash: u64) -> Result<usize, AllocError>
         ensures slots { self.new.slots ≡ self.old.slots }
         ensures slot { IfOk result (λ slot. slot ≡ vec_len self.old.distinct.keys) }
@@ -118,7 +119,8 @@ impl Rows {
         Ok(slot)
     }
 
-    /// Returns the index of a row among the distinct rows. The row is added if it is not found.
+    /// Returns the index of `row` among the distinct rows, and appends the row to these if it is
+    /// not found.
     fn slot_of(&mut self, row: &Row) -> Result<usize, AllocError>
         ensures slots { self.new.slots ≡ self.old.slots }
         ensures slot { IfOk result (λ slot. (slot < vec_len self.new.distinct.keys)
@@ -135,7 +137,7 @@ impl Rows {
         self.add(row, hash)
     }
 
-    /// Appends a row.
+    /// Appends `row` to the list.
     ///
     /// # Errors
     ///
@@ -149,7 +151,7 @@ impl Rows {
     }
 }
 
-/// Returns the target of a row on the symbol `k`, or `None` if there is none.
+/// Returns the target of `row` on the symbol `k`, or `None` if there is none.
 pub fn target_at(row: &Row, k: usize) -> Option<usize>
     requires { k < WIDTH }
     ensures { result ≡ target_by row.now k }
@@ -161,7 +163,7 @@ pub fn target_at(row: &Row, k: usize) -> Option<usize>
 /// The number of entries that are compared together.
 const GROUP: usize = 16;
 
-/// Returns whether all entries of the group from the index `from` on equal `entry`.
+/// Returns whether all entries of the group that begins at the index `from` equal `entry`.
 #[inline(always)]
 fn is_filled(row: &Row, from: usize, entry: u32) -> bool
     requires { from + GROUP ≤ WIDTH }
@@ -174,8 +176,8 @@ fn is_filled(row: &Row, from: usize, entry: u32) -> bool
     !differs
 }
 
-/// Returns an index up to which all entries of the row equal the entry at `start`. Only whole
-/// groups are compared.
+/// Returns the end of a run of entries from `start` on that equal the entry at `start`. The run is
+/// made of that entry and of whole groups after it.
 fn past_groups(row: &Row, start: usize) -> usize
     requires { start < WIDTH }
     ensures after { (start < result) × (result ≤ WIDTH) }
@@ -188,7 +190,7 @@ fn past_groups(row: &Row, start: usize) -> usize
     end
 }
 
-/// Returns the end of the run of equal entries that begins at `start`.
+/// Returns the end of the run of equal entries that begins at the index `start`.
 pub(crate) fn run_end(row: &Row, start: usize) -> usize
     requires { start < WIDTH }
     ensures after { (start < result) × (result ≤ WIDTH) }
@@ -205,7 +207,7 @@ pub(crate) fn run_end(row: &Row, start: usize) -> usize
     end
 }
 
-/// Sets the entries from the index `from` up to but not including `to`.
+/// Sets the entries from the index `from` to `to`, without `to`, to `entry`.
 pub(crate) fn fill_run(row: &mut Row, from: usize, to: usize, entry: u32)
     requires { (from ≤ to) × (to ≤ WIDTH) }
     ensures len { length row.new ≡ WIDTH }
@@ -218,7 +220,8 @@ pub(crate) fn fill_run(row: &mut Row, from: usize, to: usize, entry: u32)
     }
 }
 
-/// Sets the entries of the run from `from` up to but not including `to`, if they change.
+/// Sets the entries of a run of equal entries from the index `from` to `to`, without `to`, to
+/// `entry`. Changes nothing if they already equal it.
 pub(crate) fn set_run(row: &mut Row, from: usize, to: usize, entry: u32)
     requires within { (from < to) × (to ≤ WIDTH) }
     requires run { HasOnly row.old from to (slice_index row.old from) }
@@ -232,7 +235,7 @@ pub(crate) fn set_run(row: &mut Row, from: usize, to: usize, entry: u32)
     }
 }
 
-/// Returns whether two rows have equal entries in the group from the index `from` on.
+/// Returns whether two rows have equal entries in the group that begins at the index `from`.
 #[inline(always)]
 fn are_same(row: &Row, other: &Row, from: usize) -> bool
     requires { from + GROUP ≤ WIDTH }
@@ -245,7 +248,7 @@ fn are_same(row: &Row, other: &Row, from: usize) -> bool
     !differ
 }
 
-/// Returns an index up to which two rows have equal entries, from `start` on. Only whole groups are
+/// Returns an index up to which two rows have equal entries from `start` on. Only whole groups are
 /// compared.
 fn past_same_groups(row: &Row, other: &Row, start: usize) -> usize
     requires { start ≤ WIDTH }
@@ -259,7 +262,7 @@ fn past_same_groups(row: &Row, other: &Row, start: usize) -> usize
     end
 }
 
-/// Returns the first index from `start` on at which two rows differ, or `WIDTH`.
+/// Returns the first index from `start` on at which two rows differ, or `WIDTH` if there is none.
 pub(crate) fn same_until(row: &Row, other: &Row, start: usize) -> usize
     requires { start ≤ WIDTH }
     ensures after { (start ≤ result) × (result ≤ WIDTH) }

@@ -1,5 +1,5 @@
-//! Sets early marks, and removes the late marks that they make redundant. It is the first step of
-//! the reduction.
+//! Sets early marks, and removes the late marks that they make redundant. `reduce` calls `settle`
+//! as its first step.
 
 ghost use Rattle.std.specs.Prelude.{◌≡◌, ◌≢◌, ℕ, ◌+◌, ◌<◌, ◌↔◌, ◌⊎◌, None, Some, IfOk, length, vec_len, slice_index_or, if◌then◌else◌};
 ghost use Rattle.logos_reduce.specs.Views.{size, to, mark, mark_in, IsNeeded, IsSpare, IsSettled, accepted_in, IsCommonIn, AreCommonIn, AreCommon, IsSet, AreNeeded, IsMarkedBy};
@@ -8,7 +8,8 @@ use crate::rows::{END, Row, WIDTH, run_end, target_at};
 use crate::table::{StateMarks, Table};
 use std::alloc::{AllocError, Global};
 
-/// Returns the leaf that is accepted by the target of a row on the symbol `k`, if there is one.
+/// Returns the leaf of the late mark of the target of `row` on the symbol `k`, or `None` if there
+/// is no target or it has no late mark.
 fn accepted_by(table: &Table, row: &Row, k: usize) -> Option<usize>
     requires { k < WIDTH }
     ensures { result ≡ accepted_in table.now row.now k }
@@ -16,8 +17,8 @@ fn accepted_by(table: &Table, row: &Row, k: usize) -> Option<usize>
     table.accept(target_at(row, k)?)
 }
 
-/// Returns the leaf that is accepted by all targets of a row, if every byte and the end have a
-/// target.
+/// Returns the leaf of the late marks of all targets of `row`. Returns `None` if a byte or the end
+/// has no target, or the late marks differ or are missing.
 fn common_leaf(table: &Table, row: &Row) -> Option<usize>
     ensures { IsCommonIn table.now row.now result }
 {
@@ -30,7 +31,8 @@ fn common_leaf(table: &Table, row: &Row) -> Option<usize>
     Some(leaf)
 }
 
-/// Returns for each distinct row the leaf that is accepted by all its targets, if there is one.
+/// Returns for each distinct row the leaf of the late marks of all its targets, or `None` if there
+/// is no such leaf.
 fn common_leaves(alloc: Global, table: &Table) -> Result<Vec<Option<usize>>, AllocError>
     ensures len { IfOk result (λ v. vec_len v ≡ length table.now.rows.distinct.keys.items) }
     ensures leaves { IfOk result (λ v.
@@ -44,7 +46,7 @@ fn common_leaves(alloc: Global, table: &Table) -> Result<Vec<Option<usize>>, All
     Ok(leaves)
 }
 
-/// Returns the early mark of each state, or `None` for a state that has none.
+/// Returns the early mark of each state, or `None` for a state that has no early mark.
 fn early_marks(alloc: Global, table: &Table) -> Result<Vec<Option<usize>>, AllocError>
     ensures len { IfOk result (λ v. vec_len v ≡ size table.now) }
     ensures marks { IfOk result (λ v. AreCommon table.now (size table.now) v.items) }
@@ -57,8 +59,8 @@ fn early_marks(alloc: Global, table: &Table) -> Result<Vec<Option<usize>>, Alloc
     Ok(early)
 }
 
-/// Sets the flag of the target `t` if its late mark differs from `early`, the early mark of a state
-/// that leads to it, and so is needed.
+/// Sets the flag of the target `t` if its late mark is needed: if it differs from `early`, the
+/// early mark of a state that leads to the target.
 fn note_target(table: &Table, t: usize, early: Option<usize>, needed: &mut Vec<bool>)
     requires inside { t < size table.now }
     requires len { vec_len needed.old ≡ size table.now }
@@ -73,7 +75,7 @@ fn note_target(table: &Table, t: usize, early: Option<usize>, needed: &mut Vec<b
     }
 }
 
-/// Sets the flag of the target of an edge, if there is one and its late mark is needed beside
+/// Sets the flag of `target`, the target of an edge, if there is one and its late mark differs from
 /// `early`, the early mark of the state that the edge leaves.
 fn note_edge(table: &Table, target: Option<usize>, early: Option<usize>, needed: &mut Vec<bool>)
     requires inside { (t : ℕ) → target ≡ Some t → t < size table.now }
@@ -90,8 +92,8 @@ fn note_edge(table: &Table, target: Option<usize>, early: Option<usize>, needed:
     }
 }
 
-/// Sets the flags of the targets of a state whose late marks are needed beside `early`, the state's
-/// early mark.
+/// Sets the flag of each target of the state `s` whose late mark differs from `early`, the early
+/// mark of the state.
 fn note_targets(table: &Table, s: usize, early: Option<usize>, needed: &mut Vec<bool>)
     requires state { s < size table.now }
     requires len { vec_len needed.old ≡ size table.now }
@@ -109,7 +111,7 @@ fn note_targets(table: &Table, s: usize, early: Option<usize>, needed: &mut Vec<
     }
 }
 
-/// Returns for each state whether its late mark is needed.
+/// Returns for each state whether its late mark is needed. `early` is the early mark of each state.
 fn needed_marks(
     alloc: Global,
     table: &Table,
@@ -127,7 +129,8 @@ fn needed_marks(
     Ok(needed)
 }
 
-/// Returns the mark of a state, given its early mark and whether its late mark is needed.
+/// Returns the marks of a state that had `mark`, given its early mark and whether its late mark is
+/// needed.
 fn settled_mark(mark: StateMarks, early: Option<usize>, needed: bool) -> StateMarks
     ensures early { result.early ≡ early }
     ensures accept { result.accept ≡ (if needed then mark.accept else None) }
@@ -138,7 +141,7 @@ fn settled_mark(mark: StateMarks, early: Option<usize>, needed: bool) -> StateMa
     }
 }
 
-/// Returns the marks of all states, given their early marks and whether their late marks are
+/// Returns the marks of all states, given the early mark of each state and whether its late mark is
 /// needed.
 fn settled_marks(
     alloc: Global,
@@ -159,7 +162,7 @@ fn settled_marks(
     Ok(marks)
 }
 
-/// Returns the table with its early marks, and without the late marks that they make redundant.
+/// Returns the table with early marks, and without the late marks that they make redundant.
 ///
 /// # Errors
 ///

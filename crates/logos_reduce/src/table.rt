@@ -1,5 +1,5 @@
-//! Tables: states with their marks, and rows of targets. Each step of the reduction makes a table
-//! from another one.
+//! Tables: states with their marks, and rows of targets. `logos_graph` makes a table of an
+//! automaton, and each step of the reduction makes a table of another one.
 
 ghost use Rattle.std.specs.Prelude.{◌≡◌, ℕ, ◌+◌, ◌<◌, ◌^◌, Some, length, vec_len};
 ghost use Rattle.logos_reduce.specs.Rows.{IsClosed, target_by};
@@ -7,16 +7,18 @@ ghost use Rattle.logos_reduce.specs.RowsView.{rows_of};
 
 use crate::rows::{Row, Rows, WIDTH, target_at};
 
-/// The leaves whose matches end at a state, or one byte before it.
+/// The marks of a state: the leaf whose match ends at the state, and the leaf whose match ends one
+/// byte before.
 #[derive(Clone, Copy, PartialEq, Eq, Drop)]
 pub struct StateMarks {
-    /// The leaf whose match ends one byte before.
+    /// The late mark: the leaf whose match ends one byte before the state, or `None` if there is
+    /// none.
     pub accept: Option<usize>,
-    /// The leaf whose match ends at the state.
+    /// The early mark: the leaf whose match ends at the state, or `None` if there is none.
     pub early: Option<usize>,
 }
 
-/// States, with a mark and a row of targets for each.
+/// States by their numbers, with marks and a row of targets for each.
 #[derive(Drop)]
 pub struct Table {
     pub(crate) marks: Vec<StateMarks>,
@@ -29,7 +31,7 @@ pub struct Table {
 impl Table {
     ghost use Rattle.logos_reduce.specs.Table.{mark_in, size, to, mark};
 
-    /// Returns the table with these marks and rows: state `s` has mark `s` and row `s`.
+    /// Returns the table with `marks` and `rows`: state `s` has the entry `s` of both.
     ///
     /// The caller must ensure that there is a mark for each row, that each target is the number of
     /// a state, and that there are fewer than 4,294,967,295 states. The rows are added one by one
@@ -51,7 +53,7 @@ impl Table {
         self.marks.len()
     }
 
-    /// Returns the mark of a state.
+    /// Returns the marks of the state `s`.
     pub fn mark(&self, s: usize) -> StateMarks
         requires { s < size self.now }
         ensures { result ≡ mark self.now s }
@@ -59,8 +61,7 @@ impl Table {
         self.marks[s]
     }
 
-    /// Returns the leaf whose match ends one byte before a state, or `None` if there is no such
-    /// state.
+    /// Returns the late mark of the state `s`, or `None` if it has none or there is no such state.
     pub(crate) fn accept(&self, s: usize) -> Option<usize>
         ensures { result ≡ (mark self.now s).accept }
     {
@@ -70,7 +71,7 @@ impl Table {
         None
     }
 
-    /// Returns the row of a state, which contains its targets.
+    /// Returns the row of the state `s`, which contains its targets.
     pub fn row(&self, s: usize) -> &Row
         requires { s < size self.now }
         ensures row { (k : ℕ) → target_by result.now k ≡ to self.now s k }
@@ -79,7 +80,7 @@ impl Table {
         self.rows.get(s)
     }
 
-    /// Returns the state to which a state leads on the symbol `k`, or `None` if it leads to none.
+    /// Returns the target of the state `s` on the symbol `k`, or `None` if there is none.
     pub fn target(&self, s: usize, k: usize) -> Option<usize>
         requires state { s < size self.now }
         requires symbol { k < WIDTH }

@@ -1,4 +1,4 @@
-//! Determines whether an enum derives `Logos`. `finder` calls it for each enum.
+//! Determines whether an enum derives `Logos`. `finder` calls `derives` for each enum.
 
 ghost use Rattle.std.specs.Prelude.{◌≡◌, ◌<◌, ◌||◌, false, true, MatchOption};
 ghost use Rattle.logos_rust_file.specs.Imports.{count_of, tokens_of, begins_list, derives, derives_after, derives_in, lists_macro};
@@ -7,8 +7,8 @@ use logos_strip::helpers::{is_comma, is_macro_entry};
 use logos_token::token::{Delimiter, TokenTree, Tokens};
 use logos_token::util::after_word;
 
-/// Returns whether one of the attributes that come first is a `derive` that lists `Logos`,
-/// `logos::Logos` or `::logos::Logos`: an entry that `strip_attributes` removes.
+/// Returns whether one of the attributes at the front of `tokens` is a `derive` with the entry
+/// `Logos`, `logos::Logos` or `::logos::Logos`, which `strip_attributes` removes.
 pub(crate) fn derives(tokens: Tokens<'_, '_>) -> bool
     ensures { result ≡ derives (tokens_of tokens.entry) }
 {
@@ -22,8 +22,8 @@ pub(crate) fn derives(tokens: Tokens<'_, '_>) -> bool
     false
 }
 
-/// Returns whether the first attribute derives `Logos`, and the tokens after it. Returns `None` if
-/// the run does not begin with an attribute.
+/// Returns whether the first attribute derives `Logos`, and the tokens after the attribute. Returns
+/// `None` if the run does not begin with an attribute.
 fn first_attribute<'t, 's>(tokens: Tokens<'t, 's>) -> Option<(bool, Tokens<'t, 's>)>
     ensures { MatchOption result (derives (tokens_of tokens.entry) ≡ false)
         (λ read. (derives (tokens_of tokens.entry) ≡ (read.0 || derives (tokens_of read.1)))
@@ -37,7 +37,7 @@ fn first_attribute<'t, 's>(tokens: Tokens<'t, 's>) -> Option<(bool, Tokens<'t, '
 }
 
 /// Returns whether the brackets after the `#` of an attribute derive `Logos`, and the tokens after
-/// them. Returns `None` if the run does not begin with brackets.
+/// the brackets. Returns `None` if the run does not begin with brackets.
 fn bracketed<'t, 's>(tokens: Tokens<'t, 's>) -> Option<(bool, Tokens<'t, 's>)>
     ensures { MatchOption result (derives_after (tokens_of tokens.entry) ≡ false)
         (λ read. (derives_after (tokens_of tokens.entry)
@@ -52,7 +52,8 @@ fn bracketed<'t, 's>(tokens: Tokens<'t, 's>) -> Option<(bool, Tokens<'t, 's>)>
     }
 }
 
-/// Returns whether the brackets of an attribute hold a `derive` that lists `Logos`.
+/// Returns whether `tokens`, in the brackets of an attribute, are a `derive` with an entry that
+/// names the derive macro.
 fn derives_in(tokens: Tokens<'_, '_>) -> bool
     ensures { result ≡ derives_in (tokens_of tokens.entry) }
 {
@@ -62,7 +63,7 @@ fn derives_in(tokens: Tokens<'_, '_>) -> bool
     }
 }
 
-/// Returns whether the run begins with a parenthesis that lists `Logos`.
+/// Returns whether the run begins with parentheses in which an entry names the derive macro.
 fn begins_list(tokens: Tokens<'_, '_>) -> bool
     ensures { result ≡ begins_list (tokens_of tokens.entry) }
 {
@@ -74,7 +75,7 @@ fn begins_list(tokens: Tokens<'_, '_>) -> bool
     }
 }
 
-/// Returns whether one of the entries of a `derive` is `Logos`, with or without a path.
+/// Returns whether one of the entries of a `derive` names the derive macro, with or without a path.
 fn lists_macro(tokens: Tokens<'_, '_>) -> bool
     ensures { result ≡ lists_macro true (tokens_of tokens.entry) }
 {

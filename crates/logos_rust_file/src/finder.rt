@@ -13,33 +13,34 @@ use logos_token::error::Memory;
 use logos_token::token::{Span, TokenStream, Tokens, tokenize};
 use std::alloc::Global;
 
-/// An enum of a file.
+/// An enum of a file, as it was found.
 #[derive(Clone, Copy, Debug)]
 pub struct FoundEnum {
     /// The span of the enum in the file, in bytes: from its first attribute, its visibility or
     /// `enum` to the end of its braces.
     pub span: Span,
-    /// The byte span of the enum's name, which is the identifier after `enum`. `None` if there is
-    /// no such identifier.
+    /// The byte span of the enum's name, which is the identifier after `enum`, or `None` if there
+    /// is no such identifier.
     pub name: Option<Span>,
-    /// Whether one of the enum's `derive` attributes lists `Logos`, `logos::Logos` or
-    /// `::logos::Logos`.
+    /// Whether one of the `derive` attributes at the front of the enum has the entry `Logos`,
+    /// `logos::Logos` or `::logos::Logos`.
     pub derives: bool,
-    /// Whether one of these entries is `Logos` without a path, which the file then imports.
+    /// Whether one of the `derive` attributes has the entry `Logos` without a path, for which the
+    /// file imports the macro.
     pub by_name: bool,
 }
 
-/// A Rust file that was read.
+/// A Rust file that was read: its tokens and its enums.
 #[derive(Drop)]
 pub struct ReadFile<'s> {
     /// The tokens of the file.
     pub stream: TokenStream<'s>,
-    /// The enums of the file, in order.
+    /// The enums of the file, in order, as `enums_in` returns them.
     pub found: Vec<FoundEnum>,
 }
 
 /// Returns the enums of a Rust file, in order: those at its top level and those in the bodies of
-/// modules, at any depth. Bodies of functions and arguments of macros are not searched.
+/// modules, at any depth. Does not search the bodies of functions and the arguments of macros.
 ///
 /// # Errors
 ///
@@ -59,7 +60,7 @@ pub fn enums_in(alloc: Global, text: &str) -> Result<Vec<FoundEnum>, Refusal>
     }
 }
 
-/// Returns the enums that `enums_in` returns, with the tokens of the file.
+/// Returns the tokens of the file, and the enums that `enums_in` returns.
 ///
 /// # Errors
 ///
@@ -91,7 +92,7 @@ fn enums_of(alloc: Global, tokens: Tokens<'_, '_>) -> Result<Vec<FoundEnum>, Mem
     Ok(found)
 }
 
-/// Appends the enums of the items in `run`.
+/// Appends the enums of the items in `run` to `found`.
 #[cycle(find)]
 fn add_all(run: Tokens<'_, '_>, found: &mut Vec<FoundEnum>) -> Result<(), Memory>
     ensures { OnOk result (AddsRun (tokens_of run.entry) found.old.items found.new.items) }
@@ -103,7 +104,8 @@ fn add_all(run: Tokens<'_, '_>, found: &mut Vec<FoundEnum>) -> Result<(), Memory
     Ok(())
 }
 
-/// Appends the enums of the first item. Returns the tokens after it, or `None` if there is no item.
+/// Appends the enums of the first item to `found`. Returns the tokens after the item, or `None` if
+/// there is no item.
 #[cycle(find)]
 fn add_first<'t, 's>(
     tokens: Tokens<'t, 's>,
@@ -125,7 +127,7 @@ fn add_first<'t, 's>(
     }
 }
 
-/// Returns the enum with these tokens.
+/// Returns the enum whose tokens are `item`.
 fn describe(item: Tokens<'_, '_>) -> FoundEnum
     ensures { Describes (tokens_of item.entry) result }
 {

@@ -1,5 +1,5 @@
 //! Reads the beginnings of items: their attributes, their visibility, their kind, and the name of
-//! an enum. `finder` calls it for each item.
+//! an enum. `finder` calls `kind_of` for each item, and `name_of` for each enum.
 
 ghost use Rattle.std.specs.Prelude.{◌≡◌, ◌<◌, MatchOption};
 ghost use Rattle.logos_rust_file.specs.Views.{Token, also, count_of, tokens_of, tree_of, after_attributes, after_body, after_hash, after_head, braced_in, ends_body, kind_at, kind_of, kind_value, module_in, name_at, name_of};
@@ -7,10 +7,10 @@ ghost use Rattle.logos_rust_file.specs.Views.{Token, also, count_of, tokens_of, 
 use logos_enum::{is_outer, skip_generics, skip_visibility};
 use logos_token::token::{Delimiter, Span, TokenTree, Tokens};
 
-/// The beginning of a run of items, after attributes and a visibility.
+/// The first item of a run, as it is found after its attributes and its visibility.
 #[derive(Clone, Copy)]
 pub(crate) enum ItemKind<'t, 's> {
-    /// Nothing.
+    /// No item: no tokens are left.
     End,
     /// An enum, followed by `rest`.
     Enum {
@@ -21,20 +21,21 @@ pub(crate) enum ItemKind<'t, 's> {
         inside: Tokens<'t, 's>,
         rest: Tokens<'t, 's>,
     },
-    /// Another token, followed by `rest`.
+    /// Another token, after which `rest` is read as the next item.
     Other {
         rest: Tokens<'t, 's>,
     },
 }
 
-/// Returns the kind of the first item.
+/// Returns the kind of the first item of `tokens`.
 pub(crate) fn kind_of<'t, 's>(tokens: Tokens<'t, 's>) -> ItemKind<'t, 's>
     ensures { kind_value result ≡ kind_of (tokens_of tokens.entry) }
 {
     kind_at(skip_visibility(skip_attributes(tokens)))
 }
 
-/// Returns the tokens after a documentation comment or an attribute, if the run begins with one.
+/// Returns the tokens after the outer documentation comment or the attribute at the front, or
+/// `None` if the run begins with neither.
 fn skip_attribute<'t, 's>(tokens: Tokens<'t, 's>) -> Option<Tokens<'t, 's>>
     ensures { MatchOption result
         (after_attributes (tokens_of tokens.entry) ≡ tokens_of tokens.entry)
@@ -48,7 +49,8 @@ fn skip_attribute<'t, 's>(tokens: Tokens<'t, 's>) -> Option<Tokens<'t, 's>>
     }
 }
 
-/// Returns the tokens after brackets, if the run begins with them.
+/// Returns the tokens after the brackets at the front, or `None` if the run does not begin with
+/// brackets.
 fn skip_brackets<'t, 's>(tokens: Tokens<'t, 's>) -> Option<Tokens<'t, 's>>
     ensures { MatchOption result ((sign : Token) →
         after_hash sign (tokens_of tokens.entry) ≡ also sign (tokens_of tokens.entry))
@@ -92,7 +94,8 @@ fn kind_at<'t, 's>(tokens: Tokens<'t, 's>) -> ItemKind<'t, 's>
     }
 }
 
-/// Returns a module from the tokens after its `mod`, if they begin with a name and braces.
+/// Returns a module from the tokens after `mod`, if they begin with a name and braces. Otherwise
+/// the rest is `tokens`.
 fn module_at<'t, 's>(tokens: Tokens<'t, 's>) -> ItemKind<'t, 's>
     ensures { kind_value result ≡ module_in (tokens_of tokens.entry) }
 {
@@ -102,8 +105,8 @@ fn module_at<'t, 's>(tokens: Tokens<'t, 's>) -> ItemKind<'t, 's>
     }
 }
 
-/// Returns a module from the tokens after its name, if they begin with braces. Otherwise the rest
-/// is `tokens`.
+/// Returns a module from `after`, the tokens after its name, if they begin with braces. Otherwise
+/// the rest is `tokens`, which begin with the name.
 fn braced_module<'t, 's>(tokens: Tokens<'t, 's>, after: Tokens<'t, 's>) -> ItemKind<'t, 's>
     ensures { kind_value result ≡ braced_in (tokens_of tokens.entry) (tokens_of after.entry) }
 {
@@ -116,8 +119,8 @@ fn braced_module<'t, 's>(tokens: Tokens<'t, 's>, after: Tokens<'t, 's>) -> ItemK
     }
 }
 
-/// Returns the tokens after the name and the generic parameters of an enum, which may contain
-/// braces.
+/// Returns the tokens after the name and the generic parameters of an enum, which can contain
+/// braces. Returns `tokens` if they do not begin with a name.
 fn skip_head<'t, 's>(tokens: Tokens<'t, 's>) -> Tokens<'t, 's>
     ensures { tokens_of result ≡ after_head (tokens_of tokens.entry) }
 {
@@ -127,7 +130,7 @@ fn skip_head<'t, 's>(tokens: Tokens<'t, 's>) -> Tokens<'t, 's>
     }
 }
 
-/// Returns the tokens after the first braces or the first `;`.
+/// Returns the tokens after the first braces or the first `;`, or no tokens if there are neither.
 fn skip_body<'t, 's>(tokens: Tokens<'t, 's>) -> Tokens<'t, 's>
     ensures { tokens_of result ≡ after_body (tokens_of tokens.entry) }
 {
@@ -141,7 +144,7 @@ fn skip_body<'t, 's>(tokens: Tokens<'t, 's>) -> Tokens<'t, 's>
     rest
 }
 
-/// Returns whether a token ends an item.
+/// Returns whether `tree` ends an item: braces or `;`.
 fn ends_body(tree: TokenTree<'_, '_>) -> bool
     ensures { result ≡ ends_body (tree_of tree.entry) }
 {
@@ -152,15 +155,15 @@ fn ends_body(tree: TokenTree<'_, '_>) -> bool
     }
 }
 
-/// Returns the span of the name of an enum with these tokens: of the identifier after `enum`, if
-/// there is one.
+/// Returns the span of the name of an enum with the tokens `item`: of the identifier after `enum`.
+/// Returns `None` if there is no such identifier.
 pub(crate) fn name_of(item: Tokens<'_, '_>) -> Option<Span>
     ensures { result ≡ name_of (tokens_of item.entry) }
 {
     name_at(skip_visibility(skip_attributes(item)).rest())
 }
 
-/// Returns the span of the first token, if it is an identifier.
+/// Returns the span of the first token, or `None` if it is not an identifier.
 fn name_at(tokens: Tokens<'_, '_>) -> Option<Span>
     ensures { result ≡ name_at (tokens_of tokens.entry) }
 {

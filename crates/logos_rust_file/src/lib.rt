@@ -1,5 +1,5 @@
 //! Finds the enums of a Rust file, and replaces parts of a file. `logos_expand` and `logos_show`
-//! call it.
+//! use it.
 
 #![tactic(auto)]
 

@@ -1,11 +1,11 @@
 //! Determines whether an enum derives `Logos` without a path, and thus through an import. `finder`
-//! calls it for each enum.
+//! calls `derives_by_name` for each enum.
 
 use logos_strip::helpers::{is_comma, is_macro_entry};
 use logos_token::token::{Delimiter, TokenTree, Tokens};
 use logos_token::util::after_word;
 
-/// Returns whether a `derive` before an enum lists `Logos` without a path.
+/// Returns whether a `derive` before an enum has the entry `Logos` without a path.
 pub(crate) fn derives_by_name(item: Tokens<'_, '_>) -> bool {
     let mut rest = item;
     for _ in 0..item.count() {
@@ -28,8 +28,8 @@ fn begins_list(tokens: Tokens<'_, '_>) -> bool {
     }
 }
 
-/// Returns whether the brackets of an attribute contain a `derive` that lists `Logos` without a
-/// path.
+/// Returns whether `inside`, the brackets of an attribute, are a `derive` with the entry `Logos`
+/// without a path.
 fn lists_name(inside: Tokens<'_, '_>) -> bool {
     let Some(rest) = after_word("derive", inside) else {
         return false;
@@ -54,7 +54,7 @@ fn has_name(entries: Tokens<'_, '_>) -> bool {
     false
 }
 
-/// Returns whether the run begins with the entry `Logos`.
+/// Returns whether the run begins with the whole entry `Logos`.
 fn is_name(tokens: Tokens<'_, '_>) -> bool {
     match tokens.first() {
         Some(TokenTree::Ident(word)) => (word.text == "Logos") & is_macro_entry(tokens),

@@ -1,4 +1,4 @@
-//! The paths of enums in a file. `logos_show` compares them with the name of the enum that it
+//! The paths of enums in a file. `logos_show` compares the paths with the name of the enum that it
 //! shows.
 
 ghost use Rattle.std.specs.Prelude.{◌↔◌, IfOk, IsTrue, string_bytes};
@@ -18,8 +18,9 @@ struct Word<'t> {
     rest: &'t str,
 }
 
-/// Returns the path of an enum in a file with this text, such as `lexers::Token`: the names of the
-/// modules that are open at its beginning, and its own name, which is empty if it has none.
+/// Returns the path of an enum in the file with this text, such as `lexers::Token`: the names of
+/// the modules that are open where the enum begins, and the enum's own name, which is empty if it
+/// has none.
 ///
 /// # Errors
 ///
@@ -35,7 +36,7 @@ pub fn path_of(alloc: Global, text: &str, found: FoundEnum) -> Result<String, Me
     Ok(path)
 }
 
-/// Returns the text before an enum.
+/// Returns the part of `text` before an enum.
 fn before(text: &str, found: FoundEnum) -> &str {
     match text.get(..found.span.from) {
         Some(before) => before,
@@ -59,7 +60,7 @@ fn name_in(text: &str, found: FoundEnum) -> &str
     }
 }
 
-/// Returns whether a path ends with `::` and a shorter one.
+/// Returns whether `path` ends with `::` and the path `end`.
 pub fn ends_with_path(path: &str, end: &str) -> bool
     ensures { IsTrue result ↔ EndsWithPath path.now end.now }
 {
@@ -69,7 +70,7 @@ pub fn ends_with_path(path: &str, end: &str) -> bool
     }
 }
 
-/// Appends the name of a module and `::`.
+/// Appends the name `level` of a module and `::` to `path`, or nothing if the name is empty.
 fn push_level(path: &mut String, level: &str) -> Result<(), Memory> {
     if !level.is_empty() {
         path.push_str(level)?;
@@ -95,7 +96,7 @@ fn levels_of<'t>(alloc: Global, text: &'t str) -> Result<Vec<&'t str>, Memory> {
     Ok(levels)
 }
 
-/// Returns the first lexeme of a text, unless the text is empty or begins with invalid Rust.
+/// Returns the first lexeme of a text, or `None` if the text is empty or begins with invalid Rust.
 fn first_word<'t>(text: &'t str) -> Option<Word<'t>> {
     if text.is_empty() || !text.is_char_boundary(0) {
         return None;
@@ -107,8 +108,8 @@ fn first_word<'t>(text: &'t str) -> Option<Word<'t>> {
     Some(Word { kind, text, rest })
 }
 
-/// Returns the last two lexemes once `word` is read, where `words` are the last two before it. Gaps
-/// and documentation do not count.
+/// Returns the last two lexemes up to `word`, where `words` are the last two before it. Gaps and
+/// documentation do not count.
 fn words_after<'t>(words: (&'t str, &'t str), word: Word<'t>) -> (&'t str, &'t str) {
     match word.kind {
         LexemeKind::Gap | LexemeKind::Doc => words,
@@ -116,7 +117,7 @@ fn words_after<'t>(words: (&'t str, &'t str), word: Word<'t>) -> (&'t str, &'t s
     }
 }
 
-/// Adds the module of an opening brace, or removes that of a closing one.
+/// Appends the module of an opening brace to `levels`, or removes the last one for a closing brace.
 fn note_brace<'t>(
     levels: &mut Vec<&'t str>,
     words: (&'t str, &'t str),

@@ -1,4 +1,4 @@
-//! Replaces parts of a text. `logos_expand` inserts the expansions into a file with it.
+//! Replaces parts of a text. `logos_expand` calls `replace` to insert the expansions into a file.
 
 ghost use Rattle.std.specs.Prelude.{◌≡◌, ◌≤◌, IfOk, length, map, slice_range};
 ghost use Rattle.logos_rust_file.specs.Views.{AreInOrder, part_span, replaced};
@@ -9,14 +9,14 @@ use std::alloc::{AllocError, Global};
 /// A part of a text and the text that replaces it.
 #[derive(Drop)]
 pub struct Replacement {
-    /// The part, in bytes.
+    /// The span of the part in the text, in bytes.
     pub span: Span,
     /// The text that replaces the part.
     pub text: String,
 }
 
-/// Returns a text with some parts replaced. The parts are in order and do not overlap. All bytes
-/// between them stay unchanged.
+/// Returns the bytes of `text` with `parts` replaced, which are in order and do not overlap. All
+/// bytes between the parts stay unchanged.
 ///
 /// # Errors
 ///
@@ -38,7 +38,7 @@ pub fn replace(alloc: Global, text: &str, parts: &[Replacement]) -> Result<Vec<u
     Ok(made)
 }
 
-/// Returns the bytes between two offsets.
+/// Returns the bytes from the offset `from` to `to`, without `to`.
 fn between(bytes: &[u8], from: usize, to: usize) -> &[u8]
     requires order { from ≤ to }
     requires inside { to ≤ length bytes.now }

@@ -1,4 +1,4 @@
-//! Strips runs of tokens, group by group. The stripper calls `strip_run` for a whole enum.
+//! Strips runs of tokens, group by group. `stripper` calls `strip_run` for a whole enum.
 
 ghost use Rattle.std.specs.Prelude.{◌≡◌, ◌<◌, ◌≤◌, ◌∷◌, List, Option, Some, None, IfOk};
 ghost use Rattle.logos_strip.specs.Views.{Token, tokens_of, tree_of, stream_tokens, Open, scope_inside, left, thinned, sorted, completed, group_token};
@@ -9,8 +9,8 @@ use logos_token::error::Memory;
 use logos_token::token::{Group, TokenStream, TokenTree, Tokens};
 use std::alloc::Global;
 
-/// Adds a group, with the tokens inside it stripped. `scope` is the part of the enum that these
-/// tokens form.
+/// Appends the group `whole` to the writer, with the tokens inside it stripped. `scope` is the part
+/// of the enum that these tokens form.
 #[cycle(walk)]
 fn keep_group<'s>(
     alloc: Global,
@@ -25,7 +25,8 @@ fn keep_group<'s>(
     writer.with_tree(TokenTree::Group(inside.group(whole.delimiter, whole.span)))
 }
 
-/// Adds a token that remains, with the tokens inside it stripped. `rest` are the tokens after it.
+/// Appends `tree`, a token that remains, to the writer, with the tokens inside it stripped. `rest`
+/// are the tokens after it.
 #[cycle(walk)]
 fn keep<'s>(
     alloc: Global,
@@ -49,7 +50,7 @@ fn keep<'s>(
     }
 }
 
-/// Returns the tokens of a run that remain. `scope` is the part of the enum that the run forms.
+/// Returns the tokens of `run` that remain. `scope` is the part of the enum that the run forms.
 ///
 /// # Errors
 ///

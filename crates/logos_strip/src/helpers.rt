@@ -1,5 +1,5 @@
-//! The parts of an enum that belong to the derive macro: its helper attributes, and the entries of
-//! `derive` that name it. `spots` and `logos_rust_file` recognize them with it.
+//! Recognizes the parts of an enum that belong to the derive macro: its helper attributes, and the
+//! entries of `derive` that name it. `spots` and `logos_rust_file` call these functions.
 
 ghost use Rattle.std.specs.Prelude.{◌≡◌};
 ghost use Rattle.logos_strip.specs.Imports.{tokens_of, tree_of, is_comma, is_helper_name, is_helper_path, holds_helper, begins_helper, ends_entry, is_macro_name, is_macro_segment, is_macro_path, is_global_path, is_macro_entry};
@@ -17,15 +17,15 @@ pub fn is_comma(tree: TokenTree<'_, '_>) -> bool
     }
 }
 
-/// Returns whether a name is the name of a helper attribute.
+/// Returns whether `text` is the name of a helper attribute.
 fn is_helper_name(text: &str) -> bool
     ensures { result ≡ is_helper_name text.now }
 {
     (text == "logos") | ((text == "token") | (text == "regex"))
 }
 
-/// Returns whether the path of an attribute, at the start of a run, is exactly a helper attribute's
-/// name.
+/// Returns whether `tokens`, the brackets of an attribute, begin with the name of a helper
+/// attribute as the whole path.
 fn is_helper_path(tokens: Tokens<'_, '_>) -> bool
     ensures { result ≡ is_helper_path (tokens_of tokens.entry) }
 {
@@ -58,7 +58,8 @@ pub(crate) fn begins_helper(tokens: Tokens<'_, '_>) -> bool
     }
 }
 
-/// Returns whether an entry of `derive` ends at the start of the run.
+/// Returns whether an entry of `derive` ends before `tokens`: whether they begin with a comma or
+/// are empty.
 fn ends_entry(tokens: Tokens<'_, '_>) -> bool
     ensures { result ≡ ends_entry (tokens_of tokens.entry) }
 {
@@ -68,7 +69,7 @@ fn ends_entry(tokens: Tokens<'_, '_>) -> bool
     }
 }
 
-/// Returns whether the run begins with the entry `Logos`.
+/// Returns whether the run begins with the whole entry `Logos`.
 fn is_macro_name(tokens: Tokens<'_, '_>) -> bool
     ensures { result ≡ is_macro_name (tokens_of tokens.entry) }
 {
@@ -78,7 +79,7 @@ fn is_macro_name(tokens: Tokens<'_, '_>) -> bool
     }
 }
 
-/// Returns whether the run begins with `::` and the entry `Logos`.
+/// Returns whether the run begins with `::` and the whole entry `Logos`.
 fn is_macro_segment(tokens: Tokens<'_, '_>) -> bool
     ensures { result ≡ is_macro_segment (tokens_of tokens.entry) }
 {
@@ -88,7 +89,7 @@ fn is_macro_segment(tokens: Tokens<'_, '_>) -> bool
     }
 }
 
-/// Returns whether the run begins with the entry `logos::Logos`.
+/// Returns whether the run begins with the whole entry `logos::Logos`.
 fn is_macro_path(tokens: Tokens<'_, '_>) -> bool
     ensures { result ≡ is_macro_path (tokens_of tokens.entry) }
 {
@@ -98,7 +99,7 @@ fn is_macro_path(tokens: Tokens<'_, '_>) -> bool
     }
 }
 
-/// Returns whether the run begins with the entry `::logos::Logos`.
+/// Returns whether the run begins with the whole entry `::logos::Logos`.
 fn is_global_path(tokens: Tokens<'_, '_>) -> bool
     ensures { result ≡ is_global_path (tokens_of tokens.entry) }
 {
@@ -108,7 +109,8 @@ fn is_global_path(tokens: Tokens<'_, '_>) -> bool
     }
 }
 
-/// Returns whether the run begins with an entry that names the derive macro.
+/// Returns whether the run begins with an entry that names the derive macro: `Logos`,
+/// `logos::Logos` or `::logos::Logos`.
 pub fn is_macro_entry(tokens: Tokens<'_, '_>) -> bool
     ensures { result ≡ is_macro_entry (tokens_of tokens.entry) }
 {

@@ -1,5 +1,5 @@
-//! Determines for each token of an enum whether it is removed, by its spot. The stripping of runs
-//! calls it for each token.
+//! Determines for each token of an enum whether it is removed, by its spot. `groups` calls `goes`
+//! and `spot_after` for each token.
 
 ghost use Rattle.std.specs.Prelude.{◌≡◌, ◌<◌, Some, None, MatchOption};
 ghost use Rattle.logos_strip.specs.Views.{tokens_of, tree_of, is_none, begins_gone, goes, after_part, after_start, after_hash, after_attributed, after_in_enum, after_in_attribute, spot_after, scope_of, rank};
@@ -7,7 +7,7 @@ ghost use Rattle.logos_strip.specs.Views.{tokens_of, tree_of, is_none, begins_go
 use crate::helpers::{begins_helper, is_comma, is_macro_entry};
 use logos_token::token::{Delimiter, TokenTree, Tokens};
 
-/// The parts of an enum whose tokens are stripped as one run.
+/// A part of an enum whose tokens are stripped as one run.
 #[derive(Clone, Copy)]
 pub enum Scope {
     /// The whole enum.
@@ -22,23 +22,24 @@ pub enum Scope {
     Fields,
 }
 
-/// The spot of the next token in a run.
+/// The spot of the next token in a run, which decides with its scope whether the token can be
+/// removed.
 #[derive(Clone, Copy)]
 pub enum TokenSpot {
-    /// Where an attribute, a path or an entry can begin.
+    /// The point at which an attribute, a path or an entry can begin.
     Open,
-    /// After the `#` of an attribute that remains.
+    /// The point after the `#` of an attribute that remains.
     Hash,
-    /// Inside a part that is removed.
+    /// A point inside a part that is removed.
     Gone,
-    /// After the name of a variant, or after `derive`.
+    /// The point after the name of a variant, or after `derive`.
     Named,
-    /// Inside a part that remains.
+    /// A point inside a part that remains.
     Within,
 }
 
-/// Returns whether a part that is removed begins at the start of the run. An attribute or an entry
-/// can begin there.
+/// Returns whether a part that is removed begins at the start of `tokens`, where an attribute or an
+/// entry of `scope` can begin.
 fn begins_gone(scope: Scope, tokens: Tokens<'_, '_>) -> bool
     ensures { result ≡ begins_gone scope (tokens_of tokens.entry) }
 {
@@ -49,7 +50,7 @@ fn begins_gone(scope: Scope, tokens: Tokens<'_, '_>) -> bool
     }
 }
 
-/// Returns whether the first token is removed, given its spot.
+/// Returns whether the first of `tokens` is removed, given its spot.
 pub(crate) fn goes(scope: Scope, spot: TokenSpot, tokens: Tokens<'_, '_>) -> bool
     ensures { result ≡ goes scope spot (tokens_of tokens.entry) }
 {
@@ -60,8 +61,8 @@ pub(crate) fn goes(scope: Scope, spot: TokenSpot, tokens: Tokens<'_, '_>) -> boo
     }
 }
 
-/// Returns the spot after a token of a part. Parts are separated by commas, joint or alone: after a
-/// comma the next part begins.
+/// Returns the spot after the token `tree` of a part: `Open` after a comma, joint or alone, where
+/// the next part begins, and `other` after any other token.
 fn after_part(other: TokenSpot, tree: TokenTree<'_, '_>) -> TokenSpot
     ensures { result ≡ after_part other (tree_of tree.entry) }
 {
@@ -72,7 +73,8 @@ fn after_part(other: TokenSpot, tree: TokenTree<'_, '_>) -> TokenSpot
     }
 }
 
-/// Returns the spot after a token that remains, where an attribute can begin.
+/// Returns the spot after `tree`, a token that remains and is at a point where an attribute can
+/// begin. The spot is `other` after a token that is not part of an attribute.
 fn after_start(other: TokenSpot, tree: TokenTree<'_, '_>) -> TokenSpot
     ensures { result ≡ after_start other (tree_of tree.entry) }
 {
@@ -83,7 +85,7 @@ fn after_start(other: TokenSpot, tree: TokenTree<'_, '_>) -> TokenSpot
     }
 }
 
-/// Returns the spot after the token that follows the `#` of an attribute that remains.
+/// Returns the spot after `tree`, the token that follows the `#` of an attribute that remains.
 fn after_hash(tree: TokenTree<'_, '_>) -> TokenSpot
     ensures { result ≡ after_hash (tree_of tree.entry) }
 {
@@ -93,9 +95,9 @@ fn after_hash(tree: TokenTree<'_, '_>) -> TokenSpot
     }
 }
 
-/// Returns the spot after a token in a run whose parts can begin with attributes. `gone` is whether
-/// the token is removed, and `first` is the spot after the first token of a part that is not in an
-/// attribute.
+/// Returns the spot after `tree`, the token at `spot` in a run whose parts can begin with
+/// attributes. `gone` is whether the token is removed, and `first` is the spot after the first
+/// token of a part that is not in an attribute.
 fn after_attributed(
     first: TokenSpot,
     spot: TokenSpot,
@@ -114,7 +116,8 @@ fn after_attributed(
     }
 }
 
-/// Returns the spot after a token of an enum, which can begin with attributes.
+/// Returns the spot after `tree`, the token at `spot` of an enum, which can begin with attributes.
+/// `gone` is whether the token is removed.
 fn after_in_enum(spot: TokenSpot, gone: bool, tree: TokenTree<'_, '_>) -> TokenSpot
     ensures { result ≡ after_in_enum spot gone (tree_of tree.entry) }
 {
@@ -124,7 +127,7 @@ fn after_in_enum(spot: TokenSpot, gone: bool, tree: TokenTree<'_, '_>) -> TokenS
     }
 }
 
-/// Returns the spot after a token in the brackets of an attribute.
+/// Returns the spot after `tree`, the token at `spot` in the brackets of an attribute.
 fn after_in_attribute(spot: TokenSpot, tree: TokenTree<'_, '_>) -> TokenSpot
     ensures { result ≡ after_in_attribute spot (tree_of tree.entry) }
 {
@@ -134,7 +137,8 @@ fn after_in_attribute(spot: TokenSpot, tree: TokenTree<'_, '_>) -> TokenSpot
     }
 }
 
-/// Returns the spot after a token. `gone` is whether the token is removed.
+/// Returns the spot after `tree`, the token at `spot` in a run of `scope`. `gone` is whether the
+/// token is removed.
 pub(crate) fn spot_after(
     scope: Scope,
     spot: TokenSpot,
@@ -154,8 +158,8 @@ pub(crate) fn spot_after(
     }
 }
 
-/// Returns the part of an enum that a group contains, given the group's delimiter and the tokens
-/// after it. Returns `None` if no token in the group can be removed.
+/// Returns the part of an enum that the tokens of a group form. The group is at `spot` in `scope`,
+/// and `rest` are the tokens after it. Returns `None` if no token in the group can be removed.
 pub(crate) fn scope_of(
     scope: Scope,
     spot: TokenSpot,

@@ -1,4 +1,5 @@
-//! Strips sources. `logos strip` and the expansion of files call it.
+//! Strips sources. `logos strip` calls `strip_attributes`, and the expansion of files calls
+//! `strip_enum`.
 
 ghost use Rattle.std.specs.Prelude.{◌≡◌, ◌<◌, [], ◌∷◌, length, IfOk, IfErr, IsErrAnd};
 ghost use Rattle.logos_strip.specs.Views.{source_limit, Fault, Spells, stream_tokens, tokens_of, EnumValue, too_long, EndsReading, EndsTokens, Refuses, IsMemory, stripped, AreStripped, IsStripped, SpellsEnum};
@@ -12,7 +13,8 @@ use logos_token::error::Memory;
 use logos_token::token::{TokenStream, Tokens, tokenize};
 use std::alloc::Global;
 
-/// Strips the tokens of a source.
+/// Returns the tokens of a source without the parts that belong to the derive macro, or the refusal
+/// of tokens that are not an enum.
 fn strip_tokens<'s>(alloc: Global, stream: &TokenStream<'s>) -> Result<TokenStream<'s>, Refusal>
     ensures ok { IfOk result (λ left. AreStripped (stream_tokens stream.now) (stream_tokens left)) }
     ensures err { IfErr result (Refuses (EndsTokens (stream_tokens stream.now))) }
@@ -39,9 +41,9 @@ fn strip_tokens<'s>(alloc: Global, stream: &TokenStream<'s>) -> Result<TokenStre
 /// # Errors
 ///
 /// Returns `Errors` with the one fault that ends the reading: `LimitSource` if the source is longer
-/// than 16 MiB; `Lexical` or `LimitTokenNesting` if it has no tokens; `NotAnEnum`, `Grammar`,
-/// `TypeUnsupported` or `LimitTypeNesting` if its tokens are not an enum. Returns `Memory` if
-/// memory runs out.
+/// than 16 MiB; `Lexical` if it cannot be split into tokens; `LimitTokenNesting` if its groups are
+/// nested too deeply; `NotAnEnum`, `Grammar`, `TypeUnsupported` or `LimitTypeNesting` if its tokens
+/// are not an enum. Returns `Memory` if memory runs out.
 pub fn strip_attributes<'s>(alloc: Global, src: &'s str) -> Result<TokenStream<'s>, Refusal>
     ensures ok { IfOk result (λ left. IsStripped src.now (stream_tokens left)) }
     ensures err { IfErr result (Refuses (λ faults. (ending : Fault) × EndsReading src.now ending
@@ -57,8 +59,9 @@ pub fn strip_attributes<'s>(alloc: Global, src: &'s str) -> Result<TokenStream<'
     }
 }
 
-/// Returns the tokens that `strip_attributes` returns, for the tokens of a source that is known to
-/// spell an enum, such as one from which `generate` has made a lexer. The enum is not read again.
+/// Returns the tokens that `strip_attributes` returns, given `tokens`, those of the source `src`.
+/// The source must spell an enum, such as one from which `generate` has made a lexer. The enum is
+/// not read again.
 ///
 /// # Errors
 ///

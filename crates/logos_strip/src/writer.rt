@@ -1,4 +1,5 @@
-//! A writer of the tokens that remain, tree by tree. `groups` writes to it.
+//! Collects the tokens that remain, tree by tree. `groups` writes the trees of each run to a
+//! `Writer`.
 
 ghost use Rattle.std.specs.Prelude.{◌≡◌, [], ◌∷◌, List, Option, Some, None, IfOk};
 ghost use Rattle.logos_strip.specs.Views.{Token, stream_tokens, tree_of, left, completed};
@@ -7,12 +8,12 @@ use logos_token::error::Memory;
 use logos_token::token::{Punct, Spacing, TokenStream, TokenTree};
 use std::alloc::Global;
 
-/// The trees written so far.
+/// A writer of trees, with the trees that it has received.
 #[derive(Drop)]
 pub(crate) struct Writer<'s> {
-    /// The trees before `held`, or all trees.
+    /// All trees that were written, without `held`.
     stream: TokenStream<'s>,
-    /// The last tree, if it is punctuation, which becomes alone if the token directly after it is
+    /// The last tree, if it is punctuation. It becomes alone if the token directly after it is
     /// removed.
     held: Option<Punct>,
 }
@@ -28,7 +29,7 @@ impl<'s> Writer<'s> {
         }
     }
 
-    /// Returns all tokens that have been written.
+    /// Returns all trees that have been written.
     pub(crate) fn finish(self) -> Result<TokenStream<'s>, Memory>
         ensures { IfOk result (λ stream. stream_tokens stream ≡ completed self.entry []) }
     {
@@ -38,7 +39,7 @@ impl<'s> Writer<'s> {
         }
     }
 
-    /// Adds a tree.
+    /// Appends a tree to the writer.
     pub(crate) fn with_tree(self, tree: TokenTree<'_, 's>) -> Result<Writer<'s>, Memory>
         ensures { IfOk result (λ writer. (pieces : List (Option Token)) →
             completed writer pieces ≡ completed self.entry (Some (tree_of tree.entry) ∷ pieces)) }
@@ -56,7 +57,7 @@ impl<'s> Writer<'s> {
         }
     }
 
-    /// Skips the next tree, which is removed.
+    /// Skips the next tree, which is removed: punctuation directly before it becomes alone.
     pub(crate) fn without_tree(self) -> Result<Writer<'s>, Memory>
         ensures { IfOk result (λ writer. (pieces : List (Option Token)) →
             completed writer pieces ≡ completed self.entry (None ∷ pieces)) }

@@ -1,4 +1,4 @@
-//! Finds the nodes of a directed graph that lie on a cycle. `logos_type_params` calls it for
+//! Finds the nodes of a directed graph that lie on a cycle. `self_reference` calls `on_cycles` for
 //! parameters whose types contain one another.
 
 ghost use Rattle.std.specs.Prelude.{true, false, ◌≡◌, ℕ, ◌<◌, ◌↔◌, List, IfOk, IsTrue, length, map, vec_len, slice_index_or};
@@ -15,9 +15,9 @@ use std::alloc::{AllocError, Global};
 /// node are ignored.
 ///
 /// Two traversals find the components of the graph, and the components are checked before the
-/// answer is read from them. This takes time linear in the numbers of nodes and edges. The check
+/// result is read from them. This takes time linear in the numbers of nodes and edges. The check
 /// has never been observed to fail. If it fails, a traversal from each node computes the same
-/// answer, in time that grows with the product of the two numbers.
+/// result, in time that grows with the product of the two numbers.
 ///
 /// # Errors
 ///

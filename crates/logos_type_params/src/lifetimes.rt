@@ -1,5 +1,5 @@
-//! Sets the lifetimes of types to `'s`. `type_params` calls it for each type that is given to a
-//! parameter, and users of the library call it for other types.
+//! Sets the lifetimes of types to `'s`. `type_params` calls `set_lifetimes` for each type that is
+//! given to a parameter, and users of the library call the other functions.
 
 ghost use Rattle.std.specs.Prelude.{◌≡◌, map, IfOk};
 ghost use Rattle.logos_type_params.specs.Views.{whole, trees, tree_of, type_tree, with_lifetimes, with_lifetime, own_lifetime};
@@ -9,8 +9,8 @@ use logos_token::error::Memory;
 use logos_type::{TypeExpr, TypePart};
 use std::alloc::{AllocError, Global};
 
-/// Copies a part. The lifetimes of references and of the angle arguments of paths that are types
-/// are set to `'s`, at any depth.
+/// Returns a copy of `part` in which the lifetimes of references, and of the angle arguments of
+/// paths that are types, are `'s`, at any depth.
 pub(crate) fn set_lifetimes<'s>(
     alloc: Global,
     part: &TypePart<'s>,
@@ -31,7 +31,8 @@ pub(crate) fn set_lifetimes<'s>(
     }
 }
 
-/// Copies a part, with its lifetime set if it is a token that has one. A type is copied unchanged.
+/// Returns a copy of `part`, with its lifetime set to `'s` if it is a token that has one. A type is
+/// copied unchanged.
 fn set_own<'s>(part: &TypePart<'s>) -> Result<TypePart<'s>, AllocError>
     ensures { IfOk result (λ after. tree_of after ≡ own_lifetime (tree_of part.now)) }
 {
@@ -41,7 +42,7 @@ fn set_own<'s>(part: &TypePart<'s>) -> Result<TypePart<'s>, AllocError>
     }
 }
 
-/// Copies the parts of a type, with their lifetimes set.
+/// Returns the type of copies of `parts`, in which each token that has a lifetime has `'s`.
 fn set_each<'s>(alloc: Global, parts: &[TypePart<'s>]) -> Result<TypePart<'s>, AllocError>
     ensures { IfOk result (λ after. tree_of after ≡
         with_lifetime (whole (trees (map tree_of parts.now)))) }

@@ -1,4 +1,4 @@
-//! Stores names in the order in which they are declared. `TypeParams` stores its parameters in it.
+//! Names in the order in which they are declared. `TypeParams` stores its parameters as such names.
 
 ghost use Rattle.std.specs.Prelude.{map, ◌≡◌, ◌++◌, ◌∷◌, [], OnOk, OnErr};
 ghost use Rattle.logos_type_params.specs.Imports.{is_declared};
@@ -10,7 +10,7 @@ use logos_token::token::Ident;
 use std::alloc::Global;
 use std::collections::HashSet;
 
-/// Declared names. A name can be declared more than once.
+/// A list of declared names. A name can be declared more than once.
 #[derive(Drop)]
 pub(crate) struct DeclaredNames<'s> {
     /// The names, in order of declaration.
@@ -31,14 +31,14 @@ impl<'s> DeclaredNames<'s> {
         }
     }
 
-    /// Returns whether a name is declared.
+    /// Returns whether the name `text` is declared.
     pub(crate) fn contains(&self, text: &str) -> bool
         ensures { result ≡ is_declared (map named_of self.now.list.items) text.now }
     {
         self.texts.contains(text)
     }
 
-    /// Appends a declared name. After an error the names are unchanged.
+    /// Appends `name` to the declared names. After an error the names are unchanged.
     pub(crate) fn push(&mut self, name: Ident<'s>) -> Result<(), Memory>
         ensures ok { OnOk result (self.new.list.items ≡ self.old.list.items ++ name.entry ∷ []) }
         ensures err { OnErr result (self.new.list.items ≡ self.old.list.items) }

@@ -1,5 +1,5 @@
 //! Reports faults of names and types. Each function adds one fault. `logos_definition` and this
-//! crate call it.
+//! crate call these functions.
 
 ghost use Rattle.std.specs.Prelude.{◌≡◌, ◌++◌, ◌∷◌, [], IfOk, OnOk, OnErr, string_bytes};
 ghost use Rattle.logos_type_params.specs.Views.{named_of, about, about_with, previous, type_nesting_text, limit_type_nesting};
@@ -8,7 +8,7 @@ use logos_token::error::{Detail, Errors, FaultCode, Memory};
 use logos_token::token::{Ident, Span};
 use std::alloc::Global;
 
-/// Returns the concatenation of three texts.
+/// Returns the concatenation of `before`, `text` and `after`.
 fn joined(alloc: Global, before: &str, text: &str, after: &str) -> Result<String, Memory>
     ensures { IfOk result (λ message.
         string_bytes message ≡ (before.now ++ text.now) ++ after.now) }
@@ -19,7 +19,7 @@ fn joined(alloc: Global, before: &str, text: &str, after: &str) -> Result<String
     Ok(message)
 }
 
-/// Reports a fault of a name. The message has the name between two texts.
+/// Reports a fault of `name` at its span. The message is `before`, the name and `after`.
 ///
 /// # Errors
 ///
@@ -38,7 +38,8 @@ pub fn report_about(
     report_about_with(errors, code, before, name, after, Detail::Plain)
 }
 
-/// Reports a fault of a name, with a detail. The message has the name between two texts.
+/// Reports a fault of `name` at its span, with `detail`. The message is `before`, the name and
+/// `after`.
 ///
 /// # Errors
 ///
@@ -60,7 +61,7 @@ pub fn report_about_with(
     Ok(())
 }
 
-/// Reports the span of an earlier value, after the fault that refers to it.
+/// Reports `at`, the span of an earlier value, after the fault that refers to it.
 ///
 /// # Errors
 ///

@@ -1,5 +1,5 @@
-//! Finds the parameters whose types contain them. It runs once, after all attributes of an enum are
-//! read.
+//! Finds each type parameter whose type contains that parameter. `type_params` calls `Chains::new`
+//! once all attributes of an enum are read.
 
 ghost use Rattle.std.specs.Prelude.{◌≡◌, ◌↔◌, [], length, map, IfOk, OnOk, IsTrue};
 ghost use Rattle.logos_type_params.specs.Views.{name, tree_of, names, Leads, Reaches, AreReached};
@@ -10,17 +10,17 @@ use crate::given_types::GivenTypes;
 use logos_type::TypePart;
 use std::alloc::{AllocError, Global};
 
-/// The types given to the parameters, and whether each leads back to its own name.
+/// The types given to the parameters, with the names from which a chain of types leads back.
 #[derive(Drop)]
 pub(crate) struct Chains<'p, 's> {
-    /// The type given to each name.
+    /// The types given to the names.
     types: &'p GivenTypes<'s>,
-    /// For each type, whether a chain leads from its name back to it.
+    /// For each type, whether a chain of types leads from its name back to this name.
     held: Vec<bool>,
     ghost fits: { length held.items ≡ length types.now.entries.items },
 }
 
-/// Appends the index of the type that is given to a name, if there is one.
+/// Appends to `reached` the index of the type that is given to the name `text`, if it has one.
 fn reach_name<'s>(
     types: &GivenTypes<'s>,
     text: &str,
@@ -36,7 +36,8 @@ fn reach_name<'s>(
     Ok(())
 }
 
-/// Appends the indices of the types given to the names among the parts of a type.
+/// Appends to `reached` the indices of the types given to the names among the parts of a type,
+/// except in parts that are never replaced.
 fn reach<'s>(
     types: &GivenTypes<'s>,
     part: &TypePart<'s>,
@@ -57,7 +58,7 @@ fn reach<'s>(
     }
 }
 
-/// Returns for each type the indices of the types to which it leads.
+/// Returns for each type the indices of the types given to the names in it.
 fn all_reached<'s>(alloc: Global, types: &GivenTypes<'s>) -> Result<Vec<Vec<usize>>, AllocError>
     ensures { IfOk result (λ lists. AreReached (map param_value types.now.entries.items)
         (map param_value types.now.entries.items) (map (λ list. list.items) lists.items)) }
@@ -75,7 +76,7 @@ impl<'p, 's> Chains<'p, 's> {
     ghost use Rattle.std.specs.Prelude.{◌≡◌, ◌↔◌, map, IfOk, IsTrue};
     ghost use Rattle.logos_type_params.specs.Views.{param_value, Leads, AreMarked};
 
-    /// Finds the chains of these types. This takes time linear in the sizes of all types.
+    /// Finds the chains of `types`, in time linear in the sizes of all types.
     pub(crate) fn new(
         alloc: Global,
         types: &'p GivenTypes<'s>,
@@ -90,7 +91,7 @@ impl<'p, 's> Chains<'p, 's> {
         Ok(Chains { types, held })
     }
 
-    /// Returns whether a chain leads from this name back to it.
+    /// Returns whether a chain of types leads from the name `text` back to this name.
     pub(crate) fn lead_back(&self, text: &str) -> bool
         ensures { AreMarked (map param_value self.now.types.now.entries.items) self.now.held.items →
             IsTrue result ↔
@@ -104,7 +105,7 @@ impl<'p, 's> Chains<'p, 's> {
 }
 
 /// Returns whether a chain of types that name one another leads from the parameter `text` back to
-/// it. This takes time linear in the sizes of all types.
+/// this parameter. This takes time linear in the sizes of all types.
 ///
 /// # Errors
 ///

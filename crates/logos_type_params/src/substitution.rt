@@ -1,4 +1,4 @@
-//! Replaces declared type parameters in types. `written_types` calls it for each field.
+//! Replaces declared type parameters in types. `written_types` calls `type_after` for each field.
 
 ghost use Rattle.std.specs.Prelude.{◌≡◌, ◌<◌, ℕ, Bool, true, false, List, map, IfOk, IfErr, MatchOption};
 ghost use Rattle.logos_type_params.specs.Views.{Tree, name, whole, trees, tree_of, sign_of, IfDeep, exceeds, Params, given, given_first, given_type, set_sign, param_value, After, AllAfter, Passes, SomePasses, params_of};
@@ -11,24 +11,25 @@ use logos_type_reader::TypeFault;
 use std::alloc::Global;
 use std::collections::HashSet;
 
-/// A type that is given to a declared parameter.
+/// A type that is given to a declared parameter, with the spans of both.
 #[derive(Drop)]
 pub struct TypeParam<'s> {
-    /// The span of the name to which it is given.
+    /// The span of the name to which the type is given.
     pub at: Span,
     pub part: TypePart<'s>,
-    /// The span of the type.
+    /// The span of the type as it is written.
     pub span: Span,
 }
 
-/// The given types, by name, and the names of the parameters that contain themselves.
+/// The types given to the parameters, and the names that are not replaced: the name of each
+/// parameter whose type contains this parameter.
 #[derive(Clone, Copy)]
 pub struct Replacing<'p, 's> {
     pub types: &'p GivenTypes<'s>,
     pub held: &'p HashSet<&'s str>,
 }
 
-/// The replacement of a name.
+/// The replacement of a name: nothing, another name, or the parts of a type.
 #[derive(Clone, Copy)]
 enum GivenType<'p, 's> {
     Nothing,
@@ -36,8 +37,8 @@ enum GivenType<'p, 's> {
     Parts(&'p [TypePart<'s>]),
 }
 
-/// Returns the token with its lifetime set to `'s`, if it is a reference or a lifetime among the
-/// angle arguments of a path that is a type. Any other token is unchanged.
+/// Returns `leaf` with its lifetime set to `'s`, if it is a reference or a lifetime among the angle
+/// arguments of a path that is a type. Any other token is unchanged.
 pub(crate) fn set_lifetime(leaf: TypeToken<'_>) -> TypeToken<'_>
     ensures { sign_of result ≡ set_sign (sign_of leaf.entry) }
 {
@@ -48,7 +49,7 @@ pub(crate) fn set_lifetime(leaf: TypeToken<'_>) -> TypeToken<'_>
     }
 }
 
-/// Returns the replacement of a parameter with this type.
+/// Returns the replacement of a parameter to which the type `part` is given.
 fn given_by<'p, 's>(part: &'p TypePart<'s>) -> GivenType<'p, 's>
     ensures { given_of result ≡ given_type (tree_of part.now) }
 {
@@ -59,7 +60,8 @@ fn given_by<'p, 's>(part: &'p TypePart<'s>) -> GivenType<'p, 's>
     }
 }
 
-/// Returns the replacement by the type that is given to this name, if there is one.
+/// Returns the replacement of the name `text` by the type that is given to it, or `Nothing` if it
+/// has no type.
 fn given_first<'p, 's>(types: &'p GivenTypes<'s>, text: &str) -> GivenType<'p, 's>
     ensures { given_of result ≡ given_first (map param_value types.now.entries.items) text.now }
 {
@@ -69,7 +71,8 @@ fn given_first<'p, 's>(types: &'p GivenTypes<'s>, text: &str) -> GivenType<'p, '
     }
 }
 
-/// Returns the replacement of a name.
+/// Returns the replacement of the name `text`: `Nothing` if it has no type, or its type contains
+/// the name.
 fn find<'p, 's>(params: Replacing<'p, 's>, text: &str) -> GivenType<'p, 's>
     ensures { given_of result ≡ given (params_of params.entry) text.now }
 {
@@ -79,7 +82,7 @@ fn find<'p, 's>(params: Replacing<'p, 's>, text: &str) -> GivenType<'p, 's>
     given_first(params.types, text)
 }
 
-/// Returns the type with its declared parameters replaced and its lifetimes set to `'s`.
+/// Returns the type `part` with its declared parameters replaced and its lifetimes set to `'s`.
 ///
 /// # Errors
 ///
@@ -105,7 +108,8 @@ pub fn type_after<'s>(
     }
 }
 
-/// Copies parts that are never replaced.
+/// Returns a copy of `part`, whose parts are never replaced, or `LimitNesting` if it has more than
+/// `levels` nested types.
 fn still_after<'s>(levels: u32, part: &TypePart<'s>) -> Result<TypePart<'s>, TypeFault>
     ensures ok { IfOk result (λ after. (tree_of after ≡ tree_of part.now)
         × (exceeds levels (tree_of part.now) ≡ false)) }
@@ -117,8 +121,9 @@ fn still_after<'s>(levels: u32, part: &TypePart<'s>) -> Result<TypePart<'s>, Typ
     Ok(part.clone()?)
 }
 
-/// Returns the replacement of a name, or the name itself if it has none. The parts of a type that
-/// replaces it are replaced in turn.
+/// Returns the replacement of the name `text`, or the name itself if it has none. The names in the
+/// parts of a type that replaces it are replaced in turn, but a single name is not. Returns
+/// `LimitNesting` if the result has more than `levels` nested types.
 #[cycle(after)]
 fn name_after<'s>(
     alloc: Global,
@@ -143,7 +148,8 @@ fn name_after<'s>(
     }
 }
 
-/// Returns the type of these parts, with the parameters in them replaced.
+/// Returns the type of `parts`, with the parameters in them replaced, or `LimitNesting` if it has
+/// more than `levels` nested types.
 #[cycle(after)]
 fn whole_after<'s>(
     alloc: Global,
@@ -163,7 +169,8 @@ fn whole_after<'s>(
     Ok(TypePart::Whole(after))
 }
 
-/// Returns the parts, with the parameters in each of them replaced.
+/// Returns `parts`, with the parameters in each of them replaced, or `LimitNesting` if one of them
+/// then has more than `levels` nested types.
 #[cycle(after)]
 fn parts_after<'s>(
     alloc: Global,
@@ -183,7 +190,8 @@ fn parts_after<'s>(
     Ok(after)
 }
 
-/// A type becomes at most one type. If the limit is exceeded, that type is deeper than the limit.
+/// A type has at most one replacement. If its replacement exceeds the limit, each replacement
+/// without that limit is deeper than the limit.
 pub fn at_most_one_after()
     ensures one { (params : Params) (levels others : ℕ) (part after other : Tree) →
         After params levels part after → After params others part other → after ≡ other }

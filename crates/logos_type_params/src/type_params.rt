@@ -1,5 +1,5 @@
 //! The declared type parameters of an enum and the types given to them. The readers of enums and
-//! attributes declare and set them.
+//! attributes declare the parameters and set their types.
 
 ghost use Rattle.std.specs.Prelude.{◌≡◌, ◌++◌, ◌∷◌, [], Some, None, map, IfOk, OnOk, OnErr, if◌then◌else◌, option_map, true, false};
 ghost use Rattle.logos_type_params.specs.Views.{tokens_of, run_span, tree_of, IfFault, type_tree, IsTypeExpr, NoTypeExpr, param_value, ChecksName, named_of, given_of, type_syntax, many_lifetimes, former, given_more, given_faults, ReadsValue, AreChecked, Value, value_of, IsSet, types_of};
@@ -39,7 +39,8 @@ fn report_syntax(errors: &mut Errors, at: Span) -> Result<(), Memory>
     errors.err(FaultCode::TypeSyntax, "not a type", at)
 }
 
-/// Reports at the span `at` why a run is not a type.
+/// Reports `fault`, the reason that a run is not a type, at the span `at`. Returns `Memory` without
+/// a report if memory ran out.
 fn report_no_type(
     fault: TypeFault,
     run: Tokens<'_, '_>,
@@ -58,8 +59,8 @@ fn report_no_type(
     }
 }
 
-/// Returns the type if no tokens are left after it. Otherwise reports at the span `at` that the run
-/// is not a type, and returns `None`.
+/// Returns `type_expr` if `rest`, the tokens after it, is empty. Otherwise reports at the span `at`
+/// that the run is not a type, and returns `None`.
 fn whole_type<'s>(
     type_expr: TypeExpr<'s>,
     rest: Tokens<'_, 's>,
@@ -104,7 +105,7 @@ pub fn read_value<'s>(
     }
 }
 
-/// Reports a lifetime if one is already declared.
+/// Reports the lifetime at `span` if `is_declared` is `true`: if another one is already declared.
 fn report_second_lifetime(is_declared: bool, span: Span, errors: &mut Errors) -> Result<(), Memory>
     ensures ok { OnOk result (errors.new ≡ errors.old ++
         (if is_declared then many_lifetimes span ∷ [] else [])) }
@@ -120,7 +121,7 @@ fn report_second_lifetime(is_declared: bool, span: Span, errors: &mut Errors) ->
     )
 }
 
-/// Returns the span of the type given to a name, or `None` if it has none.
+/// Returns the span of the type given to the name `text`, or `None` if it has none.
 fn former<'s>(types: &GivenTypes<'s>, text: &str) -> Option<Span>
     ensures { result ≡ former (map given_of types.now.entries.items) text.now }
 {
@@ -130,8 +131,8 @@ fn former<'s>(types: &GivenTypes<'s>, text: &str) -> Option<Span>
     }
 }
 
-/// Reports that a name already has a type, and the span of that type. After an error the faults are
-/// unchanged.
+/// Reports that `name` already has a type, and `former`, the span of that type. After an error the
+/// faults are unchanged.
 fn report_twice(name: Ident<'_>, former: Span, errors: &mut Errors) -> Result<(), Memory>
     ensures ok { OnOk result (errors.new
         ≡ errors.old ++ given_faults (Some former) (named_of name.entry)) }
@@ -149,7 +150,8 @@ fn report_twice(name: Ident<'_>, former: Span, errors: &mut Errors) -> Result<()
     errors.append(found)
 }
 
-/// Reports a second type for a name if it already has one. After an error the faults are unchanged.
+/// Reports a second type for `name` if it already has one, whose span is `former`. After an error
+/// the faults are unchanged.
 fn report_given(name: Ident<'_>, former: Option<Span>, errors: &mut Errors) -> Result<(), Memory>
     ensures ok { OnOk result (errors.new
         ≡ errors.old ++ given_faults former (named_of name.entry)) }
@@ -161,8 +163,8 @@ fn report_given(name: Ident<'_>, former: Option<Span>, errors: &mut Errors) -> R
     }
 }
 
-/// Assigns a type to a declared name. If the name already has a type, that type is replaced, and
-/// the second one is reported. After an error everything is unchanged.
+/// Assigns the type `param` to `name`, a declared name. If the name already has a type, reports the
+/// second one and replaces the first one. After an error everything is unchanged.
 fn emit<'s>(
     types: &mut GivenTypes<'s>,
     name: Ident<'s>,
@@ -183,8 +185,8 @@ fn emit<'s>(
     Ok(())
 }
 
-/// Reports a declared name whose type contains it, unless the name is in `front`, and adds it to
-/// `front`.
+/// Adds `name`, a declared name, to `front`. If it was not in `front`, and a chain of types leads
+/// from it back to it, reports that.
 fn check_name<'s>(
     front: &mut HashSet<&'s str>,
     chains: &Chains<'_, 's>,
@@ -211,7 +213,7 @@ fn check_name<'s>(
 }
 
 impl<'s> TypeParams<'s> {
-    /// Returns an empty list of parameters, which takes its memory from `alloc`.
+    /// Returns a value without parameters, which takes its memory from `alloc`.
     pub fn new(alloc: Global) -> TypeParams<'s>
         ensures { value_of result ≡ record { names = []; types = []; lifetime = false } }
     {
@@ -223,8 +225,8 @@ impl<'s> TypeParams<'s> {
         }
     }
 
-    /// Records that a lifetime parameter is declared. Reports a second one as `ManyLifetimes` at
-    /// `span`.
+    /// Records that a lifetime parameter is declared. If one was already declared, reports
+    /// `ManyLifetimes` at `span`.
     ///
     /// # Errors
     ///
@@ -245,7 +247,7 @@ impl<'s> TypeParams<'s> {
         Ok(())
     }
 
-    /// Declares a type parameter with this name.
+    /// Declares the type parameter `name`, after the others.
     ///
     /// # Errors
     ///
@@ -308,9 +310,9 @@ impl<'s> TypeParams<'s> {
         )
     }
 
-    /// Reports each parameter whose type leads back to it, as `TypeHoldsItself`, in order of
-    /// declaration. A name that is declared twice is reported only once. This takes time linear in
-    /// the sizes of all types.
+    /// Reports each parameter from which a chain of types leads back to this parameter, as
+    /// `TypeHoldsItself`, in order of declaration. A name that is declared twice is reported only
+    /// once. This takes time linear in the sizes of all types.
     ///
     /// # Errors
     ///
@@ -325,8 +327,8 @@ impl<'s> TypeParams<'s> {
         errors.append(found)
     }
 
-    /// Reports each parameter whose type leads back to it, in order of declaration. After an error
-    /// some of the faults may have been added.
+    /// Reports each parameter from which a chain of types leads back to this parameter, in order of
+    /// declaration. After an error some of the faults may have been added.
     fn check_all(&self, errors: &mut Errors) -> Result<(), Memory>
         ensures { OnOk result (AreChecked (types_of self.now) []
             (value_of self.now).names errors.old errors.new) }

@@ -1,6 +1,6 @@
 //! Builds the automaton of rules in one loop over its states, from the start on, until each state
-//! has its targets. `Graph::new` of `logos_graph` calls it once the size of the rules is known to
-//! be within the limit.
+//! has its targets. `Graph::new` of `logos_graph` calls `build` once it has checked the size of the
+//! rules.
 
 ghost use Rattle.std.specs.Prelude.{◌≡◌, ◌^◌, ◌<◌, ◌≤◌, ◌+◌, [], Bool, false, List, IfOk, IfErr, OnOk, length, map, vec_len};
 ghost use Rattle.logos_automaton.specs.Views.{AreFree, Core, core_of, AreMeasured, width_of, size_of, AllStart, IsTotal, ReadsOneByteLate, IsCacheOf, IsPrepared, cores_of, IsUnderway, FailsOn, FailsFor, dfa_of, AreDistinct, AreReached, IsBuilt, rules_of};
@@ -21,7 +21,7 @@ use std::alloc::{AllocError, Global};
 /// The greatest number of states that an automaton can have.
 pub const MAX_STATES: usize = 65_536;
 
-/// Returns a list of states that contains only the start.
+/// Returns the set of states that contains only the start.
 ///
 /// # Errors
 ///
@@ -35,8 +35,8 @@ fn only_start(alloc: Global) -> Result<IndexSet<Key>, AllocError>
     Ok(states)
 }
 
-/// Returns the states in the order of their numbers. A `Dfa` has them without the index that finds
-/// their numbers, which is not needed once it is built.
+/// Returns the states in the order of their numbers, without the index by which `states` finds
+/// their numbers. A `Dfa` does not need that index.
 ///
 /// # Errors
 ///
@@ -47,7 +47,8 @@ fn in_order(alloc: Global, states: IndexSet<Key>) -> Result<Vec<Key>, AllocError
     states.into_iter().collect(alloc)
 }
 
-/// Adds the targets of the first state that has none.
+/// Adds the targets of the first state that has none to `rows` and `ends`, and the targets that are
+/// new to `states`.
 ///
 /// # Errors
 ///
@@ -82,7 +83,8 @@ fn fill_next(
     Ok(())
 }
 
-/// Builds the automaton of prepared trees.
+/// Builds the automaton of `nodes`, prepared trees. `looks` is whether one of them has a
+/// look-around assertion.
 ///
 /// # Errors
 ///
@@ -124,7 +126,7 @@ fn build_nodes(alloc: Global, nodes: &[Node], looks: bool) -> Result<Dfa, BuildE
     })
 }
 
-/// Builds the automaton of rules. The size of their trees must be within the limit.
+/// Builds the automaton of `rules`, whose trees must have a size within the limit.
 ///
 /// # Errors
 ///

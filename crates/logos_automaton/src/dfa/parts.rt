@@ -1,19 +1,19 @@
 //! The parts of an automaton, by the number of a state. The faults of rules, the table of a graph
-//! and the evidence read them.
+//! and the evidence read these parts.
 
 ghost use Rattle.std.specs.Prelude.{◌≡◌, ◌<◌, Some, length, slice_get};
 ghost use Rattle.logos_automaton.specs.DfaView.{dfa_of};
 
 use super::{Dfa, Row};
 
-/// Returns the number of states.
+/// Returns the number of states of an automaton.
 pub fn state_count(dfa: &Dfa) -> usize
     ensures { result ≡ length (dfa_of dfa.now).matches }
 {
     dfa.rows.len()
 }
 
-/// Returns the leaves that a state lists, ascending.
+/// Returns the numbers of the leaves of a state, ascending.
 pub fn leaves_at(dfa: &Dfa, state: usize) -> &[usize]
     requires { state < length (dfa_of dfa.now).matches }
     ensures { slice_get (dfa_of dfa.now).matches state ≡ Some result.now }
@@ -21,7 +21,7 @@ pub fn leaves_at(dfa: &Dfa, state: usize) -> &[usize]
     &dfa.states[state].matches
 }
 
-/// Returns the targets of a state for bytes.
+/// Returns the targets of a state for each byte.
 pub fn row_at(dfa: &Dfa, state: usize) -> &Row
     requires { state < length (dfa_of dfa.now).matches }
     ensures { slice_get (dfa_of dfa.now).by_byte state ≡ Some result.now }
@@ -29,7 +29,7 @@ pub fn row_at(dfa: &Dfa, state: usize) -> &Row
     &dfa.rows[state]
 }
 
-/// Returns the target of a state for the end.
+/// Returns the target of a state for the end of the input.
 pub fn end_at(dfa: &Dfa, state: usize) -> u32
     requires { state < length (dfa_of dfa.now).matches }
     ensures { slice_get (dfa_of dfa.now).at_end state ≡ Some result }

@@ -1,4 +1,5 @@
-//! Walks through an automaton, from state to state. Users of the library and the evidence call it.
+//! Walks through an automaton, from state to state. Users of the library and the evidence call
+//! these functions.
 
 ghost use Rattle.std.specs.Prelude.{◌≤◌, ◌≡◌};
 
@@ -11,7 +12,7 @@ use logos_hir::leaf::LeafId;
 #[derive(Clone, Copy, Debug, PartialEq, Eq)]
 pub struct StateId(pub(crate) usize);
 
-/// An iterator over the leaves that a state lists, ascending.
+/// An iterator over the leaves of a state, ascending.
 #[derive(Clone, Copy)]
 pub struct Matches<'d> {
     leaves: &'d [usize],
@@ -34,7 +35,7 @@ pub struct DfaStates {
 }
 
 impl StateId {
-    /// Returns the number of the state. The start has the number 0.
+    /// Returns the number of the state, which is 0 for the start.
     pub fn index(self) -> usize
         ensures { result ≡ self.0 }
     {
@@ -54,14 +55,15 @@ impl Dfa {
         StateId(0)
     }
 
-    /// Returns whether the automaton contains the state.
+    /// Returns whether the automaton contains the state: whether its number is below the number of
+    /// states.
     pub fn contains(&self, state: StateId) -> bool
         ensures { IsTrue result ↔ (state.0 < length (dfa_of self.now).matches) }
     {
         state.0 < self.rows.len()
     }
 
-    /// Returns the target of a state for a byte. The automaton must contain the state.
+    /// Returns the target of a state for `byte`. The automaton must contain the state.
     pub fn next_state(&self, state: StateId, byte: u8) -> StateId
         requires { state.0 < length (dfa_of self.now).matches }
         ensures next { dfa_next (dfa_of self.now) (Some state.0) byte ≡ Some result.0 }
@@ -80,7 +82,8 @@ impl Dfa {
         StateId(self.ends[state.0] as usize)
     }
 
-    /// Returns the leaves that a state lists, ascending. The automaton must contain the state.
+    /// Returns the leaves of a state, ascending: those that match all bytes read but the last one,
+    /// or all bytes after the end. The automaton must contain the state.
     pub fn iter_matches(&self, state: StateId) -> Matches<'_>
         requires { state.0 < length (dfa_of self.now).matches }
         ensures { slice_get (dfa_of self.now).matches state.0 ≡ Some (matches_left result) }
@@ -108,8 +111,8 @@ impl Dfa {
         }
     }
 
-    /// Returns the start and all states that can be reached from it, ascending: all states of the
-    /// automaton.
+    /// Returns all states of the automaton, ascending: the start, and the states that bytes and the
+    /// end lead to from there.
     pub fn get_states(&self) -> DfaStates
         ensures all { states_left result ≡ range_with_len 0 (length (dfa_of self.now).matches) }
         ensures reached { (s : ℕ) → Contains (states_left result) s ↔

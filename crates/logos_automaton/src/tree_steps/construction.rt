@@ -1,4 +1,5 @@
-//! Computes the steps of one tree for each byte. `cache` calls it once for each state of a tree.
+//! Computes the steps of one tree for each byte. `cache` calls `steps_of` once for each state of a
+//! tree.
 
 ghost use Rattle.std.specs.Prelude.{◌≡◌, ◌+◌, ◌-◌, ◌<◌, ◌≤◌, ℕ, false, IsTrue, IfOk, IfSome, OnOk, length, vec_len, slice_get, slice_index, slice_index_or};
 ghost use Rattle.logos_automaton.specs.Views.{AreChangesOf, AreFirstOf, IsPrepared, tree_view, view_of, viewed, AreStepsFrom, IsTreeState, MakesFrom};
@@ -12,14 +13,15 @@ use logos_positions::positions::step::ReadByte;
 use logos_positions::positions::tree::{TreeStep, step_tree};
 use std::alloc::{AllocError, Global};
 
-/// Returns whether the steps are equal.
+/// Returns whether the two steps are equal.
 fn is_same(one: &TreeStep, other: &TreeStep) -> bool
     ensures { IsTrue result → view_of one.now ≡ view_of other.now }
 {
     one.left == other.left && one.positions == other.positions
 }
 
-/// Returns the index of a step that is equal to `step`, or the number of steps if there is none.
+/// Returns the index of the first step in `found` that is equal to `step`, or the number of steps
+/// if there is none.
 fn position_of(found: &[TreeStep], step: &TreeStep) -> usize
     ensures within { result ≤ length found.now }
     ensures same { result < length found.now →
@@ -35,7 +37,7 @@ fn position_of(found: &[TreeStep], step: &TreeStep) -> usize
     i
 }
 
-/// Returns the index of a step, which is added if it is new.
+/// Returns the index of `step` in `found`, and appends the step if it is new.
 ///
 /// # Errors
 ///
@@ -55,7 +57,7 @@ fn add_step(found: &mut Vec<TreeStep>, step: TreeStep) -> Result<usize, AllocErr
     Ok(i)
 }
 
-/// Computes the step of a tree for a byte.
+/// Returns the step of a tree from `state` for `byte`.
 ///
 /// # Errors
 ///
@@ -84,7 +86,8 @@ fn step_by(trees: &Trees<'_>, state: &TreeState, byte: u8) -> Result<TreeStep, A
     )
 }
 
-/// Returns the index of the step for `byte`, which is `known` if that is not `None`.
+/// Returns the index of the step for `byte`: `known`, if that is not `None`. Otherwise computes the
+/// step, and appends it to `found` if it is new.
 ///
 /// # Errors
 ///
@@ -118,8 +121,8 @@ fn index_by(
     Ok(i as u8)
 }
 
-/// Returns flags of the bytes that the tree of a state or look-around assertions can distinguish
-/// from the byte before them.
+/// Returns a flag for each byte: whether the tree of `state` or look-around assertions can
+/// distinguish it from the byte before it.
 fn first_in(trees: &Trees<'_>, state: &TreeState) -> [bool; 256]
     requires prepared { IsPrepared trees.now }
     requires state { IsTreeState trees.now.nodes.now trees.now.starts.now (tree_view state.now) }
@@ -137,7 +140,8 @@ fn first_in(trees: &Trees<'_>, state: &TreeState) -> [bool; 256]
     first
 }
 
-/// Returns the index of the step for the byte before `byte`, if the flag of `byte` is not set.
+/// Returns the index of the step for the byte before `byte`, or `None` if the flag of `byte` is set
+/// or `byte` is 0.
 fn index_before(first: &[bool; 256], by_byte: &[u8; 256], byte: usize) -> Option<u8>
     requires within { byte < 256 }
     ensures { IfSome result (λ i. (1 ≤ byte) × (slice_index_or first.now byte false ≡ false)
@@ -152,7 +156,7 @@ fn index_before(first: &[bool; 256], by_byte: &[u8; 256], byte: usize) -> Option
     Some(by_byte[byte - 1])
 }
 
-/// Returns the bytes whose entry differs from that of the byte before them, ascending.
+/// Returns the bytes whose entry differs from that of the byte before, ascending.
 ///
 /// # Errors
 ///
@@ -168,7 +172,7 @@ fn changes_of(alloc: Global, by_byte: &[u8; 256]) -> Result<Vec<u8>, AllocError>
     Ok(changes)
 }
 
-/// Computes the steps of a tree for each byte.
+/// Returns the steps of a tree from `state` for each byte.
 ///
 /// # Errors
 ///

@@ -1,5 +1,5 @@
 //! Reports faults of definitions. Each function adds one fault. The readers of definitions and of
-//! error types call it.
+//! error types call these functions.
 
 ghost use Rattle.std.specs.Prelude.{OnOk};
 ghost use Rattle.logos_definition.specs.Imports.{tokens_of, ident_slice, AddsFault, priority_value, priority_twice, priority_form, greedy_value, greedy_twice, greedy_form, callback_form, ignore_form, unknown_nested, named_expected, unexpected_token};
@@ -8,7 +8,7 @@ use logos_attribute::reports::{report_form, report_named, report_run};
 use logos_token::error::{Errors, FaultCode, Memory};
 use logos_token::token::{Ident, Tokens};
 
-/// Reports a priority that is not a number.
+/// Reports `tokens`, a priority that is not a number.
 pub(super) fn report_priority_value(
     tokens: Tokens<'_, '_>,
     errors: &mut Errors,
@@ -24,7 +24,7 @@ pub(super) fn report_priority_value(
     )
 }
 
-/// Reports a second priority.
+/// Reports `tokens`, the second priority of a definition.
 pub(super) fn report_priority_twice(
     tokens: Tokens<'_, '_>,
     errors: &mut Errors,
@@ -40,7 +40,7 @@ pub(super) fn report_priority_twice(
     )
 }
 
-/// Reports an unknown form of `priority`.
+/// Reports the argument `priority` without `= ..` after it.
 pub(super) fn report_priority_form(name: Ident<'_>, errors: &mut Errors) -> Result<(), Memory>
     ensures { OnOk result
         (AddsFault (priority_form (ident_slice name.entry)) errors.old errors.new) }
@@ -53,7 +53,7 @@ pub(super) fn report_priority_form(name: Ident<'_>, errors: &mut Errors) -> Resu
     )
 }
 
-/// Reports an `allow_greedy` that is neither `true` nor `false`.
+/// Reports `tokens`, a value of `allow_greedy` that is neither `true` nor `false`.
 pub(super) fn report_greedy_value(tokens: Tokens<'_, '_>, errors: &mut Errors) -> Result<(), Memory>
     ensures { OnOk result
         (AddsFault (greedy_value (tokens_of tokens.entry)) errors.old errors.new) }
@@ -66,7 +66,7 @@ pub(super) fn report_greedy_value(tokens: Tokens<'_, '_>, errors: &mut Errors) -
     )
 }
 
-/// Reports a second `allow_greedy`.
+/// Reports `tokens`, the second value of `allow_greedy` in a definition.
 pub(super) fn report_greedy_twice(tokens: Tokens<'_, '_>, errors: &mut Errors) -> Result<(), Memory>
     ensures { OnOk result
         (AddsFault (greedy_twice (tokens_of tokens.entry)) errors.old errors.new) }
@@ -79,7 +79,7 @@ pub(super) fn report_greedy_twice(tokens: Tokens<'_, '_>, errors: &mut Errors) -
     )
 }
 
-/// Reports an unknown form of `allow_greedy`.
+/// Reports the argument `allow_greedy` without `= ..` after it.
 pub(super) fn report_greedy_form(name: Ident<'_>, errors: &mut Errors) -> Result<(), Memory>
     ensures { OnOk result (AddsFault (greedy_form (ident_slice name.entry)) errors.old errors.new) }
 {
@@ -91,7 +91,7 @@ pub(super) fn report_greedy_form(name: Ident<'_>, errors: &mut Errors) -> Result
     )
 }
 
-/// Reports an unknown form of `callback`.
+/// Reports the argument `callback` without `= ..` after it.
 pub(crate) fn report_callback_form(name: Ident<'_>, errors: &mut Errors) -> Result<(), Memory>
     ensures { OnOk result
         (AddsFault (callback_form (ident_slice name.entry)) errors.old errors.new) }
@@ -104,7 +104,7 @@ pub(crate) fn report_callback_form(name: Ident<'_>, errors: &mut Errors) -> Resu
     )
 }
 
-/// Reports an unknown form of `ignore`.
+/// Reports the argument `ignore` without a group after it.
 pub(super) fn report_ignore_form(name: Ident<'_>, errors: &mut Errors) -> Result<(), Memory>
     ensures { OnOk result (AddsFault (ignore_form (ident_slice name.entry)) errors.old errors.new) }
 {
@@ -116,7 +116,7 @@ pub(super) fn report_ignore_form(name: Ident<'_>, errors: &mut Errors) -> Result
     )
 }
 
-/// Reports an unknown name.
+/// Reports `name`, which no argument of a definition has.
 pub(super) fn report_unknown(name: Ident<'_>, errors: &mut Errors) -> Result<(), Memory>
     ensures { OnOk result
         (AddsFault (unknown_nested (ident_slice name.entry)) errors.old errors.new) }
@@ -130,7 +130,7 @@ pub(super) fn report_unknown(name: Ident<'_>, errors: &mut Errors) -> Result<(),
     )
 }
 
-/// Reports tokens that belong to no argument.
+/// Reports `tokens`, which belong to no argument.
 pub(crate) fn report_unexpected(tokens: Tokens<'_, '_>, errors: &mut Errors) -> Result<(), Memory>
     ensures { OnOk result
         (AddsFault (unexpected_token (tokens_of tokens.entry)) errors.old errors.new) }
@@ -143,7 +143,7 @@ pub(crate) fn report_unexpected(tokens: Tokens<'_, '_>, errors: &mut Errors) -> 
     )
 }
 
-/// Reports an argument without a name.
+/// Reports `tokens`, an argument without a name that is not the first argument.
 pub(crate) fn report_named_expected(
     tokens: Tokens<'_, '_>,
     errors: &mut Errors,

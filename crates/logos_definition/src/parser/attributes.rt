@@ -1,4 +1,5 @@
-//! Reads whole attributes of an enum and its variants. `logos_leaf` calls it for each attribute.
+//! Reads whole attributes of an enum and its variants. `logos_leaf` calls `try_parse_logos` or
+//! `parse_definition_attr` for each attribute.
 
 ghost use Rattle.std.specs.Prelude.{OnOk, ◌≡◌, OnErr, IfOk, option_map, true};
 ghost use Rattle.logos_definition.specs.Views.{AddsFault, attribute_value, IsReport, logos_form, meta_report, ReadsMeta, ReadsAttribute, definition_view, meta_of, meta_view, parser_view, HasNotFailed};
@@ -11,7 +12,7 @@ use logos_enum::Attribute;
 use logos_token::error::{Errors, FaultCode, Memory};
 use logos_token::token::Span;
 
-/// Reports a `logos` attribute without arguments.
+/// Reports the `logos` attribute at `span`, which has no arguments.
 fn report_logos_form(span: Span, errors: &mut Errors) -> Result<(), Memory>
     ensures { OnOk result (AddsFault (logos_form span) errors.old errors.new) }
 {
@@ -19,7 +20,7 @@ fn report_logos_form(span: Span, errors: &mut Errors) -> Result<(), Memory>
 }
 
 impl<'s> Parser<'s> {
-    /// Adds the arguments of a `logos` attribute, or reports that it has none.
+    /// Adds the arguments of the `logos` attribute at `span`, or reports that it has none.
     fn add_meta(&mut self, meta: Meta<'_, 's>, span: Span) -> Result<(), Memory>
         ensures { OnOk result (ReadsMeta
             (parser_view self.old) (parser_view self.new) self.old.errors self.new.errors
@@ -31,7 +32,8 @@ impl<'s> Parser<'s> {
         }
     }
 
-    /// Adds an attribute of the enum.
+    /// Adds the arguments of an attribute of the enum, and ignores an attribute that is not named
+    /// `logos`.
     fn add_attribute(&mut self, attribute: Attribute<'_, 's>) -> Result<(), Memory>
         ensures { OnOk result (ReadsAttribute
             (parser_view self.old) (parser_view self.new) self.old.errors self.new.errors
@@ -60,8 +62,8 @@ impl<'s> Parser<'s> {
     }
 
     /// Reads the definition in the arguments of a `token` or `regex` attribute. Returns `None` if
-    /// the attribute has no group, or if its group does not begin with a literal. Reports tokens in
-    /// place of the literal.
+    /// the attribute has no group, or if its group does not begin with a string or byte string.
+    /// Reports the tokens that come instead, if there are any.
     ///
     /// # Errors
     ///
@@ -80,7 +82,7 @@ impl<'s> Parser<'s> {
         unless_failed!(self, self.definition_in(attribute))
     }
 
-    /// Does the same as `parse_definition_attr`, without checking whether the parser has failed.
+    /// Returns the same as `parse_definition_attr`, without checking whether the parser has failed.
     fn definition_in(
         &mut self,
         attribute: Attribute<'_, 's>,

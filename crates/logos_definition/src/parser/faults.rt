@@ -1,5 +1,5 @@
 //! Reports faults of the options of a lexer. Each function adds one fault, or a fault and the span
-//! of the former value. `options` calls it.
+//! of the former value. `options` calls these functions.
 
 ghost use Rattle.std.specs.Prelude.{◌≡◌, ◌++◌, OnOk, Some};
 ghost use Rattle.logos_definition.specs.Imports.{tokens_of, ident_slice, AddsFault, once_only, utf8_twice, extras_twice, error_twice, export_twice, skip_form, skip_group, utf8_value, utf8_form, extras_form, crate_form, export_bytes, export_form, subpattern_form, error_form, source_old, unknown_logos, invalid_nested, type_form};
@@ -8,7 +8,8 @@ use logos_attribute::reports::{report_form, report_named, report_run};
 use logos_token::error::{Errors, FaultCode, Memory};
 use logos_token::token::{Ident, Span, Tokens};
 
-/// Reports a second value, and the span of the former one.
+/// Reports a second value at `here` with `code` and `message`, and `there`, the span of the former
+/// value.
 fn report_twice(
     errors: &mut Errors,
     code: FaultCode,
@@ -23,7 +24,7 @@ fn report_twice(
     Ok(())
 }
 
-/// Reports a second UTF-8 mode, and the span of the former one.
+/// Reports a second UTF-8 mode at `here`, and `there`, the span of the former one.
 pub(super) fn report_mode_twice(here: Span, there: Span, errors: &mut Errors) -> Result<(), Memory>
     ensures { OnOk result (errors.new ≡ errors.old ++ utf8_twice here (Some there)) }
 {
@@ -36,7 +37,7 @@ pub(super) fn report_mode_twice(here: Span, there: Span, errors: &mut Errors) ->
     )
 }
 
-/// Reports a second type of extras, and the span of the former one.
+/// Reports a second type of extras at `here`, and `there`, the span of the former one.
 pub(super) fn report_extras_twice(
     here: Span,
     there: Span,
@@ -53,7 +54,7 @@ pub(super) fn report_extras_twice(
     )
 }
 
-/// Reports a second error type, and the span of the former one.
+/// Reports a second error type at `here`, and `there`, the span of the former one.
 pub(super) fn report_error_twice(here: Span, there: Span, errors: &mut Errors) -> Result<(), Memory>
     ensures { OnOk result (errors.new ≡ errors.old ++ error_twice here (Some there)) }
 {
@@ -66,7 +67,7 @@ pub(super) fn report_error_twice(here: Span, there: Span, errors: &mut Errors) -
     )
 }
 
-/// Reports a second export path, and the span of the former one.
+/// Reports a second export path at `here`, and `there`, the span of the former one.
 pub(super) fn report_export_twice(
     here: Span,
     there: Span,
@@ -83,7 +84,7 @@ pub(super) fn report_export_twice(
     )
 }
 
-/// Reports an unknown form of `skip`.
+/// Reports the option `skip` without a literal or a group after it.
 pub(super) fn report_skip_form(name: Ident<'_>, errors: &mut Errors) -> Result<(), Memory>
     ensures { OnOk result (AddsFault (skip_form (ident_slice name.entry)) errors.old errors.new) }
 {
@@ -95,7 +96,7 @@ pub(super) fn report_skip_form(name: Ident<'_>, errors: &mut Errors) -> Result<(
     )
 }
 
-/// Reports an unknown form of `utf8`.
+/// Reports the option `utf8` without `= ..` after it.
 pub(super) fn report_utf8_form(name: Ident<'_>, errors: &mut Errors) -> Result<(), Memory>
     ensures { OnOk result (AddsFault (utf8_form (ident_slice name.entry)) errors.old errors.new) }
 {
@@ -107,7 +108,7 @@ pub(super) fn report_utf8_form(name: Ident<'_>, errors: &mut Errors) -> Result<(
     )
 }
 
-/// Reports an unknown form of `extras`.
+/// Reports the option `extras` without `= ..` after it.
 pub(super) fn report_extras_form(name: Ident<'_>, errors: &mut Errors) -> Result<(), Memory>
     ensures { OnOk result (AddsFault (extras_form (ident_slice name.entry)) errors.old errors.new) }
 {
@@ -119,7 +120,7 @@ pub(super) fn report_extras_form(name: Ident<'_>, errors: &mut Errors) -> Result
     )
 }
 
-/// Reports an unknown form of `crate`.
+/// Reports the option `crate` without `= ..` after it.
 pub(super) fn report_crate_form(name: Ident<'_>, errors: &mut Errors) -> Result<(), Memory>
     ensures { OnOk result (AddsFault (crate_form (ident_slice name.entry)) errors.old errors.new) }
 {
@@ -131,7 +132,7 @@ pub(super) fn report_crate_form(name: Ident<'_>, errors: &mut Errors) -> Result<
     )
 }
 
-/// Reports an unknown form of `export_dir`.
+/// Reports the option `export_dir` without `= ..` after it.
 pub(super) fn report_export_form(name: Ident<'_>, errors: &mut Errors) -> Result<(), Memory>
     ensures { OnOk result (AddsFault (export_form (ident_slice name.entry)) errors.old errors.new) }
 {
@@ -143,7 +144,7 @@ pub(super) fn report_export_form(name: Ident<'_>, errors: &mut Errors) -> Result
     )
 }
 
-/// Reports an unknown form of `subpattern`.
+/// Reports the option `subpattern` without a name and `= ..` after it.
 pub(super) fn report_subpattern_form(name: Ident<'_>, errors: &mut Errors) -> Result<(), Memory>
     ensures { OnOk result
         (AddsFault (subpattern_form (ident_slice name.entry)) errors.old errors.new) }
@@ -156,7 +157,7 @@ pub(super) fn report_subpattern_form(name: Ident<'_>, errors: &mut Errors) -> Re
     )
 }
 
-/// Reports an unknown form of `error`.
+/// Reports the option `error` without `= ..` or a group after it.
 pub(super) fn report_error_form(name: Ident<'_>, errors: &mut Errors) -> Result<(), Memory>
     ensures { OnOk result (AddsFault (error_form (ident_slice name.entry)) errors.old errors.new) }
 {
@@ -168,7 +169,7 @@ pub(super) fn report_error_form(name: Ident<'_>, errors: &mut Errors) -> Result<
     )
 }
 
-/// Reports the name `source`, which `utf8` has replaced.
+/// Reports the option `source`, which `utf8` has replaced.
 pub(super) fn report_source_old(name: Ident<'_>, errors: &mut Errors) -> Result<(), Memory>
     ensures { OnOk result (AddsFault (source_old (ident_slice name.entry)) errors.old errors.new) }
 {
@@ -180,7 +181,7 @@ pub(super) fn report_source_old(name: Ident<'_>, errors: &mut Errors) -> Result<
     )
 }
 
-/// Reports a `skip(..)` that does not begin with a literal.
+/// Reports `tokens`, the group of a `skip(..)` that does not begin with a string or byte string.
 pub(super) fn report_skip_group(tokens: Tokens<'_, '_>, errors: &mut Errors) -> Result<(), Memory>
     ensures { OnOk result (AddsFault (skip_group (tokens_of tokens.entry)) errors.old errors.new) }
 {
@@ -192,7 +193,7 @@ pub(super) fn report_skip_group(tokens: Tokens<'_, '_>, errors: &mut Errors) -> 
     )
 }
 
-/// Reports a UTF-8 mode that is neither `true` nor `false`.
+/// Reports `tokens`, a UTF-8 mode that is neither `true` nor `false`.
 pub(super) fn report_utf8_value(tokens: Tokens<'_, '_>, errors: &mut Errors) -> Result<(), Memory>
     ensures { OnOk result (AddsFault (utf8_value (tokens_of tokens.entry)) errors.old errors.new) }
 {
@@ -204,7 +205,7 @@ pub(super) fn report_utf8_value(tokens: Tokens<'_, '_>, errors: &mut Errors) -> 
     )
 }
 
-/// Reports an export path that is a byte string.
+/// Reports `tokens`, an export path that is a byte string.
 pub(super) fn report_export_bytes(tokens: Tokens<'_, '_>, errors: &mut Errors) -> Result<(), Memory>
     ensures { OnOk result
         (AddsFault (export_bytes (tokens_of tokens.entry)) errors.old errors.new) }
@@ -212,7 +213,7 @@ pub(super) fn report_export_bytes(tokens: Tokens<'_, '_>, errors: &mut Errors) -
     report_run(errors, FaultCode::ExportBytes, "Expected a &str", tokens)
 }
 
-/// Reports tokens that are not an argument.
+/// Reports `tokens`, an argument of `logos(..)` that has no name and value.
 pub(super) fn report_invalid_nested(
     tokens: Tokens<'_, '_>,
     errors: &mut Errors,
@@ -228,7 +229,7 @@ pub(super) fn report_invalid_nested(
     )
 }
 
-/// Reports an unknown name.
+/// Reports `name`, which no option has.
 pub(super) fn report_unknown_logos(name: Ident<'_>, errors: &mut Errors) -> Result<(), Memory>
     ensures { OnOk result
         (AddsFault (unknown_logos (ident_slice name.entry)) errors.old errors.new) }
@@ -242,7 +243,7 @@ pub(super) fn report_unknown_logos(name: Ident<'_>, errors: &mut Errors) -> Resu
     )
 }
 
-/// Reports an unknown form of `type`.
+/// Reports the option `type` without a name and `= ..` after it.
 pub(super) fn report_type_form(name: Ident<'_>, errors: &mut Errors) -> Result<(), Memory>
     ensures { OnOk result (AddsFault (type_form (ident_slice name.entry)) errors.old errors.new) }
 {

@@ -1,4 +1,5 @@
-//! Adds the arguments of `logos(..)` one by one. The reader of attributes calls it.
+//! Adds the arguments of `logos(..)` to a parser. `Parser::read_logos` and the reader of attributes
+//! call `add_pieces`.
 
 use crate::definition::{Definition, read_definition};
 use crate::error_type::{ErrorType, error_in};
@@ -23,7 +24,8 @@ impl<'s> Parser<'s> {
     ghost use Rattle.std.specs.Prelude.{OnOk, IfOk, string_bytes};
     ghost use Rattle.logos_definition.specs.Views.{grouped, named, tokens_of, ident_slice, literal_slice, IsReport, map_report, and_then, text_report, string_in, literal_view, value_of, piece_of, pieces_left, definition_report, skip_plain, skip_whole, skip_report, mode_set, utf8_report, extras_set, extras_report, crate_report, path_set, held_path, export_report, subpattern_set, subpattern_report, error_set, error_report, setting_report, option_report, ReadsError, ReadsType, ReadsPiece, ReadsPieces, error_view, parser_view};
 
-    /// Sets the UTF-8 mode, and reports a former one.
+    /// Sets the UTF-8 mode to the boolean that `tokens` spell. Reports and replaces a former one.
+    /// Reports tokens that are not a boolean, and sets nothing.
     fn set_mode(&mut self, tokens: Tokens<'_, 's>) -> Result<(), Memory>
         ensures { OnOk result (IsReport (mode_set (tokens_of tokens.entry) (parser_view self.old))
             (parser_view self.new) self.old.errors self.new.errors) }
@@ -38,7 +40,7 @@ impl<'s> Parser<'s> {
         Ok(())
     }
 
-    /// Adds the argument `utf8`.
+    /// Sets the UTF-8 mode from the argument `utf8`, or reports the fault of that argument.
     fn add_utf8(&mut self, name: Ident<'s>, value: &NestedValue<'_, 's>) -> Result<(), Memory>
         ensures { OnOk result (IsReport
             (utf8_report (ident_slice name.entry) (value_of value.now) (parser_view self.old))
@@ -51,7 +53,7 @@ impl<'s> Parser<'s> {
         Ok(())
     }
 
-    /// Sets the type of extras, and reports a former one.
+    /// Sets the type of extras to `tokens`. Reports and replaces a former one.
     fn set_extras(&mut self, tokens: Tokens<'_, 's>) -> Result<(), Memory>
         ensures { OnOk result (IsReport (extras_set (tokens_of tokens.entry) (parser_view self.old))
             (parser_view self.new) self.old.errors self.new.errors) }
@@ -63,7 +65,7 @@ impl<'s> Parser<'s> {
         Ok(())
     }
 
-    /// Adds the argument `extras`.
+    /// Sets the type of extras from the argument `extras`, or reports the fault of that argument.
     fn add_extras(&mut self, name: Ident<'s>, value: &NestedValue<'_, 's>) -> Result<(), Memory>
         ensures { OnOk result (IsReport
             (extras_report (ident_slice name.entry) (value_of value.now) (parser_view self.old))
@@ -76,7 +78,8 @@ impl<'s> Parser<'s> {
         Ok(())
     }
 
-    /// Adds the argument `crate`. Its path replaces a former one.
+    /// Sets the path of the crate from the argument `crate`, or reports the fault of that argument.
+    /// The path replaces a former one without a report.
     fn add_crate(&mut self, name: Ident<'s>, value: &NestedValue<'_, 's>) -> Result<(), Memory>
         ensures { OnOk result (IsReport
             (crate_report (ident_slice name.entry) (value_of value.now) (parser_view self.old))
@@ -91,7 +94,8 @@ impl<'s> Parser<'s> {
         Ok(())
     }
 
-    /// Sets the path of the exported state diagram, and reports a former one.
+    /// Sets the path of the exported state diagram to `path`, the value of `tokens`. Reports and
+    /// replaces a former one.
     fn set_path(&mut self, tokens: Tokens<'_, 's>, path: String) -> Result<(), Memory>
         ensures { OnOk result (IsReport
             (path_set (tokens_of tokens.entry) (string_bytes path) (parser_view self.old))
@@ -104,7 +108,8 @@ impl<'s> Parser<'s> {
         Ok(())
     }
 
-    /// Adds the path that is the value of a literal.
+    /// Sets the path of the exported state diagram to the value of `literal`, which `tokens`
+    /// consist of. Reports a byte string, and sets nothing.
     fn add_path(&mut self, tokens: Tokens<'_, 's>, literal: &Literal<'s>) -> Result<(), Memory>
         ensures { OnOk result (IsReport
             (held_path (tokens_of tokens.entry) (parser_view self.old)
@@ -121,7 +126,8 @@ impl<'s> Parser<'s> {
         Ok(())
     }
 
-    /// Adds the argument `export_dir`.
+    /// Sets the path of the exported state diagram from the argument `export_dir`, or reports the
+    /// fault of that argument.
     fn add_export(&mut self, name: Ident<'s>, value: &NestedValue<'_, 's>) -> Result<(), Memory>
         ensures { OnOk result (IsReport
             (export_report (ident_slice name.entry) (value_of value.now) (parser_view self.old))
@@ -137,7 +143,8 @@ impl<'s> Parser<'s> {
         Ok(())
     }
 
-    /// Adds a subpattern with this name.
+    /// Appends the subpattern `name` with the literal that `tokens` consist of. Reports tokens that
+    /// are not a string or byte string, and appends nothing.
     fn set_subpattern(&mut self, name: Ident<'s>, tokens: Tokens<'_, 's>) -> Result<(), Memory>
         ensures { OnOk result (IsReport
             (subpattern_set (ident_slice name.entry) (tokens_of tokens.entry)
@@ -151,7 +158,7 @@ impl<'s> Parser<'s> {
         Ok(())
     }
 
-    /// Adds the argument `subpattern`.
+    /// Appends the subpattern of the argument `subpattern`, or reports the fault of that argument.
     fn add_subpattern(&mut self, name: Ident<'s>, value: &NestedValue<'_, 's>) -> Result<(), Memory>
         ensures { OnOk result (IsReport
             (subpattern_report (ident_slice name.entry) (value_of value.now)
@@ -165,7 +172,7 @@ impl<'s> Parser<'s> {
         Ok(())
     }
 
-    /// Sets the error type, and reports a former one. `tokens` are the value in the source.
+    /// Sets the error type to `error`, the value of `tokens`. Reports and replaces a former one.
     fn set_error(&mut self, tokens: Tokens<'_, 's>, error: ErrorType<'s>) -> Result<(), Memory>
         ensures { OnOk result (IsReport
             (error_set (tokens_of tokens.entry) (error_view error.entry) (parser_view self.old))
@@ -177,7 +184,8 @@ impl<'s> Parser<'s> {
         Ok(())
     }
 
-    /// Adds the argument `error` in a form other than `error(..)`.
+    /// Sets the error type from the argument `error` that is not `error(..)`, or reports the fault
+    /// of that argument.
     fn add_error_alone(
         &mut self,
         name: Ident<'s>,
@@ -197,7 +205,8 @@ impl<'s> Parser<'s> {
         Ok(())
     }
 
-    /// Adds the argument `error(..)`. Returns whether the arguments after it are read.
+    /// Sets the error type from `error(..)`, or reports the fault of that argument. Returns whether
+    /// the arguments after it are read: `false` if the group does not begin with a type.
     fn add_error_group(&mut self, name: Ident<'s>, group: Tokens<'_, 's>) -> Result<bool, Memory>
         ensures { IfOk result (λ continues. ReadsError (ident_slice name.entry)
             (parser_view self.old) (parser_view self.new) self.old.errors self.new.errors
@@ -210,7 +219,8 @@ impl<'s> Parser<'s> {
         Ok(true)
     }
 
-    /// Adds the argument `error`. Returns whether the arguments after it are read.
+    /// Sets the error type from the argument `error`, or reports the fault of that argument.
+    /// Returns whether the arguments after it are read.
     fn add_error(&mut self, name: Ident<'s>, value: &NestedValue<'_, 's>) -> Result<bool, Memory>
         ensures { IfOk result (λ continues. ReadsError (ident_slice name.entry)
             (parser_view self.old) (parser_view self.new) self.old.errors self.new.errors
@@ -223,7 +233,8 @@ impl<'s> Parser<'s> {
         Ok(true)
     }
 
-    /// Adds the argument `type`.
+    /// Sets the type of the parameter that the argument `type` names, or reports the fault of that
+    /// argument.
     fn add_type(&mut self, name: Ident<'s>, value: &NestedValue<'_, 's>) -> Result<(), Memory>
         ensures { OnOk result (ReadsType (ident_slice name.entry)
             (parser_view self.old) (parser_view self.new) self.old.errors self.new.errors
@@ -238,7 +249,8 @@ impl<'s> Parser<'s> {
         Ok(())
     }
 
-    /// Adds the literal of `skip "..."`.
+    /// Appends the definition of `skip "..."` with the literal `token`. Reports a literal that is
+    /// not a string or byte string, and appends nothing.
     fn skip_text(&mut self, token: token::Literal<'s>) -> Result<(), Memory>
         ensures { OnOk result (IsReport
             (map_report (skip_plain (parser_view self.old))
@@ -251,7 +263,7 @@ impl<'s> Parser<'s> {
         Ok(())
     }
 
-    /// Adds the definition in `skip(..)`.
+    /// Appends the definition in `skip(..)`, or reports that there is none.
     fn skip_group(&mut self, tokens: Tokens<'_, 's>) -> Result<(), Memory>
         ensures { OnOk result (IsReport
             (and_then (definition_report (tokens_of tokens.entry))
@@ -265,7 +277,7 @@ impl<'s> Parser<'s> {
         Ok(())
     }
 
-    /// Adds the argument `skip`.
+    /// Appends the definition of the argument `skip`, or reports the fault of that argument.
     fn add_skip(&mut self, name: Ident<'s>, value: &NestedValue<'_, 's>) -> Result<(), Memory>
         ensures { OnOk result (IsReport
             (skip_report (ident_slice name.entry) (value_of value.now) (parser_view self.old))
@@ -279,7 +291,8 @@ impl<'s> Parser<'s> {
         Ok(())
     }
 
-    /// Adds the argument `utf8`, `extras` or `crate`, and reports `source` and unknown names.
+    /// Adds the argument `utf8`, `extras` or `crate` to the options, and reports `source` and
+    /// unknown names.
     fn add_setting(&mut self, name: Ident<'s>, value: &NestedValue<'_, 's>) -> Result<(), Memory>
         ensures { OnOk result (IsReport
             (setting_report (ident_slice name.entry) (value_of value.now) (parser_view self.old))
@@ -300,7 +313,7 @@ impl<'s> Parser<'s> {
         report_unknown_logos(name, &mut self.errors)
     }
 
-    /// Adds a named argument other than `error` and `type`.
+    /// Adds a named argument other than `error` and `type` to the options, and reports its faults.
     fn add_plain(&mut self, name: Ident<'s>, value: &NestedValue<'_, 's>) -> Result<(), Memory>
         ensures { OnOk result (IsReport
             (option_report (ident_slice name.entry) (value_of value.now) (parser_view self.old))
@@ -318,7 +331,8 @@ impl<'s> Parser<'s> {
         self.add_setting(name, value)
     }
 
-    /// Adds a named argument. Returns whether the arguments after it are read.
+    /// Adds a named argument to the options, and reports its faults. Returns whether the arguments
+    /// after it are read.
     fn add_named(&mut self, name: Ident<'s>, value: &NestedValue<'_, 's>) -> Result<bool, Memory>
         ensures { IfOk result (ReadsPiece
             (parser_view self.old) (parser_view self.new) self.old.errors self.new.errors
@@ -335,7 +349,8 @@ impl<'s> Parser<'s> {
         Ok(true)
     }
 
-    /// Adds an argument. Returns whether the arguments after it are read.
+    /// Adds an argument to the options, and reports its faults. Returns whether the arguments after
+    /// it are read.
     fn add_piece(&mut self, piece: Nested<'_, 's>) -> Result<bool, Memory>
         ensures { IfOk result (ReadsPiece
             (parser_view self.old) (parser_view self.new) self.old.errors self.new.errors
@@ -349,7 +364,8 @@ impl<'s> Parser<'s> {
         Ok(true)
     }
 
-    /// Adds the arguments in order, up to one after which no more arguments are read.
+    /// Adds arguments to the options in order, and reports their faults. Stops after an `error(..)`
+    /// that does not begin with a type.
     pub(super) fn add_pieces(&mut self, pieces: AttributeParser<'_, 's>) -> Result<(), Memory>
         ensures { OnOk result (ReadsPieces
             (parser_view self.old) (parser_view self.new) self.old.errors self.new.errors

@@ -1,5 +1,5 @@
-//! Declares the generic parameters of an enum, and replaces them in types. `logos_leaf` calls
-//! `parse_generic` for each parameter.
+//! Declares the generic parameters of an enum, and replaces these parameters in types. `logos_leaf`
+//! calls `parse_generic` for each parameter.
 
 ghost use Rattle.std.specs.Prelude.{OnOk, ◌≡◌, ◌++◌, [], IfOk, OnErr, option_map, true};
 ghost use Rattle.logos_definition.specs.Views.{AddsFault, run_span, tokens_of, type_tree, IsReport, ident_slice, generics, generics_of, missing_types, GetsUnheld, const_generic, parameter_report, parser_view, HasNotFailed};
@@ -12,7 +12,7 @@ use logos_token::token::Span;
 use logos_type::TypeExpr;
 use logos_type_params::Generics;
 
-/// Reports a constant parameter.
+/// Reports the constant parameter at `span`.
 fn report_const(span: Span, errors: &mut Errors) -> Result<(), Memory>
     ensures { OnOk result (AddsFault (const_generic span) errors.old errors.new) }
 {
@@ -24,7 +24,8 @@ fn report_const(span: Span, errors: &mut Errors) -> Result<(), Memory>
 }
 
 impl<'s> Parser<'s> {
-    /// Adds a generic parameter.
+    /// Declares a generic parameter: a lifetime or a type. Reports a constant, and a second
+    /// lifetime.
     fn add_parameter(&mut self, parameter: Parameter<'_, 's>) -> Result<(), Memory>
         ensures { OnOk result (IsReport
             (parameter_report parameter.entry.kind (ident_slice parameter.entry.name)
@@ -39,8 +40,8 @@ impl<'s> Parser<'s> {
         }
     }
 
-    /// Adds a generic parameter: a lifetime, or a type, whose name is declared. Reports a constant,
-    /// and a second lifetime. The faults have the span of the whole parameter.
+    /// Declares a generic parameter: a lifetime, or a type by its name. Reports a constant, and a
+    /// second lifetime. The faults have the span of the whole parameter.
     ///
     /// # Errors
     ///
@@ -58,7 +59,7 @@ impl<'s> Parser<'s> {
 
     /// Returns the generic arguments that follow the enum's name: `'s` if a lifetime is declared,
     /// and then the types given to the declared parameters, in order of declaration. Returns `None`
-    /// if there are none. Reports each parameter without a type.
+    /// if there are none. Reports each parameter without a type, and leaves it out.
     ///
     /// # Errors
     ///
@@ -87,10 +88,10 @@ impl<'s> Parser<'s> {
         Ok(got)
     }
 
-    /// Returns a written type with its declared parameters replaced by the types given to them,
-    /// except for parameters whose types contain them, and with its lifetimes set to `'s`. If too
-    /// many types are nested in the result, reports that at `span` and returns the type as written.
-    /// Each call searches for the parameters whose types contain them.
+    /// Returns `written`, a type, with its declared parameters replaced by the types given to them,
+    /// except for each parameter whose type contains that parameter, and with its lifetimes set to
+    /// `'s`. If too many types are nested in the result, reports that at `span` and returns the
+    /// type as written. Each call searches anew for the parameters that are excepted.
     ///
     /// # Errors
     ///

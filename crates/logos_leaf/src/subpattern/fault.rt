@@ -1,5 +1,4 @@
-//! Reads texts as patterns and reports their faults. `logos_leaf` reads the text of each leaf with
-//! it.
+//! Reads texts as patterns and reports their faults. `leaf` and `subpattern` call `read_pattern`.
 
 ghost use Rattle.std.specs.Prelude.{◌≡◌, ◌++◌, chars, drop, IfOk, IfSome, OnOk, OnErr, option_map, string_bytes};
 ghost use Rattle.logos_leaf.specs.subpattern.Imports.{pattern_tree, source_of, is_token, token_of, AddsFault, byte_in, detail_kind, front_in, kind_name, regex_fault, regex_text, IsDetail, IsRead, ReportsError};
@@ -16,15 +15,15 @@ use std::alloc::{AllocError, Global};
 /// The flags with which a text is read as a pattern.
 #[derive(Clone, Copy)]
 pub struct ReadingMode {
-    /// The pattern belongs to a `token`, not to a `regex`.
+    /// Whether the pattern belongs to a `token`, not to a `regex`, a `skip` or a subpattern.
     pub is_literal: bool,
-    /// The pattern matches characters, not bytes.
+    /// Whether the pattern matches characters, not bytes.
     pub unicode: bool,
-    /// Letters match in either case.
+    /// Whether letters match in either case.
     pub ignore_case: bool,
 }
 
-/// Returns the name of a kind of fault.
+/// Returns the name of `kind` in the message of a fault.
 fn kind_name(kind: Kind) -> &'static str
     ensures { result.now ≡ kind_name kind }
 {
@@ -50,7 +49,7 @@ fn kind_name(kind: Kind) -> &'static str
     }
 }
 
-/// Returns the kind of a fault as the details of faults name it.
+/// Returns the kind that the detail of a fault has for `kind`.
 fn detail_kind(kind: Kind) -> PatternKind
     ensures { result ≡ detail_kind kind }
 {
@@ -76,7 +75,7 @@ fn detail_kind(kind: Kind) -> PatternKind
     }
 }
 
-/// Returns the byte at `at` of a text, or 0 after its end.
+/// Returns the byte at the offset `at` of a text, or 0 if `at` is not before its end.
 fn byte_in(text: &[u8], at: usize) -> u8
     ensures { result ≡ byte_in text.now at }
 {
@@ -86,7 +85,7 @@ fn byte_in(text: &[u8], at: usize) -> u8
     }
 }
 
-/// Returns the first four bytes of a text, with 0 after its end.
+/// Returns the first four bytes of a text, with 0 for each byte that it does not have.
 fn front_in(text: &[u8]) -> PatternFront
     ensures { result ≡ front_in text.now }
 {
@@ -98,7 +97,7 @@ fn front_in(text: &[u8]) -> PatternFront
     }
 }
 
-/// Returns the bytes of a text from `at` on, which are none if `at` is past its end.
+/// Returns the bytes of a text from the offset `at` on, or none if `at` is past its end.
 fn rest_from(text: &[u8], at: usize) -> &[u8]
     ensures { result.now ≡ drop at text.now }
 {
@@ -108,7 +107,7 @@ fn rest_from(text: &[u8], at: usize) -> &[u8]
     }
 }
 
-/// Returns the message of a fault at the byte offset `at` of a pattern's text.
+/// Returns the message of a fault of `kind` at the byte offset `at` of a pattern's text.
 fn regex_text(alloc: Global, kind: Kind, at: usize) -> Result<String, AllocError>
     ensures { IfOk result (λ text. string_bytes text ≡ regex_text at kind) }
 {
@@ -117,7 +116,8 @@ fn regex_text(alloc: Global, kind: Kind, at: usize) -> Result<String, AllocError
     Ok(text)
 }
 
-/// Reports a fault of a pattern, with its detail. `span` is the span of the pattern's literal.
+/// Reports a fault of a pattern of `kind`, with its detail. `span` is the span of the pattern's
+/// literal.
 fn report_regex(
     kind: Kind,
     detail: PatternDetail,
@@ -136,7 +136,8 @@ fn report_regex(
     )
 }
 
-/// Returns the detail of a fault at the byte offset `at` of a pattern's text.
+/// Returns the detail of a fault of `kind` at the byte offset `at` of `regex`, a pattern's text
+/// that was made as `written` shows.
 fn detail_of(
     alloc: Global,
     kind: Kind,
@@ -155,7 +156,8 @@ fn detail_of(
     })
 }
 
-/// Reports why a pattern was not read. `regex` is its text.
+/// Reports the reason that `regex`, the text of a pattern, was not read. Returns `Memory` without a
+/// report if the reason is that memory ran out.
 fn report_error(
     error: PatternError,
     regex: &str,
@@ -182,8 +184,8 @@ fn report_error(
     }
 }
 
-/// Reads the text that was made from a literal as a pattern. Reports a text that is not a pattern
-/// at the literal, and returns `None` for it.
+/// Reads `regex`, the text that was made from the literal of `written`, as a pattern. If the text
+/// is not a pattern within the limit, reports that at the literal and returns `None`.
 ///
 /// # Errors
 ///

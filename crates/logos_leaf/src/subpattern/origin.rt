@@ -1,5 +1,5 @@
-//! Finds the locations at which the bytes of a pattern's text are written: in its own literal, or
-//! in a subpattern that was substituted. `fault` looks up the byte of each fault here.
+//! Finds the origin of a byte of a pattern's text: the pattern's own literal, or a subpattern that
+//! was substituted. `fault` calls `origin_of` for the byte of each fault.
 
 use crate::subpattern::substitution::{TextPart, characters, encoded, part_at};
 use crate::subpattern::{Subpatterns, flags_of, pattern_text, wrapped};
@@ -15,49 +15,51 @@ pub struct WrittenPattern<'l, 'p, 's> {
     pub making: Making<'p, 's>,
 }
 
-/// The ways in which the text of a pattern is made from its literal.
+/// The way in which the text of a pattern is made from its literal.
 #[derive(Clone, Copy)]
 pub enum Making<'p, 's> {
-    /// The text is escaped, so that the pattern matches exactly the value of the literal.
+    /// Characters with a special meaning are escaped, so that the pattern matches exactly the value
+    /// of the literal.
     Escaped,
-    /// Subpatterns are substituted in the text that the literal spells.
+    /// These subpatterns are substituted in the text that the literal spells.
     PutIn(&'p Subpatterns<'s>),
-    /// Subpatterns are substituted in the text that the literal spells, which is in a group that
-    /// sets its flags.
+    /// These subpatterns are substituted in the text that the literal spells, which is in a group
+    /// that sets its flags.
     Grouped(&'p Subpatterns<'s>),
 }
 
-/// The extent of a part of a pattern's own text after the substitution.
+/// The lengths of a part of a pattern's own text before and after the substitution.
 #[derive(Clone, Copy)]
 struct Extent {
     /// The number of bytes of the part in the text with all subpatterns substituted.
     whole: usize,
     /// The number of bytes of the part in the pattern's own text.
     own: usize,
-    /// The span of the name of the subpattern that is substituted, at its definition, if there is
-    /// one.
+    /// The span of the name of the subpattern that is substituted, at its definition, or `None` if
+    /// the part is a character or its subpattern is missing.
     put_in: Option<Span>,
 }
 
-/// A search for a byte of a pattern's text, after some of its parts.
+/// A search for a byte of a pattern's text, past some parts of the pattern's own text.
 #[derive(Clone, Copy)]
 struct OriginSearch {
-    /// The number of bytes from the end of these parts to the byte, with all subpatterns
-    /// substituted.
+    /// The number of bytes from the end of these parts to the byte, in the text with all
+    /// subpatterns substituted.
     left: usize,
     /// The number of bytes of these parts in the pattern's own text.
     own: usize,
-    /// The span of the name of the first subpattern that is substituted, at its definition.
+    /// The span of the name of the first subpattern that is substituted in these parts, at its
+    /// definition, or `None` if they have no subpattern.
     put_in: Option<Span>,
 }
 
 impl OriginSearch {
-    /// Returns whether the byte belongs to the next part.
+    /// Returns whether the byte belongs to the next part, which has `extent`.
     fn ends_in(self, extent: Extent) -> bool {
         self.left < extent.whole
     }
 
-    /// Returns the search after one more part.
+    /// Returns the search past the next part, which has `extent`.
     fn moved_past(self, extent: Extent) -> OriginSearch {
         OriginSearch {
             left: self.left.saturating_sub(extent.whole),
@@ -66,7 +68,7 @@ impl OriginSearch {
         }
     }
 
-    /// Returns the origin of the byte, which belongs to the next part.
+    /// Returns the origin of the byte, which belongs to the next part, the one with `extent`.
     fn origin_in(self, extent: Extent) -> ByteOrigin {
         let own = match extent.put_in {
             Some(_) => None,
@@ -79,7 +81,7 @@ impl OriginSearch {
     }
 }
 
-/// Returns the extent of a part.
+/// Returns the extent of `part`.
 fn extent_of(
     alloc: Global,
     subpatterns: &Subpatterns<'_>,
@@ -98,7 +100,8 @@ fn extent_of(
     }
 }
 
-/// Returns the extent of the use of a subpattern.
+/// Returns the extent of `(?&name)`, the use of a subpattern. If the subpattern is missing, its
+/// text counts as empty.
 fn used_extent(
     alloc: Global,
     subpatterns: &Subpatterns<'_>,
@@ -120,8 +123,9 @@ fn used_extent(
     }
 }
 
-/// Returns the origin of the byte at `at` of a text with all subpatterns substituted. `characters`
-/// are the characters of the text before the substitution.
+/// Returns the origin of the byte at the offset `at` of a text with all subpatterns substituted.
+/// `characters` are the characters of the text before the substitution. If `at` is past the end,
+/// the offset in the own text is that of its end.
 fn origin_in(
     alloc: Global,
     subpatterns: &Subpatterns<'_>,
@@ -148,8 +152,8 @@ fn origin_in(
     })
 }
 
-/// Returns the origin of the byte at `at` of the text that a literal spells with all subpatterns
-/// substituted.
+/// Returns the origin of the byte at the offset `at` of the text that `literal` spells with all
+/// subpatterns substituted.
 fn put_in_origin(
     alloc: Global,
     literal: &Literal<'_>,
@@ -161,8 +165,8 @@ fn put_in_origin(
     origin_in(alloc, subpatterns, &characters, at)
 }
 
-/// Returns the origin of the byte at `at` of the text that a literal spells with all subpatterns
-/// substituted, in a group that sets its flags.
+/// Returns the origin of the byte at the offset `at` of the text that `literal` spells with all
+/// subpatterns substituted, in a group that sets its flags.
 fn grouped_origin(
     alloc: Global,
     literal: &Literal<'_>,
@@ -175,7 +179,8 @@ fn grouped_origin(
     Ok(without_group(literal, origin))
 }
 
-/// Returns the origin in the text inside a group, given an origin in the group.
+/// Returns `origin`, an origin in the text of a group, as an origin in the text inside the group.
+/// Its offset in the own text is `None` for a byte of the group's opening.
 fn without_group(literal: &Literal<'_>, origin: ByteOrigin) -> ByteOrigin {
     let length = flags_of(literal).len();
     let own = match origin.own {
@@ -185,7 +190,8 @@ fn without_group(literal: &Literal<'_>, origin: ByteOrigin) -> ByteOrigin {
     ByteOrigin { own, ..origin }
 }
 
-/// Returns the origin of the byte at `at` of the text of a pattern.
+/// Returns the origin of the byte at the offset `at` of the text of a pattern. It is not known for
+/// an escaped text.
 pub(crate) fn origin_of(
     alloc: Global,
     written: WrittenPattern<'_, '_, '_>,

@@ -1,4 +1,5 @@
-//! Substitutes subpatterns in the text of a pattern. It runs for each subpattern and for each leaf.
+//! Substitutes subpatterns in the text of a pattern. `subpattern` calls `substituted` for each
+//! subpattern and for each leaf of a `regex` or `skip`.
 
 ghost use Rattle.std.specs.Prelude.{◌≡◌, ℕ, List, ◌+◌, ◌<◌, ◌++◌, ◌∷◌, [], length, drop, option_map, chars, OnOk, IfOk, MatchOption, string_bytes};
 ghost use Rattle.logos_leaf.specs.subpattern.Views.{IsReport, AddsFault, is_word, word_front, word_rest, closed, reference, parts, encoded, subpattern_missing, subst_report, part_report, name_report, text_of, names_of, part_of, text_view};
@@ -12,35 +13,36 @@ use std::alloc::{AllocError, Global};
 /// A part of a pattern's text.
 #[derive(Clone, Copy)]
 pub(crate) enum TextPart<'a> {
-    /// A character that represents itself.
+    /// A character that is not part of `(?&name)`.
     Itself(char),
-    /// The name of a subpattern that is used.
+    /// The name in `(?&name)`, the use of a subpattern.
     Used(&'a [char]),
 }
 
-/// The subpatterns, and the span at which missing ones are reported.
+/// The subpatterns of a lexer, and the span at which missing ones are reported.
 #[derive(Clone, Copy)]
 struct Lookup<'p, 's> {
     subpatterns: &'p Subpatterns<'s>,
     span: Span,
 }
 
-/// The text so far, with its subpatterns substituted.
+/// The beginning of a text, with its subpatterns substituted.
 #[derive(Drop)]
 struct Text {
     text: String,
-    /// Whether each name so far has a subpattern.
+    /// Whether each name in it has a subpattern.
     complete: bool,
 }
 
-/// Returns whether a name can contain a character.
+/// Returns whether the name of a subpattern can contain `c`.
 fn is_word(c: char) -> bool
     ensures { result ≡ is_word c }
 {
     ((('/' < c) & (c < ':')) | (('@' < c) & (c < '['))) | ((('`' < c) & (c < '{')) | (c == '_'))
 }
 
-/// Returns the longest word at the start of a text, and the rest.
+/// Returns the longest prefix of a text whose characters a name can contain, and the rest. The
+/// prefix can be empty.
 fn word_in(text: &[char]) -> (&[char], &[char])
     ensures front { result.0.now ≡ word_front text.now }
     ensures rest { result.1.now ≡ word_rest text.now }
@@ -52,7 +54,7 @@ fn word_in(text: &[char]) -> (&[char], &[char])
     (&text[..end], &text[end..])
 }
 
-/// Returns the rest of the text after `(?&`, or `None` if the text does not begin with it.
+/// Returns the rest of the text after `(?&`, or `None` if the text does not begin with `(?&`.
 fn after_opening(text: &[char]) -> Option<&[char]>
     ensures { MatchOption result
         (reference text.now ≡ None)
@@ -64,7 +66,7 @@ fn after_opening(text: &[char]) -> Option<&[char]>
     }
 }
 
-/// Returns the rest of the text after `)`, or `None` if the text does not begin with it.
+/// Returns the rest of the text after `)`, or `None` if the text does not begin with `)`.
 fn after_closing(text: &[char]) -> Option<&[char]>
     ensures { MatchOption result
         ((name : List ℕ) → closed name text.now ≡ None)
@@ -74,8 +76,8 @@ fn after_closing(text: &[char]) -> Option<&[char]>
     if *first == ')' { Some(rest) } else { None }
 }
 
-/// Returns the name in `(?&name)` and the rest of the text after it. Returns `None` if the text
-/// does not begin with that form.
+/// Returns the name in `(?&name)` at the front of a text, and the rest of the text after the `)`.
+/// Returns `None` if the text does not begin with that form.
 fn reference_at(text: &[char]) -> Option<(&[char], &[char])>
     ensures { MatchOption result
         (reference text.now ≡ None)
@@ -93,7 +95,8 @@ fn reference_at(text: &[char]) -> Option<(&[char], &[char])>
     Some((name, rest))
 }
 
-/// Returns the first part of a text, and the rest. Returns `None` if the text is empty.
+/// Returns the first part of a text, and the text after the part. Returns `None` if the text is
+/// empty.
 pub(crate) fn part_at(text: &[char]) -> Option<(TextPart<'_>, &[char])>
     ensures { MatchOption result
         (parts 0 text.now ≡ [])
@@ -107,7 +110,7 @@ pub(crate) fn part_at(text: &[char]) -> Option<(TextPart<'_>, &[char])>
     Some((TextPart::Itself(*first), rest))
 }
 
-/// Returns the UTF-8 text of these characters.
+/// Returns `characters` as a text in UTF-8.
 pub(crate) fn encoded(alloc: Global, characters: &[char]) -> Result<String, AllocError>
     ensures { IfOk result (λ text. string_bytes text ≡ encoded characters.now) }
 {
@@ -118,7 +121,7 @@ pub(crate) fn encoded(alloc: Global, characters: &[char]) -> Result<String, Allo
     Ok(text)
 }
 
-/// Reports a name without a subpattern.
+/// Reports that `name` has no subpattern.
 fn report_missing(name: &str, span: Span, errors: &mut Errors) -> Result<(), Memory>
     ensures { OnOk result (AddsFault (subpattern_missing span name.now) errors.old errors.new) }
 {
@@ -133,7 +136,7 @@ fn report_missing(name: &str, span: Span, errors: &mut Errors) -> Result<(), Mem
 }
 
 impl Text {
-    /// Adds the text of the subpattern with this name, or reports that there is none.
+    /// Appends the text of the subpattern that is called `name`, or reports that it is missing.
     fn add_name(
         &mut self,
         lookup: Lookup<'_, '_>,
@@ -155,7 +158,7 @@ impl Text {
         Ok(())
     }
 
-    /// Adds a part.
+    /// Appends `part`, or the text of the subpattern that it names. Reports a missing subpattern.
     fn add(
         &mut self,
         lookup: Lookup<'_, '_>,
@@ -185,8 +188,8 @@ pub(crate) fn characters(alloc: Global, text: &str) -> Result<Vec<char>, AllocEr
     text.chars().collect(alloc)
 }
 
-/// Returns the text of these characters with each subpattern substituted. Returns `None` if a
-/// subpattern is missing, and reports that.
+/// Returns the text of `characters` with each subpattern substituted. Reports each missing
+/// subpattern, and returns `None` if there is one.
 fn put_together(
     lookup: Lookup<'_, '_>,
     characters: &[char],
@@ -212,8 +215,8 @@ fn put_together(
     Ok(None)
 }
 
-/// Returns the text with each subpattern substituted. Returns `None` if a subpattern is missing,
-/// and reports that at `span`.
+/// Returns `text` with each subpattern substituted. Reports each missing subpattern at `span`, and
+/// returns `None` if there is one.
 pub(crate) fn substituted(
     subpatterns: &Subpatterns<'_>,
     text: &str,

@@ -1,5 +1,5 @@
-//! Reports the faults of variants and of the attributes on them. Each function adds one fault.
-//! `variant` calls it.
+//! Reports the faults of variants and of the attributes on them, at most one for each call.
+//! `variant` calls these functions.
 
 ghost use Rattle.std.specs.Prelude.{◌≡◌, ◌++◌, IfOk, OnOk, string_bytes};
 ghost use Rattle.logos_leaf.specs.Imports.{AddsFault, fields_text, variant_fields, count_faults, named_fields, error_variant, token_form, regex_form};
@@ -40,7 +40,7 @@ pub(super) fn report_count(count: usize, span: Span, errors: &mut Errors) -> Res
     Ok(())
 }
 
-/// Reports a variant with named fields.
+/// Reports a variant with named fields in the braces at `span`.
 pub(super) fn report_named_fields(span: Span, errors: &mut Errors) -> Result<(), Memory>
     ensures { OnOk result (AddsFault (named_fields span) errors.old errors.new) }
 {
@@ -51,7 +51,7 @@ pub(super) fn report_named_fields(span: Span, errors: &mut Errors) -> Result<(),
     )
 }
 
-/// Reports an `error` attribute.
+/// Reports the attribute `error` at `span`.
 pub(super) fn report_error_variant(span: Span, errors: &mut Errors) -> Result<(), Memory>
     ensures { OnOk result (AddsFault (error_variant span) errors.old errors.new) }
 {
@@ -62,14 +62,14 @@ pub(super) fn report_error_variant(span: Span, errors: &mut Errors) -> Result<()
     )
 }
 
-/// Reports a `token` attribute without a definition.
+/// Reports the attribute `token` at `span`, which has no definition.
 pub(super) fn report_token_form(span: Span, errors: &mut Errors) -> Result<(), Memory>
     ensures { OnOk result (AddsFault (token_form span) errors.old errors.new) }
 {
     errors.err(FaultCode::TokenForm, "Expected #[token(...)]", span)
 }
 
-/// Reports a `regex` attribute without a definition.
+/// Reports the attribute `regex` at `span`, which has no definition.
 pub(super) fn report_regex_form(span: Span, errors: &mut Errors) -> Result<(), Memory>
     ensures { OnOk result (AddsFault (regex_form span) errors.old errors.new) }
 {

@@ -1,3 +1,3 @@
-//! Re-exports the errors of patterns.
+//! Re-exports the errors of patterns from `logos_pattern_tokens`.
 
 pub use logos_pattern_tokens::error::{Kind, PatternError};

@@ -1,3 +1,3 @@
-//! Re-exports the tree of a pattern.
+//! Re-exports the trees of patterns from `logos_hir`.
 
 pub use logos_hir::hir::{Class, Hir, Look, Range};

@@ -1,5 +1,5 @@
-//! The literals of patterns, with their values. The readers of attributes make them, and `pattern`
-//! compiles them.
+//! The literals of patterns, with their values. The readers of attributes make literals, and
+//! `pattern` makes patterns of them.
 
 ghost use Rattle.std.specs.Prelude.{◌≡◌, ◌<◌, ◌++◌, OnOk, string_bytes, IfOk, IfSome, option_map};
 ghost use Rattle.logos_pattern.specs.Views.{flat_map, chars, is_metacharacter, escaped_character, upper_digit, escaped_byte, escaped_bytes, IsValue, token_of, held_value, is_unicode, held_bytes, escaped};
@@ -32,7 +32,7 @@ pub enum Literal<'s> {
     Bytes(ByteStringLiteral<'s>),
 }
 
-/// Returns whether the character has a special meaning in a pattern.
+/// Returns whether `character` has a special meaning in a pattern.
 fn is_metacharacter(character: char) -> bool
     ensures { result ≡ is_metacharacter character }
 {
@@ -42,7 +42,7 @@ fn is_metacharacter(character: char) -> bool
     .contains(&character)
 }
 
-/// Returns a hexadecimal digit in upper case.
+/// Returns the hexadecimal digit of `value`, which is below 16, in upper case.
 fn upper_digit(value: u8) -> char
     requires { value < 16 }
     ensures { result ≡ upper_digit value }
@@ -53,7 +53,7 @@ fn upper_digit(value: u8) -> char
     char::from(b'A' + (value - 10))
 }
 
-/// Appends the text of a pattern that matches exactly this character.
+/// Appends to `text` a pattern that matches exactly `character`.
 fn push_character(text: &mut String, character: char) -> Result<(), AllocError>
     ensures { OnOk result (string_bytes text.new ≡
         string_bytes text.old ++ escaped_character character) }
@@ -64,7 +64,7 @@ fn push_character(text: &mut String, character: char) -> Result<(), AllocError>
     text.push(character)
 }
 
-/// Appends the text of a pattern that matches exactly this string.
+/// Appends to `text` a pattern that matches exactly `value`.
 fn push_text(text: &mut String, value: &str) -> Result<(), AllocError>
     ensures { OnOk result (string_bytes text.new ≡
         string_bytes text.old ++ flat_map escaped_character (chars value.now)) }
@@ -75,8 +75,9 @@ fn push_text(text: &mut String, value: &str) -> Result<(), AllocError>
     Ok(())
 }
 
-/// Appends a byte of a byte string as the text of a pattern. If `literal` is `true`, that pattern
-/// matches exactly this byte.
+/// Appends `byte`, from a byte string, to the text of a pattern: `\xNN` if it is above 7F, and its
+/// character otherwise. If `literal` is `true`, a `\` precedes a character with a special meaning,
+/// so that the pattern matches exactly the byte.
 fn push_byte(text: &mut String, literal: bool, byte: u8) -> Result<(), AllocError>
     ensures { OnOk result (string_bytes text.new ≡
         string_bytes text.old ++ escaped_byte literal byte) }
@@ -92,8 +93,9 @@ fn push_byte(text: &mut String, literal: bool, byte: u8) -> Result<(), AllocErro
     text.push(char::from(byte))
 }
 
-/// Appends the bytes of a byte string as the text of a pattern. If `literal` is `true`, that
-/// pattern matches exactly these bytes.
+/// Appends `value`, a byte string, to the text of a pattern, where each byte above 7F is `\xNN`. If
+/// `literal` is `true`, each character with a special meaning has a `\` before it, so that the
+/// pattern matches exactly the bytes.
 fn push_bytes(text: &mut String, literal: bool, value: &[u8]) -> Result<(), AllocError>
     ensures { OnOk result (string_bytes text.new ≡
         string_bytes text.old ++ escaped_bytes literal value.now) }
@@ -105,8 +107,8 @@ fn push_bytes(text: &mut String, literal: bool, value: &[u8]) -> Result<(), Allo
 }
 
 impl<'s> Literal<'s> {
-    /// Reads the value of a token that is a string or a byte string. Returns `None` for any other
-    /// literal. Ignores the token's suffix.
+    /// Reads the value of `token`, a string or a byte string, without its suffix. Returns `None`
+    /// for any other literal.
     ///
     /// # Errors
     ///

@@ -1,4 +1,4 @@
-//! Builds the table that reads a character of a class. `prepare` calls it for each class of
+//! Builds the table that reads a character of a class. `prepare` calls `table_of` for each class of
 //! characters.
 
 ghost use Rattle.std.specs.Prelude.{zero, min, ◌≡◌, ℕ, ◌+◌, ◌-◌, ◌*◌, ◌/◌, ◌%◌, ◌^◌, ◌<◌, ◌≤◌, ◌||◌, OnOk, IfOk, IfSome, Bool, Some, None, slice_index_or, length, vec_len};
@@ -21,8 +21,8 @@ pub struct CharacterRest {
     pub offsets: Vec<CharRange>,
 }
 
-/// The characters that begin with a given first byte: those from `floor` on, in the block of
-/// numbers from `start` on that `left` bytes distinguish.
+/// The characters that begin with a given first byte: those from `floor` on among the numbers that
+/// `left` further bytes distinguish, from `start` on.
 #[derive(Clone, Copy)]
 struct Block {
     left: u8,
@@ -30,7 +30,7 @@ struct Block {
     start: u32,
 }
 
-/// Returns the number of the row for `rest`, which is added if it is new.
+/// Returns the number of the row for `rest`, and adds the row to `rests` if it is new.
 ///
 /// # Errors
 ///
@@ -49,7 +49,8 @@ fn number_of(rests: &mut IndexSet<CharacterRest>, rest: CharacterRest) -> Result
     Ok(i)
 }
 
-/// Returns the number of the row for these offsets, or `None` if there are no offsets.
+/// Returns the number of the row for a rest of `left` bytes with `offsets`, and adds the row to
+/// `rests` if it is new. Returns 0 if no byte is left, and `None` if there are no offsets.
 ///
 /// # Errors
 ///
@@ -79,8 +80,8 @@ fn position(
     Ok(Some(i))
 }
 
-/// Returns the number of the row for the characters of the ranges that begin with a given first
-/// byte, or `None` if there are none.
+/// Returns the number of the row for the characters of `ranges` in `block`, those that begin with a
+/// given first byte, and adds the row if it is new. Returns `None` if there are no such characters.
 ///
 /// # Errors
 ///
@@ -111,7 +112,8 @@ fn row_for(
     position(rests, block.left, offsets)
 }
 
-/// Returns the characters that begin with `byte`, or `None` if none does.
+/// Returns the block of the characters that begin with `byte`, or `None` if no character begins
+/// with it.
 fn block_of(byte: u8) -> Option<Block>
     ensures block { MatchOption result (lead byte ≡ None)
         (λ block. lead byte ≡ Some (table.lead_of block)) }
@@ -155,8 +157,8 @@ fn block_of(byte: u8) -> Option<Block>
     None
 }
 
-/// Returns the number of the row after a first byte, or `None` if no character of the ranges begins
-/// with it.
+/// Returns the number of the row after the first byte `byte`, and adds the row if it is new.
+/// Returns `None` if no character of `ranges` begins with the byte.
 ///
 /// # Errors
 ///
@@ -182,7 +184,8 @@ fn first_for(
     row_for(alloc, rests, ranges, block)
 }
 
-/// Returns the remaining offsets after the continuation byte with the number `part`, from 0 to 63.
+/// Returns the offsets that remain of `rest` after the continuation byte with the number `part`,
+/// from 0 to 63. `left` is the number of bytes after that byte.
 ///
 /// # Errors
 ///
@@ -208,8 +211,9 @@ fn after(
     clip(alloc, &rest.offsets, window)
 }
 
-/// Returns the number of the row after `row` and the continuation byte with the number `part`, or
-/// `None` if there is no such row.
+/// Returns the number of the row after `row` and the continuation byte with the number `part`, from
+/// 0 to 63, and adds the row to `rests` if it is new. Returns `None` if no character continues with
+/// that byte.
 ///
 /// # Errors
 ///
@@ -258,6 +262,7 @@ fn block_size(left: u8) -> u32
 }
 
 /// Returns, for each first byte, the number of the row after it, or `None` if there is no such row.
+/// Adds the rows that are new to `rests`.
 ///
 /// # Errors
 ///
@@ -284,7 +289,8 @@ fn first_cells(
     Ok(cells)
 }
 
-/// Appends, for each continuation byte, the number of the row after `row` and that byte.
+/// Appends to `cells`, for each continuation byte, the number of the row after `row` and that byte,
+/// or `None` if there is no such row. Adds the rows that are new to `rests`.
 ///
 /// # Errors
 ///
@@ -316,8 +322,8 @@ fn follow_row(
     Ok(())
 }
 
-/// Returns the rows after each row and each continuation byte, or `None` where there is no such
-/// row, and adds the rows to which these lead.
+/// Returns the number of the row after each row and each continuation byte, or `None` where there
+/// is no such row. Adds the rows that are new to `rests`, and follows these rows too.
 ///
 /// # Errors
 ///
@@ -360,7 +366,7 @@ fn start(alloc: Global) -> Result<IndexSet<CharacterRest>, AllocError>
     Ok(rests)
 }
 
-/// Builds the table of the characters of the ranges.
+/// Builds the table that reads the characters of `ranges`.
 ///
 /// # Errors
 ///
@@ -378,7 +384,7 @@ fn build(alloc: Global, ranges: &[CharRange]) -> Result<CharacterTable, AllocErr
     })
 }
 
-/// Builds the table of the class of characters with these ranges.
+/// Builds the table of the class of characters with `ranges`.
 ///
 /// # Errors
 ///

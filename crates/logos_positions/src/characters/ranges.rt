@@ -1,4 +1,4 @@
-//! Ranges of characters. The builder of tables clips and splits them.
+//! Ranges of characters. The builder of tables clips the ranges to blocks of numbers.
 
 ghost use Rattle.std.specs.Prelude.{◌&&◌, nat_le, ◌≡◌, ℕ, ◌+◌, ◌^◌, ◌<◌, ◌≤◌, ◌||◌, OnOk, IfOk};
 ghost use Rattle.logos_positions.specs.Views.{scalar, pairs, is_in, is_char_in, in_range, in_ranges, from_floor, ClipsTo, AreParts};
@@ -13,7 +13,7 @@ pub struct CharRange {
     pub last: u32,
 }
 
-/// The numbers from `floor` on, in a block of `size` numbers from `start` on.
+/// The numbers from `floor` on in the block of `size` numbers from `start` on.
 #[derive(Clone, Copy)]
 pub struct BlockPart {
     pub floor: u32,
@@ -21,8 +21,8 @@ pub struct BlockPart {
     pub size: u32,
 }
 
-/// Returns the offsets, in the block of a window, of the numbers that are in the range and in the
-/// window. Returns `None` if there are none.
+/// Returns the offsets, in the block of `window`, of the numbers that are in both `range` and
+/// `window`. Returns `None` if there are none.
 fn clip_range(range: CharRange, window: BlockPart) -> Option<CharRange>
     requires fits { window.start + window.size < 2 ^ 32 }
     requires some { 0 < window.size }
@@ -39,7 +39,8 @@ fn clip_range(range: CharRange, window: BlockPart) -> Option<CharRange>
     })
 }
 
-/// Appends the offsets of the numbers that are in the range and in the window.
+/// Appends to `out` the offsets, in the block of `window`, of the numbers that are in both `range`
+/// and `window`.
 ///
 /// # Errors
 ///
@@ -65,7 +66,8 @@ fn push_clip(
     }
 }
 
-/// Returns the offsets of the numbers that are in one of the ranges and in the window.
+/// Returns the offsets, in the block of `window`, of the numbers that are in one of `ranges` and in
+/// `window`.
 ///
 /// # Errors
 ///
@@ -88,7 +90,7 @@ pub fn clip(
     Ok(out)
 }
 
-/// Appends the range, unless it is empty.
+/// Appends the range from `first` to `last` to `out`, unless it is empty.
 ///
 /// # Errors
 ///
@@ -103,7 +105,8 @@ fn push_range(out: &mut Vec<CharRange>, first: u32, last: u32) -> Result<(), All
     Ok(())
 }
 
-/// Appends the characters of a range.
+/// Appends the characters of `range` to `out`, without surrogates and without numbers past the last
+/// character.
 ///
 /// # Errors
 ///

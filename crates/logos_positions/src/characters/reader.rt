@@ -1,5 +1,5 @@
 //! A table that reads a character of a class, byte by byte. Steps on a class of characters look up
-//! the next position in it.
+//! the next row in the table.
 
 ghost use Rattle.std.specs.Prelude.{◌<◌, ◌^◌};
 
@@ -9,9 +9,11 @@ ghost use Rattle.std.specs.Prelude.{◌<◌, ◌^◌};
 pub struct CharacterTable {
     /// The number of rows.
     pub rows: usize,
-    /// The row after each first byte, indexed by the byte.
+    /// The row after each first byte, indexed by the byte, or `None` if no character of the class
+    /// begins with the byte.
     pub first: Vec<Option<usize>>,
-    /// The row after each continuation byte: 64 entries for each row.
+    /// The row after each continuation byte, or `None` if no character continues with it: 64
+    /// entries for each row.
     pub follow: Vec<Option<usize>>,
     ghost some: { 0 < rows },
     ghost few: { rows < 2 ^ 16 },
@@ -21,7 +23,8 @@ impl CharacterTable {
     ghost use Rattle.std.specs.Prelude.{◌≡◌, ◌<◌};
     ghost use Rattle.logos_positions.specs.Table as table;
 
-    /// Returns the row after a first byte, if there is one.
+    /// Returns the row after the first byte `byte`, or `None` if no character of the class begins
+    /// with it.
     pub fn first(&self, byte: u8) -> Option<usize>
         ensures { result ≡ (table.reader_of self.now).first byte }
     {
@@ -31,7 +34,8 @@ impl CharacterTable {
         }
     }
 
-    /// Returns the row after `row` and `byte`, if there is one.
+    /// Returns the row after `row` and `byte`, or `None` if no character of the class continues
+    /// with the byte.
     pub fn follow(&self, row: usize, byte: u8) -> Option<usize>
         requires { row < self.now.rows }
         ensures { result ≡ (table.reader_of self.now).follow row byte }

@@ -1,5 +1,5 @@
 //! Evaluates look-around assertions from the kind of the byte before a point and the byte after it.
-//! Steps and exits call it for each assertion of a tree.
+//! Steps and exits call `holds` for each assertion of a tree.
 
 ghost use Rattle.std.specs.Prelude.{◌≡◌, Some, is_none};
 ghost use Rattle.logos_positions.specs.Views.{is_byte, side_before, kind_of_byte, test_at, is_word_byte};
@@ -28,20 +28,20 @@ pub enum ByteKind {
 /// The bytes on both sides of a point.
 #[derive(Clone, Copy)]
 pub struct Context {
-    /// The kind of the byte before.
+    /// The kind of the byte before the point.
     pub before: ByteKind,
-    /// The byte after, or `None` at the end of the input.
+    /// The byte after the point, or `None` at the end of the input.
     pub after: Option<u8>,
 }
 
-/// Returns whether the byte is one of `[0-9A-Za-z_]`.
+/// Returns whether `byte` is one of `[0-9A-Za-z_]`.
 fn is_word(byte: u8) -> bool
     ensures { result ≡ is_word_byte byte }
 {
     byte.is_ascii_alphanumeric() || byte == b'_'
 }
 
-/// Returns the kind of a byte.
+/// Returns the kind of `byte` as a byte before a point.
 pub fn kind_of(byte: u8) -> ByteKind
     ensures { result ≡ kind_of_byte byte }
 {
@@ -56,35 +56,35 @@ pub fn kind_of(byte: u8) -> ByteKind
     }
 }
 
-/// Returns whether there is no byte before.
+/// Returns whether there is no byte before the point.
 fn is_start(before: ByteKind) -> bool
     ensures { result ≡ is_none (side_before before) }
 {
     matches!(before, ByteKind::Start)
 }
 
-/// Returns whether the byte before is a carriage return.
+/// Returns whether the byte before the point is a carriage return.
 fn is_cr(before: ByteKind) -> bool
     ensures { result ≡ is_byte 13 (side_before before) }
 {
     matches!(before, ByteKind::Cr)
 }
 
-/// Returns whether the byte before is a line feed.
+/// Returns whether the byte before the point is a line feed.
 fn is_lf(before: ByteKind) -> bool
     ensures { result ≡ is_byte 10 (side_before before) }
 {
     matches!(before, ByteKind::Lf)
 }
 
-/// Returns whether the byte before is one of `[0-9A-Za-z_]`.
+/// Returns whether the byte before the point is one of `[0-9A-Za-z_]`.
 fn is_word_before(before: ByteKind) -> bool
     ensures { result ≡ looks.is_word (side_before before) }
 {
     matches!(before, ByteKind::Word)
 }
 
-/// Returns whether there is a byte and it is `byte`.
+/// Returns whether `side`, the byte after a point, exists and is `byte`.
 fn is_this(side: Option<u8>, byte: u8) -> bool
     ensures { result ≡ is_byte byte side }
 {
@@ -94,7 +94,7 @@ fn is_this(side: Option<u8>, byte: u8) -> bool
     }
 }
 
-/// Returns whether there is a byte and it is one of `[0-9A-Za-z_]`.
+/// Returns whether `side`, the byte after a point, exists and is one of `[0-9A-Za-z_]`.
 fn is_word_after(side: Option<u8>) -> bool
     ensures { result ≡ looks.is_word side }
 {
@@ -104,7 +104,7 @@ fn is_word_after(side: Option<u8>) -> bool
     }
 }
 
-/// Returns whether the look-around assertion holds at a point.
+/// Returns whether the assertion `look` holds at the point `at`.
 pub fn holds(look: Look, at: Context) -> bool
     ensures { result ≡ test_at at look }
 {

@@ -1,4 +1,4 @@
-//! Sets of positions, as ascending lists. Steps look up and add positions.
+//! Sets of positions, as ascending lists. Steps and exits search these sets.
 
 ghost use Rattle.std.specs.Prelude.{◌⊎◌, OnOk, ◌^◌, ◌≡◌, ℕ, ◌+◌, ◌-◌, ◌*◌, ◌<◌, ◌≤◌, ◌↔◌, IsTrue, IsFalse, length, slice_index};
 ghost use Rattle.logos_positions.specs.Marks.{IsRising, IsSet, Has, HasBetween, IsFirstFrom};
@@ -6,8 +6,8 @@ ghost use Rattle.logos_positions.specs.Marks.{IsRising, IsSet, Has, HasBetween, 
 use crate::node::Copies;
 use std::alloc::AllocError;
 
-/// Returns the index of the first mark that is at least `position`. The index is between `low` and
-/// `high`, inclusive.
+/// Returns the index of the first position in `marks` that is at least `position`. This index is
+/// known to be between `low` and `high`, inclusive.
 fn first_between(marks: &[usize], low: usize, high: usize, position: usize) -> usize
     requires rising { IsRising marks.now }
     requires order { low ≤ high }
@@ -29,8 +29,8 @@ fn first_between(marks: &[usize], low: usize, high: usize, position: usize) -> u
     low
 }
 
-/// Returns the index of the first mark that is at least `from`, or the number of marks if there is
-/// none.
+/// Returns the index of the first position in `marks` that is at least `from`, or the number of
+/// positions if there is none.
 pub fn first_from(marks: &[usize], from: usize) -> usize
     requires { IsRising marks.now }
     ensures { IsFirstFrom marks.now from result }
@@ -38,7 +38,7 @@ pub fn first_from(marks: &[usize], from: usize) -> usize
     first_between(marks, 0, marks.len(), from)
 }
 
-/// Returns whether the position is in the set.
+/// Returns whether `position` is in the set `marks`.
 pub fn has_mark(marks: &[usize], position: usize) -> bool
     requires { IsRising marks.now }
     ensures { IsTrue result ↔ Has marks.now position }
@@ -47,7 +47,7 @@ pub fn has_mark(marks: &[usize], position: usize) -> bool
     i < marks.len() && marks[i] == position
 }
 
-/// Returns whether one of the `width` positions from `from` on is in the set.
+/// Returns whether one of the `width` positions from the position `from` on is in the set `marks`.
 pub fn any_mark(marks: &[usize], from: usize, width: usize) -> bool
     requires { IsRising marks.now }
     ensures { IsTrue result ↔ ((q : ℕ) × (q < width) × Has marks.now (from + q)) }
@@ -56,7 +56,8 @@ pub fn any_mark(marks: &[usize], from: usize, width: usize) -> bool
     i < marks.len() && marks[i] - from < width
 }
 
-/// The positions of a tree in a set: those from the index `from` on and below `to`.
+/// The positions of a tree that are in a set: those at the indexes from `from` to `to`, without
+/// `to`.
 #[derive(Clone, Copy)]
 pub struct OwnPositions {
     /// The first position of the tree.
@@ -65,7 +66,7 @@ pub struct OwnPositions {
     pub to: usize,
 }
 
-/// Returns the indexes of the `width` positions from `base` on in the set.
+/// Returns the indexes, in the set `marks`, of the `width` positions from `base` on.
 pub fn own_positions(marks: &[usize], base: usize, width: usize) -> OwnPositions
     requires rising { IsRising marks.now }
     requires fits { base + width < 2 ^ 64 }
@@ -81,7 +82,8 @@ pub fn own_positions(marks: &[usize], base: usize, width: usize) -> OwnPositions
 }
 
 impl OwnPositions {
-    /// Returns the positions below `middle`, and the positions of a tree that begins at `middle`.
+    /// Returns the positions below `middle`, and those from `middle` on as the positions of a tree
+    /// that begins there.
     pub fn parted(self, marks: &[usize], middle: usize) -> (OwnPositions, OwnPositions)
         requires rising { IsRising marks.now }
         requires order { self.from ≤ self.to }
@@ -111,8 +113,8 @@ impl OwnPositions {
     }
 }
 
-/// Returns the number of copies without a position, up to the first copy that has one. Returns 0 if
-/// the first copy is entered.
+/// Returns the number of copies without a position that come before the first copy with one.
+/// Returns 0 if the first copy is entered.
 fn empty_copies(marks: &[usize], copies: Copies) -> usize
     requires { IsRising marks.now }
     ensures bound { result ≤ copies.count }
@@ -136,8 +138,8 @@ fn empty_copies(marks: &[usize], copies: Copies) -> usize
 }
 
 /// Returns the number of the first copy from `done` on that is entered or has a position, or the
-/// number of copies if there is none. `entered` is whether the copy with the number `done` is
-/// entered.
+/// number of copies if there is none. Only the copy with the number `done` can be entered without a
+/// position before it: it is if `entered` is `true`.
 pub fn next_copy(marks: &[usize], copies: Copies, done: usize, entered: bool) -> usize
     requires rising { IsRising marks.now }
     requires fits { copies.base + copies.each * copies.count < 2 ^ 64 }
@@ -160,9 +162,9 @@ pub fn next_copy(marks: &[usize], copies: Copies, done: usize, entered: bool) ->
     done + empty_copies(marks, rest)
 }
 
-/// Returns whether a copy has the same positions as the first one. The positions of the first copy
-/// are from the index `from` on and below `to`, those of the other begin at the index `at`, and
-/// `shift` is the distance between the two copies.
+/// Returns whether a copy has the same positions as the first of `copies`. The positions of the
+/// first copy are at the indexes from `from` to `to`, without `to`, in `marks`, those of the other
+/// copy begin at the index `at`, and `shift` is the distance between the two copies.
 fn is_marked_alike(
     marks: &[usize],
     from: usize,
@@ -199,7 +201,7 @@ fn is_marked_alike(
 }
 
 /// Returns the number of consecutive copies after the first one that have the same positions as the
-/// first.
+/// first one.
 pub fn alike_copies(marks: &[usize], copies: Copies) -> usize
     requires rising { IsRising marks.now }
     requires fits { copies.base + copies.each * copies.count < 2 ^ 64 }
@@ -225,7 +227,8 @@ pub fn alike_copies(marks: &[usize], copies: Copies) -> usize
     more
 }
 
-/// Appends copies of the positions from the index `from` on and below `to`, each moved by `shift`.
+/// Appends copies of the positions at the indexes from `from` to `to`, without `to`, each increased
+/// by `shift`.
 ///
 /// # Errors
 ///
@@ -259,7 +262,7 @@ pub(crate) fn push_moved(
     Ok(())
 }
 
-/// Adds the position, unless it is in the set.
+/// Inserts `position` in order, unless it is in the set `marks`.
 ///
 /// # Errors
 ///

@@ -1,5 +1,6 @@
 //! Steps from the positions that read one byte to those that read the next byte. `tree` and `trees`
-//! call it for each tree.
+//! call `step` for each tree. Each step appends the positions to `next`, and returns whether its
+//! tree can be left before the byte.
 
 ghost use Rattle.std.specs.Prelude.{max, ◌≡◌, ℕ, ◌+◌, ◌-◌, ◌*◌, ◌^◌, ◌<◌, ◌≤◌, ◌⊎◌, IsTrue, IfOk, OnOk, IfSome, ◌↔◌, Bool, false, Option, Some, List, length, slice_get, slice_index};
 ghost use Rattle.logos_positions.specs.Views.{Core, IsFirstFrom, IsRising, IsSet, Has, spelled, in_front, up_to, at_least, repeated, count_of, IsOrdered, Stepped, Owes, is_in, pairs, Look, test_at, core_of, is_measured, reader_of};
@@ -17,7 +18,7 @@ use crate::positions::set::{
 use logos_hir::hir::Range;
 use std::alloc::AllocError;
 
-/// A byte that a step reads, and the state before it.
+/// A byte that a step reads, with the positions and the point before it.
 #[derive(Clone, Copy)]
 pub struct ReadByte<'m> {
     /// The byte.
@@ -28,7 +29,7 @@ pub struct ReadByte<'m> {
     pub at: Context,
 }
 
-/// Returns whether the byte is in one of the ranges.
+/// Returns whether `byte` is in one of `ranges`.
 pub fn has_byte(ranges: &[Range], byte: u8) -> bool
     ensures { result ≡ is_in (pairs ranges.now) byte }
 {
@@ -41,8 +42,9 @@ pub fn has_byte(ranges: &[Range], byte: u8) -> bool
     false
 }
 
-/// Steps on the position of a class, which has one byte. `fits` is whether the class contains the
-/// byte that is read.
+/// Steps on the position of a class, which has one byte: appends it to `next` if it reads the byte.
+/// `fits` is whether the class contains the byte. Returns whether the class can be left before the
+/// byte.
 ///
 /// # Errors
 ///
@@ -70,7 +72,8 @@ fn step_byte(
     Ok(left)
 }
 
-/// Steps on a class of bytes.
+/// Steps on a class of bytes with `ranges`: appends its position to `next` if it reads the byte.
+/// Returns whether the class can be left before the byte.
 ///
 /// # Errors
 ///
@@ -91,7 +94,8 @@ fn step_bytes(
     step_byte(fits, by, spot, next)
 }
 
-/// Steps on a literal.
+/// Steps on the literal `text`: appends its positions that read the byte to `next`. Returns whether
+/// the literal can be left before the byte.
 ///
 /// # Errors
 ///
@@ -128,7 +132,8 @@ fn step_literal(
     Ok(left)
 }
 
-/// Appends the position after a position of a literal, if it reads the byte.
+/// Appends the position after `position` to `next`, if it belongs to the literal `text`, whose
+/// positions begin at `base`, and reads `byte`.
 ///
 /// # Errors
 ///
@@ -156,7 +161,8 @@ fn push_after(
     Ok(())
 }
 
-/// Steps on a literal that is not entered, where `own` are its positions in the set.
+/// Steps on a literal that is not entered, where `own` are its positions in the set: appends its
+/// positions that read the byte to `next`. Returns whether the literal can be left before the byte.
 ///
 /// # Errors
 ///
@@ -185,7 +191,8 @@ fn step_marked_literal(
     Ok(by.marks[own.to - 1] + 1 == own.base + text.len())
 }
 
-/// Adds the position of a row, if there is one, of a class whose positions begin at `base`.
+/// Inserts the position of `row` into `next`, if there is one, for a class of characters with
+/// `rows` rows whose positions begin at `base`.
 ///
 /// # Errors
 ///
@@ -211,7 +218,8 @@ fn insert_row(
     insert_mark(next, base + row)
 }
 
-/// Steps on a class of characters.
+/// Steps on a class of characters: adds its positions that read the byte to `next`. Returns whether
+/// the class can be left before the byte.
 ///
 /// # Errors
 ///
@@ -251,8 +259,8 @@ fn step_characters(
     Ok(left)
 }
 
-/// Adds the positions of a tree that read the byte, and returns whether the tree can be left before
-/// the byte.
+/// Adds the positions of the tree `node` at `spot` that read the byte to `next`, and returns
+/// whether the tree can be left before the byte.
 ///
 /// # Errors
 ///
@@ -284,8 +292,8 @@ pub(crate) fn step(
     step_node(node, by, spot, next)
 }
 
-/// Steps on a tree that is not entered, where `own` are its positions in the set. Branches without
-/// a position are skipped.
+/// Steps like `step` on a tree that is not entered, where `own` are its positions in the set, at
+/// least one. Branches of alternations without a position are skipped.
 ///
 /// # Errors
 ///
@@ -331,7 +339,7 @@ fn step_marked(
     Ok(one | other)
 }
 
-/// Steps on a tree, dispatching on its form.
+/// Steps like `step` on the tree `node` at `spot`, with a case for each form of tree.
 ///
 /// # Errors
 ///
@@ -380,8 +388,8 @@ fn step_node(
     }
 }
 
-/// Steps on a repetition of at least `copies.count` copies of its body, and of at most `most` if
-/// that is not `None`.
+/// Steps like `step` on a repetition of at least `copies.count` copies of `body`, and of at most
+/// `most` if that is not `None`.
 ///
 /// # Errors
 ///
@@ -417,7 +425,7 @@ fn step_repeat(
     step_up_to(body, rest, by, next)
 }
 
-/// Steps on at least these copies of the body of a repetition.
+/// Steps like `step` on a repetition of `copies` or more copies of `body`.
 ///
 /// # Errors
 ///
@@ -454,8 +462,8 @@ fn step_at_least(
     step_plus(body, by, copies.at(fronts.count, front), next)
 }
 
-/// Steps on the copies after the first one that are in the same state as it, and returns their
-/// number. They have the same positions as the first copy, and are entered exactly if it is. The
+/// Steps on the copies in `rest` after the first one that are like it, and returns their number.
+/// They have the same positions as the first copy, and are entered exactly if the first one is. The
 /// step on the first copy has been made, and `left` is whether the first copy can be left.
 ///
 /// # Errors
@@ -494,7 +502,8 @@ fn repeat_step(
     Ok(count)
 }
 
-/// Steps on all of the copies, one after another.
+/// Steps like `step` on all of `copies`, each of which is entered if the one before it can be left.
+/// Returns whether the last one can be left.
 ///
 /// # Errors
 ///
@@ -527,7 +536,7 @@ fn step_copies(
     Ok(left)
 }
 
-/// Steps on a repetition of at most these copies.
+/// Steps like `step` on a repetition of at most these copies of `body`.
 ///
 /// # Errors
 ///
@@ -561,7 +570,7 @@ fn step_up_to(
     Ok(any | left)
 }
 
-/// Steps on one or more repetitions of the body.
+/// Steps like `step` on `body`, repeated once or more, with the positions of one copy.
 ///
 /// # Errors
 ///

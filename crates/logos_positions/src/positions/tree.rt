@@ -1,5 +1,5 @@
 //! Steps on one tree of several, whose positions are numbered consecutively. `logos_automaton`
-//! calls it for the steps that it stores.
+//! calls `step_tree` for the steps that it stores.
 
 ghost use Rattle.std.specs.Prelude.{◌^◌, ◌<◌, ◌+◌, IsTrue, IfOk};
 ghost use Rattle.logos_positions.specs.Views.{IsRising, test_at, core_of, is_measured, IsStepOf};
@@ -9,7 +9,7 @@ use crate::node::{Node, TreeSpot};
 use crate::positions::step::{ReadByte, step};
 use std::alloc::{AllocError, Global};
 
-/// The step of one tree on a byte.
+/// The result of a step on one tree.
 #[derive(PartialEq, Eq, Drop)]
 pub struct TreeStep {
     /// The positions of the tree that read the byte, ascending.
@@ -18,7 +18,7 @@ pub struct TreeStep {
     pub left: bool,
 }
 
-/// Makes the step of one tree that is not entered and whose positions begin at `base`.
+/// Returns the step on `node`, a tree that is not entered and whose positions begin at `base`.
 ///
 /// # Errors
 ///

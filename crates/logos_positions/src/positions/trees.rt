@@ -1,5 +1,5 @@
-//! Steps on several trees, whose positions are numbered consecutively. `logos_automaton` calls it
-//! for the key of each state.
+//! Steps on several trees, whose positions are numbered consecutively. `logos_automaton` calls
+//! `step_all` and `exits_all` for the key of each state.
 
 ghost use Rattle.std.specs.Prelude.{◌≡◌, ◌∷◌, ◌++◌, ◌^◌, ◌<◌, ◌≤◌, ◌+◌, ◌-◌, ℕ, [], IsTrue, IsFalse, IfOk, OnOk, length, map, slice_index, if◌then◌else◌};
 ghost use Rattle.logos_positions.specs.Views.{IsRising, Has, HasBetween, width_of, test_at, core_of, AreMeasured, ReadBy, LeftBy, AreStarts};
@@ -20,7 +20,7 @@ pub struct Forest<'n> {
     pub starts: &'n [usize],
 }
 
-/// The step of several trees on a byte.
+/// The result of a step on several trees.
 #[derive(Drop)]
 pub struct JointStep {
     /// The positions that read the byte, ascending.
@@ -29,7 +29,8 @@ pub struct JointStep {
     pub left: Vec<usize>,
 }
 
-/// Returns the number of the tree, from `from` on, that has the position.
+/// Returns the number of the tree, from the tree `from` on, to which `position` belongs. `starts`
+/// are the first position of each tree and the position after the last tree.
 fn tree_at(starts: &[usize], from: usize, position: usize) -> usize
     requires some { from + 1 < length starts.now }
     requires low { slice_index starts.now from ≤ position }
@@ -52,8 +53,8 @@ fn tree_at(starts: &[usize], from: usize, position: usize) -> usize
     low
 }
 
-/// Returns the number of the first tree from `from` on that is entered or has a position, or the
-/// number of trees if there is none.
+/// Returns the number of the first tree from `from` on that is entered or has a position in
+/// `marks`, or the number of trees if there is none. `entered` is whether all trees are entered.
 pub fn next_tree(starts: &[usize], marks: &[usize], entered: bool, from: usize) -> usize
     requires rising { IsRising marks.now }
     requires within { from < length starts.now }
@@ -79,7 +80,7 @@ pub fn next_tree(starts: &[usize], marks: &[usize], entered: bool, from: usize) 
     tree_at(starts, from, marks[i])
 }
 
-/// Adds the number if `is_one` is true.
+/// Appends `number` to `numbers` if `is_one` is `true`.
 ///
 /// # Errors
 ///
@@ -94,7 +95,8 @@ fn note(numbers: &mut Vec<usize>, number: usize, is_one: bool) -> Result<(), All
     Ok(())
 }
 
-/// Makes the step of each tree on a byte, where all trees are entered or none are.
+/// Returns the step on all trees of `forest`. `entered` is whether all of them are entered;
+/// otherwise none is.
 ///
 /// # Errors
 ///
@@ -133,7 +135,9 @@ pub fn step_all(
     Ok(JointStep { positions, left })
 }
 
-/// Returns the numbers of the trees that can be left at the point `at`, ascending.
+/// Returns the numbers of the trees that can be left at the point `at`, ascending. `marks` are the
+/// positions that read the byte before. `entered` is whether all trees are entered; otherwise none
+/// is.
 ///
 /// # Errors
 ///

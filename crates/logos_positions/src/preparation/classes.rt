@@ -1,5 +1,4 @@
-//! Adds ranges to classes of bytes, and unites two classes. `prepare` calls it where it makes the
-//! choice of two trees.
+//! Unites classes of bytes. `prepare` calls `joined_class` where it makes the choice of two trees.
 
 ghost use Rattle.std.specs.Prelude.{◌≡◌, ◌+◌, ◌<◌, ◌≤◌, ◌||◌, ℕ, IsTrue, IfOk, IfSome, OnOk, length, max, min, slice_get};
 ghost use Rattle.logos_positions.specs.Views.{is_in, pairs, byte_in, AreNear, IsEither, is_within, core_of};
@@ -8,14 +7,14 @@ use crate::node::Node;
 use logos_hir::hir::Range;
 use std::alloc::{AllocError, Global};
 
-/// Returns whether no byte is between the ranges.
+/// Returns whether the ranges overlap or are adjacent: no byte is between them.
 fn are_near(one: Range, other: Range) -> bool
     ensures { IsTrue result → AreNear one other }
 {
     one.first <= other.last.saturating_add(1) && other.first <= one.last.saturating_add(1)
 }
 
-/// Returns the smallest range that contains both.
+/// Returns the smallest range that contains both ranges.
 fn hull(one: Range, other: Range) -> Range
     ensures first { result.first ≡ min one.first other.first }
     ensures last { result.last ≡ max one.last other.last }
@@ -26,8 +25,8 @@ fn hull(one: Range, other: Range) -> Range
     }
 }
 
-/// Returns the index of the first of `ranges` that is near `range`, or the number of ranges if none
-/// is.
+/// Returns the index of the first of `ranges` that overlaps `range` or is adjacent to it, or the
+/// number of ranges if there is none.
 fn near_range(ranges: &[Range], range: Range) -> usize
     ensures within { result ≤ length ranges.now }
     ensures near { IfSome (slice_get ranges.now result) (λ found. AreNear found range) }
@@ -42,7 +41,8 @@ fn near_range(ranges: &[Range], range: Range) -> usize
     i
 }
 
-/// Adds a range to a class, and merges it with the ranges near it.
+/// Adds `range` to a class: extends the first of `ranges` that overlaps it or is adjacent to it, or
+/// appends it if there is none.
 ///
 /// # Errors
 ///
@@ -86,7 +86,8 @@ fn ranges_of(node: &Node) -> Option<&[Range]>
     }
 }
 
-/// Returns the ranges of the union of both trees, or `None` if one of them is not a class of bytes.
+/// Returns the ranges of the union of `first` and `second`, or `None` if one of them is not a class
+/// of bytes.
 ///
 /// # Errors
 ///

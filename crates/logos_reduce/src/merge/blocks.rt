@@ -1,4 +1,4 @@
-//! Blocks of states. Merging begins with a block for each mark, and splits the blocks.
+//! Blocks of states. `merge` begins with a block for each mark, and splits these blocks.
 
 ghost use Rattle.std.specs.Prelude.{None, ◌≡◌, ◌≢◌, ℕ, ◌+◌, ◌<◌, ◌≤◌, IfOk, length, vec_len, slice_index, slice_index_or};
 ghost use Rattle.logos_reduce.specs.Merge.{AreLeaders, IsSound, split_at};
@@ -9,11 +9,11 @@ use crate::table::{StateMarks, Table};
 use indexmap::IndexSet;
 use std::alloc::{AllocError, Global};
 
-/// A split, which made a block: the block was separated from another one, by a symbol or by the
-/// marks of states.
+/// A split, which made a block by separating it from another one, by a symbol or by the marks of
+/// states.
 #[derive(Clone, Copy, Drop)]
 pub struct Split {
-    /// The number of the other block, which is lower.
+    /// The number of the other block, which is lower than that of the new one.
     pub parent: usize,
     /// The symbol on which states of the two blocks lead to different blocks, or `None` if their
     /// marks differ.
@@ -25,12 +25,13 @@ pub struct Split {
 pub struct Blocks {
     /// For each state, its block.
     pub of: Vec<usize>,
-    /// For each block but 0, the split that separated it from a block with a lower number.
+    /// For each block, the split that separated it from a block with a lower number. The split of
+    /// block 0 has no meaning.
     pub splits: Vec<Split>,
     ghost within: { (s : ℕ) → s < vec_len of → slice_index of.items s < vec_len splits },
 }
 
-/// Returns the mark as a key.
+/// Returns `mark` as a key: two marks have the same key only if they are equal.
 fn key_of(mark: StateMarks) -> [usize; 4]
     ensures { result ≡ inside.key_of mark }
 {
@@ -39,7 +40,7 @@ fn key_of(mark: StateMarks) -> [usize; 4]
     [accepts, accept, is_early, early]
 }
 
-/// Returns 1 and the number of the leaf, or zeros if there is none.
+/// Returns 1 and the number of `leaf`, or two zeros if it is `None`.
 pub fn tagged(leaf: Option<usize>) -> (usize, usize)
     ensures { result ≡ inside.tagged leaf }
 {
@@ -49,7 +50,8 @@ pub fn tagged(leaf: Option<usize>) -> (usize, usize)
     }
 }
 
-/// Returns the splits of `count` blocks that are separated by the marks of states.
+/// Returns `count` splits, one for each block, which state that the block was separated from block
+/// 0 by the marks of states.
 fn parted_by_marks(alloc: Global, count: usize) -> Result<Vec<Split>, AllocError>
     ensures len { IfOk result (λ v. vec_len v ≡ count) }
     ensures splits { IfOk result (λ v. (j : ℕ) →
@@ -63,7 +65,7 @@ fn parted_by_marks(alloc: Global, count: usize) -> Result<Vec<Split>, AllocError
     Ok(splits)
 }
 
-/// Returns the blocks of states with equal marks.
+/// Returns the blocks of a table's states with equal marks.
 ///
 /// # Errors
 ///
@@ -82,7 +84,8 @@ pub fn by_marks(alloc: Global, table: &Table) -> Result<Blocks, AllocError>
     Ok(Blocks { of, splits })
 }
 
-/// Returns for each block one of its states.
+/// Returns for each of the `count` blocks one of its states, or 0 if it has none. `of` is the block
+/// of each state.
 ///
 /// # Errors
 ///

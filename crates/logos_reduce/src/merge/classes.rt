@@ -1,5 +1,5 @@
 //! Groups states with equal marks and equal rows into classes, so that classes are split instead of
-//! states. `merge` calls it first, if many states are alike.
+//! states. `merge` calls `classes_of` first, and `class_table` if many states are alike.
 
 ghost use Rattle.std.specs.Prelude.{◌≡◌, ℕ, ◌+◌, ◌<◌, ◌≤◌, ◌^◌, Some, IfOk, length, vec_len, slice_index, option_map};
 ghost use Rattle.logos_reduce.specs.Views.{target_by, target_in, target_of, target_block, rows_of, size, mark, mark_in, AreClasses, IsClassTable};
@@ -12,7 +12,7 @@ use crate::table::{StateMarks, Table};
 use indexmap::IndexSet;
 use std::alloc::{AllocError, Global};
 
-/// Classes of states. The states of a class have equal marks and equal rows.
+/// Classes of states: the states of a class have equal marks and equal rows.
 #[derive(Drop)]
 pub struct Classes {
     /// For each state, its class.
@@ -23,7 +23,8 @@ pub struct Classes {
     ghost few: { count ≤ vec_len of },
 }
 
-/// Returns the index of the row of a state, and its mark, as a key.
+/// Returns the index of the row of the state `s` among the distinct rows, and the state's mark, as
+/// a key.
 fn class_key(table: &Table, s: usize) -> [usize; 5]
     requires { s < size table.now }
     ensures { result ≡ inside.class_key table.now s }
@@ -55,7 +56,7 @@ pub fn classes_of(alloc: Global, table: &Table) -> Result<Classes, AllocError>
     })
 }
 
-/// Returns the row with the classes of its targets.
+/// Returns `row` with each target replaced by its class. `of` is the class of each state.
 fn class_row(row: &Row, of: &Vec<usize>) -> Row
     requires inside { (k t : ℕ) → target_by row.now k ≡ Some t → t < vec_len of.now }
     requires few { (s : ℕ) → s < vec_len of.now → slice_index of.now.items s + 1 < 2 ^ 32 }
@@ -72,7 +73,8 @@ fn class_row(row: &Row, of: &Vec<usize>) -> Row
     made
 }
 
-/// Returns the entry for the class of a target, or 0 if there is no target.
+/// Returns the entry for the class of `target`: one more than its number, or 0 if there is no
+/// target.
 fn class_entry(target: Option<usize>, of: &Vec<usize>) -> u32
     requires inside { (t : ℕ) → target ≡ Some t → t < vec_len of.now }
     requires few { (s : ℕ) → s < vec_len of.now → slice_index of.now.items s + 1 < 2 ^ 32 }
@@ -84,7 +86,8 @@ fn class_entry(target: Option<usize>, of: &Vec<usize>) -> u32
     }
 }
 
-/// Returns the rows of the classes. Each class leads to the classes of the targets of its leader.
+/// Returns the rows of the classes. Each class leads to the classes of the targets of its leader,
+/// one of its states.
 fn class_rows(
     alloc: Global,
     table: &Table,
@@ -107,7 +110,7 @@ fn class_rows(
     Ok(rows)
 }
 
-/// Returns the marks of the classes, each of which has the mark of its leader.
+/// Returns the marks of the classes: for each class the mark of its leader.
 fn class_marks(
     alloc: Global,
     table: &Table,
@@ -126,7 +129,7 @@ fn class_marks(
     Ok(marks)
 }
 
-/// Returns the table with the classes as its states.
+/// Returns the table whose states are the classes of the states of `table`.
 ///
 /// # Errors
 ///

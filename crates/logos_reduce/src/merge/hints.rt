@@ -1,5 +1,6 @@
 //! Chooses the part of a block that becomes the new block, and the next blocks to process. `refine`
-//! and `twins` call it for each block. No proof about blocks depends on it.
+//! and `twins` call the methods of `Hints` for each block. No proof about blocks depends on these
+//! choices.
 
 ghost use Rattle.std.specs.Prelude.{◌≡◌, ℕ, ◌+◌, ◌<◌, ◌≤◌, OnSome, IfOk, vec_len, slice_index};
 
@@ -18,7 +19,7 @@ pub struct Hints {
     first: Vec<usize>,
     /// The blocks that are still to be processed.
     todo: Vec<usize>,
-    /// The block that is being processed.
+    /// The block that is being processed, or `None` before the first one.
     looked: Option<usize>,
     ghost counts_len: { vec_len counts ≡ vec_len sizes },
     ghost pending_len: { vec_len pending ≡ vec_len sizes },
@@ -66,7 +67,7 @@ impl Hints {
         })
     }
 
-    /// Counts one more hit of the block.
+    /// Counts one more hit of `block`.
     pub fn count_hit(&mut self, block: usize)
         requires { block < vec_len self.old.sizes }
         ensures todo { vec_len self.new.todo ≡ vec_len self.old.todo }
@@ -75,19 +76,20 @@ impl Hints {
         self.counts[block] = self.counts[block].saturating_add(1);
     }
 
-    /// Returns whether some states of the block are hit and some are not.
+    /// Returns whether some states of `block` are hit and some are not.
     pub fn is_cut(&self, block: usize) -> bool
         requires { block < vec_len self.now.sizes }
     {
         0 < self.counts[block] && self.counts[block] < self.sizes[block]
     }
 
-    /// Returns whether the block is still to be processed.
+    /// Returns whether `block` is still to be processed. It is not if there is no such block.
     pub fn is_pending(&self, block: usize) -> bool {
         block < self.pending.len() && self.pending[block]
     }
 
-    /// Returns the first symbol for which the block is still to be processed.
+    /// Returns the first symbol for which `block` is still to be processed, or 0 if there is no
+    /// such block.
     pub fn first_symbol(&self, block: usize) -> usize {
         if block < self.first.len() {
             return self.first[block];
@@ -95,7 +97,7 @@ impl Hints {
         0
     }
 
-    /// Records that the block is to be processed for the symbols from `first` on.
+    /// Records that `block` is to be processed for the symbols from `first` on.
     ///
     /// # Errors
     ///
@@ -114,8 +116,8 @@ impl Hints {
         Ok(())
     }
 
-    /// Moves the hits of a block to the block `twin`. Returns the larger and the smaller of the two
-    /// blocks.
+    /// Records that the hit states of `block` are now in the block `twin`. Returns the larger and
+    /// the smaller of the two blocks.
     fn divide(&mut self, block: usize, twin: usize) -> (usize, usize)
         requires block_in { block < vec_len self.old.sizes }
         requires twin_in { twin < vec_len self.old.sizes }
@@ -136,8 +138,9 @@ impl Hints {
         }
     }
 
-    /// Returns the first symbol for which the block is still to be processed, if there is one.
-    /// `symbol` is the symbol for which the block that is being processed currently splits others.
+    /// Returns the first symbol for which `block` is still to be processed, or `None` if it is not
+    /// to be processed. `symbol` is the symbol for which the block that is being processed
+    /// currently splits others.
     fn symbol_left(&self, block: usize, symbol: usize) -> Option<usize>
         requires { block < vec_len self.now.sizes }
     {
@@ -150,9 +153,10 @@ impl Hints {
         None
     }
 
-    /// Records the parts of a block that are to be processed, once its hits are in the block
-    /// `twin`: the smaller part for all symbols, and the larger part for the symbols that are left
-    /// for the block.
+    /// Records that the hit states of `block` are now in the block `twin`, and the parts that are
+    /// to be processed: the smaller part for all symbols, and the larger part for the symbols that
+    /// are left for the block. `symbol` is the symbol for which the block that is being processed
+    /// currently splits others.
     ///
     /// # Errors
     ///
@@ -171,7 +175,7 @@ impl Hints {
         self.note(smaller, 0)
     }
 
-    /// Resets the number of hits of a block.
+    /// Sets the number of hits of `block` to 0.
     pub fn forget(&mut self, block: usize)
         requires { block < vec_len self.old.sizes }
         ensures todo { vec_len self.new.todo ≡ vec_len self.old.todo }
@@ -190,7 +194,7 @@ impl Hints {
         Some(block)
     }
 
-    /// Records that a block is being processed.
+    /// Records that `block` is being processed, and no longer to be processed.
     fn begin(&mut self, block: usize)
         ensures todo { vec_len self.new.todo ≡ vec_len self.old.todo }
         ensures sizes { vec_len self.new.sizes ≡ vec_len self.old.sizes }

@@ -1,5 +1,5 @@
-//! Splits blocks by the blocks that their states lead to. `merge` calls it once, with the blocks of
-//! the marks.
+//! Splits blocks by the blocks to which their states lead. `merge` calls `refine` with the blocks
+//! of the marks, and again after each split that it makes itself.
 
 ghost use Rattle.std.specs.Prelude.{true, ◌≡◌, ◌≢◌, ℕ, ◌+◌, ◌<◌, ◌≤◌, ◌↔◌, Some, OnSome, OnOk, IfOk, IsTrue, length, vec_len, slice_index, option_map};
 ghost use Rattle.logos_reduce.specs.Views.{has, has_in, ArePredecessors, AreFiled, AreSources, AreHits, target_by, target_block, IsSound, IsFiner, size, to};
@@ -14,7 +14,8 @@ use crate::rows::WIDTH;
 use crate::table::Table;
 use std::alloc::{AllocError, Global};
 
-/// Returns the block of a target, or `None` if there is no target.
+/// Returns the block of `target`, or `None` if there is no target. `blocks` is the block of each
+/// state.
 pub fn block_of(target: Option<usize>, blocks: &Vec<usize>) -> Option<usize>
     requires { (t : ℕ) → target ≡ Some t → t < vec_len blocks.now }
     ensures { result ≡ option_map (slice_index blocks.now.items) target }
@@ -22,7 +23,7 @@ pub fn block_of(target: Option<usize>, blocks: &Vec<usize>) -> Option<usize>
     Some(blocks[target?])
 }
 
-/// Appends the numbers of the list at index `t`.
+/// Appends the numbers of the list at the index `t` to `sources`.
 fn add_all(sources: &mut Vec<usize>, lists: &Vec<Vec<usize>>, t: usize) -> Result<(), AllocError>
     requires { t < vec_len lists.now }
     ensures stays { (s : ℕ) → has sources.old.items s ≡ true → has sources.new.items s ≡ true }
@@ -33,8 +34,8 @@ fn add_all(sources: &mut Vec<usize>, lists: &Vec<Vec<usize>>, t: usize) -> Resul
     Ok(())
 }
 
-/// Returns the states with an edge into a block, possibly with other states, and possibly with
-/// duplicates.
+/// Returns the states with an edge into the block `b`, possibly with other states, and possibly
+/// with duplicates.
 fn all_sources(
     alloc: Global,
     parts: &Refinement,
@@ -56,7 +57,7 @@ fn all_sources(
     Ok(sources)
 }
 
-/// Returns the numbers of a list without those that equal the number before them.
+/// Returns the numbers of `list` without those that equal the number directly before them.
 fn without_repeats(alloc: Global, list: &Vec<usize>) -> Result<Vec<usize>, AllocError>
     ensures { IfOk result (λ v. (s : ℕ) → has list.now.items s ≡ true → has v.items s ≡ true) }
 {
@@ -67,7 +68,8 @@ fn without_repeats(alloc: Global, list: &Vec<usize>) -> Result<Vec<usize>, Alloc
     Ok(once)
 }
 
-/// Returns the states with an edge into a block, possibly with other states.
+/// Returns the states with an edge into the block `b`, possibly with other states, ascending and
+/// without duplicates.
 fn sources_of(
     alloc: Global,
     parts: &Refinement,
@@ -86,7 +88,8 @@ fn sources_of(
     Ok(once)
 }
 
-/// Returns whether a state leads into the block `b` on the symbol `k`.
+/// Returns whether the state `s` leads into the block `b` on the symbol `k`. It does not if there
+/// is no such state.
 fn leads_into(table: &Table, blocks: &Vec<usize>, s: usize, b: usize, k: usize) -> bool
     requires len { vec_len blocks.now ≡ size table.now }
     requires k_in { k < WIDTH }
@@ -107,7 +110,7 @@ struct Splitter {
     used: Symbols,
 }
 
-/// Returns the sources that lead into the block on the symbol `k`.
+/// Returns the sources of `by` that lead into its block on the symbol `k`.
 fn hits_of(
     alloc: Global,
     table: &Table,
@@ -130,8 +133,8 @@ fn hits_of(
     Ok(hits)
 }
 
-/// Splits the blocks by the states that lead into the block of `by` on the symbol `k`, if that
-/// symbol is used.
+/// Splits the blocks by the states that lead into the block of `by` on the symbol `k`. Splits
+/// nothing if that symbol is not used.
 fn split_by_symbol(
     alloc: Global,
     table: &Table,
@@ -168,7 +171,8 @@ fn split_by_symbol(
     Ok(split)
 }
 
-/// Returns the symbols on which some state leads into a block.
+/// Returns the symbols on which a state leads into the block `b`. `symbols` has these symbols for
+/// each state.
 fn symbols_into(parts: &Refinement, symbols: &Vec<Symbols>, b: usize) -> Symbols
     requires { b < vec_len parts.now.cuts.splits }
 {
@@ -181,8 +185,8 @@ fn symbols_into(parts: &Refinement, symbols: &Vec<Symbols>, b: usize) -> Symbols
     used
 }
 
-/// Splits the blocks by the states that lead into a block, symbol by symbol, until the block itself
-/// is split. Its parts are then still to be processed.
+/// Splits the blocks by the states that lead into the block of `by`, symbol by symbol, until that
+/// block itself is split. Its parts are then still to be processed.
 fn split_by_block(
     alloc: Global,
     table: &Table,
@@ -225,7 +229,7 @@ impl Refinement {
         self.cuts.hints.next()
     }
 
-    /// Returns the blocks, and drops the rest of the state.
+    /// Returns the blocks with their splits, and drops the rest of the refinement.
     fn into_blocks(self) -> Blocks
         ensures of { result.of ≡ self.filing.blocks }
         ensures splits { result.splits ≡ self.cuts.splits }
@@ -241,7 +245,7 @@ impl Refinement {
     }
 }
 
-/// Returns for each block a list of its states.
+/// Returns for each block the list of its states, in a vector of `room` lists.
 fn filed_states(
     alloc: Global,
     blocks: &Vec<usize>,
@@ -259,7 +263,8 @@ fn filed_states(
     Ok(lists)
 }
 
-/// Returns the blocks, each of which is still to be processed.
+/// Returns the refinement that begins with `blocks`, each of which is still to be processed. `room`
+/// is the greatest number of blocks that there can be.
 fn start(alloc: Global, blocks: Blocks, room: usize) -> Result<Refinement, AllocError>
     requires some { 0 < vec_len blocks.splits }
     requires room { vec_len blocks.splits ≤ room }
@@ -289,7 +294,8 @@ struct Edges {
     symbols: Vec<Symbols>,
 }
 
-/// Splits the blocks by the states that lead into the block `b`, if there is such a block.
+/// Splits the blocks by the states that lead into the block `b`. Splits nothing if there is no such
+/// block.
 fn look_at(
     alloc: Global,
     table: &Table,

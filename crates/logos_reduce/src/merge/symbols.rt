@@ -1,5 +1,5 @@
-//! Sets of symbols for which a block is processed. `refine` makes one for each state. No proof
-//! about blocks depends on them.
+//! Sets of symbols for which a block is processed. `refine` makes a set for each state. No proof
+//! about blocks depends on these sets.
 
 ghost use Rattle.std.specs.Prelude.{◌<◌, ◌≤◌};
 
@@ -7,7 +7,7 @@ use crate::rows::{Row, WIDTH, run_end, target_at};
 use crate::table::Table;
 use std::alloc::{AllocError, Global};
 
-/// A set of symbols, with one bit for each.
+/// A set of symbols, with one bit for each symbol.
 #[derive(Clone, Copy, Drop)]
 pub struct Symbols {
     words: [u64; 5],
@@ -19,14 +19,15 @@ impl Symbols {
         Symbols { words: [0; 5] }
     }
 
-    /// Returns whether a symbol is in the set.
+    /// Returns whether the symbol `k` is in the set.
     pub fn has(&self, k: usize) -> bool
         requires { k < WIDTH }
     {
         (self.words[k / 64] >> (k % 64)) & 1 == 1
     }
 
-    /// Returns a symbol after `k` such that no symbol of the set is between the two.
+    /// Returns a symbol after `k`, or a number past the last symbol, such that no symbol of the set
+    /// is between the two.
     pub fn after(&self, k: usize) -> usize
         requires { k < WIDTH }
         ensures { k < result }
@@ -39,14 +40,14 @@ impl Symbols {
         next + rest.trailing_zeros() as usize
     }
 
-    /// Adds a symbol.
+    /// Adds the symbol `k` to the set.
     pub fn add(&mut self, k: usize)
         requires { k < WIDTH }
     {
         self.words[k / 64] |= 1 << (k % 64);
     }
 
-    /// Adds the symbols from `from` up to but not including `to`.
+    /// Adds the symbols from `from` to `to`, without `to`, to the set.
     fn add_run(&mut self, from: usize, to: usize)
         requires { to ≤ WIDTH }
     {
@@ -55,7 +56,7 @@ impl Symbols {
         }
     }
 
-    /// Adds the symbols of another set.
+    /// Adds the symbols of `other` to the set.
     pub fn add_all(&mut self, other: &Symbols) {
         for i in 0..5 {
             self.words[i] |= other.words[i];
@@ -63,8 +64,8 @@ impl Symbols {
     }
 }
 
-/// Adds the symbols from `from` up to but not including `to` to the set of a target, if there is a
-/// target.
+/// Adds the symbols from `from` to `to`, without `to`, to the set of `target`, unless that is
+/// `None` or has no set.
 fn note_run(symbols: &mut Vec<Symbols>, target: Option<usize>, from: usize, to: usize)
     requires { to ≤ WIDTH }
 {
@@ -75,7 +76,7 @@ fn note_run(symbols: &mut Vec<Symbols>, target: Option<usize>, from: usize, to: 
     }
 }
 
-/// Adds each symbol of a row to the set of its target.
+/// Adds each symbol of a row to the set of the symbol's target, if there is one.
 fn note_symbols(symbols: &mut Vec<Symbols>, row: &Row) {
     let mut k = 0;
     while k < WIDTH {
@@ -85,7 +86,7 @@ fn note_symbols(symbols: &mut Vec<Symbols>, row: &Row) {
     }
 }
 
-/// Returns for each state the symbols on which some state leads to it.
+/// Returns for each state the symbols on which a state leads to it.
 ///
 /// # Errors
 ///

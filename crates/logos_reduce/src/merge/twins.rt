@@ -1,5 +1,6 @@
-//! Cuts blocks into the states that are hit and those that are not. `refine` calls it for each
-//! block and symbol that it processes.
+//! Cuts blocks into the states that are hit and those that are not. `refine` calls `split_on` for
+//! each block and symbol that it processes. A state is hit if it leads into that block on that
+//! symbol.
 
 ghost use Rattle.std.specs.Prelude.{true, ◌≡◌, ◌≢◌, ℕ, ◌+◌, ◌-◌, ◌*◌, ◌<◌, ◌≤◌, OnOk, IfOk, length, vec_len, slice_index};
 ghost use Rattle.logos_reduce.specs.Imports.{has_in, AreFiled, landing, HaveMoved};
@@ -10,27 +11,27 @@ use crate::merge::blocks::Split;
 use crate::merge::hints::Hints;
 use std::alloc::{AllocError, Global};
 
-/// The block of each state, and for each block a list that contains its states, and may contain
-/// states that have left the block.
+/// The block of each state, and the states of each block.
 #[derive(Drop)]
 pub struct Filing {
     /// For each state, its block.
     pub blocks: Vec<usize>,
-    /// For each block, a list that contains its states.
+    /// For each block, a list that contains its states, and can contain states that have left the
+    /// block.
     pub lists: Vec<Vec<usize>>,
 }
 
-/// The cuts of blocks, each of which divides a block in two.
+/// The cuts that have been made, each of which divided a block in two.
 #[derive(Drop)]
 pub struct Cuts {
-    /// For each block, the block to which its hit states last moved.
+    /// For each block, the block to which its hit states last moved, or 0 if none moved.
     pub twins: Vec<usize>,
     /// For each block, the split that separated it from a block with a lower number.
     pub splits: Vec<Split>,
     pub hints: Hints,
 }
 
-/// Counts the hits of each block, and returns the blocks of the hit states.
+/// Counts the hits of each block, and returns the block of each of `hits`, the states that are hit.
 fn homes_of(
     alloc: Global,
     hints: &mut Hints,
@@ -56,8 +57,8 @@ fn homes_of(
     Ok(homes)
 }
 
-/// Makes a new block for a block, if some but not all of its states are hit and it has no new block
-/// yet.
+/// Makes a new block for `block`, if some but not all of its states are hit on `symbol`, and its
+/// new block is not made yet. The new blocks of this cut have numbers from `fresh` on.
 fn add_twin(cuts: &mut Cuts, fresh: usize, block: usize, symbol: usize) -> Result<(), AllocError>
     requires room { vec_len cuts.old.twins ≡ vec_len cuts.old.hints.sizes }
     requires fits { vec_len cuts.old.splits ≤ vec_len cuts.old.twins }
@@ -87,7 +88,7 @@ fn add_twin(cuts: &mut Cuts, fresh: usize, block: usize, symbol: usize) -> Resul
     Ok(())
 }
 
-/// Makes a new block for each block of which some but not all states are hit.
+/// Makes a new block for each of `homes` of which some but not all states are hit on `symbol`.
 fn add_twins(cuts: &mut Cuts, homes: &Vec<usize>, symbol: usize) -> Result<(), AllocError>
     requires room { vec_len cuts.old.twins ≡ vec_len cuts.old.hints.sizes }
     requires fits { vec_len cuts.old.splits ≤ vec_len cuts.old.twins }
@@ -112,7 +113,7 @@ fn add_twins(cuts: &mut Cuts, homes: &Vec<usize>, symbol: usize) -> Result<(), A
     Ok(())
 }
 
-/// Resets the numbers of hits of these blocks.
+/// Resets the numbers of hits of the blocks `homes`.
 fn forget_all(hints: &mut Hints, homes: &Vec<usize>)
     requires { (i : ℕ) → i < vec_len homes.now →
         slice_index homes.now.items i < vec_len hints.old.sizes }
@@ -124,7 +125,7 @@ fn forget_all(hints: &mut Hints, homes: &Vec<usize>)
     }
 }
 
-/// Moves a state to a block.
+/// Moves the state `s` to `block`.
 fn move_to(filing: &mut Filing, s: usize, block: usize) -> Result<(), AllocError>
     requires s_in { s < vec_len filing.old.blocks }
     requires block_in { block < vec_len filing.old.lists }
@@ -143,7 +144,8 @@ fn move_to(filing: &mut Filing, s: usize, block: usize) -> Result<(), AllocError
     Ok(())
 }
 
-/// Moves a hit state to the new block of its block, if there is one.
+/// Moves the hit state `s` to the new block of its block, if there is one. The new blocks have
+/// numbers from `fresh` on.
 fn move_hit(
     filing: &mut Filing,
     twins: &Vec<usize>,
@@ -175,7 +177,8 @@ fn move_hit(
     move_to(filing, s, twin)
 }
 
-/// Moves the hit states to the new blocks of their blocks.
+/// Moves each of `hits`, the states that are hit, to the new block of its block, if there is one.
+/// The new blocks have numbers from `fresh` on.
 fn move_hits(
     filing: &mut Filing,
     twins: &Vec<usize>,
@@ -217,7 +220,8 @@ pub struct Refinement {
         filing.lists.items },
 }
 
-/// Cuts the blocks by the hit states, which lead into one block on the symbol.
+/// Cuts each block into its states in `hits`, which lead into one block on `symbol`, and its other
+/// states.
 ///
 /// # Errors
 ///

@@ -1,5 +1,5 @@
 //! Checks the memberships of all nodes, and reads from them the nodes that lie on a cycle.
-//! `on_cycles` calls it on the result of the search.
+//! `on_cycles` calls these functions with the memberships that `evidence` finds.
 
 ghost use Rattle.std.specs.Prelude.{◌≡◌, ℕ, ◌<◌, ◌↔◌, Some, true, false, IfOk, IfSome, IsTrue, Contains, length, vec_len, slice_index_or};
 ghost use Rattle.logos_type_params.specs.cycles.Views.{slice_get, Leads, graph, Edge, Follows, GoesToward, ComesFrom, FollowAll, HasRoot, HasInner, IsPlaced, IsEvidence};
@@ -7,8 +7,8 @@ ghost use Rattle.logos_type_params.specs.cycles.Views.{slice_get, Leads, graph, 
 use crate::cycles::evidence::Membership;
 use std::alloc::{AllocError, Global};
 
-/// Returns the node to which an edge of `node` leads, where `edge` is the index of the edge in the
-/// list of `node`. Returns `None` if there is no such edge.
+/// Returns the node to which an edge of `node` leads. `edge` is the index of the edge in the list
+/// of `node`. Returns `None` if there is no such edge.
 fn target(lists: &[Vec<usize>], node: usize, edge: usize) -> Option<usize>
     ensures { IfSome result (λ to. Edge (graph lists.now) node to) }
 {
@@ -17,8 +17,8 @@ fn target(lists: &[Vec<usize>], node: usize, edge: usize) -> Option<usize>
     Some(*to)
 }
 
-/// Returns whether `node` is its own root, or the edge `toward` of its membership leads to a node
-/// nearer to the root.
+/// Returns whether `node` is its own root, or the edge `toward` of its `membership` leads to a node
+/// of the same component with a lower `to_rank`.
 fn goes_toward(
     lists: &[Vec<usize>],
     memberships: &[Membership],
@@ -42,8 +42,8 @@ fn goes_toward(
     other.to_rank < membership.to_rank
 }
 
-/// Returns whether `node` is its own root, or the edge that its membership names comes from a node
-/// that the root reaches in fewer edges.
+/// Returns whether `node` is its own root, or the edge `edge` of the node `from`, both in
+/// `membership`, leads to `node`, and `from` is in the same component with a lower `from_rank`.
 fn comes_from(
     lists: &[Vec<usize>],
     memberships: &[Membership],
@@ -67,7 +67,8 @@ fn comes_from(
     other.from_rank < membership.from_rank
 }
 
-/// Returns whether the node `to` is in the component of `membership` or in a later one.
+/// Returns whether the node `to` is in the component of `membership` or in a later one. A number
+/// without a node counts as later.
 fn follows(memberships: &[Membership], membership: Membership, to: usize) -> bool
     ensures { IsTrue result → (next : Membership) →
         slice_get memberships.now to ≡ Some next → Follows membership next }
@@ -79,6 +80,7 @@ fn follows(memberships: &[Membership], membership: Membership, to: usize) -> boo
 }
 
 /// Returns whether each node in `targets` is in the component of `membership` or in a later one.
+/// Numbers without nodes count as later.
 fn follow_all(memberships: &[Membership], membership: Membership, targets: &[usize]) -> bool
     ensures { IsTrue result → FollowAll memberships.now membership targets.now }
 {
@@ -90,7 +92,7 @@ fn follow_all(memberships: &[Membership], membership: Membership, targets: &[usi
     true
 }
 
-/// Returns whether the membership of `node` is correct.
+/// Returns whether the membership of `node` is correct. It is not if there is no such node.
 fn is_placed(lists: &[Vec<usize>], memberships: &[Membership], node: usize) -> bool
     ensures { IsTrue result → (membership : Membership) → slice_get memberships.now node ≡ Some membership →
         IsPlaced (graph lists.now) memberships.now node membership }
@@ -110,7 +112,7 @@ fn is_placed(lists: &[Vec<usize>], memberships: &[Membership], node: usize) -> b
     follow_all(memberships, *membership, list)
 }
 
-/// Returns whether the memberships of all nodes are correct.
+/// Returns whether there is a membership for each node of `lists`, and all are correct.
 pub(crate) fn is_evidence(lists: &[Vec<usize>], memberships: &[Membership]) -> bool
     ensures { IsTrue result → IsEvidence (graph lists.now) memberships.now }
 {
@@ -125,7 +127,7 @@ pub(crate) fn is_evidence(lists: &[Vec<usize>], memberships: &[Membership]) -> b
     true
 }
 
-/// Returns whether `node` has the root `root`.
+/// Returns whether there is a node `node` and its root is `root`.
 fn has_root(memberships: &[Membership], node: usize, root: usize) -> bool
     ensures { IsTrue result ↔ HasRoot memberships.now node root }
 {
@@ -147,7 +149,8 @@ fn has_inner(memberships: &[Membership], root: usize, targets: &[usize]) -> bool
     false
 }
 
-/// Returns whether `node` lies on a cycle: whether one of its edges stays in its component.
+/// Returns whether `node` lies on a cycle: whether one of its edges leads to a node of its own
+/// component.
 fn mark(lists: &[Vec<usize>], memberships: &[Membership], node: usize) -> bool
     requires within { node < length lists.now }
     requires evidence { IsEvidence (graph lists.now) memberships.now }
@@ -156,7 +159,7 @@ fn mark(lists: &[Vec<usize>], memberships: &[Membership], node: usize) -> bool
     has_inner(memberships, memberships[node].root, &lists[node])
 }
 
-/// Returns for each node whether it lies on a cycle.
+/// Returns for each node whether it lies on a cycle. The memberships must be correct.
 ///
 /// # Errors
 ///

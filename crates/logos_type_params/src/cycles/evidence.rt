@@ -1,5 +1,5 @@
-//! Finds the membership of each node in the components of a graph. `on_cycles` calls it first. The
-//! functions here have no contracts, since `check` validates their result.
+//! Finds the membership of each node in the components of a graph. `on_cycles` calls `memberships`
+//! first. The functions here have no contracts, since `check` validates their result.
 
 mod backward_walk;
 mod forward_walk;
@@ -18,17 +18,19 @@ pub(crate) struct Membership {
     pub(crate) order: usize,
     /// The index of the node's edge that leads nearer to the root.
     pub(crate) toward: usize,
-    /// The distance from the node to the root along those edges.
+    /// An upper bound of the distance from the node to the root along the edges `toward`: it
+    /// decreases with each of these edges.
     pub(crate) to_rank: usize,
-    /// A node that has an edge to this node and is nearer to the root, on a path from the root.
+    /// The node before this one on a path from the root of the component.
     pub(crate) from: usize,
-    /// The index of that edge among the edges of `from`.
+    /// The index, among the edges of `from`, of the edge that leads to this node.
     pub(crate) edge: usize,
-    /// The distance from the root to the node along that path.
+    /// A number that increases along the edges from `from` to this node, beginning at the root.
     pub(crate) from_rank: usize,
 }
 
-/// Marks a node as visited. Returns `false` if it was visited before, or if there is no such node.
+/// Marks `node` as visited. Returns whether this is its first visit: `false` also if there is no
+/// such node.
 fn meets(met: &mut [bool], node: usize) -> bool {
     let Some(met) = met.get_mut(node) else {
         return false;

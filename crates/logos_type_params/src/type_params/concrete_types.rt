@@ -1,5 +1,5 @@
-//! Finds the types given to the declared parameters, and the generic arguments of the enum. It runs
-//! once, for the enum's own type.
+//! Finds the types given to the declared parameters, and the generic arguments of the enum.
+//! `logos_parser` calls `TypeParams::generics` once, for the enum's own type.
 
 ghost use Rattle.std.specs.Prelude.{◌≡◌, ◌++◌, ◌∷◌, [], map, IfOk, OnOk, option_map, OnErr};
 ghost use Rattle.logos_type_params.specs.Views.{type_tree, named_of, given_of, type_of, generics_of, no_concrete_type, and_type, and_fault, concrete_types, missing_types, between_brackets, CopiesName, value_of, type_at, generics};
@@ -18,11 +18,11 @@ use std::collections::HashSet;
 pub struct Generics<'s> {
     /// Whether `'s` is the first argument.
     pub lifetime: bool,
-    /// The types of the declared parameters, in order of declaration.
+    /// The types given to the declared parameters, in order of declaration.
     pub types: Vec<TypeExpr<'s>>,
 }
 
-/// Copies the type given to a name. Returns `None` if the name has no type.
+/// Returns a copy of the type given to the name `text`, or `None` if the name has no type.
 fn copy_given<'s>(types: &GivenTypes<'s>, text: &str) -> Result<Option<TypeExpr<'s>>, Memory>
     ensures { IfOk result (λ copy. option_map type_tree copy ≡
         type_of (map given_of types.now.entries.items) text.now) }
@@ -34,8 +34,8 @@ fn copy_given<'s>(types: &GivenTypes<'s>, text: &str) -> Result<Option<TypeExpr<
     Ok(Some(TypeExpr { part }))
 }
 
-/// Copies the type given to a declared name, unless the name is in `front`, and adds the name to
-/// `front`.
+/// Adds `name`, a declared name, to `front`, and returns a copy of the type given to it. Returns
+/// `None` if the name was in `front`, or has no type.
 fn copy_concrete<'s>(
     front: &mut HashSet<&'s str>,
     types: &GivenTypes<'s>,
@@ -50,7 +50,7 @@ fn copy_concrete<'s>(
     copy_given(types, name.text)
 }
 
-/// Reports that a declared name has no type.
+/// Reports that `name`, a declared name, has no type.
 fn report_missing(name: Ident<'_>, errors: &mut Errors) -> Result<(), Memory>
     ensures { OnOk result (errors.new ≡ errors.old ++ no_concrete_type (named_of name.entry) ∷ []) }
 {
@@ -63,7 +63,7 @@ fn report_missing(name: Ident<'_>, errors: &mut Errors) -> Result<(), Memory>
     )
 }
 
-/// Adds the type of a declared name, or reports that the name has none.
+/// Appends the type `found` to `types`. If it is `None`, reports that `name` has no type.
 fn add_or_report<'s>(
     found: Option<TypeExpr<'s>>,
     name: Ident<'s>,
@@ -82,7 +82,8 @@ fn add_or_report<'s>(
     Ok(())
 }
 
-/// Copies the types of declared names in order, and reports each name that has none.
+/// Returns copies of the types of declared names in order, and reports each name that has none. A
+/// second declaration of a name counts as one without a type.
 fn copy_types<'s>(
     names: &[Ident<'s>],
     types: &GivenTypes<'s>,
@@ -103,7 +104,8 @@ fn copy_types<'s>(
     Ok(copies)
 }
 
-/// Returns the generic arguments, or `None` if there is neither a lifetime nor a type.
+/// Returns the generic arguments: `'s` if `lifetime` is `true`, and `types`. Returns `None` if
+/// there are none.
 fn bracketed<'s>(lifetime: bool, types: Vec<TypeExpr<'s>>) -> Option<Generics<'s>>
     ensures { option_map generics_of result ≡
         between_brackets lifetime (map type_tree types.entry.items) }
@@ -115,8 +117,8 @@ fn bracketed<'s>(lifetime: bool, types: Vec<TypeExpr<'s>>) -> Option<Generics<'s
 }
 
 impl<'s> TypeParams<'s> {
-    /// Returns a copy of the type given to the parameter that this path names. Returns `None` if
-    /// the path is more than a name, or if the name has no type.
+    /// Returns a copy of the type given to the parameter that `path` names. Returns `None` if the
+    /// path is more than a name, or if the name has no type.
     ///
     /// # Errors
     ///
@@ -134,7 +136,8 @@ impl<'s> TypeParams<'s> {
     /// Returns the generic arguments that follow the enum's name: `'s` if a lifetime is declared,
     /// and then the types given to the declared parameters, in order of declaration. Returns `None`
     /// if there are none. Reports a parameter without a type as `NoConcreteType` at its
-    /// declaration, and leaves it out. A name that is declared twice counts once.
+    /// declaration, and leaves it out. A second declaration of a name counts as a parameter without
+    /// a type.
     ///
     /// # Errors
     ///

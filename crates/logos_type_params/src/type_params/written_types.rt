@@ -1,5 +1,5 @@
-//! Replaces parameters in written types, and finds the names that are not replaced in them. It runs
-//! for each field, once all types are given.
+//! Replaces parameters in written types, and finds the names that are not replaced in them.
+//! `logos_leaf` calls `get_type` for each field, once all types are given.
 
 ghost use Rattle.std.specs.Prelude.{◌≡◌, ◌++◌, ◌∷◌, [], map, IfOk, OnOk, OnErr};
 ghost use Rattle.logos_type_params.specs.Views.{type_tree, texts, limit_type_nesting, param_value, NeedsName, types_of, params_with, AreHeld, GetsType};
@@ -14,7 +14,7 @@ use logos_type::TypeExpr;
 use logos_type_reader::{TYPE_NESTING, TypeFault};
 use std::collections::HashSet;
 
-/// Adds the name `text` to `held`, if a chain of types leads from the name back to it.
+/// Adds the name `text` to `held` if a chain of types leads from the name back to this name.
 fn add_held<'s>(
     chains: &Chains<'_, 's>,
     text: &'s str,
@@ -29,7 +29,7 @@ fn add_held<'s>(
     Ok(())
 }
 
-/// Copies the type as written, and reports at `span` that its replacement exceeds the limit. After
+/// Returns a copy of `written`, and reports at `span` that its replacement exceeds the limit. After
 /// an error the faults are unchanged.
 fn leave_written<'s>(
     written: &TypeExpr<'s>,
@@ -46,8 +46,8 @@ fn leave_written<'s>(
 }
 
 impl<'s> TypeParams<'s> {
-    /// Returns the names of the parameters whose types lead back to them. `get_type` does not
-    /// replace these names. This takes time linear in the sizes of all types.
+    /// Returns the name of each parameter from which a chain of types leads back to this parameter.
+    /// `get_type` does not replace these names. This takes time linear in the sizes of all types.
     ///
     /// # Errors
     ///
@@ -63,7 +63,7 @@ impl<'s> TypeParams<'s> {
         Ok(held)
     }
 
-    /// Returns a written type with its declared parameters replaced by the types given to them,
+    /// Returns `written`, a type, with its declared parameters replaced by the types given to them,
     /// except for the names in `held`, and with its lifetimes set to `'s`. If too many types are
     /// nested in the result, reports `LimitTypeNesting` at `span` and returns the type as written.
     ///

@@ -1,5 +1,5 @@
-//! Traverses a graph against its edges, once for each component. `evidence` calls it after the
-//! forward traversal.
+//! Traverses a graph against its edges, once for each component. `evidence` calls `Backward::walk`
+//! after the forward traversal.
 
 use crate::cycles::evidence::{Membership, meets};
 use std::alloc::{AllocError, Global};
@@ -15,9 +15,9 @@ struct Arrow {
 /// The state of the traversals against the edges.
 #[derive(Drop)]
 pub(crate) struct Backward {
-    /// The memberships of the nodes, with the component of each node that was visited.
+    /// The membership of each node, which names its component once the node has been visited.
     pub(crate) memberships: Vec<Membership>,
-    /// The edges that lead to each node.
+    /// For each node, the edges that lead to it.
     arrows: Vec<Vec<Arrow>>,
     /// For each node, whether it was visited.
     met: Vec<bool>,
@@ -25,7 +25,8 @@ pub(crate) struct Backward {
     order: Vec<usize>,
 }
 
-/// Adds the edges of a node to the lists of the nodes to which they lead.
+/// Adds the edges of the node `from`, which lead to the nodes in `list`, to the lists of these
+/// nodes. Ignores numbers without a node.
 fn note_edges(arrows: &mut [Vec<Arrow>], from: usize, list: &[usize]) -> Result<(), AllocError> {
     for (edge, to) in list.iter().enumerate() {
         if let Some(row) = arrows.get_mut(*to) {
@@ -35,7 +36,7 @@ fn note_edges(arrows: &mut [Vec<Arrow>], from: usize, list: &[usize]) -> Result<
     Ok(())
 }
 
-/// Returns `len` empty lists.
+/// Returns `len` empty lists of edges.
 fn no_arrows(alloc: Global, len: usize) -> Result<Vec<Vec<Arrow>>, AllocError> {
     let mut arrows = Vec::new(alloc);
     for _ in 0..len {
@@ -45,7 +46,8 @@ fn no_arrows(alloc: Global, len: usize) -> Result<Vec<Vec<Arrow>>, AllocError> {
 }
 
 impl Backward {
-    /// Returns the state before the first traversal.
+    /// Returns the state before the first traversal of the graph `lists`. `memberships` are those
+    /// that the forward traversal has found.
     ///
     /// # Errors
     ///
@@ -68,8 +70,8 @@ impl Backward {
         })
     }
 
-    /// Adds `node` to the component of `root`, unless it was visited before. `edge` is the index of
-    /// its edge that leads nearer to the root.
+    /// Adds `node` to the component of `root`, whose number is `start`, unless the node was visited
+    /// before. `edge` is the index of the node's edge that leads nearer to the root.
     fn membership(
         &mut self,
         node: usize,
@@ -91,7 +93,7 @@ impl Backward {
         Ok(())
     }
 
-    /// Returns the number of edges that lead to a node.
+    /// Returns the number of edges that lead to `node`: 0 if there is no such node.
     fn arrow_count(&self, node: usize) -> usize {
         match self.arrows.get(node) {
             Some(row) => row.len(),
@@ -99,13 +101,14 @@ impl Backward {
         }
     }
 
-    /// Returns the edge at the index `at` among those that lead to a node, or `None` if there is no
+    /// Returns the edge at the index `at` among those that lead to `node`, or `None` if there is no
     /// such edge.
     fn arrow(&self, node: usize, at: usize) -> Option<Arrow> {
         self.arrows.get(node)?.get(at).copied()
     }
 
-    /// Adds the nodes that lead to `node` to the component of `root`.
+    /// Adds the nodes that have an edge to `node` and were not visited before to the component of
+    /// `root`, whose number is `start`.
     fn spread(&mut self, node: usize, root: usize, start: usize) -> Result<(), AllocError> {
         for at in 0..self.arrow_count(node) {
             if let Some(arrow) = self.arrow(node, at) {
@@ -115,8 +118,8 @@ impl Backward {
         Ok(())
     }
 
-    /// Visits the nodes in `order` from the index `start` on, and adds the nodes that lead to them
-    /// to the component of `root`.
+    /// Adds all nodes that lead to the nodes in `order` from the index `start` on, and were not
+    /// visited before, to the component of `root`, whose number is `start`.
     fn finish(&mut self, root: usize, start: usize) -> Result<(), AllocError> {
         let mut at = start;
         while let Some(node) = self.order.get(at).copied() {
@@ -126,7 +129,8 @@ impl Backward {
         Ok(())
     }
 
-    /// Traverses the graph from each node in `nodes`, the last one first.
+    /// Traverses the graph against its edges from each node in `nodes` that was not visited before,
+    /// the last one first.
     ///
     /// # Errors
     ///

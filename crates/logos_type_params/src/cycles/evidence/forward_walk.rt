@@ -1,34 +1,34 @@
 //! Traverses a graph along its edges, and finishes a node after all nodes to which it leads.
-//! `evidence` calls it first.
+//! `evidence` calls `Forward::walk` first.
 
 use crate::cycles::evidence::{Membership, meets};
 use std::alloc::{AllocError, Global};
 
-/// A node on the path, some of whose edges have not been followed yet.
+/// A node on the path, which is not finished.
 #[derive(Clone, Copy)]
 struct PathNode {
     node: usize,
-    /// The index of the next edge to follow.
+    /// The index of the next edge to follow in the node's list.
     next: usize,
 }
 
-/// The state of the traversal along the edges.
+/// The state of a traversal along the edges.
 #[derive(Drop)]
 pub(crate) struct Forward {
-    /// For each node the edge through which it was visited, and the length of the path at that
+    /// For each node, the edge through which it was visited, and the length of the path at that
     /// time.
     pub(crate) memberships: Vec<Membership>,
     /// The nodes that are finished, in the order in which they were finished.
     pub(crate) left: Vec<usize>,
     /// For each node, whether it was visited.
     met: Vec<bool>,
-    /// The path from the start to the current node. Each node on it was visited through an edge of
-    /// the one before.
+    /// The path from the start to the current node. Each node on it but the first was visited
+    /// through an edge of an earlier one.
     path: Vec<PathNode>,
 }
 
-/// Returns the greatest number of steps of a traversal: one for each edge, and one to finish each
-/// node.
+/// Returns an upper bound of the number of steps of a traversal: one for each edge, and one to
+/// finish each node.
 fn steps_along(lists: &[Vec<usize>]) -> usize {
     let mut steps = lists.len();
     for list in lists {
@@ -38,7 +38,7 @@ fn steps_along(lists: &[Vec<usize>]) -> usize {
 }
 
 impl Forward {
-    /// Returns the state before the traversal of `len` nodes.
+    /// Returns the state before the traversal of a graph with `len` nodes.
     ///
     /// # Errors
     ///
@@ -63,7 +63,8 @@ impl Forward {
         })
     }
 
-    /// Follows an edge. Adds the node to which it leads to the path, unless it was visited before.
+    /// Follows the edge from the node `from` to the node `to`, which has the index `edge` among the
+    /// edges of `from`. Adds `to` to the path, unless it was visited before.
     fn follow(&mut self, from: usize, edge: usize, to: usize) -> Result<(), AllocError> {
         if !meets(&mut self.met, to) {
             return Ok(());
@@ -78,7 +79,8 @@ impl Forward {
         Ok(())
     }
 
-    /// Follows the next edge of the last node on the path, or finishes the node.
+    /// Follows the next edge of `frame`, which was removed from the end of the path, or finishes
+    /// the node if no edge is left.
     fn step(&mut self, lists: &[Vec<usize>], frame: PathNode) -> Result<(), AllocError> {
         let Some(list) = lists.get(frame.node) else {
             return Ok(());
@@ -94,7 +96,7 @@ impl Forward {
         self.follow(frame.node, frame.next, *to)
     }
 
-    /// Continues until the path is empty, for at most `steps` steps.
+    /// Takes steps until the path is empty, but at most `steps`.
     fn finish(&mut self, lists: &[Vec<usize>], steps: usize) -> Result<(), AllocError> {
         for _ in 0..steps {
             let Some(frame) = self.path.pop() else {
@@ -105,7 +107,7 @@ impl Forward {
         Ok(())
     }
 
-    /// Traverses the graph from each node that was not visited.
+    /// Traverses the graph from each node that was not visited before, in order of the nodes.
     ///
     /// # Errors
     ///
