@@ -5,7 +5,7 @@ ghost use Rattle.logos_token.specs.ViewImports.{name_of};
 
 use std::fmt;
 
-/// The kinds of faults of a source. Each code is printed by its name.
+/// The kind of a fault of a source. It is printed as its name.
 #[derive(Clone, Copy, PartialEq, Eq)]
 pub enum FaultCode {
     /// The source cannot be cut into tokens here.
@@ -14,7 +14,7 @@ pub enum FaultCode {
     NotAnEnum,
     /// The enum is not well formed.
     Grammar,
-    /// A type of Rust that a lexer cannot hold.
+    /// A type of Rust that is not supported.
     TypeUnsupported,
     /// Tokens that are not a type.
     TypeSyntax,
@@ -61,35 +61,35 @@ pub enum FaultCode {
     Utf8Twice,
     /// `error()` without a type.
     ErrorEmpty,
-    /// `error` in an unknown form.
+    /// `error` in an unsupported form.
     ErrorForm,
     /// The export path is not a text.
     ExportBytes,
-    /// `export_dir` in an unknown form.
+    /// `export_dir` in an unsupported form.
     ExportForm,
-    /// `extras` in an unknown form.
+    /// `extras` in an unsupported form.
     ExtrasForm,
-    /// `skip` in an unknown form.
+    /// `skip` in an unsupported form.
     SkipForm,
     /// `skip(..)` that does not begin with a literal.
     SkipGroup,
     /// The attribute `source`, which is no longer supported.
     SourceOld,
-    /// `subpattern` in an unknown form.
+    /// `subpattern` in an unsupported form.
     SubpatternForm,
-    /// `type` in an unknown form.
+    /// `type` in an unsupported form.
     TypeForm,
     /// The UTF-8 mode is neither `true` nor `false`.
     Utf8Value,
-    /// `utf8` in an unknown form.
+    /// `utf8` in an unsupported form.
     Utf8Form,
-    /// No literal where one is expected.
+    /// No literal where a literal is expected.
     LiteralSyntax,
     /// A literal that is neither a text nor a byte string.
     NotText,
     /// Tokens after an argument.
     UnexpectedToken,
-    /// An argument without a name where only named ones are allowed.
+    /// An argument without a name where only named arguments are allowed.
     NamedExpected,
     /// The priority is not a number that fits `usize`.
     PriorityValue,
@@ -97,13 +97,13 @@ pub enum FaultCode {
     PriorityTwice,
     /// A second `allow_greedy`.
     GreedyTwice,
-    /// `priority` in an unknown form.
+    /// `priority` in an unsupported form.
     PriorityForm,
     /// `allow_greedy` is neither `true` nor `false`.
     GreedyValue,
-    /// `allow_greedy` in an unknown form.
+    /// `allow_greedy` in an unsupported form.
     GreedyForm,
-    /// No callback.
+    /// No callback where a callback is expected.
     CallbackValue,
     /// An inline callback without exactly one parameter.
     CallbackClosure,
@@ -111,9 +111,9 @@ pub enum FaultCode {
     CallbackBody,
     /// A second callback.
     CallbackTwice,
-    /// `callback` in an unknown form.
+    /// `callback` in an unsupported form.
     CallbackForm,
-    /// `ignore` in an unknown form.
+    /// `ignore` in an unsupported form.
     IgnoreForm,
     /// The flag `ascii_case`, which is no longer supported.
     IgnoreAscii,
@@ -131,9 +131,9 @@ pub enum FaultCode {
     NamedFields,
     /// The attribute `error`, which is no longer required.
     ErrorVariant,
-    /// `token` in an unknown form.
+    /// `token` in an unsupported form.
     TokenForm,
-    /// `regex` in an unknown form.
+    /// `regex` in an unsupported form.
     RegexForm,
     /// A text that is not a pattern.
     Regex,
@@ -151,7 +151,7 @@ pub enum FaultCode {
     Utf8Subpattern,
     /// A pattern that matches the empty string.
     EmptyMatch,
-    /// Patterns with the same priority that match the same bytes.
+    /// Leaves with the same priority that match the same bytes.
     Disambiguation,
     /// A pattern with a look-around assertion before its first byte.
     NoUniversalStart,
@@ -241,7 +241,7 @@ const NAMES: [&str; 75] = [
 ];
 
 impl FaultCode {
-    /// Returns the name of the code, as printed.
+    /// Returns the name of the code, as it is printed.
     pub fn name(self) -> &'static str
         ensures { result.now ≡ name_of self }
     {
