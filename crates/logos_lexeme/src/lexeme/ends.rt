@@ -104,7 +104,7 @@ fn feed_at(source: &str, from: usize) -> usize
 }
 
 /// Returns the byte offset after a line comment whose text begins at `from`, after its `//`. The
-/// comment includes neither LF nor a CR directly before its end.
+/// comment includes neither its LF nor CRs directly before the LF or the end of the source.
 fn line_end(source: &str, from: usize) -> usize
     requires { from ≤ length source.now }
     ensures { IsFirst (IsLineEnd source.now) from result }
