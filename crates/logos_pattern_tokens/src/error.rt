@@ -8,7 +8,7 @@ ghost use Rattle.logos_pattern_tokens.specs.declared.error.PatternError.TheVaria
 
 use std::alloc::{AllocError, AllocFailed};
 
-/// The kinds of faults in a pattern.
+/// The kind of a fault in a pattern.
 #[derive(Clone, Copy, Debug, PartialEq, Eq)]
 pub enum Kind {
     /// A group, a bracket or a brace is still open at the end.
@@ -49,7 +49,7 @@ pub enum Kind {
     WordBoundaryForm,
 }
 
-/// The reasons why a text is not read as a pattern.
+/// The reason why a text is not read as a pattern.
 #[derive(Debug, Drop)]
 pub enum PatternError {
     /// The text breaks the grammar. `at` is the byte offset of the fault in the text.
@@ -60,15 +60,16 @@ pub enum PatternError {
     Memory,
 }
 
-/// The reasons why no token can be read at the front of a text.
+/// The reason why no token can be read at the front of a text: a fault of this kind, or memory ran
+/// out.
 #[derive(Drop)]
 pub enum Fault {
     Syntax(Kind),
     Memory,
 }
 
-/// The reasons why reading stops. `left` is the number of characters from the fault to the end of
-/// the text.
+/// The reason why the reading of a pattern stops. `left` is the number of characters from the fault
+/// to the end of the text.
 #[derive(Drop)]
 pub enum Stop {
     Syntax { kind: Kind, left: usize },
