@@ -66,7 +66,7 @@ pub fn captured(alloc: Global, body: Hir) -> Result<Hir, AllocError>
     Ok(Hir::Capture(Box::new(alloc, body)?))
 }
 
-/// Simplifies `tree`, and appends to `parts` the parts that the result adds to a concatenation.
+/// Appends to `parts` the parts that `tree`, after it is simplified, adds to a concatenation.
 #[cycle(simplify)]
 fn push_simplified(alloc: Global, tree: Hir, parts: &mut Vec<Hir>) -> Result<(), AllocError>
     ensures { OnOk result (map tree_of parts.new.items ≡
@@ -78,7 +78,7 @@ fn push_simplified(alloc: Global, tree: Hir, parts: &mut Vec<Hir>) -> Result<(),
     }
 }
 
-/// Simplifies each tree of `inner`, and appends to `parts` the parts that the results add to a
+/// Appends to `parts` the parts that the trees of `inner`, after they are simplified, add to a
 /// concatenation.
 #[cycle(simplify)]
 fn push_all_simplified(
@@ -96,8 +96,8 @@ fn push_all_simplified(
     Ok(())
 }
 
-/// Simplifies `tree`, and appends to `branches` the branches that the result adds to an
-/// alternation. Returns the classes that these branches fit.
+/// Appends to `branches` the branches that `tree`, after it is simplified, adds to an alternation.
+/// Returns the classes that these branches fit.
 #[cycle(simplify)]
 fn push_simplified_branch(
     alloc: Global,
@@ -119,7 +119,7 @@ fn push_simplified_branch(
     }
 }
 
-/// Simplifies each tree of `all`, and appends to `branches` the branches that the results add to an
+/// Appends to `branches` the branches that the trees of `all`, after they are simplified, add to an
 /// alternation. Returns the classes that these branches fit.
 #[cycle(simplify)]
 fn push_all_branches(

@@ -45,8 +45,8 @@ fn after_lead<'t, 's>(lead: Prefix, run: Tokens<'t, 's>) -> Tokens<'t, 's>
 }
 
 /// Returns the step that opens `group` and continues inside it at `stage`. `rest` is the tokens
-/// after the group. Returns a mismatch at the group if a group is already open, after which
-/// `outside` are the tokens.
+/// after the group. Returns a mismatch at the group if a group is already open, so that `outside`
+/// is not `None`.
 fn open<'t, 's>(
     group: Group<'t, 's>,
     stage: Stage,
