@@ -85,7 +85,7 @@ impl Errors {
     ///
     /// # Errors
     ///
-    /// Returns `Memory` if memory runs out. The list is then unchanged.
+    /// Returns `Memory` if memory runs out. The list of faults is then unchanged.
     pub fn err(&mut self, code: FaultCode, message: &str, span: Span) -> Result<(), Memory>
         ensures ok { OnOk result (self.new ≡ self.old ++ (record {
           code = code;
@@ -103,7 +103,7 @@ impl Errors {
     ///
     /// # Errors
     ///
-    /// Returns `Memory` if memory runs out. The list is then unchanged.
+    /// Returns `Memory` if memory runs out. The list of faults is then unchanged.
     pub fn err_with(
         &mut self,
         code: FaultCode,
@@ -127,7 +127,7 @@ impl Errors {
     ///
     /// # Errors
     ///
-    /// Returns `Memory` if memory runs out. The list is then unchanged.
+    /// Returns `Memory` if memory runs out. The list of faults is then unchanged.
     pub fn err_also(
         &mut self,
         code: FaultCode,
@@ -151,7 +151,7 @@ impl Errors {
     ///
     /// # Errors
     ///
-    /// Returns `Memory` if memory runs out. The list is then unchanged.
+    /// Returns `Memory` if memory runs out. The list is then unchanged, and `more` is lost.
     pub fn append(&mut self, mut more: Errors) -> Result<(), Memory>
         ensures ok { OnOk result (self.new ≡ self.old ++ more) }
         ensures err { OnErr result (self.new ≡ self.old) }

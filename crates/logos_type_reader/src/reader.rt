@@ -13,11 +13,11 @@ use std::alloc::{AllocError, AllocFailed, Global};
 /// The reason why a run does not begin with a type.
 #[derive(Clone, Copy)]
 pub enum TypeFault {
-    /// An unsupported type is at this span.
+    /// An unsupported type, at this span.
     Unsupported { span: Span },
-    /// The first token that does not fit is at this span, which is `0..0` at the end of the tokens.
+    /// The first token that does not fit, at this span, which is `0..0` at the end of the tokens.
     Mismatch { span: Span },
-    /// More types are nested than the limit allows.
+    /// More nested types than the limit allows.
     LimitNesting,
     /// Memory ran out.
     Memory,

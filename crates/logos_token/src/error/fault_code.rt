@@ -8,33 +8,33 @@ use std::fmt;
 /// The kind of a fault of a source. It is printed as its name.
 #[derive(Clone, Copy, PartialEq, Eq)]
 pub enum FaultCode {
-    /// The source cannot be cut into tokens here.
+    /// A point at which the source cannot be cut into tokens.
     Lexical,
-    /// The source is not an enum.
+    /// A source that is not an enum.
     NotAnEnum,
-    /// The enum is not well formed.
+    /// An enum that is not well-formed.
     Grammar,
     /// A type of Rust that is not supported.
     TypeUnsupported,
     /// Tokens that are not a type.
     TypeSyntax,
-    /// The source is longer than the limit.
+    /// A source that is longer than the limit.
     LimitSource,
-    /// More delimiters are open than the limit allows.
+    /// More open delimiters than the limit allows.
     LimitTokenNesting,
-    /// More types are nested inside one another than the limit allows.
+    /// More types nested inside one another than the limit allows.
     LimitTypeNesting,
-    /// More groups, brackets and repetitions are nested than the limit allows.
+    /// More nested groups, brackets and repetitions than the limit allows.
     LimitPatternNesting,
-    /// All trees together are larger than the limit allows.
+    /// Trees that are together larger than the limit allows.
     LimitSize,
-    /// The automaton has more states than the limit allows.
+    /// An automaton with more states than the limit allows.
     LimitStates,
     /// A second lifetime parameter.
     ManyLifetimes,
     /// A constant parameter.
     ConstGeneric,
-    /// A type is set for a name that is not a type parameter.
+    /// A type for a name that is not a type parameter.
     NotTypeParameter,
     /// A second type for a type parameter.
     TypeTwice,
@@ -63,7 +63,7 @@ pub enum FaultCode {
     ErrorEmpty,
     /// `error` in an unsupported form.
     ErrorForm,
-    /// The export path is not a text.
+    /// An export path that is not a text.
     ExportBytes,
     /// `export_dir` in an unsupported form.
     ExportForm,
@@ -79,7 +79,7 @@ pub enum FaultCode {
     SubpatternForm,
     /// `type` in an unsupported form.
     TypeForm,
-    /// The UTF-8 mode is neither `true` nor `false`.
+    /// A UTF-8 mode that is neither `true` nor `false`.
     Utf8Value,
     /// `utf8` in an unsupported form.
     Utf8Form,
@@ -91,7 +91,7 @@ pub enum FaultCode {
     UnexpectedToken,
     /// An argument without a name where only named arguments are allowed.
     NamedExpected,
-    /// The priority is not a number that fits `usize`.
+    /// A priority that is not a number that fits `usize`.
     PriorityValue,
     /// A second priority.
     PriorityTwice,
@@ -99,7 +99,7 @@ pub enum FaultCode {
     GreedyTwice,
     /// `priority` in an unsupported form.
     PriorityForm,
-    /// `allow_greedy` is neither `true` nor `false`.
+    /// A value of `allow_greedy` that is neither `true` nor `false`.
     GreedyValue,
     /// `allow_greedy` in an unsupported form.
     GreedyForm,
@@ -137,7 +137,7 @@ pub enum FaultCode {
     RegexForm,
     /// A text that is not a pattern.
     Regex,
-    /// The default priority does not fit `usize`.
+    /// A default priority that does not fit `usize`.
     PriorityOverflow,
     /// A text that is not the name of a subpattern.
     SubpatternName,

@@ -87,11 +87,13 @@ impl Printer {
         self.text
     }
 
-    /// Prints the gap that is due, and the lexeme `text`. `gap` is the gap before the next lexeme.
+    /// Prints the gap after the previous lexeme, and the lexeme `text`. The gap after `text` will
+    /// be `gap`.
     ///
     /// # Errors
     ///
-    /// Returns `Memory` if memory runs out. A part of the lexeme may then have been printed.
+    /// Returns `Memory` if memory runs out. The gap and a part of the lexeme may then have been
+    /// printed.
     pub fn add(&mut self, text: &str, gap: &'static str) -> Result<(), Memory>
         ensures { OnOk result (printed_of self.new ≡
             print_part (printed_of self.old) (record { text = text.now; gap = gap.now })) }
@@ -102,8 +104,8 @@ impl Printer {
         Ok(())
     }
 
-    /// Prints the gap that is due, and the lexeme `character`. `gap` is the gap before the next
-    /// lexeme.
+    /// Prints the gap after the previous lexeme, and the lexeme `character`. The gap after
+    /// `character` will be `gap`.
     ///
     /// # Errors
     ///

@@ -250,19 +250,19 @@ pub(crate) struct Beginning<'t, 's> {
 /// The beginning of a type, without its tokens.
 #[derive(Clone, Copy)]
 pub(crate) enum FirstEntry {
-    /// Begins with these tokens and continues at this stage. The flag is whether they occur only in
-    /// unsupported types.
+    /// A type that begins with these tokens and continues after them at this stage. The flag is
+    /// whether the tokens occur only in unsupported types.
     Lead(bool, Prefix, Stage),
-    /// Begins with a group and continues inside it at this stage.
+    /// A type that begins with a group and continues inside it at this stage.
     Open(Stage),
 }
 
 /// The reason why no step fits.
 #[derive(Clone, Copy)]
 pub(crate) enum StepFault {
-    /// An unsupported type is at this span.
+    /// An unsupported type, at this span.
     Unsupported(Span),
-    /// A token that does not fit is at this span.
+    /// A token that does not fit, at this span, which is `0..0` at the end of the tokens.
     Mismatch(Span),
 }
 
