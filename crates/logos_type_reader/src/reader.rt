@@ -398,8 +398,8 @@ pub(crate) fn type_at<'t, 's>(
 /// # Errors
 ///
 /// Returns `Unsupported` with the span of an unsupported type, `Mismatch` with the span of the
-/// first token that does not fit, `LimitNesting` if more than 128 types are nested, and `Memory` if
-/// memory runs out.
+/// first token that does not fit, or `0..0` at the end of the tokens, `LimitNesting` if more than
+/// 128 types are nested, and `Memory` if memory runs out.
 pub fn read_type<'t, 's>(
     alloc: Global,
     tokens: Tokens<'t, 's>,

@@ -14,7 +14,7 @@ const LETTER_X: u8 = b'x';
 /// The letter of the escape `\u{..}`.
 const LETTER_U: u8 = b'u';
 
-/// The value of one piece of a string: of an escape, a line break, or a byte of its own.
+/// The value of one piece of a string: of an escape, or of a byte that represents itself.
 #[derive(Clone, Copy)]
 pub enum Piece {
     /// No bytes: an escaped line break.

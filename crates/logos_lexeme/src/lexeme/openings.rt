@@ -10,11 +10,11 @@ use crate::lexeme::{Delimiter, LexemeKind, Spacing};
 /// The kind of the contents of a literal.
 #[derive(Clone, Copy)]
 pub enum Content {
-    /// Characters.
+    /// Characters, in a literal without `b` or `c`.
     Text,
-    /// Bytes, after `b`.
+    /// Bytes, in a literal with `b`.
     Bytes,
-    /// Characters and bytes, after `c`.
+    /// Characters and bytes, in a literal with `c`.
     C,
 }
 

@@ -43,6 +43,6 @@ pub enum BracketToken {
     /// `[` or `[^`, and the literals after it. The `bool` is `true` for `[^`.
     Open(bool, Lead),
     Operator(SetOperator),
-    /// `]`
+    /// `]`: the end of a bracket.
     Close,
 }

@@ -55,7 +55,7 @@ pub(crate) enum Stage {
     Braced(PathKind),
     /// After an argument.
     ArgumentEnd(PathKind),
-    /// After the `!` of a macro.
+    /// After the name of a macro and its `!`.
     Macro,
     /// After `(`, or `,`, in the parentheses of a path.
     Inputs,
@@ -75,7 +75,7 @@ pub(crate) enum Stage {
     SelfClosed,
     /// After `&` and its lifetime, if it has one.
     Referent,
-    /// After `*`.
+    /// After the `*` of a pointer.
     Pointer,
     /// After `mut`, `const` or `->`.
     Target,
@@ -83,7 +83,7 @@ pub(crate) enum Stage {
     List,
     /// After a type in parentheses.
     ListEnd,
-    /// After `[`.
+    /// After the `[` of a slice or an array.
     Element,
     /// After a type in brackets.
     ElementEnd,
@@ -130,7 +130,7 @@ pub(crate) enum Stage {
     TypedValue,
     /// After one parameter of a function.
     OneTaken,
-    /// After `...`.
+    /// After the `...` among the parameters of a function.
     Variadic,
     /// After the `,` that follows `...`.
     VariadicEnd,
@@ -190,19 +190,19 @@ pub(crate) enum FrontToken {
 pub(crate) enum Prefix {
     /// A name.
     Word,
-    /// This character of punctuation.
+    /// A token that is this character of punctuation.
     Mark(char),
     /// A literal.
     Literal,
-    /// `::`
+    /// The two tokens of `::`.
     Colons,
-    /// `->`
+    /// The two tokens of `->`.
     Arrow,
-    /// `...`
+    /// The three tokens of `...`.
     Dots,
-    /// `&`
+    /// An `&` without a lifetime.
     Reference,
-    /// `&` and a lifetime.
+    /// An `&` and the two tokens of a lifetime.
     ReferenceLifetime,
     /// `'` and a name, among the angle arguments of a path that is a type.
     Lifetime,

@@ -33,7 +33,7 @@ fn push_tree<'s>(entries: &mut Vec<Entry<'s>>, tree: TokenTree<'_, 's>) -> Resul
 }
 
 impl<'s> TokenStream<'s> {
-    /// Returns a buffer without trees.
+    /// Returns a buffer without trees, which takes its memory from `alloc`.
     pub fn new(alloc: Global) -> TokenStream<'s>
         ensures { stream_tokens result ≡ none }
     {
