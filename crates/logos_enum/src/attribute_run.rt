@@ -1,5 +1,5 @@
-//! Splits attributes off the front of a run one by one. The readers of the attributes of enums and
-//! variants call it, here and in the crates above.
+//! Splits attributes off the front of a run one by one. The code that reads the attributes of enums
+//! and variants calls it.
 
 ghost use Rattle.std.specs.Prelude.{◌≡◌, ◌<◌, Some, None, MatchOption};
 ghost use Rattle.logos_enum.specs.Views.{count_of, tokens_of, attribute_in, split_value};
@@ -18,7 +18,7 @@ pub struct Attribute<'t, 's> {
 }
 
 /// Returns the first attribute of a run of attributes, and the tokens after it. Returns `None` if
-/// the run is empty.
+/// the run is empty or does not begin with an attribute.
 pub fn split_attribute<'t, 's>(
     tokens: Tokens<'t, 's>,
 ) -> Option<(Attribute<'t, 's>, Tokens<'t, 's>)>

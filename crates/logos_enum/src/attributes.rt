@@ -9,7 +9,7 @@ use crate::tokens::{grammar_at, is_outer, mismatch_at, split};
 use logos_token::token::{Delimiter, Punct, Span, TokenTree, Tokens};
 use logos_token::util::is_path_mark;
 
-/// Checks that no token is left.
+/// Returns a mismatch at the first token if `tokens` is not empty.
 fn read_end(tokens: Tokens<'_, '_>) -> Result<(), Mismatch>
     ensures { MatchResult result (λ _. end_mismatch (tokens_of tokens.entry) ≡ None)
         (λ mismatch. end_mismatch (tokens_of tokens.entry) ≡ Some mismatch.span) }
@@ -20,7 +20,7 @@ fn read_end(tokens: Tokens<'_, '_>) -> Result<(), Mismatch>
     }
 }
 
-/// Checks that a token is left.
+/// Returns a mismatch at `0..0` if `tokens` is empty.
 fn read_value(tokens: Tokens<'_, '_>) -> Result<(), Mismatch>
     ensures { MatchResult result (λ _. value_mismatch (tokens_of tokens.entry) ≡ None)
         (λ mismatch. value_mismatch (tokens_of tokens.entry) ≡ Some mismatch.span) }
@@ -33,7 +33,7 @@ fn read_value(tokens: Tokens<'_, '_>) -> Result<(), Mismatch>
     }
 }
 
-/// Returns the tokens after the identifier that must come first.
+/// Returns the tokens after the identifier that must come first, or a mismatch if it does not.
 fn read_segment<'t, 's>(tokens: Tokens<'t, 's>) -> Result<Tokens<'t, 's>, Mismatch>
     ensures { MatchResult result
         (λ rest. (segment_mismatch (tokens_of tokens.entry) ≡ path_mismatch (tokens_of rest))
@@ -46,7 +46,8 @@ fn read_segment<'t, 's>(tokens: Tokens<'t, 's>) -> Result<Tokens<'t, 's>, Mismat
     }
 }
 
-/// Returns the tokens after the second `:` of `::` and an identifier. `first` is the first `:`.
+/// Returns the tokens after the second `:` of `::` and an identifier. `first` is the first `:`, at
+/// which the mismatch is if no second `:` follows.
 fn read_colon<'t, 's>(first: Punct, tokens: Tokens<'t, 's>) -> Result<Tokens<'t, 's>, Mismatch>
     ensures { MatchResult result
         (λ rest. (colon_mismatch first.span (tokens_of tokens.entry) ≡ path_mismatch (tokens_of rest))
@@ -59,7 +60,7 @@ fn read_colon<'t, 's>(first: Punct, tokens: Tokens<'t, 's>) -> Result<Tokens<'t,
     }
 }
 
-/// Takes one step along the tokens after a path, the next of which is `punct`. Returns the tokens
+/// Takes one step along the tokens after a path, which are `punct` and `tokens`. Returns the tokens
 /// after `::` and an identifier, or `None` if the path ends and the attribute is well-formed.
 fn path_step_at<'t, 's>(
     punct: Punct,
@@ -94,7 +95,8 @@ fn path_step<'t, 's>(tokens: Tokens<'t, 's>) -> Result<Option<Tokens<'t, 's>>, M
     }
 }
 
-/// Checks the tokens after the first identifier of an attribute's path.
+/// Returns a mismatch if the tokens after the first identifier of an attribute's path are
+/// malformed.
 fn read_path(tokens: Tokens<'_, '_>) -> Result<(), Mismatch>
     ensures { MatchResult result (λ _. path_mismatch (tokens_of tokens.entry) ≡ None)
         (λ mismatch. path_mismatch (tokens_of tokens.entry) ≡ Some mismatch.span) }
@@ -106,7 +108,7 @@ fn read_path(tokens: Tokens<'_, '_>) -> Result<(), Mismatch>
     Ok(())
 }
 
-/// Checks the tokens inside the brackets of an attribute.
+/// Returns a mismatch if the tokens inside the brackets of an attribute are malformed.
 fn check_attribute(tokens: Tokens<'_, '_>) -> Result<(), Mismatch>
     ensures { MatchResult result (λ _. attribute_mismatch (tokens_of tokens.entry) ≡ None)
         (λ mismatch. attribute_mismatch (tokens_of tokens.entry) ≡ Some mismatch.span) }
@@ -122,6 +124,7 @@ fn check_attribute(tokens: Tokens<'_, '_>) -> Result<(), Mismatch>
 }
 
 /// Returns the tokens after the brackets of an attribute. `tokens` are the tokens after its `#`.
+/// Returns `Grammar` if there are no brackets, or their tokens are malformed.
 fn skip_brackets<'t, 's>(tokens: Tokens<'t, 's>) -> Result<Tokens<'t, 's>, ReadError>
     ensures value { MatchResult result
         (λ rest. (after_hash (tokens_of tokens.entry) ≡ after_attributes (tokens_of rest))
@@ -140,8 +143,8 @@ fn skip_brackets<'t, 's>(tokens: Tokens<'t, 's>) -> Result<Tokens<'t, 's>, ReadE
     }
 }
 
-/// Returns the tokens after the attribute that comes first. Returns `None` if no attribute comes
-/// first.
+/// Returns the tokens after the attribute that comes first. Returns `None` if neither `#` nor an
+/// outer documentation comment comes first.
 fn skip_attribute<'t, 's>(tokens: Tokens<'t, 's>) -> Result<Option<Tokens<'t, 's>>, ReadError>
     ensures value { MatchResult result
         (λ found. MatchOption found
@@ -178,7 +181,7 @@ pub(crate) fn read_attributes<'t, 's>(
     Ok((tokens.before(rest), rest))
 }
 
-/// Returns the tokens after the parentheses if they come first, and all tokens otherwise.
+/// Returns the tokens after a group in parentheses if one comes first, and all tokens otherwise.
 fn skip_parenthesis<'t, 's>(tokens: Tokens<'t, 's>) -> Tokens<'t, 's>
     ensures value { tokens_of result ≡ after_parenthesis (tokens_of tokens.entry) }
     ensures shorter { count_of (tokens_of result) ≤ count_of (tokens_of tokens.entry) }
@@ -200,7 +203,7 @@ pub fn skip_visibility<'t, 's>(tokens: Tokens<'t, 's>) -> Tokens<'t, 's>
     }
 }
 
-/// Returns the tokens after `enum`, or `None` if it does not come first.
+/// Returns the tokens after `enum`, or `None` if `enum` does not come first.
 pub(crate) fn skip_keyword<'t, 's>(tokens: Tokens<'t, 's>) -> Option<Tokens<'t, 's>>
     ensures { MatchOption result (after_keyword (tokens_of tokens.entry) ≡ None)
         (λ rest. after_keyword (tokens_of tokens.entry) ≡ Some (tokens_of rest)) }

@@ -41,7 +41,7 @@ impl<T: Drop> From<AllocFailed<T>> for ReadError {
     }
 }
 
-/// The span of the first token that does not fit.
+/// The span of the first token that does not fit, or `0..0` at the end of the tokens.
 #[derive(Clone, Copy)]
 pub(crate) struct Mismatch {
     pub span: Span,

@@ -1,5 +1,5 @@
-//! Finds the extents of bounds, defaults and types: their tokens, up to the one that ends them. The
-//! readers of parameters and fields call it before they read types.
+//! Finds the extents of bounds, defaults and types: their tokens, up to the token that ends them.
+//! The readers of parameters and fields call it.
 
 ghost use Rattle.std.specs.Prelude.{◌≡◌, ◌+◌, ◌<◌, ◌≤◌, MatchOption};
 ghost use Rattle.logos_enum.specs.Views.{TokenList, also, punctuation, count_of, append, IsRestOf, tokens_of, ends, begins_arrow, depth_after, is_end, after_from, after_extent, after_generics, IsStep};
@@ -10,16 +10,16 @@ use logos_token::token::{Punct, Spacing, TokenTree, Tokens};
 /// The greatest number of angle brackets that can be open.
 const MOST: usize = usize::MAX;
 
-/// The constructs that have an extent.
+/// A construct that has an extent.
 #[derive(Clone, Copy)]
 pub(crate) enum End {
-    /// Bounds, or the type of a constant. They reach up to a comma, `=` or `>`.
+    /// Bounds, or the type of a constant, which reach up to a comma, `=` or `>`.
     OfBounds,
-    /// A default, or a whole parameter. It reaches up to a comma or `>`.
+    /// A default, or a whole parameter, which reaches up to a comma or `>`.
     OfDefault,
-    /// The type of a field. It reaches up to a comma.
+    /// The type of a field, which reaches up to a comma.
     OfField,
-    /// All generic parameters. They reach up to `>`.
+    /// All generic parameters, which reach up to `>`.
     OfParameters,
 }
 
@@ -30,7 +30,7 @@ struct Angles {
     arrow: bool,
 }
 
-/// Returns whether a character ends an extent outside angle brackets.
+/// Returns whether the punctuation `character`, outside angle brackets, ends the extent of `end`.
 pub(crate) fn ends(end: End, character: char) -> bool
     ensures { result ≡ ends end character }
 {
@@ -52,14 +52,15 @@ fn begins_arrow(punct: Punct) -> bool
     }
 }
 
-/// Returns whether a character ends an extent.
+/// Returns whether the punctuation `character` after the angle brackets `angles` ends the extent of
+/// `end`.
 fn is_end(end: End, angles: Angles, character: char) -> bool
     ensures { result ≡ is_end end angles.arrow angles.depth character }
 {
     (angles.depth == 0) & (ends(end, character) & !(angles.arrow & (character == '>')))
 }
 
-/// Returns the number of open angle brackets after a character.
+/// Returns the number of angle brackets that are open after the punctuation `character`.
 fn depth_after(angles: Angles, character: char) -> usize
     requires { angles.depth < MOST }
     ensures value { result ≡ depth_after angles.arrow angles.depth character }
@@ -74,8 +75,8 @@ fn depth_after(angles: Angles, character: char) -> usize
     angles.depth
 }
 
-/// Returns the tokens after one token of an extent, with the number of angle brackets that are open
-/// there. Returns `None` if the extent ends.
+/// Returns the tokens after the first token of `tokens`, with the angle brackets that are open
+/// there. Returns `None` if the extent ends before the first token, or there is no token.
 fn skip_token<'t, 's>(
     end: End,
     angles: Angles,
@@ -106,7 +107,7 @@ fn skip_token<'t, 's>(
     }
 }
 
-/// Returns the tokens after the extent at the front of `tokens`.
+/// Returns the tokens after the extent of `end` at the front of `tokens`.
 pub(crate) fn skip_extent<'t, 's>(end: End, tokens: Tokens<'t, 's>) -> Tokens<'t, 's>
     ensures value { tokens_of result ≡ after_extent end (tokens_of tokens.entry) }
     ensures shorter { count_of (tokens_of result) ≤ count_of (tokens_of tokens.entry) }
@@ -129,8 +130,8 @@ pub(crate) fn skip_extent<'t, 's>(end: End, tokens: Tokens<'t, 's>) -> Tokens<'t
     rest
 }
 
-/// Returns the tokens from the `>` on that closes the generic parameters, if `<` comes first, and
-/// all tokens otherwise.
+/// Returns the tokens from the `>` that closes the generic parameters, if `<` comes first, and all
+/// tokens otherwise. Returns no tokens if no `>` closes them.
 pub fn skip_generics<'t, 's>(tokens: Tokens<'t, 's>) -> Tokens<'t, 's>
     ensures { tokens_of result ≡ after_generics (tokens_of tokens.entry) }
 {
@@ -140,7 +141,7 @@ pub fn skip_generics<'t, 's>(tokens: Tokens<'t, 's>) -> Tokens<'t, 's>
     }
 }
 
-/// Returns the tokens of the extent at the front of `tokens`.
+/// Returns the tokens of the extent of `end` at the front of `tokens`.
 pub(crate) fn extent<'t, 's>(end: End, tokens: Tokens<'t, 's>) -> Tokens<'t, 's>
     ensures { tokens_of tokens.entry ≡
         append (tokens_of result) (after_extent end (tokens_of tokens.entry)) }

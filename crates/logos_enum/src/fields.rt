@@ -19,7 +19,7 @@ pub struct Field<'t, 's> {
     /// The attributes of the field.
     pub attributes: Tokens<'t, 's>,
     pub field_type: TypeExpr<'s>,
-    /// The tokens of its type.
+    /// The tokens of the field's type.
     pub run: Tokens<'t, 's>,
 }
 
@@ -41,7 +41,8 @@ pub(crate) struct Typed<'t, 's> {
     run: Tokens<'t, 's>,
 }
 
-/// Returns the error for the fault of a field's type. `run` is the tokens of the type.
+/// Returns the error for the fault of a field's type. `run` is the tokens of the type, whose span
+/// is reported if too many types are nested.
 fn error_of(run: Tokens<'_, '_>, fault: TypeFault) -> ReadError
     ensures { error_is (tokens_of run.entry) fault result }
 {
@@ -53,7 +54,7 @@ fn error_of(run: Tokens<'_, '_>, fault: TypeFault) -> ReadError
     }
 }
 
-/// Returns the type of a field, its tokens, and the tokens after it.
+/// Returns the type of a field with the tokens of the type, and the tokens after the type.
 fn read_typed<'t, 's>(
     alloc: Global,
     tokens: Tokens<'t, 's>,
@@ -71,7 +72,7 @@ fn read_typed<'t, 's>(
     }
 }
 
-/// Returns the tokens after the `:` that must come first.
+/// Returns the tokens after the `:` that must come first. Returns `Grammar` if it does not.
 fn skip_colon<'t, 's>(tokens: Tokens<'t, 's>) -> Result<Tokens<'t, 's>, ReadError>
     ensures { MatchResult result
         (λ rest. (colon_in (tokens_of tokens.entry) ≡ Ok (tt, tokens_of rest))
@@ -84,8 +85,7 @@ fn skip_colon<'t, 's>(tokens: Tokens<'t, 's>) -> Result<Tokens<'t, 's>, ReadErro
     }
 }
 
-/// Returns the tokens after the name of a field and `:` if fields have names, and all tokens
-/// otherwise.
+/// Returns the tokens after the name of a field and `:` if `named`, and all tokens otherwise.
 fn skip_label<'t, 's>(named: bool, tokens: Tokens<'t, 's>) -> Result<Tokens<'t, 's>, ReadError>
     ensures ok { IfOk result
         (λ rest. label named (tokens_of tokens.entry) (Ok (tt, tokens_of rest))) }
@@ -101,7 +101,7 @@ fn skip_label<'t, 's>(named: bool, tokens: Tokens<'t, 's>) -> Result<Tokens<'t, 
     Ok(rest)
 }
 
-/// Returns the field that comes first, and the tokens after it.
+/// Returns the field at the front, and the tokens after it. `named` is whether it must have a name.
 fn read_field<'t, 's>(
     alloc: Global,
     named: bool,
@@ -125,7 +125,8 @@ fn read_field<'t, 's>(
     Ok((field, rest))
 }
 
-/// Returns the fields in a group. All tokens of the group must belong to them.
+/// Returns the fields in `tokens`, the tokens of a group. `named` is whether the fields must have
+/// names. Returns the first fault if a token belongs to no field.
 fn read_fields<'t, 's>(
     alloc: Global,
     named: bool,
@@ -167,7 +168,8 @@ fn read_tuple<'t, 's>(
     Ok(Some((Fields::Tuple(opened.span, list), opened.rest)))
 }
 
-/// Returns the fields of a variant without parentheses, and the tokens after them.
+/// Returns the fields in braces, and the tokens after the braces. Returns `Unit` and all tokens if
+/// no brace comes first.
 fn read_named<'t, 's>(
     alloc: Global,
     tokens: Tokens<'t, 's>,
@@ -186,7 +188,7 @@ fn read_named<'t, 's>(
     Ok((Fields::Named(opened.span, list), opened.rest))
 }
 
-/// Returns the fields of a variant and the tokens after them.
+/// Returns the fields after the name of a variant, and the tokens after the fields.
 pub(crate) fn read_holding<'t, 's>(
     alloc: Global,
     tokens: Tokens<'t, 's>,

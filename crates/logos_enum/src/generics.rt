@@ -11,7 +11,7 @@ use logos_token::token::{Ident, TokenTree, Tokens};
 use logos_token::util::begins_with;
 use std::alloc::Global;
 
-/// The kinds of generic parameters.
+/// The kind of a generic parameter.
 #[derive(Clone, Copy, Debug, PartialEq, Eq)]
 pub enum ParameterKind {
     Lifetime,
@@ -37,7 +37,7 @@ pub(crate) struct Head<'s> {
 }
 
 /// Returns the name at the front as the head of a parameter of the kind `kind`, and the tokens
-/// after it.
+/// after it. Returns `Grammar` if no name comes first.
 fn read_head_of<'t, 's>(
     kind: ParameterKind,
     tokens: Tokens<'t, 's>,
@@ -72,7 +72,7 @@ fn read_head<'t, 's>(tokens: Tokens<'t, 's>) -> Result<(Head<'s>, Tokens<'t, 's>
     }
 }
 
-/// Returns the tokens after an extent, which must have at least one token.
+/// Returns the tokens after the extent of `end`. Returns `Grammar` if the extent has no token.
 fn skip_some<'t, 's>(end: End, tokens: Tokens<'t, 's>) -> Result<Tokens<'t, 's>, ReadError>
     ensures { MatchResult result
         (λ rest. (some_in end (tokens_of tokens.entry) ≡ Ok (tt, tokens_of rest))
@@ -99,7 +99,8 @@ fn skip_bounds<'t, 's>(tokens: Tokens<'t, 's>) -> Tokens<'t, 's>
     }
 }
 
-/// Returns the tokens after the `:` that must come first and the type of a constant.
+/// Returns the tokens after `:` and the type of a constant. Returns `Grammar` if `:` does not come
+/// first, or no type follows it.
 fn skip_constant<'t, 's>(tokens: Tokens<'t, 's>) -> Result<Tokens<'t, 's>, ReadError>
     ensures { MatchResult result
         (λ rest. (constant_in (tokens_of tokens.entry) ≡ Ok (tt, tokens_of rest))
@@ -114,7 +115,8 @@ fn skip_constant<'t, 's>(tokens: Tokens<'t, 's>) -> Result<Tokens<'t, 's>, ReadE
     }
 }
 
-/// Returns the tokens after `=` and a default if `=` comes first, and all tokens otherwise.
+/// Returns the tokens after `=` and a default if `=` comes first, and all tokens otherwise. Returns
+/// `Grammar` if no default follows `=`.
 fn skip_default<'t, 's>(tokens: Tokens<'t, 's>) -> Result<Tokens<'t, 's>, ReadError>
     ensures { MatchResult result
         (λ rest. (default_in (tokens_of tokens.entry) ≡ Ok (tt, tokens_of rest))
@@ -129,7 +131,8 @@ fn skip_default<'t, 's>(tokens: Tokens<'t, 's>) -> Result<Tokens<'t, 's>, ReadEr
     }
 }
 
-/// Returns the tokens after the bounds, type and default that can follow the name of a parameter.
+/// Returns the tokens after the bounds, type and default that can follow the name of a parameter of
+/// the kind `kind`.
 fn skip_tail<'t, 's>(
     kind: ParameterKind,
     tokens: Tokens<'t, 's>,
@@ -188,7 +191,7 @@ fn read_parameter<'t, 's>(
     Ok((parameter, rest))
 }
 
-/// Returns the parameters up to `>`, and the tokens from `>` on.
+/// Returns the parameters up to the closing `>`, and the tokens from that `>` on.
 fn read_parameters<'t, 's>(
     alloc: Global,
     tokens: Tokens<'t, 's>,
@@ -210,7 +213,7 @@ fn read_parameters<'t, 's>(
     Ok((list, rest))
 }
 
-/// Returns the tokens after the `>` that must come first.
+/// Returns the tokens after the `>` that must come first. Returns `Grammar` if it does not.
 fn skip_closing<'t, 's>(tokens: Tokens<'t, 's>) -> Result<Tokens<'t, 's>, ReadError>
     ensures { MatchResult result
         (λ rest. closing_in (tokens_of tokens.entry) ≡ Ok (tt, tokens_of rest))
@@ -222,8 +225,8 @@ fn skip_closing<'t, 's>(tokens: Tokens<'t, 's>) -> Result<Tokens<'t, 's>, ReadEr
     }
 }
 
-/// Returns the generic parameters and the tokens after them. There are no parameters if `<` does
-/// not come first.
+/// Returns the generic parameters in angle brackets, and the tokens after the brackets. Returns no
+/// parameters and all tokens if `<` does not come first.
 pub(crate) fn read_generics<'t, 's>(
     alloc: Global,
     tokens: Tokens<'t, 's>,

@@ -14,7 +14,7 @@ pub(crate) struct Opened<'t, 's> {
     pub rest: Tokens<'t, 's>,
 }
 
-/// Returns the group in parentheses at the front, or `None` if there is none.
+/// Returns the group in parentheses at the front of `tokens`, or `None` if there is none.
 pub(crate) fn open_parenthesis<'t, 's>(tokens: Tokens<'t, 's>) -> Option<Opened<'t, 's>>
     ensures { MatchOption result (parenthesis_in (tokens_of tokens.entry) ≡ None)
         (λ opened. (parenthesis_in (tokens_of tokens.entry) ≡ Some (opened_value opened))
@@ -32,7 +32,7 @@ pub(crate) fn open_parenthesis<'t, 's>(tokens: Tokens<'t, 's>) -> Option<Opened<
     }
 }
 
-/// Returns the group in brackets at the front, or `None` if there is none.
+/// Returns the group in brackets at the front of `tokens`, or `None` if there is none.
 pub(crate) fn open_bracket<'t, 's>(tokens: Tokens<'t, 's>) -> Option<Opened<'t, 's>>
     ensures { MatchOption result (bracket_in (tokens_of tokens.entry) ≡ None)
         (λ opened. (bracket_in (tokens_of tokens.entry) ≡ Some (opened_value opened))
@@ -50,7 +50,7 @@ pub(crate) fn open_bracket<'t, 's>(tokens: Tokens<'t, 's>) -> Option<Opened<'t, 
     }
 }
 
-/// Returns the group in braces at the front, or `None` if there is none.
+/// Returns the group in braces at the front of `tokens`, or `None` if there is none.
 pub(crate) fn open_brace<'t, 's>(tokens: Tokens<'t, 's>) -> Option<Opened<'t, 's>>
     ensures { MatchOption result (brace_in (tokens_of tokens.entry) ≡ None)
         (λ opened. (brace_in (tokens_of tokens.entry) ≡ Some (opened_value opened))

@@ -24,7 +24,8 @@ pub struct ItemEnum<'t, 's> {
     pub variants: Vec<Variant<'t, 's>>,
 }
 
-/// Returns the tokens after the first one, unless that is a brace.
+/// Returns the tokens after the first one. Returns `None` if the first one is a group in braces, or
+/// there is none.
 fn skip_other<'t, 's>(tokens: Tokens<'t, 's>) -> Option<Tokens<'t, 's>>
     ensures { MatchOption result (from_brace (tokens_of tokens.entry) ≡ tokens_of tokens.entry)
         (λ rest. (from_brace (tokens_of tokens.entry) ≡ from_brace (tokens_of rest))
@@ -36,7 +37,7 @@ fn skip_other<'t, 's>(tokens: Tokens<'t, 's>) -> Option<Tokens<'t, 's>>
     }
 }
 
-/// Returns the tokens from the first brace on.
+/// Returns the tokens from the first group in braces on, or no tokens if there is none.
 fn skip_to_brace<'t, 's>(tokens: Tokens<'t, 's>) -> Tokens<'t, 's>
     ensures { tokens_of result ≡ from_brace (tokens_of tokens.entry) }
 {
@@ -47,7 +48,8 @@ fn skip_to_brace<'t, 's>(tokens: Tokens<'t, 's>) -> Tokens<'t, 's>
     rest
 }
 
-/// Returns the tokens after a where clause if one comes first, and all tokens otherwise.
+/// Returns the tokens from the first group in braces on if `where` comes first, and all tokens
+/// otherwise.
 fn skip_where<'t, 's>(tokens: Tokens<'t, 's>) -> Tokens<'t, 's>
     ensures { where_in (tokens_of tokens.entry) ≡ Ok (tt, tokens_of result) }
 {
@@ -58,6 +60,7 @@ fn skip_where<'t, 's>(tokens: Tokens<'t, 's>) -> Tokens<'t, 's>
 }
 
 /// Returns the variants in the braces that must come first, and the tokens after the braces.
+/// Returns `Grammar` if no braces come first.
 fn read_body<'t, 's>(
     alloc: Global,
     tokens: Tokens<'t, 's>,
@@ -74,7 +77,7 @@ fn read_body<'t, 's>(
     Ok((list, braced.rest))
 }
 
-/// Checks that no token is left.
+/// Returns `Grammar` at the first token if `tokens` is not empty.
 fn read_end(tokens: Tokens<'_, '_>) -> Result<(), ReadError>
     ensures { MatchResult result (λ _. end_in (tokens_of tokens.entry) ≡ Ok (tt, none))
         (λ error. end_in (tokens_of tokens.entry) ≡ Err error) }
@@ -85,8 +88,8 @@ fn read_end(tokens: Tokens<'_, '_>) -> Result<(), ReadError>
     }
 }
 
-/// Returns the attributes and the tokens after `enum`, if an optional visibility and `enum` follow
-/// the attributes.
+/// Returns `attributes` and the tokens after `enum`. Returns `None` if `middle`, the tokens after
+/// the attributes, does not begin with an optional visibility and `enum`.
 fn announced<'t, 's>(
     attributes: Tokens<'t, 's>,
     middle: Tokens<'t, 's>,
@@ -111,7 +114,8 @@ fn read_front<'t, 's>(tokens: Tokens<'t, 's>) -> Option<(Tokens<'t, 's>, Tokens<
     }
 }
 
-/// Returns the enum with these attributes. `tokens` are the tokens after `enum`.
+/// Returns the enum with the attributes `attributes`. `tokens` are the tokens after `enum`, to the
+/// end.
 fn read_item<'t, 's>(
     alloc: Global,
     attributes: Tokens<'t, 's>,

@@ -16,7 +16,7 @@ pub(crate) fn first_span(tokens: Tokens<'_, '_>) -> Span
     }
 }
 
-/// Returns the mismatch at the first token.
+/// Returns the mismatch at the first token, or at `0..0` if there is none.
 pub(crate) fn mismatch_at(tokens: Tokens<'_, '_>) -> Mismatch
     ensures { result.span ≡ first_span (tokens_of tokens.entry) }
 {
@@ -25,7 +25,7 @@ pub(crate) fn mismatch_at(tokens: Tokens<'_, '_>) -> Mismatch
     }
 }
 
-/// Returns the error that the first token does not fit.
+/// Returns the error `Grammar` at the first token, or at `0..0` if there is none.
 pub(crate) fn grammar_at(tokens: Tokens<'_, '_>) -> ReadError
     ensures { result ≡ Grammar (first_span (tokens_of tokens.entry)) }
 {
@@ -43,7 +43,8 @@ pub(crate) fn split<'t, 's>(tokens: Tokens<'t, 's>) -> Option<(TokenTree<'t, 's>
     Some((tree, tokens.rest()))
 }
 
-/// Returns the tokens after `mark`, or `None` if the run does not begin with it.
+/// Returns the tokens after the punctuation `mark`, joint or alone, or `None` if the run does not
+/// begin with it.
 pub(crate) fn after_mark<'t, 's>(mark: char, tokens: Tokens<'t, 's>) -> Option<Tokens<'t, 's>>
     ensures { MatchOption result (begins_with mark (tokens_of tokens.entry) ≡ false)
         (λ rest. (begins_with mark (tokens_of tokens.entry) ≡ true)
@@ -66,7 +67,8 @@ pub fn is_outer(text: &str) -> bool
     }
 }
 
-/// Returns the name at the front, and the tokens after it.
+/// Returns the name at the front, and the tokens after it. Returns `Grammar` if no name comes
+/// first.
 pub(crate) fn read_name<'t, 's>(
     tokens: Tokens<'t, 's>,
 ) -> Result<(Ident<'s>, Tokens<'t, 's>), ReadError>
@@ -82,7 +84,7 @@ pub(crate) fn read_name<'t, 's>(
 }
 
 /// Returns the tokens after the comma that must follow an element of a list in a group. At the end
-/// of the group no comma is needed.
+/// of the group no comma is needed. Returns `Grammar` at any other token.
 pub(crate) fn skip_comma<'t, 's>(tokens: Tokens<'t, 's>) -> Result<Tokens<'t, 's>, ReadError>
     ensures { MatchResult result
         (λ rest. (after_item is_none (tokens_of tokens.entry) ≡ Ok (tt, tokens_of rest))
@@ -96,8 +98,8 @@ pub(crate) fn skip_comma<'t, 's>(tokens: Tokens<'t, 's>) -> Result<Tokens<'t, 's
     }
 }
 
-/// Returns the tokens after the comma that must follow an element of a list in angle brackets.
-/// Before `>` no comma is needed.
+/// Returns the tokens after the comma that must follow an element of a list in angle brackets, or
+/// all tokens before `>`, where no comma is needed. Returns `Grammar` otherwise.
 pub(crate) fn skip_comma_or_angle<'t, 's>(
     tokens: Tokens<'t, 's>,
 ) -> Result<Tokens<'t, 's>, ReadError>

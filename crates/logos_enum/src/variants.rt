@@ -19,7 +19,8 @@ pub struct Variant<'t, 's> {
     pub fields: Fields<'t, 's>,
 }
 
-/// Returns the tokens after the first one, unless that is a comma.
+/// Returns the tokens after the first one. Returns `None` if the first one is a comma, or there is
+/// none.
 fn skip_other<'t, 's>(tokens: Tokens<'t, 's>) -> Option<Tokens<'t, 's>>
     ensures { MatchOption result (from_comma (tokens_of tokens.entry) ≡ tokens_of tokens.entry)
         (λ rest. (from_comma (tokens_of tokens.entry) ≡ from_comma (tokens_of rest))
@@ -31,7 +32,7 @@ fn skip_other<'t, 's>(tokens: Tokens<'t, 's>) -> Option<Tokens<'t, 's>>
     }
 }
 
-/// Returns the tokens from the first comma on.
+/// Returns the tokens from the first comma on, or no tokens if there is no comma.
 fn skip_to_comma<'t, 's>(tokens: Tokens<'t, 's>) -> Tokens<'t, 's>
     ensures value { tokens_of result ≡ from_comma (tokens_of tokens.entry) }
     ensures shorter { count_of (tokens_of result) ≤ count_of (tokens_of tokens.entry) }
@@ -43,7 +44,8 @@ fn skip_to_comma<'t, 's>(tokens: Tokens<'t, 's>) -> Tokens<'t, 's>
     rest
 }
 
-/// Returns the tokens from the first comma on. At least one token must come before it.
+/// Returns the tokens from the first comma on, or no tokens if there is no comma. Returns `Grammar`
+/// if no token comes before the comma.
 fn skip_value<'t, 's>(tokens: Tokens<'t, 's>) -> Result<Tokens<'t, 's>, ReadError>
     ensures { MatchResult result
         (λ rest. (value_in (tokens_of tokens.entry) ≡ Ok (tt, tokens_of rest))
@@ -58,7 +60,7 @@ fn skip_value<'t, 's>(tokens: Tokens<'t, 's>) -> Result<Tokens<'t, 's>, ReadErro
 }
 
 /// Returns the tokens after `=` and the discriminant of a variant if `=` comes first, and all
-/// tokens otherwise.
+/// tokens otherwise. Returns `Grammar` if no discriminant follows `=`.
 fn skip_discriminant<'t, 's>(tokens: Tokens<'t, 's>) -> Result<Tokens<'t, 's>, ReadError>
     ensures { MatchResult result
         (λ rest. (discriminant_in (tokens_of tokens.entry) ≡ Ok (tt, tokens_of rest))
@@ -94,7 +96,8 @@ fn read_variant<'t, 's>(
     Ok((variant, rest))
 }
 
-/// Returns the variants inside braces. All tokens inside the braces must belong to them.
+/// Returns the variants in `tokens`, the tokens inside the braces of an enum. Returns the first
+/// fault if a token belongs to no variant.
 pub(crate) fn read_variants<'t, 's>(
     alloc: Global,
     tokens: Tokens<'t, 's>,

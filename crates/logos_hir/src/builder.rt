@@ -11,7 +11,7 @@ use crate::sets::RangeSet;
 pub use branches::alternation;
 use std::alloc::{AllocError, Global};
 
-/// Makes the tree that matches these bytes in order. No bytes make `Empty`.
+/// Returns the tree that matches `bytes` in order. No bytes make `Empty`.
 pub fn literal(bytes: Vec<u8>) -> Hir
     ensures { tree_of result ≡ literal_of bytes.items }
 {
@@ -21,14 +21,14 @@ pub fn literal(bytes: Vec<u8>) -> Hir
     Hir::Literal(bytes)
 }
 
-/// Makes the tree of a look-around assertion.
+/// Returns the tree of a look-around assertion.
 pub fn look(kind: Look) -> Hir
     ensures { tree_of result ≡ look kind }
 {
     Hir::Look(kind)
 }
 
-/// Makes a capture group.
+/// Returns a capture group around `body`.
 ///
 /// # Errors
 ///
@@ -39,7 +39,7 @@ pub fn capture(alloc: Global, body: Hir) -> Result<Hir, AllocError>
     Ok(Hir::Capture(Box::new(alloc, body)?))
 }
 
-/// Makes the class of the characters of the set. A set of one character makes a literal.
+/// Returns the class of the characters of `set`. A set of one character makes a literal.
 ///
 /// # Errors
 ///
@@ -57,7 +57,7 @@ pub fn char_class(alloc: Global, set: RangeSet) -> Result<Hir, AllocError>
     }
 }
 
-/// Makes the class of the bytes of the set, without members above U+00FF. A set of one byte makes a
+/// Returns the class of the bytes of `set`, without members above U+00FF. A set of one byte makes a
 /// literal.
 ///
 /// # Errors
@@ -93,14 +93,14 @@ pub fn is_byteless(hir: &Hir) -> bool
     }
 }
 
-/// Returns whether a greatest count is `n`.
+/// Returns whether `max` is the greatest count `n`.
 fn is_most(n: u32, max: Option<u32>) -> bool
     ensures { result ≡ is_most n max }
 {
     max == Some(n)
 }
 
-/// Returns the greatest count, limited to at most 1.
+/// Returns the greatest count `max`, limited to at most 1. `None` is no limit, and makes 1.
 fn cut(max: Option<u32>) -> u32
     ensures { Some result ≡ cut max }
 {
@@ -110,7 +110,7 @@ fn cut(max: Option<u32>) -> u32
     }
 }
 
-/// Makes a repetition. A repetition of exactly one time is the body itself.
+/// Returns a repetition of `body`. A repetition of exactly one time is the body itself.
 fn times(
     alloc: Global,
     min: u32,
@@ -131,9 +131,9 @@ fn times(
     })
 }
 
-/// Makes a repetition in its simplest form. A repetition of zero times is `Empty`. If the body
-/// matches no byte, both counts are limited to at most 1. A repetition of exactly one time is the
-/// body itself.
+/// Returns a repetition of `body` in its simplest form. A repetition of at most zero times is
+/// `Empty`. If the body matches no byte, both counts are limited to at most 1. A repetition of
+/// exactly one time is the body itself.
 ///
 /// # Errors
 ///
@@ -156,7 +156,8 @@ pub fn repetition(
     times(alloc, min, max, greedy, body)
 }
 
-/// Appends a part, and bytes after it. If the part is a literal, the bytes are added to it.
+/// Appends the part `last` and a literal of `bytes` to `parts`. If `last` is a literal, the two
+/// literals become one.
 fn push_after(parts: &mut Vec<Hir>, last: Hir, bytes: Vec<u8>) -> Result<(), AllocError>
     ensures { OnOk result (map tree_of parts.new.items ≡
         map tree_of parts.old.items ++ part_text (tree_of last) bytes.items) }
@@ -173,7 +174,8 @@ fn push_after(parts: &mut Vec<Hir>, last: Hir, bytes: Vec<u8>) -> Result<(), All
     }
 }
 
-/// Appends bytes after all parts.
+/// Appends a literal of `bytes` to `parts`. A literal at the end of `parts` and the new one become
+/// one.
 fn push_literal(parts: &mut Vec<Hir>, bytes: Vec<u8>) -> Result<(), AllocError>
     ensures { OnOk result (map tree_of parts.new.items ≡
         add_text (map tree_of parts.old.items) bytes.items) }
@@ -184,7 +186,7 @@ fn push_literal(parts: &mut Vec<Hir>, bytes: Vec<u8>) -> Result<(), AllocError>
     }
 }
 
-/// Appends a part after the others. Neighboring literals become one.
+/// Appends `part` to `parts`. Neighboring literals become one.
 fn push_part(parts: &mut Vec<Hir>, part: Hir) -> Result<(), AllocError>
     ensures { OnOk result (map tree_of parts.new.items ≡
         add_part (map tree_of parts.old.items) (tree_of part)) }
@@ -195,7 +197,7 @@ fn push_part(parts: &mut Vec<Hir>, part: Hir) -> Result<(), AllocError>
     }
 }
 
-/// Appends parts one by one after the others.
+/// Appends the parts of `inner` to `parts` one by one. Neighboring literals become one.
 fn push_parts(parts: &mut Vec<Hir>, inner: Vec<Hir>) -> Result<(), AllocError>
     ensures { OnOk result (map tree_of parts.new.items ≡
         add_parts (map tree_of parts.old.items) (map tree_of inner.items)) }
@@ -213,7 +215,7 @@ fn is_literal(hir: &Hir) -> bool
     matches!(hir, Hir::Literal(_))
 }
 
-/// Returns whether no two literals are adjacent.
+/// Returns whether no two literals in `parts` are adjacent.
 fn are_apart(parts: &[Hir]) -> bool
     ensures { result ≡ are_apart false (map tree_of parts.now) }
 {
@@ -228,8 +230,8 @@ fn are_apart(parts: &[Hir]) -> bool
     true
 }
 
-/// Appends the parts of `inner`. If `parts` is empty and no two literals of `inner` are adjacent,
-/// `inner` is reused without a copy.
+/// Appends the parts of `inner` to `parts`. Neighboring literals become one. If `parts` is empty
+/// and no two literals of `inner` are adjacent, `inner` is reused without a copy.
 fn push_all(parts: &mut Vec<Hir>, inner: Vec<Hir>) -> Result<(), AllocError>
     ensures { OnOk result (map tree_of parts.new.items ≡
         add_parts (map tree_of parts.old.items) (map tree_of inner.items)) }
@@ -241,7 +243,8 @@ fn push_all(parts: &mut Vec<Hir>, inner: Vec<Hir>) -> Result<(), AllocError>
     push_parts(parts, inner)
 }
 
-/// Appends the parts that a tree adds to a concatenation.
+/// Appends to `parts` the parts that the tree `part` adds to a concatenation: none for `Empty`, the
+/// parts of a concatenation, or the tree itself.
 pub(crate) fn push_flat(parts: &mut Vec<Hir>, part: Hir) -> Result<(), AllocError>
     ensures { OnOk result (map tree_of parts.new.items ≡
         add_parts (map tree_of parts.old.items) (parts_of (tree_of part))) }
@@ -253,7 +256,7 @@ pub(crate) fn push_flat(parts: &mut Vec<Hir>, part: Hir) -> Result<(), AllocErro
     }
 }
 
-/// Makes a concatenation of the parts, unchanged. A single part is returned unchanged, and no parts
+/// Returns a concatenation of `parts`, unchanged. A single part is returned unchanged, and no parts
 /// make `Empty`.
 pub(crate) fn in_a_row(mut parts: Vec<Hir>) -> Hir
     ensures { tree_of result ≡ in_a_row (map tree_of parts.items) }

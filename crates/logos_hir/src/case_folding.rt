@@ -1,4 +1,4 @@
-//! Closes sets under a change of case. `logos_syntax` calls it if letters match in either case.
+//! Closes sets under a change of case. `logos_syntax` calls it where letters match in both cases.
 
 ghost use Rattle.std.specs.Prelude.{◌≡◌, ℕ, ◌+◌, ◌<◌, ◌≤◌, ◌^◌, ◌||◌, length, IfOk, OnOk};
 ghost use Rattle.logos_hir.specs.Views.{IsNonDecreasingBy, fold_pairs, in_range, in_ranges, fold_case, fold_ascii, Adds, in_values, in_image, shift, pairs, set_of};
@@ -20,7 +20,8 @@ const SMALL_A: u32 = 97;
 /// The last small letter of ASCII.
 const SMALL_Z: u32 = 122;
 
-/// Returns the pairs of a sorted table whose first number is in the range.
+/// Returns the pairs of `table` whose first number is in `range`. The table is sorted by first
+/// numbers.
 fn within(table: &[(u32, u32)], range: Range) -> &[(u32, u32)]
     requires { IsNonDecreasingBy (λ p. p.0) table.now }
     ensures { (c : ℕ) → in_values result.now c ≡
@@ -30,7 +31,7 @@ fn within(table: &[(u32, u32)], range: Range) -> &[(u32, u32)]
     &rest[..rest.partition_point(|pair| pair.0 <= range.last)]
 }
 
-/// Appends the second number of each pair.
+/// Appends to `out` the second number of each pair of `table`, as a range of one number.
 fn push_values(out: &mut Vec<Range>, table: &[(u32, u32)]) -> Result<(), AllocError>
     ensures { OnOk result (Adds (pairs out.old.items) (pairs out.new.items) (in_values table.now)) }
 {
@@ -43,7 +44,8 @@ fn push_values(out: &mut Vec<Range>, table: &[(u32, u32)]) -> Result<(), AllocEr
     Ok(())
 }
 
-/// Appends the other characters that have the same simple folding as a character in the ranges.
+/// Appends to `out` the other characters that have the same simple folding as a character in
+/// `ranges`.
 fn push_folds(out: &mut Vec<Range>, ranges: &[Range]) -> Result<(), AllocError>
     ensures { OnOk result (Adds (pairs out.old.items) (pairs out.new.items)
         (in_image fold_pairs (in_ranges (pairs ranges.now)))) }
@@ -68,7 +70,8 @@ pub fn fold_case(alloc: Global, set: &RangeSet) -> Result<RangeSet, AllocError>
     RangeSet::from_ranges(alloc, &ranges)
 }
 
-/// Appends the numbers of the range from `first` to `last`, moved so that `first` becomes `to`.
+/// Appends to `out` the numbers of `range` that are at least `first` and at most `last`, shifted so
+/// that `first` becomes `to`. Appends nothing if there are none.
 fn push_shift(
     out: &mut Vec<Range>,
     range: Range,
@@ -94,7 +97,7 @@ fn push_shift(
     Ok(())
 }
 
-/// Appends the other case of each ASCII letter in the ranges.
+/// Appends to `out` the other case of each ASCII letter in `ranges`.
 fn push_cases(out: &mut Vec<Range>, ranges: &[Range]) -> Result<(), AllocError>
     ensures { OnOk result (Adds (pairs out.old.items) (pairs out.new.items) (λ c.
         shift CAPITAL_A CAPITAL_Z SMALL_A (in_ranges (pairs ranges.now)) c ||

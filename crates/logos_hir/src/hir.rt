@@ -3,28 +3,28 @@
 
 ghost use Rattle.std.specs.Prelude.{◌≡◌};
 
-/// A look-around assertion: a condition on the bytes before and after a position of the input.
+/// A look-around assertion: a condition on the bytes before and after a point of the input.
 #[derive(Clone, Copy, Debug, PartialEq, Eq)]
 pub enum Look {
     /// The start of the input.
     Start,
     /// The end of the input.
     End,
-    /// The start of a line that LF ends.
+    /// The start of a line, where lines end with LF.
     StartLF,
-    /// The end of a line that LF ends.
+    /// The end of a line, where lines end with LF.
     EndLF,
-    /// The start of a line that CR, LF or CR LF ends.
+    /// The start of a line, where lines end with CR, LF or CR LF.
     StartCRLF,
-    /// The end of a line that CR, LF or CR LF ends.
+    /// The end of a line, where lines end with CR, LF or CR LF.
     EndCRLF,
     /// An ASCII word boundary.
     WordAscii,
-    /// Not an ASCII word boundary.
+    /// A point that is not an ASCII word boundary.
     WordAsciiNegate,
 }
 
-/// The first and the last member of a range, both included.
+/// The numbers from `first` to `last`, both included.
 #[derive(Clone, Copy, Debug, PartialEq, Eq)]
 pub struct Range {
     pub first: u32,
@@ -32,7 +32,7 @@ pub struct Range {
 }
 
 impl Range {
-    /// Returns the range with these ends.
+    /// Returns the range from `first` to `last`.
     pub fn new(first: u32, last: u32) -> Range
         ensures { result ≡ record { first = first; last = last } }
     {
@@ -40,7 +40,7 @@ impl Range {
     }
 }
 
-/// The members of a class.
+/// A class: a set of bytes or of characters, of which it matches one.
 #[derive(Debug, Drop)]
 pub enum Class {
     /// One byte of these ranges.
@@ -49,7 +49,7 @@ pub enum Class {
     Characters(Vec<Range>),
 }
 
-/// A pattern as a tree.
+/// A pattern as a tree. Each variant is described by the strings that it matches.
 #[derive(Drop)]
 pub enum Hir {
     /// The empty string.
@@ -58,19 +58,20 @@ pub enum Hir {
     Literal(Vec<u8>),
     /// One member of the class.
     Class(Class),
-    /// A look-around assertion, which holds or fails at a position of the input.
+    /// The empty string at a point of the input at which the look-around assertion holds.
     Look(Look),
-    /// At least `min` times the body, and at most `max` times if `max` is not `None`.
+    /// The body `sub` at least `min` times, and at most `max` times if `max` is not `None`. More
+    /// repetitions are preferred if it is `greedy`, and fewer otherwise.
     Repetition {
         min: u32,
         max: Option<u32>,
         greedy: bool,
         sub: Box<Hir>,
     },
-    /// A capture group.
+    /// The matches of the body of a capture group.
     Capture(Box<Hir>),
-    /// All parts, one after another.
+    /// All parts of a concatenation, one after another.
     Concat(Vec<Hir>),
-    /// One of the branches.
+    /// One of the branches of an alternation.
     Alternation(Vec<Hir>),
 }

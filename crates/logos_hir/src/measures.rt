@@ -1,5 +1,5 @@
-//! Measures of trees. None of them allocates. `logos_pattern` calls them once a pattern is read.
-//! The default priority of a leaf is one of them.
+//! Measures of trees, such as the default priority of a leaf. `logos_pattern` calls them after it
+//! has read a pattern. None of them allocates.
 
 ghost use Rattle.std.specs.Prelude.{◌≡◌, ℕ, ◌+◌, ◌*◌, min, nat_lt, length, map};
 ghost use Rattle.logos_hir.specs.Views.{list_all, chars, is_utf8, pointwise, trees, pairs, tree_of, class_tree, value, sum_of_values, least_value, text_size, fitted, is_same, is_text, all_text, is_all, is_dot, has_greedy_dot, some_greedy_dot};
@@ -29,7 +29,7 @@ fn text_size(bytes: &[u8]) -> usize
 
 // In the following functions `None` is a number that does not fit `usize`.
 
-/// Returns the value times the count.
+/// Returns `count` times `value`: 0 if `count` is 0, even for a value that does not fit.
 fn times(count: u32, value: Option<usize>) -> Option<usize>
     ensures { (n : ℕ) → value ≡ fitted n → result ≡ fitted (count * n) }
 {
@@ -46,7 +46,7 @@ fn plus(a: Option<usize>, b: Option<usize>) -> Option<usize>
     a?.checked_add(b?)
 }
 
-/// Returns the lesser of two values.
+/// Returns the lesser of two values. `None` is greater than each number.
 fn least(a: Option<usize>, b: Option<usize>) -> Option<usize>
     ensures { (m n : ℕ) → a ≡ fitted m → b ≡ fitted n → result ≡ fitted (min m n) }
 {
@@ -73,7 +73,8 @@ pub fn priority(hir: &Hir) -> Option<usize>
     }
 }
 
-/// Returns the priority of a concatenation: the sum of the priorities of its parts.
+/// Returns the priority of a concatenation: the sum of the priorities of `parts`, or `None` if a
+/// priority or the sum does not fit `usize`.
 #[cycle(priority)]
 fn sum_of_priorities(parts: &[Hir]) -> Option<usize>
     ensures { result ≡ fitted (sum_of_values (trees (map tree_of parts.now))) }
@@ -85,7 +86,8 @@ fn sum_of_priorities(parts: &[Hir]) -> Option<usize>
     sum
 }
 
-/// Returns the priority of an alternation: the least priority of its branches.
+/// Returns the priority of an alternation: the least priority of `branches`, 0 if there are no
+/// branches, or `None` if no priority fits `usize`.
 #[cycle(priority)]
 fn least_priority(branches: &[Hir]) -> Option<usize>
     ensures { result ≡ fitted (least_value (trees (map tree_of branches.now))) }
@@ -100,7 +102,8 @@ fn least_priority(branches: &[Hir]) -> Option<usize>
     best
 }
 
-/// Returns whether each literal is UTF-8 and each class of bytes contains only ASCII.
+/// Returns whether each literal of a tree is UTF-8 and each of its classes of bytes contains only
+/// ASCII.
 pub fn is_utf8(hir: &Hir) -> bool
     ensures { result ≡ is_text (tree_of hir.now) }
 {
@@ -130,7 +133,7 @@ fn are_utf8(bytes: &[u8]) -> bool
     }
 }
 
-/// Returns whether all numbers in the ranges are ASCII.
+/// Returns whether the last number of each range is ASCII.
 fn are_ascii(ranges: &[Range]) -> bool
     ensures { result ≡ list_all (λ r. nat_lt r.1 ASCII) (pairs ranges.now) }
 {
@@ -149,7 +152,8 @@ fn same(a: &[Range], b: &[Range]) -> bool
     a == b
 }
 
-/// Returns whether the ranges contain all numbers up to `last`, all but LF, or all but CR and LF.
+/// Returns whether the ranges contain exactly the numbers from 0 to `last`, these without LF, or
+/// these without CR and LF.
 fn is_all(last: u32, ranges: &[Range]) -> bool
     ensures { result ≡ is_all last (pairs ranges.now) }
 {

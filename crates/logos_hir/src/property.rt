@@ -1,5 +1,5 @@
-//! Sets that a pattern names. `logos_pattern_tokens` and `logos_syntax` look up `\p{..}`,
-//! `[:name:]` and `\d` in this module.
+//! Sets of characters that a pattern names, as `\p{..}`, `[:name:]` and `\d` do.
+//! `logos_pattern_tokens` and `logos_syntax` look up sets in this module.
 
 ghost use Rattle.std.specs.Prelude.{◌≡◌, ℕ, Bool, IfOk, bytes_eq};
 ghost use Rattle.logos_hir.specs.Views.{only_chars, in_ranges, HasExactly, in_set, pairs, set_of, ascii_set, ascii_named, perl_set, property_named, property_normalized};
@@ -10,7 +10,7 @@ use std::alloc::{AllocError, Global};
 use unicode::perl;
 use unicode::sets::{self, Set};
 
-/// One of the classes `[:alnum:]` to `[:xdigit:]`.
+/// A class of ASCII characters: one of `[:alnum:]` to `[:xdigit:]`.
 #[derive(Clone, Copy)]
 pub enum AsciiKind {
     Alnum,
@@ -123,7 +123,7 @@ pub fn ascii_set(alloc: Global, kind: AsciiKind) -> Result<RangeSet, AllocError>
     RangeSet::from_ranges(alloc, &ranges_of(alloc, ascii_runs(kind))?)
 }
 
-/// Returns ranges from their first and last members.
+/// Returns the ranges with the first and the last members in `runs`.
 fn ranges_of(alloc: Global, runs: &[(u32, u32)]) -> Result<Vec<Range>, AllocError>
     ensures { IfOk result (λ v. pairs v.items ≡ runs.now) }
 {
@@ -134,7 +134,8 @@ fn ranges_of(alloc: Global, runs: &[(u32, u32)]) -> Result<Vec<Range>, AllocErro
     Ok(ranges)
 }
 
-/// Returns the characters in the ranges, which may contain surrogates.
+/// Returns the set of the characters in the ranges `runs`. Surrogates in the ranges are not
+/// members.
 fn from_runs(alloc: Global, runs: &[(u32, u32)]) -> Result<RangeSet, AllocError>
     ensures { (p : ℕ → Bool) → HasExactly runs.now p →
         IfOk result (λ set. set_of set ≡ only_chars p) }
@@ -161,8 +162,8 @@ pub fn perl_set(alloc: Global, kind: PerlKind, unicode: bool) -> Result<RangeSet
     }
 }
 
-/// Returns the set of the property with this name, or `None` if no property has the name. Names are
-/// compared loosely.
+/// Returns the set of the property with this name, or `None` if no property has the name. The name
+/// is normalized by `unicode::sets::normalize` before the search.
 ///
 /// # Errors
 ///
@@ -191,7 +192,7 @@ fn property_normalized(name: &[u8]) -> Option<Set>
     sets::by_name(name).ok()
 }
 
-/// Returns the characters of a property's set.
+/// Returns the characters of a property's set `set`.
 ///
 /// # Errors
 ///

@@ -23,7 +23,7 @@ pub struct RangeSet {
     ghost canonical: { AreCanonical (pairs ranges.items) },
 }
 
-/// Returns the character after a character.
+/// Returns the character after `c`, or 0x110000 after the last character.
 fn after(c: u32) -> u32
     requires { c ≤ 0x10_FFFF }
     ensures { result ≡ next c }
@@ -31,7 +31,7 @@ fn after(c: u32) -> u32
     if c == 0xD7FF { 0xE000 } else { c + 1 }
 }
 
-/// Returns the character before a scalar value that is not the first.
+/// Returns the character before `limit`, which is a character other than U+0000, or 0x110000.
 fn before(limit: u32) -> u32
     requires limit { IsLimit limit }
     requires some { 0 < limit }
@@ -41,7 +41,8 @@ fn before(limit: u32) -> u32
     if limit == 0xE000 { 0xD7FF } else { limit - 1 }
 }
 
-/// Appends the characters from `first` up to but not including `end`, and not after `last`.
+/// Appends to `out` the range of characters from `first` up to but not including `end`, and not
+/// after `last`. Appends nothing if there are none.
 fn push_gap(out: &mut Vec<Range>, first: u32, end: u32, last: u32) -> Result<(), AllocError>
     requires first { IsLimit first }
     requires end { IsLimit end }
@@ -85,7 +86,7 @@ fn gaps(alloc: Global, ranges: &[Range], last: u32) -> Result<Vec<Range>, AllocE
     Ok(out)
 }
 
-/// Returns the first character at or after `c`, or a number after all characters.
+/// Returns the first character at or after `c`. Returns `c` if it is greater than all characters.
 fn first_char(c: u32) -> u32
     ensures same { (d : ℕ) → scalar d ≡ true → nat_le result d ≡ nat_le c d }
     ensures char { result ≤ 0x10_FFFF → scalar result ≡ true }
@@ -109,7 +110,7 @@ fn last_char(c: u32) -> u32
     }
 }
 
-/// Appends the characters of a range.
+/// Appends to `out` the range of the characters in `range`, or nothing if there are none.
 fn push_chars(out: &mut Vec<Range>, range: Range) -> Result<(), AllocError>
     requires { AreRanges (pairs out.old.items) }
     ensures ranges { OnOk result (AreRanges (pairs out.new.items)) }
@@ -126,7 +127,8 @@ fn push_chars(out: &mut Vec<Range>, range: Range) -> Result<(), AllocError>
     Ok(())
 }
 
-/// Returns the characters of the ranges, as ranges.
+/// Returns the ranges, each from its first to its last character. Ranges without characters are
+/// left out.
 fn chars_of(alloc: Global, ranges: &[Range]) -> Result<Vec<Range>, AllocError>
     ensures ranges { IfOk result (λ out. AreRanges (pairs out.items)) }
     ensures members { IfOk result (λ out. HasCharacters (pairs out.items)
@@ -143,9 +145,9 @@ impl RangeSet {
     ghost use Rattle.std.specs.Prelude.{◌≡◌, ℕ, ◌≤◌, true, IfOk, MatchBool};
     ghost use Rattle.logos_hir.specs.Views.{scalar, Set, members, union, intersection, difference, symmetric_difference, complement, in_range, pairs, sole_member, set_of};
 
-    /// Returns the characters in the ranges. The ranges may be in any order, overlap, and contain
-    /// numbers that are not characters. A range whose first number is greater than its last is
-    /// empty.
+    /// Returns the set of the characters in `ranges`. The ranges may be in any order, overlap, and
+    /// contain numbers that are not characters. A range whose first number is greater than its last
+    /// is empty.
     ///
     /// # Errors
     ///
@@ -194,14 +196,14 @@ impl RangeSet {
         }
     }
 
-    /// Returns the ranges, in ascending order.
+    /// Returns the ranges of the set, in ascending order.
     pub fn ranges(&self) -> &[Range]
         ensures { result.now ≡ self.now.ranges.items }
     {
         &self.ranges
     }
 
-    /// Returns the ranges, in ascending order.
+    /// Returns the ranges of the set, in ascending order, without a copy.
     pub fn into_ranges(self) -> Vec<Range>
         ensures { result ≡ self.ranges }
     {
@@ -209,7 +211,7 @@ impl RangeSet {
         ranges
     }
 
-    /// Returns the members of either set.
+    /// Returns the members of this set and of `other`.
     ///
     /// # Errors
     ///
@@ -223,7 +225,7 @@ impl RangeSet {
         RangeSet::from_ranges(alloc, &both)
     }
 
-    /// Returns the members of both sets.
+    /// Returns the members of this set that are also in `other`.
     ///
     /// # Errors
     ///
@@ -250,7 +252,7 @@ impl RangeSet {
         self.intersection(&other.complement(char::MAX)?)
     }
 
-    /// Returns the members of exactly one of the sets.
+    /// Returns the members of exactly one of this set and `other`.
     ///
     /// # Errors
     ///

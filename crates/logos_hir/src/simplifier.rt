@@ -10,14 +10,16 @@ use crate::builder::{capture, in_a_row, push_flat, repetition};
 use crate::hir::Hir;
 use std::alloc::{AllocError, Global};
 
-/// Makes a concatenation of all parts, unsimplified.
+/// Returns a concatenation of `parts`, unsimplified. A single part is returned unchanged, and no
+/// parts make `Empty`.
 pub fn row(parts: Vec<Hir>) -> Hir
     ensures { simplest_tree result ≡ concat_of (map simplest_tree parts.items) }
 {
     in_a_row(parts)
 }
 
-/// Makes an alternation of the branches, unsimplified. A single branch is returned unchanged.
+/// Returns an alternation of `branches`, unsimplified. A single branch is returned unchanged, and
+/// no branches make an alternation without branches.
 pub fn either(mut branches: Vec<Hir>) -> Hir
     ensures { simplest_tree result ≡ alternation_of (map simplest_tree branches.items) }
 {
@@ -30,7 +32,7 @@ pub fn either(mut branches: Vec<Hir>) -> Hir
     }
 }
 
-/// Makes a repetition, unsimplified.
+/// Returns a repetition of `body`, unsimplified.
 ///
 /// # Errors
 ///
@@ -53,7 +55,7 @@ pub fn repeated(
     })
 }
 
-/// Makes a capture group, unsimplified.
+/// Returns a capture group around `body`, unsimplified.
 ///
 /// # Errors
 ///
@@ -64,7 +66,7 @@ pub fn captured(alloc: Global, body: Hir) -> Result<Hir, AllocError>
     Ok(Hir::Capture(Box::new(alloc, body)?))
 }
 
-/// Appends the parts that a tree, once simplified, adds to a concatenation.
+/// Appends to `parts` the parts that `tree`, after it is simplified, adds to a concatenation.
 #[cycle(simplify)]
 fn push_simplified(alloc: Global, tree: Hir, parts: &mut Vec<Hir>) -> Result<(), AllocError>
     ensures { OnOk result (map tree_of parts.new.items ≡
@@ -76,7 +78,8 @@ fn push_simplified(alloc: Global, tree: Hir, parts: &mut Vec<Hir>) -> Result<(),
     }
 }
 
-/// Appends the parts that trees, once simplified, add to a concatenation.
+/// Appends to `parts` the parts that the trees of `inner`, after they are simplified, add to a
+/// concatenation.
 #[cycle(simplify)]
 fn push_all_simplified(
     alloc: Global,
@@ -93,8 +96,8 @@ fn push_all_simplified(
     Ok(())
 }
 
-/// Appends the branches that a tree, once simplified, adds to an alternation. Returns the classes
-/// that these branches fit.
+/// Appends to `branches` the branches that `tree`, after it is simplified, adds to an alternation.
+/// Returns the classes that these branches fit.
 #[cycle(simplify)]
 fn push_simplified_branch(
     alloc: Global,
@@ -116,8 +119,8 @@ fn push_simplified_branch(
     }
 }
 
-/// Appends the branches that trees, once simplified, add to an alternation. Returns the classes
-/// that these branches fit.
+/// Appends to `branches` the branches that the trees of `all`, after they are simplified, add to an
+/// alternation. Returns the classes that these branches fit.
 #[cycle(simplify)]
 fn push_all_branches(
     alloc: Global,
@@ -137,7 +140,8 @@ fn push_all_branches(
     Ok(fits)
 }
 
-/// Simplifies a tree: rebuilds it with the builders, from the innermost part outwards.
+/// Returns the simplest form of a tree, rebuilt with the builders from its innermost parts
+/// outwards.
 ///
 /// # Errors
 ///

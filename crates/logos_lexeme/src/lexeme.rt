@@ -1,9 +1,9 @@
 //! Cuts a source text into lexemes: finds the kind and the end of the lexeme or gap at a byte
 //! offset.
 //!
-//! At each offset it reads a literal if one opens there, otherwise a comment, otherwise the lexeme
-//! that the character there can begin. Each reader moves forward and examines each byte at most a
-//! few times. `logos_token` calls `lexeme_at` at each offset at which a lexeme or a gap begins.
+//! `lexeme_at` reads a literal if one opens at the offset, otherwise a comment, otherwise the
+//! lexeme that the character there can begin. Each byte is examined at most a few times.
+//! `logos_token` calls `lexeme_at` at each offset at which a lexeme or a gap begins.
 
 ghost use Rattle.std.specs.Prelude.{◌<◌, length, IfOk, IfErr};
 ghost use Rattle.logos_lexeme.specs.Views.{IsCharBoundary, IsNext, IsStuck};
@@ -30,13 +30,13 @@ pub struct Span {
 /// The spacing of a character of punctuation: whether more punctuation follows it directly.
 #[derive(Clone, Copy, Debug, PartialEq, Eq)]
 pub enum Spacing {
-    /// No other punctuation follows directly.
+    /// Neither punctuation nor `'` follows directly, or a comment follows.
     Alone,
-    /// Other punctuation, or the name of a lifetime, follows directly.
+    /// Other punctuation, a `'`, or the name of a lifetime follows directly.
     Joint,
 }
 
-/// The delimiters that enclose a group.
+/// The kind of the two delimiters that enclose a group.
 #[derive(Clone, Copy, Debug, PartialEq, Eq)]
 pub enum Delimiter {
     /// `(` and `)`.
@@ -47,7 +47,7 @@ pub enum Delimiter {
     Brace,
 }
 
-/// The kinds of lexemes and gaps.
+/// The kind of a lexeme or gap.
 #[derive(Clone, Copy, Debug, PartialEq, Eq)]
 pub enum LexemeKind {
     /// White space, a comment that is not documentation, or U+FEFF at the start of the
@@ -67,7 +67,7 @@ pub enum LexemeKind {
     Closing(Delimiter),
 }
 
-/// The reasons why a source text cannot be cut into lexemes.
+/// The reason why a source text cannot be cut into lexemes or tokens.
 #[derive(Clone, Copy, Debug, PartialEq, Eq)]
 pub enum LexicalKind {
     /// A character that begins no lexeme.

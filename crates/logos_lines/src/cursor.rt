@@ -1,5 +1,5 @@
-//! An offset in a text that moves forward with its line and column. Tables with ascending rows move
-//! one cursor instead of searching for each row.
+//! Cursors: offsets in a text that move forward with their lines and columns. Printers of tables
+//! move one cursor over ascending offsets instead of searching for each.
 
 ghost use Rattle.std.specs.Prelude.{◌≡◌, ◌≤◌, max, min, length};
 ghost use Rattle.logos_lines.specs.Views.{location_at};
@@ -7,7 +7,7 @@ ghost use Rattle.logos_lines.specs.Views.{location_at};
 use crate::location::Location;
 use std::marker::Model;
 
-/// An offset in a text, in bytes, with its line and column. It moves only forward.
+/// A byte offset in a text, with its line and column, which moves only forward.
 ///
 /// Moving one cursor over a whole text takes time linear in the length of the text.
 #[derive(Drop)]
@@ -30,7 +30,7 @@ impl<'t> Model for Cursor<'t> {
 }
 
 impl<'t> Cursor<'t> {
-    /// Returns a cursor at the start of a text.
+    /// Returns a cursor at the start of the text `bytes`.
     pub fn new(bytes: &'t [u8]) -> Cursor<'t>
         ensures { result ≡ record { text = bytes.now; at = 0 } }
     {
@@ -41,7 +41,8 @@ impl<'t> Cursor<'t> {
         }
     }
 
-    /// Returns a cursor at `offset`, whose line and column are `location`.
+    /// Returns a cursor at the byte offset `offset` of the text `bytes`. Its line and column are
+    /// `location`.
     pub(crate) fn at(bytes: &'t [u8], offset: usize, location: Location) -> Cursor<'t>
         requires inside { offset ≤ length bytes.now }
         requires location { location ≡ location_at bytes.now offset }
@@ -61,8 +62,8 @@ impl<'t> Cursor<'t> {
         self.location
     }
 
-    /// Moves to an offset, or to the end of the text if the offset is past it. An offset before
-    /// the cursor changes nothing.
+    /// Moves the cursor to a byte offset, or to the end of the text if the offset is past it. An
+    /// offset before the cursor changes nothing.
     pub fn go_to(&mut self, offset: usize)
         ensures { self.new ≡ record {
           text = self.old.text;

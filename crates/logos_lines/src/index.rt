@@ -1,4 +1,4 @@
-//! The lines of a text. Reports and tables create an index for each file that they show.
+//! Indexes of the lines of a text. Reports and tables create an index for each file that they show.
 
 ghost use Rattle.std.specs.Prelude.{◌≡◌, ◌<◌, ◌≤◌, ◌+◌, ◌^◌, ◌∷◌, [], ℕ, List, Some, None, ◌⊎◌, IfOk, IfSome, MatchOption, OnOk, IsCharBoundary, ◌++◌, ◌==◌, if◌then◌else◌, length, drop};
 ghost use Rattle.logos_lines.specs.Views.{location_at, ends_line, line_length, ends_search, next_column, AreStarts, AreStops, IsLineOf, IsLongLine, IsNoLine, IsStart};
@@ -19,7 +19,7 @@ const STEP: usize = 256;
 pub struct LineIndex<'t> {
     text: &'t str,
     starts: Vec<usize>,
-    /// The locations of the offsets 0, 256, 512 and so on.
+    /// The locations of the byte offsets 0, 256, 512 and so on, up to the length of the text.
     stops: Vec<Location>,
 }
 
@@ -36,7 +36,7 @@ impl<'t> Model for LineIndex<'t> {
 }
 
 impl<'t> LineIndex<'t> {
-    /// Indexes the lines of a text.
+    /// Returns an index of the lines of a text.
     ///
     /// # Errors
     ///
@@ -53,8 +53,8 @@ impl<'t> LineIndex<'t> {
         })
     }
 
-    /// Returns the line and the column of an offset. An offset past the end of the text is treated
-    /// as the end, and an offset inside a character as the offset after its first byte.
+    /// Returns the line and the column of a byte offset. An offset past the end of the text is
+    /// treated as the end, and an offset inside a character as the offset after its first byte.
     pub fn line_column(&self, offset: usize) -> Location
         ensures { result ≡ location_at self.now offset }
     {
@@ -65,8 +65,8 @@ impl<'t> LineIndex<'t> {
         cursor.location()
     }
 
-    /// Returns the offset of a line and a column, or `None` if the text does not have them. At
-    /// character boundaries this is the inverse of `line_column`.
+    /// Returns the byte offset of a line and a column, or `None` if the text has no such line, or
+    /// the line no such column. At character boundaries this is the inverse of `line_column`.
     pub fn offset(&self, line: usize, column: usize) -> Option<usize>
         ensures found { IfSome result (λ offset. IsCharBoundary self.now offset
             × (location_at self.now offset ≡ record { line = line; column = column })) }
@@ -104,7 +104,8 @@ impl<'t> LineIndex<'t> {
         }
     }
 
-    /// Returns the offset at which a line begins, or `None` if the text has no such line.
+    /// Returns the byte offset at which the line `line` begins, or `None` if the text has no such
+    /// line.
     fn start_of(&self, line: usize) -> Option<usize>
         ensures { MatchOption result (IsNoLine self.now line) (IsStart self.now line) }
     {
@@ -113,7 +114,7 @@ impl<'t> LineIndex<'t> {
     }
 }
 
-/// Returns the offsets at which the lines of a text begin.
+/// Returns the byte offsets at which the lines of a text begin: 0, and the offset after each LF.
 fn line_starts(alloc: Global, text: &str) -> Result<Vec<usize>, AllocError>
     ensures { IfOk result (λ starts. AreStarts text.now starts.items) }
 {
@@ -126,7 +127,7 @@ fn line_starts(alloc: Global, text: &str) -> Result<Vec<usize>, AllocError>
     Ok(starts)
 }
 
-/// Appends the offset after a byte if the byte is LF.
+/// Appends the offset after `at` to `starts` if `byte`, the byte at `at`, is LF.
 fn push_start(starts: &mut Vec<usize>, at: usize, byte: u8) -> Result<(), AllocError>
     requires { at + 1 < 2 ^ 64 }
     ensures { OnOk result (starts.new.items ≡ (if byte == 10 then starts.old.items ++ (at + 1) ∷ []
@@ -138,7 +139,7 @@ fn push_start(starts: &mut Vec<usize>, at: usize, byte: u8) -> Result<(), AllocE
     Ok(())
 }
 
-/// Returns the locations of the offsets 0, 256, 512 and so on of a text.
+/// Returns the locations of the byte offsets 0, 256, 512 and so on of a text, up to its length.
 fn stops_of(alloc: Global, bytes: &[u8]) -> Result<Vec<Location>, AllocError>
     ensures { IfOk result (λ stops. AreStops bytes.now stops.items) }
 {
@@ -151,14 +152,15 @@ fn stops_of(alloc: Global, bytes: &[u8]) -> Result<Vec<Location>, AllocError>
     Ok(stops)
 }
 
-/// Returns whether the search for a column ends before a character that begins with this byte.
+/// Returns whether the search for the column `column` ends before a character that begins with
+/// `byte` and is in the column `reached`: there, or before LF.
 fn ends_search(byte: u8, reached: usize, column: usize) -> bool
     ensures { result ≡ ends_search byte reached column }
 {
     !continues(byte) & ((reached == column) | (byte == b'\n'))
 }
 
-/// Returns the column after a byte that is not LF.
+/// Returns the column after a byte in the column `column` that is not LF.
 fn next_column(byte: u8, column: usize) -> usize
     requires { column + 1 < 2 ^ 64 }
     ensures { result ≡ next_column byte column }
@@ -166,8 +168,8 @@ fn next_column(byte: u8, column: usize) -> usize
     if continues(byte) { column } else { column + 1 }
 }
 
-/// Returns the offset of a column of the line that begins at `start`, or `None` if the line is
-/// shorter.
+/// Returns the byte offset of a column of the line that begins at `start`, or `None` if the line
+/// has no such column.
 fn offset_in_line(text: &str, start: usize, line: usize, column: usize) -> Option<usize>
     requires { IsStart text.now line start }
     ensures found { IfSome result (λ offset. IsCharBoundary text.now offset
@@ -186,7 +188,7 @@ fn offset_in_line(text: &str, start: usize, line: usize, column: usize) -> Optio
     if reached == column { Some(at) } else { None }
 }
 
-/// Returns whether LF or CR LF is at an offset.
+/// Returns whether LF or CR LF is at the byte offset `at`.
 fn ends_line(bytes: &[u8], at: usize) -> bool
     requires { at < length bytes.now }
     ensures { result ≡ ends_line (drop at bytes.now) }
@@ -196,7 +198,7 @@ fn ends_line(bytes: &[u8], at: usize) -> bool
     (bytes[at] == b'\n') | is_return
 }
 
-/// Returns the offset at which the text of the line that begins at `start` ends.
+/// Returns the byte offset at which the line that begins at `start` ends, before its LF or CR LF.
 fn line_end(text: &str, start: usize) -> usize
     requires { start ≤ length text.now }
     ensures value { result ≡ start + line_length (drop start text.now) }
@@ -211,8 +213,8 @@ fn line_end(text: &str, start: usize) -> usize
     end
 }
 
-/// Returns the offset at which the text of the line that begins at `start` ends, or `None` if the
-/// line has more than `most` bytes.
+/// Returns the byte offset at which the line that begins at `start` ends, before its LF or CR LF,
+/// or `None` if the line has more than `most` bytes.
 fn near_end(text: &str, start: usize, most: usize) -> Option<usize>
     requires { start ≤ length text.now }
     ensures value { MatchOption result (most < line_length (drop start text.now))

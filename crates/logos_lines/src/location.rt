@@ -18,7 +18,7 @@ impl Location {
         Location { line: 1, column: 1 }
     }
 
-    /// Returns the location after one more byte of the text.
+    /// Returns the location after the byte `byte` at this location.
     pub(crate) fn after(self, byte: u8) -> Location
         requires line { self.line + 1 < 2 ^ 64 }
         requires column { self.column + 1 < 2 ^ 64 }
@@ -41,7 +41,7 @@ impl Location {
     }
 }
 
-/// Returns whether a byte continues a character that an earlier byte began.
+/// Returns whether a byte of UTF-8 continues a character that an earlier byte began.
 pub(crate) fn continues(byte: u8) -> bool
     ensures { result ≡ continues byte }
 {

@@ -14,7 +14,8 @@ pub fn hex_digit(c: char) -> Option<u32>
     c.to_digit(16)
 }
 
-/// Returns the Unicode scalar value with the number that the hexadecimal digits spell.
+/// Returns the Unicode scalar value with the number that the hexadecimal digits spell. No digits
+/// spell 0.
 ///
 /// # Errors
 ///
@@ -65,8 +66,8 @@ fn is_digit(c: char) -> bool
     '0' <= c && c <= '9'
 }
 
-/// Reads the digits at the front as a continuation of the number `start`, and returns the number
-/// and the rest of the text; `None` if the number is 2^32 or more.
+/// Reads the digits at the front as a continuation of the number `start`. Returns the number and
+/// the rest of the text, or `None` if the number is 2^32 or more.
 fn number_from(start: u32, text: &[char]) -> Option<(u32, &[char])>
     ensures { option_map (λ x. (x.0, x.1.now)) result ≡ fits (number_from start text.now) }
 {
@@ -109,8 +110,8 @@ fn number_at(text: &[char]) -> Result<(u32, &[char]), Fault>
     }
 }
 
-/// Returns the operator with these counts, which is lazy if a `?` follows, and the rest of the
-/// text.
+/// Returns the operator with the counts `least` and `most`, and the rest of the text. The operator
+/// is lazy if `text`, the text after it, begins with `?`.
 #[tactic(auto, unfolding(crate::specs::Token::lazy_at))]
 pub fn lazy_at<'t>(least: u32, most: Option<u32>, text: &'t [char]) -> (Token<'t>, &'t [char])
     ensures token { token_view result.0 ≡ (lazy_at least most text.now).0 }
@@ -136,7 +137,8 @@ pub fn lazy_at<'t>(least: u32, most: Option<u32>, text: &'t [char]) -> (Token<'t
     }
 }
 
-/// Reads the brace after the counts, and the `?` that may follow it.
+/// Reads the `}` after the counts, and the `?` that can follow it. Returns the operator with these
+/// counts and the rest of the text.
 ///
 /// # Errors
 ///
@@ -156,12 +158,12 @@ fn count_end<'t>(
     }
 }
 
-/// Reads the text after `{n,`.
+/// Reads the text after `{n,`, where `least` is `n`. Returns the operator and the rest of the text.
 ///
 /// # Errors
 ///
-/// Returns the errors of `number_at` and `count_end`, and `CountOrder` if the second count is less
-/// than the first.
+/// Returns `Unclosed` if the text is empty, the errors of `number_at` and `count_end`, and
+/// `CountOrder` if the second count is less than the first.
 #[tactic(auto, unfolding(crate::specs::Token::most_at, crate::specs::Token::order_at))]
 fn most_at(least: u32, text: &[char]) -> Result<(Token<'_>, &[char]), Fault>
     ensures { Yields (λ x. (token_view x.0, x.1.now)) result (most_at least text.now) }
@@ -179,7 +181,7 @@ fn most_at(least: u32, text: &[char]) -> Result<(Token<'_>, &[char]), Fault>
     }
 }
 
-/// Reads the text after `{n`.
+/// Reads the text after `{n`, where `least` is `n`. Returns the operator and the rest of the text.
 ///
 /// # Errors
 ///
@@ -195,8 +197,8 @@ fn bounds_at(least: u32, text: &[char]) -> Result<(Token<'_>, &[char]), Fault>
     }
 }
 
-/// Reads an operator with counts from the text after its `{`. Returns its token and the rest of the
-/// text.
+/// Reads an operator with counts from the text after its `{`. Returns the operator's token and the
+/// rest of the text.
 ///
 /// # Errors
 ///

@@ -8,67 +8,68 @@ ghost use Rattle.logos_pattern_tokens.specs.declared.error.PatternError.TheVaria
 
 use std::alloc::{AllocError, AllocFailed};
 
-/// The kinds of faults in a pattern.
+/// The kind of a fault in a pattern.
 #[derive(Clone, Copy, Debug, PartialEq, Eq)]
 pub enum Kind {
-    /// A group, a bracket or a brace is still open at the end.
+    /// A group, a bracket or a brace that is still open at the end of the text.
     Unclosed,
-    /// A parenthesis closes, and no group is open.
+    /// A closing parenthesis where no group is open.
     Unopened,
-    /// An operator has nothing before it that it could repeat.
+    /// An operator with nothing before it that it could repeat.
     NothingToRepeat,
-    /// Braces do not hold counts.
+    /// Braces that do not contain counts.
     CountSyntax,
-    /// The least count is greater than the greatest count.
+    /// A least count that is greater than the greatest count.
     CountOrder,
-    /// A count is 2^32 or more.
+    /// A count of 2^32 or more.
     CountTooLarge,
-    /// The flag `x` is not supported.
+    /// The flag `x`, which is not supported.
     FlagUnsupported,
-    /// The text after `(?` is not a flag setting.
+    /// Text after `(?` that is not a flag setting.
     FlagSyntax,
     /// Look-around, or a group whose name is malformed or occurs earlier.
     GroupSyntax,
-    /// A backslash comes before a character that it cannot escape.
+    /// A backslash before a character that it cannot escape.
     EscapeUnknown,
-    /// An escape by number has no digits, too few, or characters that are not digits.
+    /// An escape by number without digits, with too few digits, or with other characters.
     HexSyntax,
-    /// The number of an escape is not the number of a Unicode scalar value.
+    /// An escape with a number that is not the number of a Unicode scalar value.
     HexNotScalar,
-    /// A range begins after its end, or a class is one of its ends.
+    /// A range that begins after its end, or one of whose ends is a class.
     ClassRange,
-    /// No set of characters has this property's name.
+    /// The name of a property that no set of characters has.
     UnknownProperty,
-    /// A property has a value, or is negated by `^`.
+    /// A property with a value, or a property that `^` negates.
     PropertyForm,
     /// A property, or a character outside ASCII in a bracket, in a pattern that matches bytes.
     NotInBytes,
     /// A word boundary in a pattern that matches characters.
     UnicodeWordBoundary,
-    /// A word boundary is written as `\b{..}`, `\<` or `\>`.
+    /// A word boundary that is written as `\b{..}`, `\<` or `\>`.
     WordBoundaryForm,
 }
 
-/// The reasons why a text is not read as a pattern.
+/// The reason why a text is not read as a pattern.
 #[derive(Debug, Drop)]
 pub enum PatternError {
-    /// The text breaks the grammar. `at` is the byte offset of the fault in the text.
+    /// A fault of the grammar. `at` is the byte offset of the fault in the text of the pattern.
     Syntax { kind: Kind, at: usize },
-    /// Groups, brackets and operators are nested too deeply.
+    /// Groups, brackets and operators that are nested too deeply.
     LimitPatternNesting,
     /// Memory ran out.
     Memory,
 }
 
-/// The reasons why no token can be read at the front of a text.
+/// The reason why no token can be read at the front of a text: a fault of this kind, or memory ran
+/// out.
 #[derive(Drop)]
 pub enum Fault {
     Syntax(Kind),
     Memory,
 }
 
-/// The reasons why reading stops. `left` is the number of characters from the fault to the end of
-/// the text.
+/// The reason why the reading of a pattern stops. `left` is the number of characters from the fault
+/// to the end of the text.
 #[derive(Drop)]
 pub enum Stop {
     Syntax { kind: Kind, left: usize },

@@ -46,14 +46,14 @@ fn single_of(c: char) -> Option<Atom>
     }
 }
 
-/// Returns whether the name contains the character.
+/// Returns whether `name` contains the character `c`.
 fn contains(name: &[char], c: char) -> bool
     ensures { result ≡ is_among c name.now }
 {
     name.contains(&c)
 }
 
-/// Returns whether the name has a value, or is negated by `^`.
+/// Returns whether the name of a property has a value (contains `=` or `:`), or is negated by `^`.
 fn is_form(name: &[char]) -> bool
     ensures { result ≡ is_form name.now }
 {
@@ -97,12 +97,13 @@ fn property_of<'t>(
     Ok((Atom::Property(set, negated), rest))
 }
 
-/// Reads the name of a property, in braces or of one character.
+/// Reads the name of a property, in braces or of one character. Returns the atom of the property
+/// and the rest of the text.
 ///
 /// # Errors
 ///
-/// Returns `Unclosed` if a brace is not closed, `UnknownProperty` if the text is empty, and
-/// otherwise the errors of `plain_property`.
+/// Returns `UnknownProperty` if the text is empty or its one character names no property,
+/// `Unclosed` if no brace closes, and otherwise the errors of `plain_property`.
 #[tactic(auto, unfolding(crate::specs::Escapes::property_at))]
 fn property_at(alloc: Global, negated: bool, text: &[char]) -> Result<(Atom, &[char]), Fault>
     ensures { Yields (λ x. (x.0, x.1.now)) result (property_at negated text.now) }
@@ -123,12 +124,14 @@ fn property_at(alloc: Global, negated: bool, text: &[char]) -> Result<(Atom, &[c
     }
 }
 
-/// Reads hexadecimal digits up to a closing brace, from the text after the opening one.
+/// Reads hexadecimal digits up to `}`, from the text after `{`. Returns the atom of the character
+/// with their number, and the rest of the text.
 ///
 /// # Errors
 ///
-/// Returns `Unclosed` if only digits follow and no brace closes, `HexSyntax` if there is no digit
-/// or another character, and `HexNotScalar` if the number is not the number of a scalar value.
+/// Returns `Unclosed` if no `}` follows and the text has only digits, `HexSyntax` if there is no
+/// digit or there is another character, and `HexNotScalar` if the number is not that of a scalar
+/// value.
 #[tactic(auto, unfolding(crate::specs::Escapes::braces_at))]
 fn braces_at(text: &[char]) -> Result<(Atom, &[char]), Fault>
     ensures { Yields (λ x. (x.0, x.1.now)) result (braces_at text.now) }
@@ -143,7 +146,8 @@ fn braces_at(text: &[char]) -> Result<(Atom, &[char]), Fault>
     Ok((Atom::Character(c), rest))
 }
 
-/// Returns the fault of digits that no brace follows.
+/// Returns the fault of the text after a `{` that no `}` closes: `Unclosed` if it has only
+/// hexadecimal digits, and `HexSyntax` otherwise.
 fn digits_fault(digits: &[char]) -> Kind {
     if digits.iter().all(|c| hex_digit(*c).is_some()) {
         Kind::Unclosed
@@ -152,7 +156,8 @@ fn digits_fault(digits: &[char]) -> Kind {
     }
 }
 
-/// Reads `width` hexadecimal digits.
+/// Reads `width` hexadecimal digits. Returns the atom of the character with their number, and the
+/// rest of the text.
 ///
 /// # Errors
 ///
@@ -170,7 +175,7 @@ fn fixed_at(width: usize, text: &[char]) -> Result<(Atom, &[char]), Fault>
     Ok((Atom::Character(c), rest))
 }
 
-/// Reads two hexadecimal digits as the value of a byte.
+/// Reads two hexadecimal digits as the value of a byte. Returns its atom and the rest of the text.
 ///
 /// # Errors
 ///
@@ -188,7 +193,8 @@ fn byte_at(text: &[char]) -> Result<(Atom, &[char]), Fault>
     }
 }
 
-/// Reads the text after `\x`, `\u` or `\U`, where `letter` is the letter of the escape.
+/// Reads the text after `\x`, `\u` or `\U`, where `letter` is the letter of the escape. Returns the
+/// atom of the escape and the rest of the text.
 ///
 /// # Errors
 ///
@@ -209,7 +215,8 @@ fn hex_at(letter: char, text: &[char]) -> Result<(Atom, &[char]), Fault>
     }
 }
 
-/// Reads the text after `\b`. No characters are consumed, since `\b` alone is a word boundary.
+/// Reads the text after `\b`. Returns the atom of a word boundary and the whole text, since `\b`
+/// alone is a word boundary.
 ///
 /// # Errors
 ///
@@ -224,7 +231,7 @@ fn boundary_at(text: &[char]) -> Result<(Atom, &[char]), Fault>
     }
 }
 
-/// Returns the fault of a backslash before a character that it cannot escape.
+/// Returns the fault of a backslash before `c`, a character that it cannot escape.
 fn no_escape(c: char) -> Kind {
     match c {
         '<' | '>' => Kind::WordBoundaryForm,

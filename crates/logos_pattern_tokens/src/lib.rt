@@ -1,5 +1,5 @@
 //! The tokens of a pattern's text, and the readers that take one token from the front.
-//! `logos_syntax` calls them.
+//! `logos_syntax` calls the readers.
 
 #![tactic(auto)]
 

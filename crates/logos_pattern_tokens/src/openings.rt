@@ -41,7 +41,8 @@ fn is_name(text: &[char]) -> bool
     }
 }
 
-/// Returns the fault of a name that no `>` follows.
+/// Returns the fault of the text after a `<` that no `>` closes: `Unclosed` if it is a name or
+/// empty, and `GroupSyntax` otherwise.
 fn name_fault(text: &[char]) -> Kind {
     if text.is_empty() || is_name(text) {
         Kind::Unclosed
@@ -50,12 +51,12 @@ fn name_fault(text: &[char]) -> Kind {
     }
 }
 
-/// Reads the text after `(?<` or `(?P<`.
+/// Reads the text after `(?<` or `(?P<`. Returns the opening of the group and the text after `>`.
 ///
 /// # Errors
 ///
-/// Returns `Unclosed` if the text is a name, or empty, and has no `>`; otherwise `GroupSyntax` if
-/// no name comes before the `>`.
+/// Returns `Unclosed` if the text has no `>` and is a name or empty, and `GroupSyntax` if the text
+/// before `>`, or all of it without `>`, is not a name.
 #[tactic(auto, unfolding(crate::specs::Openings::name_at))]
 fn name_at(text: &[char]) -> Result<(Token<'_>, &[char]), Fault>
     ensures { Yields (λ x. (token_view x.0, x.1.now)) result (name_at text.now) }
@@ -69,7 +70,7 @@ fn name_at(text: &[char]) -> Result<(Token<'_>, &[char]), Fault>
     Ok((Token::Open(GroupOpening::Named(name)), rest))
 }
 
-/// Reads the text after `(?P`.
+/// Reads the text after `(?P`. Returns the opening of the group and the text after it.
 ///
 /// # Errors
 ///
@@ -110,7 +111,7 @@ fn no_change() -> Change
     }
 }
 
-/// Returns the new setting of a flag that is turned on or off.
+/// Returns the setting `on` of a flag whose setting so far is `flag`.
 ///
 /// # Errors
 ///
@@ -124,7 +125,8 @@ fn set_once(flag: Option<bool>, on: bool) -> Result<Option<bool>, Fault>
     }
 }
 
-/// Returns the flag setting with one more letter, which turns its flag on or off.
+/// Returns the flag setting with one more letter. The letter turns its flag on if `on`, and off
+/// otherwise.
 ///
 /// # Errors
 ///
@@ -188,7 +190,7 @@ fn next_letter(letters: Letters, c: char) -> Result<Letters, Fault>
     })
 }
 
-/// Returns the token at the end of a flag setting, and the rest of the text.
+/// Returns `token`, the token of a flag setting that ends here, and the rest of the text.
 ///
 /// # Errors
 ///
@@ -209,7 +211,8 @@ fn setting_end<'t>(
     }
 }
 
-/// Reads the letters of a flag setting up to `)` or `:`.
+/// Reads the letters of a flag setting up to `)` or `:`, after the letters `start`. Returns the
+/// token of the setting or of the group, and the rest of the text.
 ///
 /// # Errors
 ///
@@ -237,7 +240,8 @@ fn letters_from(start: Letters, text: &[char]) -> Result<(Token<'_>, &[char]), F
     Err(Fault::Syntax(Kind::Unclosed))
 }
 
-/// Reads the text after `(?`.
+/// Reads the text after `(?`. Returns the token of the group or of the flag setting, and the rest
+/// of the text.
 ///
 /// # Errors
 ///
@@ -256,7 +260,8 @@ fn option_at(text: &[char]) -> Result<(Token<'_>, &[char]), Fault>
     }
 }
 
-/// Returns the state before the first letter.
+/// Returns the letters of a flag setting before the first one is read: no flag changes, and a
+/// letter must follow.
 fn no_letters() -> Letters
     ensures { result ≡ no_letters }
 {

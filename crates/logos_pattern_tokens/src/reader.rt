@@ -11,7 +11,7 @@ use crate::openings::group_at;
 use crate::token::{Atom, Token};
 use std::alloc::Global;
 
-/// Reads an escape from the text after its backslash, as a token.
+/// Reads an escape from the text after its backslash. Returns its token and the rest of the text.
 ///
 /// # Errors
 ///
@@ -25,13 +25,12 @@ fn escape_token_at(alloc: Global, text: &[char]) -> Result<(Token<'_>, &[char]),
 }
 
 /// Reads the token at the front of the text, and returns it with the rest of the text. The text
-/// must not begin with `[`: brackets have their own reader, and this one returns `Unclosed` at a
-/// `[`.
+/// must not begin with `[`, since brackets have their own reader.
 ///
 /// # Errors
 ///
-/// Returns `Unclosed` if the text is empty, otherwise the fault of the token, and `Memory` if
-/// memory runs out.
+/// Returns `Unclosed` if the text is empty or begins with `[`, otherwise the fault of the token,
+/// and `Memory` if memory runs out.
 #[tactic(auto, unfolding(crate::specs::Reader::token_at))]
 pub fn token_at(alloc: Global, text: &[char]) -> Result<(Token<'_>, &[char]), Fault>
     ensures { Yields (λ x. (token_view x.0, x.1.now)) result (token_at text.now) }

@@ -3,7 +3,7 @@
 use logos_hir::property::PerlKind;
 use unicode::sets::Set;
 
-/// The flags that are on at a position of a pattern.
+/// The flags that are on at a point of a pattern's text.
 #[derive(Clone, Copy)]
 pub struct Flags {
     /// `u`: the pattern matches characters. Without it, the pattern matches bytes.
@@ -16,12 +16,12 @@ pub struct Flags {
     pub dot_all: bool,
     /// `U`: operators are lazy without `?`, and greedy with it.
     pub swap_greed: bool,
-    /// `R`: lines end with CR, LF or CR LF.
+    /// `R`: lines end with CR, LF or CR LF. Without it, lines end with LF.
     pub crlf: bool,
 }
 
-/// The effect of a flag setting on each flag: it turns the flag on or off, or leaves it unchanged
-/// (`None`).
+/// The effect of a flag setting on each flag: `Some(true)` turns the flag on, `Some(false)` turns
+/// it off, and `None` leaves it unchanged.
 #[derive(Clone, Copy)]
 pub struct Change {
     pub unicode: Option<bool>,
@@ -32,8 +32,8 @@ pub struct Change {
     pub crlf: Option<bool>,
 }
 
-/// A repetition operator: the least count, the greatest count, where `most` is `None` if there is
-/// no upper bound, and whether a `?` makes it lazy.
+/// A repetition operator: the least count `least`, the greatest count `most`, which is `None` if
+/// there is no upper bound, and whether a `?` follows (`lazy`).
 #[derive(Clone, Copy)]
 pub struct Operator {
     pub least: u32,
@@ -41,40 +41,40 @@ pub struct Operator {
     pub lazy: bool,
 }
 
-/// A part of a pattern that can be repeated and has no parts itself. A `bool` is whether the atom
-/// is negated.
+/// A part of a pattern, outside brackets, that can be repeated and has no parts itself. A `bool` is
+/// whether the atom is negated.
 #[derive(Clone, Copy)]
 pub enum Atom {
-    /// A character, or an escape of one other than `\xNN`.
+    /// A character, or an escape of a character other than `\xNN`.
     Character(char),
     /// `\xNN`: a byte if the pattern matches bytes, and the character with this number otherwise.
     Byte(u8),
-    /// `.`
+    /// `.`: any character or byte but a line end, or any at all with the flag `s`.
     Dot,
-    /// `^`
+    /// `^`: the start of the input or, with the flag `m`, of a line.
     Caret,
-    /// `$`
+    /// `$`: the end of the input or, with the flag `m`, of a line.
     Dollar,
-    /// `\A`
+    /// `\A`: the start of the input.
     TextStart,
-    /// `\z`
+    /// `\z`: the end of the input.
     TextEnd,
-    /// `\b`, `\B`
+    /// `\b`: a word boundary, or `\B` if it is negated.
     Boundary(bool),
-    /// `\d`, `\D`, `\s`, `\S`, `\w`, `\W`.
+    /// A class `\d`, `\s` or `\w`, or `\D`, `\S` or `\W` if it is negated.
     Perl(PerlKind, bool),
-    /// `\p{..}`, `\P{..}`
+    /// A property `\p{..}`, or `\P{..}` if it is negated.
     Property(Set, bool),
 }
 
-/// The forms of a group's opening.
+/// The opening of a group.
 #[derive(Clone, Copy)]
 pub enum GroupOpening<'t> {
-    /// `(`
+    /// `(`: the opening of a capture group.
     Capture,
-    /// `(?P<name>` or `(?<name>`
+    /// `(?P<name>` or `(?<name>`: the opening of a capture group with this name.
     Named(&'t [char]),
-    /// `(?:` or `(?flags:`
+    /// `(?:` or `(?flags:`: the opening of a group without capture, with its effect on the flags.
     Plain(Change),
 }
 
@@ -85,7 +85,7 @@ pub enum Token<'t> {
     Bar,
     Open(GroupOpening<'t>),
     Close,
-    /// `(?flags)`
+    /// `(?flags)`: a flag setting for the rest of the group.
     Setting(Change),
     Repeat(Operator),
 }

@@ -1,5 +1,5 @@
-//! The stack of the groups that are open while a pattern is read, which builds the tree. The parser
-//! adds each token to it.
+//! The stack of open groups, which builds the tree of a pattern while the pattern is read. The
+//! parser adds each token to the stack.
 
 ghost use Rattle.std.specs.Prelude.{◌≤◌, ◌≡◌, ◌+◌, ◌<◌, length, map, IfOk, OnOk, Some, unwrap_or, vec_len};
 ghost use Rattle.logos_syntax.specs.Imports.{pattern_nesting, tree_of, simplest_tree, flags_after, opening_view, token_view, closes, opens, repeats, sets, bracketed, atom as token_atom, Bracket, set_of, bracket_set, bracket_depth, inner_flags, captures, group_tree, is_greedy};
@@ -27,11 +27,11 @@ pub(crate) struct GroupPart {
 #[derive(Drop)]
 pub(crate) struct OpenedGroup {
     flags: Flags,
-    /// Whether the group is a capture.
+    /// Whether the group is a capture group.
     captured: bool,
     branches: Vec<Hir>,
     parts: Vec<Hir>,
-    /// The part that an operator would repeat, if an operator is allowed next.
+    /// The part that an operator would repeat, or `None` if no operator is allowed next.
     last: Option<GroupPart>,
     /// The depth of the group's innermost point in the whole pattern.
     inner: usize,
@@ -49,14 +49,14 @@ pub(crate) struct Groups {
     ghost shallow: { vec_len below ≤ pattern_nesting },
 }
 
-/// Returns a flag after a setting that turns it on or off, or leaves it unchanged.
+/// Returns the flag `flag` after a setting that turns it on or off, or leaves it unchanged.
 fn set_or(change: Option<bool>, flag: bool) -> bool
     ensures { result ≡ unwrap_or change flag }
 {
     change.unwrap_or(flag)
 }
 
-/// Returns the flags after a flag setting.
+/// Returns the flags `flags` after the flag setting `change`.
 fn flags_after(change: Change, flags: Flags) -> Flags
     ensures { result ≡ flags_after change flags }
 {
@@ -80,7 +80,7 @@ fn inner_flags(opening: GroupOpening<'_>, flags: Flags) -> Flags
     }
 }
 
-/// Returns whether a group with this opening is a capture.
+/// Returns whether a group with this opening is a capture group.
 fn captures(opening: GroupOpening<'_>) -> bool
     ensures { result ≡ captures (opening_view opening.entry) }
 {
@@ -90,14 +90,14 @@ fn captures(opening: GroupOpening<'_>) -> bool
     }
 }
 
-/// Returns whether the operator is greedy.
+/// Returns whether the operator is greedy with these flags.
 fn is_greedy(flags: Flags, op: Operator) -> bool
     ensures { result ≡ is_greedy flags op }
 {
     if flags.swap_greed { op.lazy } else { !op.lazy }
 }
 
-/// Returns the tree of a group, which is a capture if `captured` holds.
+/// Returns the tree of a group around `tree`: a capture group if `captured`, and `tree` otherwise.
 fn group_tree(alloc: Global, captured: bool, tree: Hir) -> Result<Hir, AllocError>
     ensures { IfOk result (λ hir. simplest_tree hir ≡ group_tree captured (simplest_tree tree)) }
 {
@@ -111,7 +111,8 @@ impl OpenedGroup {
     ghost use Rattle.logos_syntax.specs.Views.{pattern_nesting, Group, fresh, all_parts, put, set, next_branch, all_branches, whole_tree, repeat, part_view, group_view, Repeats};
 
     /// Returns a group of which only the opening has been read. `level` is the number of groups
-    /// around its inside.
+    /// around its inside, and `left` the number of characters from its opening to the end of the
+    /// text.
     fn new(alloc: Global, flags: Flags, captured: bool, level: usize, left: usize) -> OpenedGroup
         requires { level ≤ pattern_nesting }
         ensures { group_view result ≡ fresh flags captured level }
@@ -127,7 +128,8 @@ impl OpenedGroup {
         }
     }
 
-    /// Moves the part that an operator could repeat to the parts that no operator can.
+    /// Moves the part that an operator could repeat, if there is one, to the parts that none can
+    /// repeat.
     fn settle(&mut self) -> Result<(), AllocError>
         ensures { OnOk result (group_view self.new ≡ set (group_view self.old) self.old.flags) }
     {
@@ -137,7 +139,7 @@ impl OpenedGroup {
         Ok(())
     }
 
-    /// Adds a part that an operator could repeat.
+    /// Adds a part after the others, which an operator could repeat next.
     fn put(&mut self, part: GroupPart) -> Result<(), AllocError>
         ensures { OnOk result (group_view self.new ≡ put (group_view self.old) (part_view part)) }
     {
@@ -147,7 +149,7 @@ impl OpenedGroup {
         Ok(())
     }
 
-    /// Sets the flags for the rest of the group.
+    /// Sets the flags for the rest of the group. No operator can repeat the part before them.
     fn set(&mut self, flags: Flags) -> Result<(), AllocError>
         ensures { OnOk result (group_view self.new ≡ set (group_view self.old) flags) }
     {
@@ -167,7 +169,7 @@ impl OpenedGroup {
         Ok(())
     }
 
-    /// Returns the tree of the group, as if it ended here.
+    /// Returns the unsimplified tree of the group, as if the group ended here.
     fn finish(mut self, alloc: Global) -> Result<Hir, AllocError>
         ensures { IfOk result (λ hir. simplest_tree hir ≡ whole_tree (group_view self)) }
     {
@@ -210,7 +212,8 @@ impl Groups {
     ghost use Rattle.std.specs.Prelude.{[]};
     ghost use Rattle.logos_syntax.specs.Views.{pattern_nesting, State, start, whole_tree, step, state_view, Steps, Ends};
 
-    /// Returns the stack at the start of a pattern of `left` characters.
+    /// Returns the stack at the start of a pattern of `left` characters, at which the flags `flags`
+    /// are on.
     pub(crate) fn new(alloc: Global, flags: Flags, left: usize) -> Groups
         ensures { state_view result ≡ start flags }
     {
@@ -235,7 +238,8 @@ impl Groups {
         self.below.len()
     }
 
-    /// Returns the number of characters from the innermost opening to the end of the text.
+    /// Returns the number of characters from the opening of the innermost open group to the end of
+    /// the text, or from the start of the pattern if no group is open.
     pub(crate) fn opening(&self) -> usize {
         self.top.left
     }
@@ -249,7 +253,8 @@ impl Groups {
         }
     }
 
-    /// Adds an atom.
+    /// Adds an atom to the innermost group. `left` is the number of characters from the atom to the
+    /// end of the text.
     ///
     /// # Errors
     ///
@@ -271,7 +276,8 @@ impl Groups {
         Ok(())
     }
 
-    /// Adds a bracket with the set `found`.
+    /// Adds a bracket with the set and the depth `found` to the innermost group. `left` is the
+    /// number of characters from the bracket to the end of the text.
     pub(crate) fn class(
         &mut self,
         alloc: Global,
@@ -290,7 +296,8 @@ impl Groups {
         Ok(())
     }
 
-    /// Opens a group.
+    /// Opens a group inside the innermost one. `left` is the number of characters from the group's
+    /// opening to the end of the text.
     ///
     /// # Errors
     ///
@@ -311,7 +318,8 @@ impl Groups {
         Ok(())
     }
 
-    /// Closes the innermost group.
+    /// Closes the innermost group, and adds its tree to the group around it. `left` is the number
+    /// of characters from the closing parenthesis to the end of the text.
     ///
     /// # Errors
     ///
@@ -333,7 +341,7 @@ impl Groups {
         Ok(())
     }
 
-    /// Sets flags in the innermost group.
+    /// Changes the flags for the rest of the innermost group.
     fn setting(&mut self, change: Change) -> Result<(), Stop>
         ensures { Steps (state_view self.old) (sets change) result (state_view self.new) }
     {
@@ -352,13 +360,13 @@ impl Groups {
         self.top.repeat(alloc, op, left)
     }
 
-    /// Adds the next token. `left` is the number of characters from the token to the end of the
-    /// text.
+    /// Adds the next token to the innermost group, or opens or closes a group. `left` is the number
+    /// of characters from the token to the end of the text.
     ///
     /// # Errors
     ///
-    /// Returns the fault of the token at this position, `LimitPatternNesting` if it is nested too
-    /// deeply, or `Memory` if memory runs out.
+    /// Returns the fault of the token after the tokens before it, `LimitPatternNesting` if it is
+    /// nested too deeply, or `Memory` if memory runs out.
     pub(crate) fn step(&mut self, alloc: Global, token: Token<'_>, left: usize) -> Result<(), Stop>
         ensures { Steps (state_view self.old) (token_view token.entry) result
             (state_view self.new) }
@@ -373,7 +381,7 @@ impl Groups {
         }
     }
 
-    /// Returns the tree of the whole pattern.
+    /// Returns the simplified tree of the whole pattern.
     ///
     /// # Errors
     ///

@@ -23,7 +23,7 @@ impl GroupNames {
         }
     }
 
-    /// Adds a name, and returns whether it is new.
+    /// Adds a name to the set, and returns whether the set did not contain it.
     fn add(&mut self, alloc: Global, name: &[char]) -> Result<bool, AllocError>
         ensures { (seen : List Text) → HasNames self.old seen →
             IfOk result (λ added. (added ≡ not (list_any (bytes_eq name.now) seen)) ×
@@ -33,8 +33,8 @@ impl GroupNames {
         Ok(self.seen.insert(key)?)
     }
 
-    /// Adds the name of the group that the token opens, if it has one, and returns whether it is
-    /// new. Returns `true` for all other tokens.
+    /// Adds the name of the group that the token opens, and returns whether the name is new.
+    /// Returns `true` if the token opens no group with a name.
     pub(crate) fn admit(&mut self, alloc: Global, token: Token<'_>) -> Result<bool, AllocError>
         ensures { (seen : List Text) → HasNames self.old seen →
             IfOk result (λ admitted. Admits seen (token_view token.entry) admitted self.new) }

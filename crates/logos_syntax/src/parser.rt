@@ -12,7 +12,7 @@ use logos_pattern_tokens::reader::token_at;
 use logos_pattern_tokens::token::Flags;
 use std::alloc::{AllocError, Global};
 
-/// A pattern that is being read.
+/// The state of reading a pattern: the groups that are open, and the names of groups so far.
 #[derive(Drop)]
 pub(crate) struct PatternParser {
     groups: Groups,
@@ -20,7 +20,8 @@ pub(crate) struct PatternParser {
 }
 
 impl PatternParser {
-    /// Returns a parser at the front of a text of `left` characters.
+    /// Returns a parser at the front of a text of `left` characters, at which the flags `flags` are
+    /// on.
     fn new(alloc: Global, flags: Flags, left: usize) -> PatternParser
         ensures groups { state_view result.groups ≡ start flags }
         ensures names { HasNames result.names [] }
@@ -31,7 +32,7 @@ impl PatternParser {
         }
     }
 
-    /// Returns the stop for a fault of the token at the front of the text.
+    /// Returns the stop for the fault `fault` of the token at the front of `text`.
     fn stop(&self, fault: Fault, text: &[char]) -> Stop
         ensures { IsStopOf fault result }
     {
@@ -45,9 +46,9 @@ impl PatternParser {
         }
     }
 
-    /// Returns the stop for a fault of counts. The fault is at the start of the part that the
-    /// counts would repeat, but at the brace if the brace is not closed or if there is nothing to
-    /// repeat.
+    /// Returns the stop for a fault of counts, whose brace is `left` characters before the end of
+    /// the text. The fault is at the start of the part that the counts would repeat, but at the
+    /// brace if the brace is not closed or if there is nothing to repeat.
     fn count_stop(&self, kind: Kind, left: usize) -> Stop
         ensures { IsStopOf (Fault.Syntax kind) result }
     {
@@ -61,7 +62,8 @@ impl PatternParser {
         }
     }
 
-    /// Reads a bracket from the text after its `[`, and returns the rest of the text.
+    /// Reads a bracket from the text after its `[`, adds it to the innermost group, and returns the
+    /// rest of the text.
     ///
     /// # Errors
     ///
@@ -82,7 +84,8 @@ impl PatternParser {
         Ok(rest)
     }
 
-    /// Reads a token that does not begin a bracket, and returns the rest of the text.
+    /// Reads a token that does not begin a bracket, adds it to the groups, and returns the rest of
+    /// the text.
     ///
     /// # Errors
     ///
@@ -109,7 +112,8 @@ impl PatternParser {
         Ok(rest)
     }
 
-    /// Reads the token or the bracket at the front, and returns the rest of the text.
+    /// Reads the token or the bracket at the front, adds it to the groups, and returns the rest of
+    /// the text.
     ///
     /// # Errors
     ///
@@ -130,7 +134,8 @@ impl PatternParser {
     }
 }
 
-/// Returns the kind of a fault of a group's opening: `GroupSyntax` for look-around.
+/// Returns the kind of a fault of the group's opening at the front of `text`: `GroupSyntax` for
+/// look-around, and `kind` otherwise.
 fn group_kind(kind: Kind, text: &[char]) -> Kind {
     match text {
         ['(', '?', '=' | '!', ..] => Kind::GroupSyntax,
@@ -138,7 +143,7 @@ fn group_kind(kind: Kind, text: &[char]) -> Kind {
     }
 }
 
-/// Reads the whole text.
+/// Reads the whole text as a pattern, and returns its tree.
 ///
 /// # Errors
 ///
@@ -160,7 +165,7 @@ fn run(alloc: Global, flags: Flags, text: &[char]) -> Result<Hir, Stop>
     parser.groups.finish(alloc)
 }
 
-/// Returns the number of bytes of the characters in UTF-8.
+/// Returns the number of bytes that the characters take in UTF-8.
 fn byte_len(text: &[char]) -> usize {
     let mut len: usize = 0;
     for c in text {
@@ -169,7 +174,7 @@ fn byte_len(text: &[char]) -> usize {
     len
 }
 
-/// Returns the error for a fault at the position with `left` characters after it.
+/// Returns the error for a fault that is `left` characters before the end of `text`.
 fn syntax_at(text: &[char], kind: Kind, left: usize) -> PatternError
     ensures { (at : ℕ) × (result ≡ PatternError.Syntax kind at) }
 {
@@ -180,7 +185,7 @@ fn syntax_at(text: &[char], kind: Kind, left: usize) -> PatternError
     }
 }
 
-/// Returns the error for a stop.
+/// Returns the error for the stop `stop` in the text `text`.
 fn error_at(text: &[char], stop: Stop) -> PatternError
     ensures refused { (flags : FlagsValue) (t : Text) → StopsText flags t stop →
         Refuses flags t result }

@@ -11,7 +11,8 @@ use logos_hir::sets::RangeSet;
 use logos_pattern_tokens::token::{Atom, Flags};
 use std::alloc::{AllocError, Global};
 
-/// Returns the tree that matches one character, or one byte, of the set.
+/// Returns the tree that matches one character of the set, or one byte of it if the pattern matches
+/// bytes.
 pub(crate) fn one_of(alloc: Global, flags: Flags, set: RangeSet) -> Result<Hir, AllocError>
     ensures { IfOk result (λ hir. tree_of hir ≡ one_of flags (set_of set)) }
 {
@@ -21,8 +22,8 @@ pub(crate) fn one_of(alloc: Global, flags: Flags, set: RangeSet) -> Result<Hir, 
     builder::byte_class(alloc, set)
 }
 
-/// Returns the set that contains only the number. If `i` is on, it also contains the numbers that
-/// differ from it only in case.
+/// Returns the set that contains only the number `code`. If `i` is on, it also contains the numbers
+/// that differ from `code` only in case.
 fn same_as(alloc: Global, flags: Flags, code: u32) -> Result<RangeSet, AllocError>
     ensures { IfOk result (λ set. set_of set ≡ same_as flags code) }
 {
@@ -39,7 +40,8 @@ fn encoding(alloc: Global, c: char) -> Result<Hir, AllocError>
     Ok(Hir::Literal(Vec::from_slice(alloc, bytes)?))
 }
 
-/// Returns the tree of a character, in each case if `i` is on.
+/// Returns the tree of a character, in both cases if `i` is on. If the pattern matches bytes, only
+/// ASCII letters match in both cases.
 fn character(alloc: Global, flags: Flags, c: char) -> Result<Hir, AllocError>
     ensures { IfOk result (λ hir. tree_of hir ≡ character_tree flags c) }
 {
@@ -50,7 +52,7 @@ fn character(alloc: Global, flags: Flags, c: char) -> Result<Hir, AllocError>
 }
 
 /// Returns the tree of a byte, or of the character with its number if the pattern matches
-/// characters.
+/// characters. It matches in both cases if `i` is on.
 fn byte(alloc: Global, flags: Flags, b: u8) -> Result<Hir, AllocError>
     ensures { IfOk result (λ hir. tree_of hir ≡ byte_tree flags b) }
 {
@@ -63,7 +65,8 @@ fn byte(alloc: Global, flags: Flags, b: u8) -> Result<Hir, AllocError>
     Ok(Hir::Literal(Vec::from_slice(alloc, &[b])?))
 }
 
-/// Returns the set of a dot: all characters but line ends, or all characters if `s` is on.
+/// Returns the set of a dot: all characters but LF, and but CR if `R` is on, or all characters if
+/// `s` is on.
 fn dot_set(alloc: Global, flags: Flags) -> Result<RangeSet, AllocError>
     ensures { IfOk result (λ set. set_of set ≡ dot_set flags) }
 {
@@ -111,7 +114,8 @@ fn boundary(negated: bool) -> Look
     }
 }
 
-/// Returns the tree that matches one member of a class, or one member of its complement.
+/// Returns the tree that matches one member of the class `set`, with its other cases if `i` is on,
+/// or one member of the complement if `negated`.
 fn class(alloc: Global, flags: Flags, negated: bool, set: RangeSet) -> Result<Hir, AllocError>
     ensures { IfOk result (λ hir. tree_of hir ≡
         one_of flags (set_or_complement flags negated (case_closure flags (set_of set)))) }

@@ -43,7 +43,7 @@ pub struct SpannedError {
     pub code: FaultCode,
     pub message: String,
     pub span: Span,
-    /// A second span that the fault is about.
+    /// A second span that the fault is about, or `None` if the fault is about one span.
     pub also: Option<Span>,
     /// The detail of the fault.
     pub detail: Detail,
@@ -71,7 +71,7 @@ impl Errors {
     ghost use Rattle.std.specs.Prelude.{◌≡◌, ◌++◌, ◌∷◌, [], OnOk, OnErr, Some, None};
     ghost use Rattle.logos_token.specs.ViewImports.{faults_of};
 
-    /// Returns an empty list, which takes its memory from `alloc`.
+    /// Returns an empty list of faults, which takes its memory from `alloc`.
     pub fn new(alloc: Global) -> Errors
         ensures { result ≡ [] }
     {
@@ -81,11 +81,11 @@ impl Errors {
         }
     }
 
-    /// Adds a fault at the end.
+    /// Adds a fault at the end of the list, with neither a second span nor a detail.
     ///
     /// # Errors
     ///
-    /// Returns `Memory` if memory runs out. The list is then unchanged.
+    /// Returns `Memory` if memory runs out. The list of faults is then unchanged.
     pub fn err(&mut self, code: FaultCode, message: &str, span: Span) -> Result<(), Memory>
         ensures ok { OnOk result (self.new ≡ self.old ++ (record {
           code = code;
@@ -99,11 +99,11 @@ impl Errors {
         self.add(code, message, span, None, Detail::Plain)
     }
 
-    /// Adds a fault with a detail at the end.
+    /// Adds a fault with the detail `detail` at the end of the list.
     ///
     /// # Errors
     ///
-    /// Returns `Memory` if memory runs out. The list is then unchanged.
+    /// Returns `Memory` if memory runs out. The list of faults is then unchanged.
     pub fn err_with(
         &mut self,
         code: FaultCode,
@@ -123,11 +123,11 @@ impl Errors {
         self.add(code, message, span, None, detail)
     }
 
-    /// Adds a fault that is about two spans, at the end.
+    /// Adds a fault that is about the two spans `span` and `also` at the end of the list.
     ///
     /// # Errors
     ///
-    /// Returns `Memory` if memory runs out. The list is then unchanged.
+    /// Returns `Memory` if memory runs out. The list of faults is then unchanged.
     pub fn err_also(
         &mut self,
         code: FaultCode,
@@ -147,11 +147,11 @@ impl Errors {
         self.add(code, message, span, Some(also), Detail::Plain)
     }
 
-    /// Adds the faults of `more` at the end, in their order.
+    /// Adds the faults of `more` at the end of the list, in their order.
     ///
     /// # Errors
     ///
-    /// Returns `Memory` if memory runs out. The list is then unchanged.
+    /// Returns `Memory` if memory runs out. The list is then unchanged, and `more` is lost.
     pub fn append(&mut self, mut more: Errors) -> Result<(), Memory>
         ensures ok { OnOk result (self.new ≡ self.old ++ more) }
         ensures err { OnErr result (self.new ≡ self.old) }
@@ -172,7 +172,7 @@ impl Errors {
         &self.collected
     }
 
-    /// Adds a fault at the end. After an error the list is unchanged.
+    /// Adds a fault at the end of the list. After an error the list is unchanged.
     fn add(
         &mut self,
         code: FaultCode,

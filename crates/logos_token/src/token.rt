@@ -1,4 +1,5 @@
-//! The tokens of a source text. `reader` makes them, and `views` provides access to them.
+//! Tokens of a source text: `reader` makes them, and `views` provides access to them. Every crate
+//! that reads sources uses them.
 
 mod entry;
 mod laws;
@@ -14,7 +15,7 @@ pub use reader::{TokenError, spelled_in_order, spells_once, tokenize};
 pub use value::LiteralValue;
 pub use views::{Group, TokenIter, TokenStream, TokenTree, Tokens};
 
-/// An identifier.
+/// An identifier of a source, with its `r#` if it has one.
 #[derive(Clone, Copy)]
 pub struct Ident<'s> {
     pub text: &'s str,
@@ -29,7 +30,7 @@ pub struct Punct {
     pub span: Span,
 }
 
-/// A literal.
+/// A literal of a source, with its suffix if it has one.
 #[derive(Clone, Copy)]
 pub struct Literal<'s> {
     pub text: &'s str,

@@ -15,8 +15,7 @@ pub use near::is_near;
 use std::alloc::Global;
 use std::mem;
 
-/// Returns whether `tree` is the punctuation `expected` with no other punctuation directly after
-/// it.
+/// Returns whether `tree` is the punctuation `expected` with the spacing `Alone`.
 pub fn is_punct(tree: &TokenTree<'_, '_>, expected: char) -> bool
     ensures { result ≡ is_alone expected (tree_of tree.now) }
 {
@@ -28,8 +27,8 @@ pub fn is_punct(tree: &TokenTree<'_, '_>, expected: char) -> bool
     }
 }
 
-/// Returns `None` if `tree` is the punctuation `expected` with no other punctuation directly after
-/// it, and `tree` otherwise.
+/// Returns `tree` unless it is the punctuation `expected` with the spacing `Alone`. Returns `None`
+/// in that case, and if `tree` is `None`.
 pub fn expect_punct<'t, 's>(
     tree: Option<TokenTree<'t, 's>>,
     expected: char,
@@ -62,7 +61,7 @@ impl<'a> ToIdent<'a> for &'a str {
     }
 }
 
-/// Tokens, or `Void` if there are none, which is printed as `()`.
+/// A stream of tokens, or `Void` for no stream. `Void` is printed as `( )`.
 #[derive(Drop)]
 pub enum MaybeVoid<'s> {
     Some(TokenStream<'s>),
@@ -70,7 +69,7 @@ pub enum MaybeVoid<'s> {
 }
 
 impl<'s> MaybeVoid<'s> {
-    /// Replaces the tokens and returns the former ones.
+    /// Replaces the value with the tokens of `stream`, and returns the former value.
     pub fn replace(&mut self, stream: TokenStream<'s>) -> MaybeVoid<'s>
         ensures former { result ≡ self.old }
         ensures after { self.new ≡ MaybeVoid.Some stream.entry }
@@ -78,7 +77,7 @@ impl<'s> MaybeVoid<'s> {
         mem::replace(self, MaybeVoid::Some(stream))
     }
 
-    /// Removes the tokens and returns them.
+    /// Replaces the value with `Void`, and returns the former value.
     pub fn take(&mut self) -> MaybeVoid<'s>
         ensures former { result ≡ self.old }
         ensures after { self.new ≡ MaybeVoid.Void }
@@ -86,7 +85,7 @@ impl<'s> MaybeVoid<'s> {
         mem::replace(self, MaybeVoid::Void)
     }
 
-    /// Returns the printed text of the tokens, or `()` if there are none.
+    /// Returns the printed text of the tokens, or `( )` for `Void`.
     ///
     /// # Errors
     ///

@@ -1,5 +1,5 @@
-//! Prints types. `logos_text` and `logos_tables` print the types of generated code with it, and
-//! `logos_definition` the error type.
+//! Prints types. `logos_text` and `logos_tables` call it for the types of generated code, and
+//! `logos_definition` for the error type.
 
 ghost use Rattle.std.specs.Prelude.{◌≡◌, IfOk, OnOk, fold, string_bytes};
 ghost use Rattle.logos_type.specs.Views.{print_part, printed_of, sign_of, tree_of, lifetime_parts, sign_parts, type_parts, printed_type, type_tree};
@@ -9,7 +9,7 @@ use logos_token::error::Memory;
 use logos_token::token::{Printer, closing_text, gap_after, gap_after_doc, opening_text};
 use std::alloc::Global;
 
-/// Prints a lifetime.
+/// Prints a lifetime, `'` and the name `text`.
 fn add_lifetime(printer: &mut Printer, text: &str) -> Result<(), Memory>
     ensures { OnOk result (printed_of printer.new ≡
         fold print_part (printed_of printer.old) (lifetime_parts text.now)) }
@@ -55,7 +55,7 @@ fn add_leaf(printer: &mut Printer, leaf: TypeToken<'_>) -> Result<(), Memory>
     }
 }
 
-/// Prints a part.
+/// Prints a part, with all parts inside it.
 fn add_part(printer: &mut Printer, part: &TypePart<'_>) -> Result<(), Memory>
     ensures { OnOk result (printed_of printer.new ≡
         fold print_part (printed_of printer.old) (type_parts (tree_of part.now))) }

@@ -34,7 +34,7 @@ pub fn levels_only_limit()
         × (levels < others) }
 {}
 
-/// The types that exceed the limit are exactly the deeper ones.
+/// A type exceeds the limit exactly if its depth is greater than the limit.
 pub fn limit_is_depth()
     ensures within { (levels : ℕ) (plus : Bool) (run rest : TokenList) (tree : Tree) →
         IsType levels plus run tree rest → depth tree ≤ levels }
@@ -44,7 +44,7 @@ pub fn limit_is_depth()
         IsType levels plus run tree rest → others < depth tree → NoType others plus run too_deep }
 {}
 
-/// The tokens after a type are the rest of its run, with fewer tokens.
+/// The tokens after a type are its run without the first tokens, of which there is at least one.
 pub fn type_is_front()
     ensures rest { (run rest : TokenList) (tree : Tree) → IsTypeExpr run tree rest →
         IsRestOf run rest }
@@ -52,14 +52,14 @@ pub fn type_is_front()
         count_of rest < count_of run }
 {}
 
-/// A written type before a rest that does not lengthen it is read as that type.
+/// If a run is a written type and a rest that does not lengthen it, the written type is read.
 pub fn reads_written()
     ensures { (levels : ℕ) (plus : Bool) (run rest : TokenList) (tree : Tree) (ending : Ending) →
         Written levels plus run tree rest ending → may_follow ending rest ≡ true →
         IsType levels plus run tree rest }
 {}
 
-/// A type that is read is a written type before a rest that does not lengthen it.
+/// If a type is read, its run is that type as written and a rest that does not lengthen it.
 pub fn read_is_written()
     ensures { (levels : ℕ) (plus : Bool) (run rest : TokenList) (tree : Tree) →
         IsType levels plus run tree rest → (ending : Ending)

@@ -10,14 +10,14 @@ use logos_token::token::{Group, Span, TokenTree, Tokens};
 use logos_type::{TypeExpr, TypePart, TypeToken};
 use std::alloc::{AllocError, AllocFailed, Global};
 
-/// The reasons why a run does not begin with a type.
+/// The reason why a run does not begin with a type.
 #[derive(Clone, Copy)]
 pub enum TypeFault {
-    /// An unsupported type is at this span.
+    /// An unsupported type, at this span.
     Unsupported { span: Span },
-    /// The first token that does not fit is at this span, which is `0..0` at the end of the tokens.
+    /// The first token that does not fit, at this span, which is `0..0` at the end of the tokens.
     Mismatch { span: Span },
-    /// More types are nested than the limit allows.
+    /// More nested types than the limit allows.
     LimitNesting,
     /// Memory ran out.
     Memory,
@@ -53,7 +53,7 @@ impl From<StepFault> for TypeFault {
 /// The greatest number of types that can be nested. The outermost one counts.
 pub const TYPE_NESTING: u32 = 128;
 
-/// Adds a token as a part.
+/// Adds the token `leaf` to `parts` as one part.
 fn add_leaf<'s>(leaf: TypeToken<'s>, parts: &mut Vec<TypePart<'s>>) -> Result<(), AllocError>
     ensures { OnOk result (map tree_of parts.new.items ≡
         map tree_of parts.old.items ++ sign (sign_of leaf.entry) ∷ []) }
@@ -62,8 +62,8 @@ fn add_leaf<'s>(leaf: TypeToken<'s>, parts: &mut Vec<TypePart<'s>>) -> Result<()
     Ok(())
 }
 
-/// Adds the tokens of a run without reading types in them. A group adds its delimiters and the
-/// tokens inside it.
+/// Adds the tokens of a run to `parts` without reading types in them. A group adds its delimiters
+/// and the tokens inside it.
 #[cycle(keeping)]
 fn keep_tokens<'s>(run: Tokens<'_, 's>, parts: &mut Vec<TypePart<'s>>) -> Result<(), AllocError>
     ensures { OnOk result (map tree_of parts.new.items ≡
@@ -77,7 +77,7 @@ fn keep_tokens<'s>(run: Tokens<'_, 's>, parts: &mut Vec<TypePart<'s>>) -> Result
     Ok(())
 }
 
-/// Adds one token without reading types in it.
+/// Adds a token, or the tokens of a group, to `parts` without reading types in it.
 #[cycle(keeping)]
 fn keep_token<'s>(tree: TokenTree<'_, 's>, parts: &mut Vec<TypePart<'s>>) -> Result<(), AllocError>
     ensures { OnOk result (map tree_of parts.new.items ≡
@@ -95,7 +95,8 @@ fn keep_token<'s>(tree: TokenTree<'_, 's>, parts: &mut Vec<TypePart<'s>>) -> Res
     }
 }
 
-/// Adds the delimiters of a group and the tokens between them, without reading types in them.
+/// Adds the delimiters of a group and the tokens between them to `parts` without reading types in
+/// them.
 #[cycle(keeping)]
 fn keep_group<'s>(group: Group<'_, 's>, parts: &mut Vec<TypePart<'s>>) -> Result<(), AllocError>
     ensures { OnOk result (map tree_of parts.new.items ≡ map tree_of parts.old.items ++
@@ -107,7 +108,8 @@ fn keep_group<'s>(group: Group<'_, 's>, parts: &mut Vec<TypePart<'s>>) -> Result
     add_leaf(TypeToken::Close(group.delimiter), parts)
 }
 
-/// Returns the tokens after the group that is open at `spot`, or the tokens at `spot` if none is.
+/// Returns the tokens after the group that is open at `spot`, or the tokens at `spot` if no group
+/// is open.
 fn after_all<'t, 's>(spot: Spot<'t, 's>) -> Tokens<'t, 's>
     ensures { tokens_of result ≡ outer (tokens_of spot.entry.run) (outside_of spot.entry.outside) }
 {
@@ -117,7 +119,8 @@ fn after_all<'t, 's>(spot: Spot<'t, 's>) -> Tokens<'t, 's>
     }
 }
 
-/// Returns the spot at `stage` once a type or a path has been read up to `run`.
+/// Returns the spot after a type or a path at `spot`: its stage is `stage`, and its tokens are
+/// `run`, the tokens after the type or path.
 fn after_type<'t, 's>(spot: Spot<'t, 's>, stage: Stage, run: Tokens<'t, 's>) -> Spot<'t, 's>
     ensures { spot_of result ≡ after_type (spot_of spot.entry) stage (tokens_of run.entry) }
 {
@@ -128,7 +131,7 @@ fn after_type<'t, 's>(spot: Spot<'t, 's>, stage: Stage, run: Tokens<'t, 's>) -> 
     }
 }
 
-/// Returns a list with one part.
+/// Returns a list whose only part is `part`.
 fn begun_parts<'s>(alloc: Global, part: TypePart<'s>) -> Result<Vec<TypePart<'s>>, AllocError>
     ensures { IfOk result (λ parts. map tree_of parts.items ≡ tree_of part.entry ∷ []) }
 {
@@ -137,8 +140,8 @@ fn begun_parts<'s>(alloc: Global, part: TypePart<'s>) -> Result<Vec<TypePart<'s>
     Ok(parts)
 }
 
-/// Adds one part and continues at the spot `next`. `bars` is whether the part makes the type
-/// unsupported.
+/// Adds `part` to `parts`. Returns `bars`, which is whether the part makes the type unsupported,
+/// and the spot `next`.
 fn move_past<'t, 's>(
     bars: bool,
     part: TypePart<'s>,
@@ -153,7 +156,8 @@ fn move_past<'t, 's>(
     Ok(Some((bars, next)))
 }
 
-/// Adds the tokens of a run without reading types in them, and continues at the spot after them.
+/// Adds the tokens of `run` to `parts`, without reading types in them, as one part that is never
+/// replaced. Returns `false`, since the part makes no type unsupported, and the spot `next`.
 fn move_past_run<'t, 's>(
     alloc: Global,
     run: Tokens<'t, 's>,
@@ -172,8 +176,8 @@ fn move_past_run<'t, 's>(
     }
 }
 
-/// Adds a part that is never replaced, made of the one part `part`, and continues at the spot
-/// `next`.
+/// Adds a part that is never replaced and consists of `part` to `parts`. Returns `false`, since the
+/// part makes no type unsupported, and the spot `next`.
 fn move_past_still<'t, 's>(
     alloc: Global,
     part: TypePart<'s>,
@@ -191,7 +195,8 @@ fn move_past_still<'t, 's>(
     }
 }
 
-/// Reads a type, adds it, and continues at a spot after it.
+/// Reads the type at `spot` and adds it to `parts`. Returns `false`, since the type is supported,
+/// and the spot after it at `stage`. `levels` and `plus` are as for `type_at`.
 #[cycle(types)]
 fn move_past_type<'t, 's>(
     alloc: Global,
@@ -211,7 +216,8 @@ fn move_past_type<'t, 's>(
     }
 }
 
-/// Reads a type, adds it as a part that is never replaced, and continues at a spot after it.
+/// Reads the type at `spot` and adds it to `parts` as a part that is never replaced. Returns
+/// `false`, since the type is supported, and the spot after it at `stage`.
 #[cycle(types)]
 fn move_past_still_type<'t, 's>(
     alloc: Global,
@@ -230,8 +236,9 @@ fn move_past_still_type<'t, 's>(
     }
 }
 
-/// Adds the first token of a path or of bounds and then their parts, and continues at a spot after
-/// them.
+/// Adds the first token of a path or of bounds, and then their other parts, to `parts`. `opening`
+/// is the first token with the spot after it. Returns whether a part makes the type unsupported,
+/// and the spot after the parts at `stage`.
 #[cycle(types)]
 fn move_past_nest<'t, 's>(
     alloc: Global,
@@ -253,7 +260,8 @@ fn move_past_nest<'t, 's>(
     }
 }
 
-/// Adds the parts of `step`, the next step at a spot.
+/// Adds the parts of `step`, the next step at a spot, to `parts`. Returns whether one of them makes
+/// the type unsupported, and the spot after them. Returns `None` if the step ends the construct.
 #[cycle(types)]
 fn make_step<'t, 's>(
     alloc: Global,
@@ -279,8 +287,8 @@ fn make_step<'t, 's>(
     }
 }
 
-/// Adds the next parts at a spot. Returns whether one of them makes the type unsupported, and the
-/// spot after them. Returns `None` if no step follows.
+/// Adds the parts of the next step at a spot to `parts`. Returns whether one of them makes the type
+/// unsupported, and the spot after them. Returns `None` if the construct ends at the spot.
 #[cycle(types)]
 fn move_on<'t, 's>(
     alloc: Global,
@@ -297,8 +305,8 @@ fn move_on<'t, 's>(
     }
 }
 
-/// Adds the parts from a spot to the end of the construct that was begun there. Returns whether one
-/// of them makes the type unsupported, and the tokens after them.
+/// Adds the parts from the spot `from` to the end of the construct that was begun there to `parts`.
+/// Returns whether one of them makes the type unsupported, and the tokens after them.
 #[cycle(types)]
 fn parts_at<'t, 's>(
     alloc: Global,
@@ -318,7 +326,7 @@ fn parts_at<'t, 's>(
     Ok((barred, after_all(spot)))
 }
 
-/// Returns the span of the tokens before `rest`.
+/// Returns the span of the tokens of `tokens` before `rest`.
 fn span_before<'t, 's>(tokens: Tokens<'t, 's>, rest: Tokens<'t, 's>) -> Span
     requires { IsRestOf (tokens_of tokens) (tokens_of rest) }
     ensures { (split : IsRestOf (tokens_of tokens.entry) (tokens_of rest.entry)) →
@@ -328,7 +336,8 @@ fn span_before<'t, 's>(tokens: Tokens<'t, 's>, rest: Tokens<'t, 's>) -> Span
     front.span()
 }
 
-/// Returns the type at the start of the tokens, if it is more than a name, and the tokens after it.
+/// Returns the type at the start of the tokens, which is more than a name, and the tokens after it.
+/// `levels` and `plus` are as for `type_at`.
 #[cycle(types)]
 fn formed_at<'t, 's>(
     alloc: Global,
@@ -363,7 +372,7 @@ fn formed_at<'t, 's>(
 }
 
 /// Returns the type at the start of the tokens, and the tokens after it. At most `levels` types can
-/// be nested, where the outermost one counts. `+` joins bounds only if `plus` is `true`.
+/// be nested, where the outermost type counts. `+` joins bounds only if `plus` is `true`.
 #[cycle(types)]
 pub(crate) fn type_at<'t, 's>(
     alloc: Global,
@@ -389,8 +398,8 @@ pub(crate) fn type_at<'t, 's>(
 /// # Errors
 ///
 /// Returns `Unsupported` with the span of an unsupported type, `Mismatch` with the span of the
-/// first token that does not fit, `LimitNesting` if more than 128 types are nested, and `Memory` if
-/// memory runs out.
+/// first token that does not fit, or `0..0` at the end of the tokens, `LimitNesting` if more than
+/// 128 types are nested, and `Memory` if memory runs out.
 pub fn read_type<'t, 's>(
     alloc: Global,
     tokens: Tokens<'t, 's>,

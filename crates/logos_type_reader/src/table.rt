@@ -35,7 +35,7 @@ use paths::{
 pub(crate) use stage::{Spot, Stage, StepFault, TypeStep};
 use stage::{BoundKind, Next, Outside, PathKind, TableEntry};
 
-/// Returns the action at a spot inside a type.
+/// Returns the action at a spot inside a type, or the fault if no action fits.
 #[tactic(auto, unfolding(crate::specs::Table::next_at))]
 fn action_at(at: &Spot<'_, '_>) -> Next
     ensures { IsAction result (spot_of at.now)
@@ -74,7 +74,8 @@ fn action_at(at: &Spot<'_, '_>) -> Next
     }
 }
 
-/// Returns the action at a spot in a bound, in `for<..>` or in the type of a function.
+/// Returns the action at a spot in a bound, in `for<..>` or in the type of a function, or the fault
+/// if no action fits.
 #[tactic(auto, unfolding(crate::specs::Table::next_at))]
 fn bound_action_at(at: &Spot<'_, '_>) -> Next
     requires { IsTrue (is_in_bounds at.now.stage) }
@@ -106,7 +107,8 @@ fn bound_action_at(at: &Spot<'_, '_>) -> Next
     }
 }
 
-/// Returns the next step at a spot inside a type.
+/// Returns the next step at the spot inside a type with this stage, these tokens and the tokens
+/// `outside` after the open group. Returns the fault if no step fits.
 pub(crate) fn next_at<'t, 's>(
     stage: Stage,
     run: Tokens<'t, 's>,

@@ -1,5 +1,4 @@
-//! Builders of alternations, which flatten them and turn them into classes. Only the simplifier
-//! calls them.
+//! Builders that flatten alternations and turn them into classes. The simplifier calls them.
 
 ghost use Rattle.std.specs.Prelude.{◌≡◌, ◌≤◌, ◌++◌, ◌∷◌, [], map, length, take, drop, Option, option_map, is_some, ◌&&◌, true, false, IfOk, OnOk};
 ghost use Rattle.logos_hir.specs.Views.{chars, pairs, tree_of, class_tree, sole_char, char_ranges_of, byte_ranges_of, all_ranges, branches_of, bytes_or, chars_or, choice_of, alternation_of, IsSimplest, IsAdded, IsFlatAlone, fits_of};
@@ -9,7 +8,8 @@ use crate::hir::{Class, Hir, Range};
 use crate::sets::RangeSet;
 use std::alloc::{AllocError, Global};
 
-/// Returns the only character of the text, or `None` if the text is not one character.
+/// Returns the only character of the text `bytes`, or `None` if `bytes` are not the UTF-8 of one
+/// character.
 fn sole_char(alloc: Global, bytes: &[u8]) -> Result<Option<char>, AllocError>
     ensures { IfOk result (λ c. c ≡ sole_char bytes.now) }
 {
@@ -30,8 +30,8 @@ fn characters(alloc: Global, text: &str) -> Result<Vec<char>, AllocError>
     text.chars().collect(alloc)
 }
 
-/// Appends the ranges of a class of characters, or of a literal of one character. Returns whether
-/// the branch is one of these.
+/// Appends to `out` the ranges of a class of characters, or of a literal of one character. Returns
+/// whether `branch` is one of these, and appends nothing otherwise.
 fn push_char_ranges(out: &mut Vec<Range>, branch: &Hir) -> Result<bool, AllocError>
     ensures { IfOk result (λ done. IsAdded (char_ranges_of (tree_of branch.now)) done
         (pairs out.old.items) (pairs out.new.items)) }
@@ -52,8 +52,8 @@ fn push_char_ranges(out: &mut Vec<Range>, branch: &Hir) -> Result<bool, AllocErr
     }
 }
 
-/// Appends the ranges of a class of bytes, or of a literal of one byte. Returns whether the branch
-/// is one of these.
+/// Appends to `out` the ranges of a class of bytes, or of a literal of one byte. Returns whether
+/// `branch` is one of these, and appends nothing otherwise.
 fn push_byte_ranges(out: &mut Vec<Range>, branch: &Hir) -> Result<bool, AllocError>
     ensures { IfOk result (λ done. IsAdded (byte_ranges_of (tree_of branch.now)) done
         (pairs out.old.items) (pairs out.new.items)) }
@@ -74,7 +74,8 @@ fn push_byte_ranges(out: &mut Vec<Range>, branch: &Hir) -> Result<bool, AllocErr
     }
 }
 
-/// Returns the ranges of all branches, if each is a class of characters or a literal of one.
+/// Returns the ranges of all branches, or `None` if one is neither a class of characters nor a
+/// literal of one character.
 fn char_ranges(alloc: Global, branches: &[Hir]) -> Result<Option<Vec<Range>>, AllocError>
     ensures { IfOk result (λ o. option_map (λ v. pairs v.items) o ≡
         all_ranges char_ranges_of (map tree_of branches.now)) }
@@ -88,7 +89,8 @@ fn char_ranges(alloc: Global, branches: &[Hir]) -> Result<Option<Vec<Range>>, Al
     Ok(Some(out))
 }
 
-/// Returns the ranges of all branches, if each is a class of bytes or a literal of one.
+/// Returns the ranges of all branches, or `None` if one is neither a class of bytes nor a literal
+/// of one byte.
 fn byte_ranges(alloc: Global, branches: &[Hir]) -> Result<Option<Vec<Range>>, AllocError>
     ensures { IfOk result (λ o. option_map (λ v. pairs v.items) o ≡
         all_ranges byte_ranges_of (map tree_of branches.now)) }
@@ -102,7 +104,8 @@ fn byte_ranges(alloc: Global, branches: &[Hir]) -> Result<Option<Vec<Range>>, Al
     Ok(Some(out))
 }
 
-/// Appends the branches of `inner`. If `branches` is empty, `inner` is reused without a copy.
+/// Appends the branches of `inner` to `branches`. If `branches` is empty, `inner` is reused without
+/// a copy.
 fn push_branches(branches: &mut Vec<Hir>, mut inner: Vec<Hir>) -> Result<(), AllocError>
     ensures { OnOk result (map tree_of branches.new.items ≡
         map tree_of branches.old.items ++ map tree_of inner.items) }
@@ -114,7 +117,8 @@ fn push_branches(branches: &mut Vec<Hir>, mut inner: Vec<Hir>) -> Result<(), All
     Ok(branches.append(&mut inner)?)
 }
 
-/// Appends the branches that a tree adds to an alternation.
+/// Appends to `branches` the branches that the tree `branch` adds to an alternation: those of an
+/// alternation, or the tree itself.
 fn push_branch(branches: &mut Vec<Hir>, branch: Hir) -> Result<(), AllocError>
     ensures { OnOk result (map tree_of branches.new.items ≡
         map tree_of branches.old.items ++ branches_of (tree_of branch)) }
@@ -125,7 +129,7 @@ fn push_branch(branches: &mut Vec<Hir>, branch: Hir) -> Result<(), AllocError>
     }
 }
 
-/// Makes a class of bytes if each branch fits one, and an alternation of the branches otherwise.
+/// Returns a class of bytes if each branch fits one, and an alternation of the branches otherwise.
 fn bytes_or(alloc: Global, branches: Vec<Hir>) -> Result<Hir, AllocError>
     ensures { IfOk result (λ hir. tree_of hir ≡
         bytes_or (map tree_of branches.items)
@@ -137,7 +141,7 @@ fn bytes_or(alloc: Global, branches: Vec<Hir>) -> Result<Hir, AllocError>
     }
 }
 
-/// Makes a class of characters if each branch fits one, and a class of bytes or an alternation of
+/// Returns a class of characters if each branch fits one, and a class of bytes or an alternation of
 /// the branches otherwise.
 fn chars_or(alloc: Global, branches: Vec<Hir>) -> Result<Hir, AllocError>
     ensures { IfOk result (λ hir. tree_of hir ≡
@@ -150,8 +154,9 @@ fn chars_or(alloc: Global, branches: Vec<Hir>) -> Result<Hir, AllocError>
     }
 }
 
-/// Makes an alternation of branches that are not alternations themselves. A single branch is
-/// returned unchanged, and branches that fit a class become that class.
+/// Returns an alternation of branches that are not alternations themselves. A single branch is
+/// returned unchanged, branches that fit a class become that class, and no branches make the class
+/// without characters.
 pub(crate) fn choice(mut branches: Vec<Hir>) -> Result<Hir, AllocError>
     ensures { IfOk result (λ hir. tree_of hir ≡ choice_of (map tree_of branches.items)) }
 {
@@ -165,9 +170,9 @@ pub(crate) fn choice(mut branches: Vec<Hir>) -> Result<Hir, AllocError>
     }
 }
 
-/// Makes an alternation in its simplest form. Branches of inner alternations become its own, a
-/// single branch is returned unchanged, only characters become a class of characters, and only
-/// bytes a class of bytes.
+/// Returns an alternation in its simplest form. Branches of inner alternations become branches of
+/// the alternation, a single branch is returned unchanged, branches that are all characters become
+/// a class of characters, and branches that are all bytes become a class of bytes.
 ///
 /// # Errors
 ///
@@ -182,12 +187,12 @@ pub fn alternation(all: Vec<Hir>) -> Result<Hir, AllocError>
     choice(branches)
 }
 
-/// The classes that branches can become together.
+/// The classes that branches fit: those that they can become together.
 #[derive(Clone, Copy)]
 pub(crate) struct Fits {
-    /// Each branch is a class of characters, or a literal of one.
+    /// Whether each branch is a class of characters, or a literal of one character.
     chars: bool,
-    /// Each branch is a class of bytes, or a literal of one.
+    /// Whether each branch is a class of bytes, or a literal of one byte.
     bytes: bool,
 }
 
@@ -220,7 +225,7 @@ fn char_count(text: &str) -> usize
     text.chars().count()
 }
 
-/// Returns whether the text is one character.
+/// Returns whether `bytes` are the UTF-8 of one character.
 fn is_one_char(bytes: &[u8]) -> bool
     ensures { result ≡ is_some (sole_char bytes.now) }
 {
@@ -230,7 +235,7 @@ fn is_one_char(bytes: &[u8]) -> bool
     }
 }
 
-/// Returns the classes that a branch that is a class fits.
+/// Returns the classes that a branch fits if it is the class `class`.
 fn fits_of_class(class: &Class) -> Fits
     ensures { result ≡ fits_of (class_tree class.now ∷ []) }
 {
@@ -246,8 +251,9 @@ fn fits_of_class(class: &Class) -> Fits
     }
 }
 
-/// Returns the classes that fit the branches that a simplified tree adds to an alternation. The
-/// branches of a simplified alternation fit no class, since otherwise it would be that class.
+/// Returns the classes that the branches that the simplified tree `branch` adds to an alternation
+/// fit. The branches of a simplified alternation fit no class, since otherwise it would be that
+/// class.
 fn fits_of(branch: &Hir) -> Fits
     requires { IsSimplest (tree_of branch.now) }
     ensures { result ≡ fits_of (branches_of (tree_of branch.now)) }
@@ -265,8 +271,8 @@ fn fits_of(branch: &Hir) -> Fits
     }
 }
 
-/// Appends the branches that a simplified tree adds to an alternation. Returns the classes that
-/// they fit.
+/// Appends to `branches` the branches that the simplified tree `branch` adds to an alternation.
+/// Returns the classes that these branches fit.
 pub(crate) fn push_fitting(branches: &mut Vec<Hir>, branch: Hir) -> Result<Fits, AllocError>
     requires { IsSimplest (tree_of branch) }
     ensures items { OnOk result (map tree_of branches.new.items ≡
@@ -278,8 +284,8 @@ pub(crate) fn push_fitting(branches: &mut Vec<Hir>, branch: Hir) -> Result<Fits,
     Ok(fits)
 }
 
-/// Replaces the branches from `from` on with one class, if they fit one. Returns the classes that
-/// the branches from `from` on fit afterwards.
+/// Replaces the branches from the index `from` on with one class, if they are not exactly one and
+/// `fits` contains a class. Returns the classes that the branches from `from` on fit afterwards.
 pub(crate) fn join_class(
     alloc: Global,
     branches: &mut Vec<Hir>,

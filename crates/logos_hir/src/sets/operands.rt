@@ -1,5 +1,5 @@
 //! Operands of a bracket, each with the operator before it. The reader of brackets adds each
-//! operand.
+//! operand to an `OperandRuns`.
 
 ghost use Rattle.std.specs.Prelude.{◌≡◌, false, IfOk, OnOk};
 ghost use Rattle.logos_hir.specs.Views.{Set, set_of, combination, selection, effects_on, with_operand, Makes, made_by};
@@ -7,18 +7,18 @@ ghost use Rattle.logos_hir.specs.Views.{Set, set_of, combination, selection, eff
 use crate::sets::RangeSet;
 use std::alloc::{AllocError, Global};
 
-/// The operators between the operands of a bracket.
+/// The operator between two operands of a bracket.
 #[derive(Clone, Copy)]
 pub enum SetOperator {
-    /// `&&`
+    /// `&&`: the members of both operands.
     Intersection,
-    /// `--`
+    /// `--`: the members of the left operand that are not in the right one.
     Difference,
-    /// `~~`
+    /// `~~`: the members of exactly one of the operands.
     SymmetricDifference,
 }
 
-/// Combines two sets with the operator `op` between them.
+/// Returns the set that the operator `op` makes of `a` on its left and `b` on its right.
 ///
 /// # Errors
 ///
@@ -41,7 +41,7 @@ pub struct Effect {
     inside: RangeSet,
 }
 
-/// Returns the empty set.
+/// Returns the set without members.
 fn nothing(alloc: Global) -> Result<RangeSet, AllocError>
     ensures { IfOk result (λ set. set_of set ≡ (λ c. false)) }
 {
@@ -55,7 +55,7 @@ fn copy(alloc: Global, set: &RangeSet) -> Result<RangeSet, AllocError>
     RangeSet::from_ranges(alloc, set.ranges())
 }
 
-/// Returns the members of `inside` that are in `test`, and those of `outside` that are not.
+/// Returns the members of `inside` that are in `test`, and the members of `outside` that are not.
 fn selection(test: &RangeSet, inside: &RangeSet, outside: &RangeSet) -> Result<RangeSet, AllocError>
     ensures { IfOk result (λ set. set_of set ≡ selection (set_of test.now) (set_of inside.now)
         (set_of outside.now)) }
@@ -64,7 +64,7 @@ fn selection(test: &RangeSet, inside: &RangeSet, outside: &RangeSet) -> Result<R
 }
 
 impl Effect {
-    /// Returns the effect of an operand after an operator.
+    /// Returns the effect of the operand `set` after the operator `op`.
     fn after_operator(alloc: Global, op: SetOperator, set: &RangeSet) -> Result<Effect, AllocError>
         ensures { IfOk result (λ effect. Makes effect
             (λ before. combination op before (set_of set.now))) }
@@ -85,7 +85,8 @@ impl Effect {
         }
     }
 
-    /// Returns the effect of one operand.
+    /// Returns the effect of the operand `set`. Without an operator the result is `set` for each
+    /// set.
     fn of(
         alloc: Global,
         operator: Option<SetOperator>,
@@ -119,8 +120,8 @@ impl Effect {
     }
 }
 
-/// Appends an effect after the effects of `count` operands. Like the carry of a binary counter, it
-/// is combined with the last effect for each binary digit 1 at the end of `count`.
+/// Appends an effect after the effects of `count` operands. As a binary counter carries, the last
+/// effect is first combined with `effect` for each binary digit 1 at the end of `count`.
 fn push_effect(effects: &mut Vec<Effect>, count: usize, effect: Effect) -> Result<(), AllocError>
     ensures { (before : Set) → OnOk result (effects_on effects.new.items before ≡
         selection (effects_on effects.old.items before) (set_of effect.inside)
@@ -135,18 +136,18 @@ fn push_effect(effects: &mut Vec<Effect>, count: usize, effect: Effect) -> Resul
     }
 }
 
-/// The operands so far. They are combined as they arrive, so that each range is processed a
-/// logarithmic number of times, and only a logarithmic number of effects is stored.
+/// The operands of a bracket so far. They are combined as they arrive, so that each range is
+/// processed a logarithmic number of times, and only a logarithmic number of effects is stored.
 #[derive(Drop)]
 pub struct OperandRuns {
-    /// One effect for each binary digit 1 of the number of operands. The digit is the number of
-    /// operands in the effect.
+    /// One effect for each binary digit 1 of the number of operands. The value of the digit is the
+    /// number of operands in the effect.
     effects: Vec<Effect>,
     count: usize,
 }
 
 impl OperandRuns {
-    /// Returns an empty list of operands.
+    /// Returns operands of which there are none yet.
     pub fn new(alloc: Global) -> OperandRuns
         ensures { made_by result ≡ (λ c. false) }
     {
@@ -160,7 +161,7 @@ impl OperandRuns {
     ///
     /// # Errors
     ///
-    /// Returns `AllocError` if memory runs out. Some operands may then be lost.
+    /// Returns `AllocError` if memory runs out. Some operands may then have been lost.
     pub fn push(
         &mut self,
         alloc: Global,

@@ -1,5 +1,5 @@
-//! Checks the contents of literals and reads the pieces of strings. `lexeme_at` calls it once it
-//! knows the end of a literal, and `logos_token` calls it to read the values of literals.
+//! Checks the contents of literals and reads the pieces of strings. `lexeme_at` calls it after it
+//! has found the end of a literal, and `logos_token` calls it to read the values of literals.
 
 ghost use Rattle.std.specs.Prelude.{◌≡◌, ℕ, ◌+◌, ◌^◌, ◌<◌, ◌≤◌, ◌↔◌, ◌==◌, ◌||◌, Bool, true, List, IsTrue, IsFalse, length, slice_index, slice_range, MatchOption};
 ghost use Rattle.logos_lexeme.specs.Views.{digit_value, IsFirst, Steps, Ends, is_simple, simple_value, is_hex, hex_value, greatest_of, digits_between, is_blank, BreaksLine, IsEscape, IsHexEscape, IsUnicodeEscape, IsAllowed, Represents, IsPiece, IsCharacterPiece, IsSound, bytes_of, ReadsByte, IsPlain};
@@ -14,7 +14,7 @@ const LETTER_X: u8 = b'x';
 /// The letter of the escape `\u{..}`.
 const LETTER_U: u8 = b'u';
 
-/// The value of one piece of a string.
+/// The value of one piece of a string: of an escape, or of a byte that represents itself.
 #[derive(Clone, Copy)]
 pub enum Piece {
     /// No bytes: an escaped line break.
@@ -33,7 +33,8 @@ fn is_simple(letter: u8) -> bool
     b"nrt\\0'\"".contains(&letter)
 }
 
-/// Returns the byte that `letter` after a backslash denotes.
+/// Returns the byte that `letter` after a backslash denotes. A letter other than `n`, `r`, `t` and
+/// `0` denotes itself.
 #[tactic(auto, unfolding(crate::specs::LiteralBodies::simple_value))]
 fn simple_value(letter: u8) -> u8
     ensures { result ≡ simple_value letter }
@@ -110,7 +111,8 @@ fn is_digit_or_line(byte: u8) -> bool
     }
 }
 
-/// Returns the byte offset of the first byte from `from` on that is neither a digit nor `_`.
+/// Returns the byte offset of the first byte from `from` on that is neither a hexadecimal digit nor
+/// `_`, or of the end of the source.
 fn digits_end(source: &str, from: usize) -> usize
     requires { from ≤ length source.now }
     ensures within { result ≤ length source.now }
@@ -125,7 +127,7 @@ fn digits_end(source: &str, from: usize) -> usize
     end
 }
 
-/// The digits of `\u{..}` that have been read: their number and the number that they spell.
+/// The digits of `\u{..}` that have been read: their count and the value that they spell.
 #[derive(Clone, Copy)]
 struct Digits {
     count: u32,
@@ -133,8 +135,8 @@ struct Digits {
 }
 
 impl Digits {
-    /// Returns the digits after one more byte is read. A `_` changes nothing. Returns `None` if
-    /// `byte` is a seventh digit.
+    /// Returns the digits after one more byte is read. A byte that is not a hexadecimal digit, such
+    /// as `_`, changes nothing. Returns `None` if `byte` is a seventh digit.
     fn with(self, byte: u8) -> Option<Digits>
         requires few { self.count ≤ 6 }
         requires small { self.value < 16 ^ self.count }
@@ -154,7 +156,8 @@ impl Digits {
     }
 }
 
-/// Returns the number that the digits in a span spell. Returns `None` if there are more than six.
+/// Returns the number that the hexadecimal digits between the byte offsets `from` and `to` spell.
+/// Other bytes are skipped. Returns `None` if there are more than six digits.
 fn number_between(source: &str, from: usize, to: usize) -> Option<u32>
     requires begun { from ≤ to }
     requires within { to ≤ length source.now }
@@ -235,7 +238,8 @@ fn breaks_line(source: &str, at: usize) -> bool
     byte == b'\r' && byte_at(source, at + 1) == b'\n'
 }
 
-/// Returns the byte offset of the first byte from `from` on that is not blank.
+/// Returns the byte offset of the first byte from `from` on that is not blank, or of the end of the
+/// source.
 fn blanks_end(source: &str, from: usize) -> usize
     requires { from ≤ length source.now }
     ensures { IsFirst (λ i. IsFalse (is_blank (slice_index source.now i))) from result }
@@ -247,7 +251,8 @@ fn blanks_end(source: &str, from: usize) -> usize
     end
 }
 
-/// Returns whether `byte` can represent itself or is part of a character that can.
+/// Returns whether `byte` can represent itself in a literal of this content, or is part of a
+/// character that can.
 fn is_allowed(content: Content, byte: u8) -> bool
     ensures { IsTrue result ↔ IsAllowed content byte }
 {
@@ -260,9 +265,9 @@ fn is_allowed(content: Content, byte: u8) -> bool
     }
 }
 
-/// Returns the value of the unescaped piece at `at`, and the byte offset after it. The piece is a
-/// byte that represents itself, or CR LF, which denotes LF. Returns `None` if there is no such
-/// piece.
+/// Returns the value of the unescaped piece at the byte offset `at`, and the byte offset after it.
+/// The piece is a byte that represents itself, or CR LF, which denotes LF. Returns `None` if
+/// neither is there.
 fn plain_at(source: &str, content: Content, at: usize) -> Option<(Piece, usize)>
     requires { at ≤ length source.now }
     ensures { MatchOption result
@@ -280,7 +285,7 @@ fn plain_at(source: &str, content: Content, at: usize) -> Option<(Piece, usize)>
 }
 
 /// Returns the value of the piece of a string at the byte offset `at`, and the byte offset after
-/// it. Returns `None` if there is no piece. `escapes` is whether the string has escapes.
+/// it. Returns `None` if there is no piece. `escapes` is `false` for a raw string.
 pub fn piece_at(source: &str, escapes: bool, content: Content, at: usize) -> Option<(Piece, usize)>
     requires { at ≤ length source.now }
     ensures { MatchOption result
@@ -314,8 +319,8 @@ fn is_body(source: &str, escapes: bool, content: Content, from: usize, to: usize
     at == to
 }
 
-/// Returns the byte offset after the one character or escape at the byte offset `at`. Returns
-/// `None` if neither is there.
+/// Returns the byte offset after the escape, or the byte that represents itself, at the byte offset
+/// `at`. Returns `None` if neither is there.
 fn character_piece_end(source: &str, content: Content, at: usize) -> Option<usize>
     requires { at ≤ length source.now }
     ensures { MatchOption result
@@ -333,7 +338,7 @@ fn character_piece_end(source: &str, content: Content, at: usize) -> Option<usiz
     None
 }
 
-/// Returns whether the span from `from` to `to` is one character or escape.
+/// Returns whether the span from `from` to `to` is one escape, or one byte that represents itself.
 fn is_character(source: &str, content: Content, from: usize, to: usize) -> bool
     requires { from ≤ length source.now }
     ensures { IsTrue result ↔ IsCharacterPiece content source.now from to }
@@ -345,7 +350,7 @@ fn is_character(source: &str, content: Content, from: usize, to: usize) -> bool
 }
 
 /// Returns whether the literal that opens at `from` and ends at `end`, without its suffix, has
-/// well-formed contents. Returns `true` for anything that is not a literal.
+/// well-formed contents. Returns `true` for a number and for anything that is not a literal.
 pub(crate) fn is_sound(source: &str, from: usize, opens: Opening, end: usize) -> bool
     requires inside { from < length source.now }
     requires ends { Ends source.now from opens end }

@@ -1,10 +1,10 @@
-//! Reads bytes and characters at byte offsets of a source text, and classifies characters. All
+//! Reads bytes and characters at byte offsets of a source text, and classifies characters. The
 //! modules of this crate and `logos_token` call it.
 
 ghost use Rattle.std.specs.Prelude.{◌≡◌, ◌<◌, ◌≤◌, length, slice_index};
 ghost use Rattle.logos_lexeme.specs.Imports.{IsCharBoundary, character, past, is_space, is_start, is_continuing, is_mark};
 
-/// Returns the byte at `at`, or 0 at the end of the source and after it.
+/// Returns the byte at the byte offset `at`, or 0 at the end of the source and after it.
 pub fn byte_at(source: &str, at: usize) -> u8
     ensures { result ≡ slice_index source.now at }
 {
@@ -12,7 +12,7 @@ pub fn byte_at(source: &str, at: usize) -> u8
     if at < bytes.len() { bytes[at] } else { 0 }
 }
 
-/// Returns the character that begins at `at`, or NUL at the end of the source.
+/// Returns the character that begins at the byte offset `at`, or NUL at the end of the source.
 pub(crate) fn char_at(source: &str, at: usize) -> char
     requires { IsCharBoundary source.now at }
     ensures { result ≡ character source.now at }
@@ -20,7 +20,8 @@ pub(crate) fn char_at(source: &str, at: usize) -> char
     source[at..].chars().next().unwrap_or('\0')
 }
 
-/// Returns the byte offset after the character that begins at `at`.
+/// Returns the byte offset after the character that begins at `at`, or `at + 1` at the end of the
+/// source.
 pub(crate) fn past(source: &str, at: usize) -> usize
     requires inside { at < length source.now }
     requires boundary { IsCharBoundary source.now at }
@@ -55,7 +56,7 @@ pub(crate) fn is_continuing(c: char) -> bool
     unicode_ident::is_xid_continue(c)
 }
 
-/// Returns whether a character is punctuation.
+/// Returns whether a character is punctuation. Delimiters, quotes and `'` are not punctuation.
 pub(crate) fn is_mark(c: char) -> bool
     ensures { result ≡ is_mark c }
 {

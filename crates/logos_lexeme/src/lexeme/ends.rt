@@ -1,5 +1,5 @@
-//! Finds the end of the lexeme or gap that opens at a byte offset. `lexeme_at` calls it once it
-//! knows the opening.
+//! Finds the end of the lexeme or gap that opens at a byte offset. `lexeme_at` calls it after it
+//! has classified the opening.
 
 ghost use Rattle.std.specs.Prelude.{◌≡◌, ◌≢◌, ℕ, ◌+◌, ◌-◌, ◌<◌, ◌≤◌, ◌↔◌, length, slice_index, MatchOption, IsTrue};
 ghost use Rattle.logos_lexeme.specs.Views.{IsCharBoundary, past, is_space, is_continuing, Run, IsFirst, Passes, opening_at, prefix_of, IsLineEnd, Closes, IsName, IsSuffix, has_base, Continues, ReachesQuote, IsRawEnd, IsQuoted, IsRaw, Ends, IsOnward};
@@ -7,7 +7,8 @@ ghost use Rattle.logos_lexeme.specs.Views.{IsCharBoundary, past, is_space, is_co
 use crate::lexeme::characters::{byte_at, char_at, is_continuing, is_space, past};
 use crate::lexeme::openings::{Content, Opening, name_at};
 
-/// Returns the byte offset after the white space at `from`.
+/// Returns the byte offset of the first character from `from` on that is not white space, or of the
+/// end of the source.
 fn spaces_end(source: &str, from: usize) -> usize
     requires { IsCharBoundary source.now from }
     ensures { Run (Passes is_space source.now) from result }
@@ -19,7 +20,8 @@ fn spaces_end(source: &str, from: usize) -> usize
     end
 }
 
-/// Returns the byte offset after the characters at `from` that continue an identifier.
+/// Returns the byte offset of the first character from `from` on that cannot continue an
+/// identifier, or of the end of the source.
 fn letters_end(source: &str, from: usize) -> usize
     requires { IsCharBoundary source.now from }
     ensures run { Run (Passes is_continuing source.now) from result }
@@ -42,7 +44,9 @@ fn has_base(source: &str, from: usize) -> bool
     (byte_at(source, from) == b'0') & ((letter == b'x') | (letter == b'o') | (letter == b'b'))
 }
 
-/// Returns the byte offset after the next step of a number, or `None` if the number ends at `at`.
+/// Returns the byte offset after the next character of a number: one that continues an identifier,
+/// a decimal point, or the sign of an exponent. Returns `None` if the number ends at `at`. `based`
+/// is whether the number has a base prefix.
 fn number_step(source: &str, based: bool, at: usize) -> Option<usize>
     requires inside { at < length source.now }
     requires boundary { IsCharBoundary source.now at }
@@ -68,7 +72,8 @@ fn number_step(source: &str, based: bool, at: usize) -> Option<usize>
     None
 }
 
-/// Returns the byte offset after the rest of a number, which begins at `from`.
+/// Returns the byte offset after the rest of a number. The rest begins at `from`. `based` is
+/// whether the number has a base prefix.
 fn number_end(source: &str, based: bool, from: usize) -> usize
     requires boundary { IsCharBoundary source.now from }
     requires begun { 0 < from }
@@ -83,7 +88,7 @@ fn number_end(source: &str, based: bool, from: usize) -> usize
     end
 }
 
-/// Returns the byte offset of the next LF, or of the end of the source.
+/// Returns the byte offset of the first LF from `from` on, or of the end of the source.
 fn feed_at(source: &str, from: usize) -> usize
     requires { from ≤ length source.now }
     ensures begun { from ≤ result }
@@ -98,7 +103,8 @@ fn feed_at(source: &str, from: usize) -> usize
     at
 }
 
-/// Returns the byte offset after a line comment whose text begins at `from`, after its `//`.
+/// Returns the byte offset after a line comment whose text begins at `from`, after its `//`. The
+/// comment includes neither its LF nor CRs directly before the LF or the end of the source.
 fn line_end(source: &str, from: usize) -> usize
     requires { from ≤ length source.now }
     ensures { IsFirst (IsLineEnd source.now) from result }
@@ -110,8 +116,8 @@ fn line_end(source: &str, from: usize) -> usize
     end
 }
 
-/// Takes one step inside block comments. Returns the number of comments that are open after the
-/// step, and the byte offset after it. Returns `None` at the end of the source.
+/// Takes one step at `at` inside `depth` nested block comments. Returns the number of comments that
+/// are open after the step, and the byte offset after it. Returns `None` at the end of the source.
 fn block_step(source: &str, depth: usize, at: usize) -> Option<(usize, usize)>
     requires open { 0 < depth }
     requires shallow { depth ≤ at + 1 }
@@ -152,7 +158,8 @@ fn block_end(source: &str, from: usize) -> Option<usize>
     Some(at)
 }
 
-/// Returns the number of bytes that `byte` and the byte it escapes take inside quotes.
+/// Returns the number of bytes from `byte` to the next byte that can be a closing quote: 2 for a
+/// backslash, which escapes a byte, and 1 otherwise.
 fn width_of(byte: u8) -> usize
     ensures escaped { byte ≡ 92 → result ≡ 2 }
     ensures plain { byte ≢ 92 → result ≡ 1 }
@@ -160,8 +167,8 @@ fn width_of(byte: u8) -> usize
     if byte == b'\\' { 2 } else { 1 }
 }
 
-/// Returns the byte offset of the first quote from `from` on that is not escaped. Returns `None` if
-/// there is none.
+/// Returns the byte offset of the first `quote` from `from` on that is not escaped. Returns `None`
+/// if there is none.
 fn quote_at(source: &str, quote: u8, from: usize) -> Option<usize>
     requires visible { 0 < quote }
     requires no_backslash { quote ≢ 92 }
@@ -180,8 +187,8 @@ fn quote_at(source: &str, quote: u8, from: usize) -> Option<usize>
     None
 }
 
-/// Returns the byte offset after the first quote from `body` on that is not escaped. Returns `None`
-/// if there is none.
+/// Returns the byte offset after the first `quote` from `body` on that is not escaped. Returns
+/// `None` if there is none.
 fn quote_end(source: &str, quote: u8, body: usize) -> Option<usize>
     requires visible { 0 < quote }
     requires no_backslash { quote ≢ 92 }
@@ -209,8 +216,8 @@ fn is_raw_end(source: &str, count: u8, at: usize) -> bool
     true
 }
 
-/// Returns the byte offset after a raw string whose contents begin at `body`. Returns `None` if it
-/// has no end.
+/// Returns the byte offset after a raw string whose contents begin at `body` and which has `count`
+/// `#` around its quotes. Returns `None` if it has no end.
 fn raw_end(source: &str, count: u8, body: usize) -> Option<usize>
     ensures { MatchOption result
         ((to : ℕ) → IsRaw count source.now body to → ⊥)
@@ -226,7 +233,7 @@ fn raw_end(source: &str, count: u8, body: usize) -> Option<usize>
     None
 }
 
-/// Returns the byte offset after the identifier at `at`, or `None` if there is none.
+/// Returns the byte offset after the identifier at `at`, or `None` if no identifier begins there.
 fn name_end(source: &str, at: usize) -> Option<usize>
     requires { IsCharBoundary source.now at }
     ensures { MatchOption result
@@ -250,7 +257,7 @@ pub(crate) fn suffix_end(source: &str, at: usize) -> usize
     }
 }
 
-/// Returns the number of bytes before the `r`, `'` or quote of a literal.
+/// Returns the number of bytes before the `r`, `'` or quote of a literal of this content.
 pub fn prefix_of(content: Content) -> usize
     ensures { result ≡ prefix_of content }
 {
@@ -260,8 +267,9 @@ pub fn prefix_of(content: Content) -> usize
     }
 }
 
-/// Returns the byte offset after the lexeme or gap that opens at `from`, without the suffix of a
-/// literal. Returns `None` if it has no end.
+/// Returns the byte offset after the lexeme or gap that opens at `from` with the opening `opens`,
+/// without the suffix of a literal. Returns `None` if the lexeme or gap has no end, or nothing
+/// opens.
 pub fn end_of(source: &str, from: usize, opens: Opening) -> Option<usize>
     requires inside { from < length source.now }
     requires boundary { IsCharBoundary source.now from }

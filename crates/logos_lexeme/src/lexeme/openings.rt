@@ -1,5 +1,5 @@
 //! Classifies the lexeme or gap that opens at a byte offset of a source text. `lexeme_at` calls it
-//! first.
+//! before it searches for the end.
 
 ghost use Rattle.std.specs.Prelude.{◌≡◌, ◌+◌, ◌<◌, ◌≤◌, min, length, slice_index};
 ghost use Rattle.logos_lexeme.specs.Views.{is_ascii_digit, IsCharBoundary, hashes, raw_opening, string_opening, character_opening, bytes_opening, literal_opening, line_kind, block_kind, comment_opening, name_at, spacing, delimiter_kind, single_kind, other_opening, follows_apostrophe, is_lifetime_name, literal_at, opening_at, kind_of};
@@ -7,25 +7,25 @@ ghost use Rattle.logos_lexeme.specs.Views.{is_ascii_digit, IsCharBoundary, hashe
 use crate::lexeme::characters::{byte_at, char_at, is_mark, is_space, is_start, past};
 use crate::lexeme::{Delimiter, LexemeKind, Spacing};
 
-/// The kinds of contents of a literal.
+/// The kind of the contents of a literal.
 #[derive(Clone, Copy)]
 pub enum Content {
-    /// Characters.
+    /// Characters, in a literal without `b` or `c`.
     Text,
-    /// Bytes, after `b`.
+    /// Bytes, in a literal with `b`.
     Bytes,
-    /// Characters and bytes, after `c`.
+    /// Characters and bytes, in a literal with `c`.
     C,
 }
 
-/// The lexemes and gaps, classified by their first characters.
+/// The class of a lexeme or gap by its first characters.
 #[derive(Clone, Copy)]
 pub enum Opening {
     /// White space.
     Space,
-    /// A line comment.
+    /// A line comment, with its kind: documentation or a gap.
     Line(LexemeKind),
-    /// A block comment.
+    /// A block comment, with its kind: documentation or a gap.
     Block(LexemeKind),
     /// An identifier.
     Word,
@@ -39,9 +39,9 @@ pub enum Opening {
     Apostrophes(Content),
     /// A character between apostrophes.
     Character,
-    /// A lexeme of one character.
+    /// A lexeme or gap of one character, with its kind.
     Single(LexemeKind),
-    /// Nothing opens.
+    /// A character that begins no lexeme.
     Nothing,
 }
 
@@ -256,7 +256,8 @@ fn delimiter_kind(c: char) -> Option<LexemeKind>
     None
 }
 
-/// Returns the kind of the one-character lexeme at a byte offset, if there is one.
+/// Returns the kind of the lexeme or gap of one character at a byte offset, or `None` if there is
+/// none.
 #[tactic(auto, unfolding(crate::specs::LexemeOpenings::single_kind))]
 fn single_kind(source: &str, at: usize) -> Option<LexemeKind>
     requires inside { at < length source.now }
@@ -277,7 +278,8 @@ fn single_kind(source: &str, at: usize) -> Option<LexemeKind>
     delimiter_kind(c)
 }
 
-/// Returns the opening at a byte offset at which neither a literal nor a comment opens.
+/// Returns the opening at a byte offset at which neither a literal nor a comment opens. Returns
+/// `Nothing` if no lexeme or gap begins there.
 #[tactic(auto, unfolding(crate::specs::LexemeOpenings::other_opening))]
 fn other_opening(source: &str, at: usize) -> Opening
     requires inside { at < length source.now }
@@ -335,7 +337,7 @@ fn literal_at(source: &str, at: usize) -> Option<Opening>
 }
 
 /// Returns the opening at a byte offset: a literal if one opens there, otherwise a comment,
-/// otherwise the lexeme that the character can begin.
+/// otherwise the lexeme or gap that the character can begin, or `Nothing`.
 #[tactic(auto, unfolding(crate::specs::LexemeOpenings::opening_at))]
 pub fn opening_at(source: &str, at: usize) -> Opening
     requires inside { at < length source.now }
@@ -351,7 +353,7 @@ pub fn opening_at(source: &str, at: usize) -> Opening
     other_opening(source, at)
 }
 
-/// Returns the kind of a lexeme or gap with the opening `opens`.
+/// Returns the kind of a lexeme or gap with the opening `opens`, and `Gap` for `Nothing`.
 pub(crate) fn kind_of(opens: Opening) -> LexemeKind
     ensures { result ≡ kind_of opens }
 {

@@ -13,7 +13,7 @@ use logos_hir::property::AsciiKind;
 use logos_hir::sets::operands::SetOperator;
 use std::alloc::Global;
 
-/// Returns the number of the character or of the byte.
+/// Returns the number of the character, or the value of the byte.
 pub fn code_of(symbol: Symbol) -> u32
     ensures { result ≡ code_of symbol }
 {
@@ -23,8 +23,8 @@ pub fn code_of(symbol: Symbol) -> u32
     }
 }
 
-/// Returns whether the text continues a range: with a `-` that is followed by neither `]` nor
-/// another `-`.
+/// Returns whether the text begins with a `-` that continues a range: one before a character other
+/// than `]` and `-`.
 fn begins_range(text: &[char]) -> bool
     ensures { result ≡ begins_range text.now }
 {
@@ -34,7 +34,8 @@ fn begins_range(text: &[char]) -> bool
     }
 }
 
-/// Returns whether the character `c` and the next one are an operator: `&&`, `--` or `~~`.
+/// Returns whether the character `c` and the first one of `rest` are an operator: `&&`, `--` or
+/// `~~`.
 fn begins_operator(c: char, rest: &[char]) -> bool
     ensures { result ≡ begins_operator c rest.now }
 {
@@ -55,7 +56,8 @@ fn symbol_of(atom: Atom) -> Option<Symbol>
     }
 }
 
-/// Returns the fault of an escape that is not a character, at the end of a range.
+/// Returns the fault of the escape `atom`, which is not a character, at the end of a range:
+/// `ClassRange` for a class, and `EscapeUnknown` otherwise.
 fn no_symbol(atom: Atom) -> Kind {
     match atom {
         Atom::Perl(_, _) | Atom::Property(_, _) => Kind::ClassRange,
@@ -63,7 +65,8 @@ fn no_symbol(atom: Atom) -> Kind {
     }
 }
 
-/// Reads the end of a range from the text after its `-`.
+/// Reads the last symbol of a range from the text after its `-`. Returns it and the rest of the
+/// text.
 ///
 /// # Errors
 ///
@@ -105,8 +108,8 @@ fn range_token<'t>(
     Ok((BracketToken::Item(BracketItem::Range(first, last)), rest))
 }
 
-/// Reads the text after the character `first`. Returns the range that begins with `first`, or
-/// `first` alone if no range does.
+/// Reads the text after the symbol `first`. Returns the range that begins with `first`, or `first`
+/// alone if the text does not continue a range, and the rest of the text.
 ///
 /// # Errors
 ///
@@ -122,7 +125,7 @@ fn range_at(alloc: Global, first: Symbol, rest: &[char]) -> Result<(BracketToken
     range_token(first, last, after)
 }
 
-/// Returns the class as an element, and the rest of the text.
+/// Returns the token of the class `item`, and the rest of the text.
 ///
 /// # Errors
 ///
@@ -138,7 +141,8 @@ fn lone_at(item: BracketItem, rest: &[char]) -> Result<(BracketToken, &[char]), 
     Ok((BracketToken::Item(item), rest))
 }
 
-/// Reads the text after an escape. Returns the element that begins with the escape.
+/// Reads the text after the escape `atom`. Returns the element that begins with the escape, and the
+/// rest of the text.
 ///
 /// # Errors
 ///
@@ -157,7 +161,7 @@ fn escape_item(alloc: Global, atom: Atom, rest: &[char]) -> Result<(BracketToken
     }
 }
 
-/// Reads an element: a character, a range or a class.
+/// Reads an element: a character, a range or a class. Returns its token and the rest of the text.
 ///
 /// # Errors
 ///
@@ -191,7 +195,8 @@ fn dashes_at(text: &[char]) -> (usize, &[char])
     (count, rest)
 }
 
-/// Reads the literals after `[` or `[^`: one `]`, or all dashes that follow.
+/// Reads the literals after `[` or `[^`: one `]`, or all `-` that follow. Returns the literals and
+/// the rest of the text.
 #[tactic(auto, unfolding(crate::specs::bracket::Reader::lead_at))]
 fn lead_at(text: &[char]) -> (Lead, &[char])
     ensures lead { result.0 ≡ (lead_at text.now).0 }
@@ -206,8 +211,8 @@ fn lead_at(text: &[char]) -> (Lead, &[char])
     }
 }
 
-/// Reads the text after `[`. Returns whether `^` negates the bracket, the literals after that, and
-/// the rest of the text.
+/// Reads the text after `[`. Returns whether `^` negates the bracket, the literals after `[` or
+/// `[^`, and the rest of the text.
 #[tactic(auto, unfolding(crate::specs::bracket::Reader::open_at))]
 pub fn open_at(text: &[char]) -> (bool, Lead, &[char])
     ensures negated { result.0 ≡ (open_at text.now).0 }
@@ -226,8 +231,8 @@ pub fn open_at(text: &[char]) -> (bool, Lead, &[char])
     }
 }
 
-/// Reads the `]` after `[:name:`. Returns `None` if there is no `]`, or if no class of ASCII
-/// characters has the name.
+/// Reads the `]` after `[:name:`. Returns the class with the name `name` and the rest of the text,
+/// or `None` if there is no `]` or no class of ASCII characters has the name.
 #[tactic(auto, unfolding(crate::specs::bracket::Reader::class_end))]
 fn class_end<'t>(
     negated: bool,
@@ -245,7 +250,8 @@ fn class_end<'t>(
     }
 }
 
-/// Reads `name:]`. Returns `None` if the text does not begin with the name of a class and `:]`.
+/// Reads `name:]`. Returns the class with this name and the rest of the text, or `None` if the text
+/// does not begin with the name of a class and `:]`.
 #[tactic(auto, unfolding(crate::specs::bracket::Reader::name_end))]
 fn name_end(negated: bool, text: &[char]) -> Option<(BracketToken, &[char])>
     ensures { option_map (λ x. (x.0, x.1.now)) result ≡ name_end negated text.now }
@@ -256,7 +262,8 @@ fn name_end(negated: bool, text: &[char]) -> Option<(BracketToken, &[char])>
     }
 }
 
-/// Reads `name:]` or `^name:]`. Returns `None` if the text does not begin in one of these forms.
+/// Reads `name:]` or `^name:]`. Returns the class and the rest of the text, or `None` if the text
+/// does not begin in one of these forms.
 #[tactic(auto, unfolding(crate::specs::bracket::Reader::colon_at))]
 fn colon_at(text: &[char]) -> Option<(BracketToken, &[char])>
     ensures { option_map (λ x. (x.0, x.1.now)) result ≡ colon_at text.now }
@@ -268,8 +275,8 @@ fn colon_at(text: &[char]) -> Option<(BracketToken, &[char])>
     }
 }
 
-/// Reads `:name:]` or `:^name:]`, a class of ASCII characters. Returns `None` if the text does not
-/// begin in one of these forms.
+/// Reads `:name:]` or `:^name:]`, a class of ASCII characters. Returns the class and the rest of
+/// the text, or `None` if the text does not begin in one of these forms.
 #[tactic(auto, unfolding(crate::specs::bracket::Reader::class_at))]
 fn class_at(text: &[char]) -> Option<(BracketToken, &[char])>
     ensures { option_map (λ x. (x.0, x.1.now)) result ≡ class_at text.now }
@@ -280,8 +287,8 @@ fn class_at(text: &[char]) -> Option<(BracketToken, &[char])>
     }
 }
 
-/// Reads the text after `[` inside a bracket: a class of ASCII characters, or the start of a nested
-/// bracket.
+/// Reads the text after `[` inside a bracket. Returns a class of ASCII characters, or the opening
+/// of a nested bracket, and the rest of the text.
 #[tactic(auto, unfolding(crate::specs::bracket::Reader::inner_at))]
 fn inner_at(text: &[char]) -> (BracketToken, &[char])
     ensures token { result.0 ≡ (inner_at text.now).0 }
@@ -296,7 +303,7 @@ fn inner_at(text: &[char]) -> (BracketToken, &[char])
     }
 }
 
-/// Returns the operator that is written as the character `c` twice.
+/// Returns the operator that is written as the character `c` twice. `c` is `&`, `-` or `~`.
 fn operator_of(c: char) -> SetOperator
     ensures { result ≡ operator_of c }
 {

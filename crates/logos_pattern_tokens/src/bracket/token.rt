@@ -7,7 +7,7 @@ use unicode::sets::Set;
 /// A character or a byte in a bracket.
 #[derive(Clone, Copy)]
 pub enum Symbol {
-    /// A character, or an escape of one other than `\xNN`.
+    /// A character, or an escape of a character other than `\xNN`.
     Character(char),
     /// `\xNN`: a byte if the pattern matches bytes, and the character with this number otherwise.
     Byte(u8),
@@ -17,20 +17,20 @@ pub enum Symbol {
 #[derive(Clone, Copy)]
 pub enum BracketItem {
     One(Symbol),
-    /// `a-z`
+    /// A range such as `a-z`, by its first and its last symbol.
     Range(Symbol, Symbol),
-    /// `\d`, `\D`, `\s`, `\S`, `\w`, `\W`.
+    /// A class `\d`, `\s` or `\w`, or `\D`, `\S` or `\W` if it is negated.
     Perl(PerlKind, bool),
-    /// `\p{..}`, `\P{..}`
+    /// A property `\p{..}`, or `\P{..}` if it is negated.
     Property(Set, bool),
-    /// `[:name:]`, `[:^name:]`
+    /// A class of ASCII characters `[:name:]`, or `[:^name:]` if it is negated.
     Ascii(AsciiKind, bool),
 }
 
 /// The literals directly after `[` or `[^`, which have no other meaning there.
 #[derive(Clone, Copy)]
 pub enum Lead {
-    /// This number of `-`, which may be 0.
+    /// A number of `-`, which can be 0.
     Dashes(usize),
     /// One `]`.
     Bracket,
@@ -43,6 +43,6 @@ pub enum BracketToken {
     /// `[` or `[^`, and the literals after it. The `bool` is `true` for `[^`.
     Open(bool, Lead),
     Operator(SetOperator),
-    /// `]`
+    /// `]`: the end of a bracket.
     Close,
 }

@@ -9,8 +9,8 @@ use logos_pattern_tokens::error::{Fault, Kind, Stop};
 use logos_pattern_tokens::token::Flags;
 use std::alloc::Global;
 
-/// Returns the number of characters from the brace of an escape that is not closed to the end of
-/// the text, or the length of the text if there is no such escape.
+/// Returns the number of characters from the unclosed `{` of the first escape with one to the end
+/// of the text, or the length of the text if there is none.
 fn left_at_brace(text: &[char]) -> usize {
     let mut rest = after_braces(text);
     while let [_, after @ ..] = rest {
@@ -22,7 +22,7 @@ fn left_at_brace(text: &[char]) -> usize {
     text.len()
 }
 
-/// Returns the text from its last closing brace on, or all of it if it has none.
+/// Returns the text from its last `}` on, or all of it if it has no `}`.
 fn after_braces(text: &[char]) -> &[char] {
     match text.iter().rposition(|c| *c == '}') {
         Some(at) if at < text.len() => &text[at..],
@@ -30,7 +30,8 @@ fn after_braces(text: &[char]) -> &[char] {
     }
 }
 
-/// Returns the stop for a fault of the token at the front of `rest`.
+/// Returns the stop for the fault `fault` of the token at the front of `rest`, the rest of the
+/// text.
 pub(crate) fn stop_for(flags: Flags, fault: Fault, rest: &[char]) -> Stop
     ensures { IsStopOf fault result }
 {
@@ -57,8 +58,8 @@ fn property_kind(flags: Flags, kind: Kind) -> Kind {
 }
 
 /// Reads the text after the opening of a bracket, up to its end. Returns the set of the bracket,
-/// its nesting depth, and the rest of the text. `base` is the number of groups that are open around
-/// it.
+/// the depth of its innermost point, and the rest of the text. `base` is the number of groups that
+/// are open around the bracket.
 ///
 /// # Errors
 ///
@@ -95,8 +96,8 @@ fn read_inside(
     })
 }
 
-/// Reads a bracket from the text after its `[`. Returns its set, its nesting depth, and the rest of
-/// the text. `base` is the number of groups that are open around it.
+/// Reads a bracket from the text after its `[`. Returns its set, the depth of its innermost point,
+/// and the rest of the text. `base` is the number of groups that are open around the bracket.
 ///
 /// # Errors
 ///

@@ -1,5 +1,5 @@
-//! The stack of the brackets that are open while a bracket is read. The reader of brackets adds
-//! each token to it.
+//! The stack of open brackets, which computes the set of a bracket while the bracket is read. The
+//! reader of brackets adds each token to the stack.
 
 ghost use Rattle.std.specs.Prelude.{◌≡◌, ◌+◌, ◌≤◌, ◌<◌, [], IfOk, OnOk, MatchBool, vec_len, length};
 ghost use Rattle.logos_syntax.specs.Imports.{pattern_nesting, pairs, members};
@@ -32,13 +32,13 @@ pub(crate) struct BracketFrame {
     negated: bool,
     /// The operands before the last operator.
     before: OperandRuns,
-    /// The operator after them, if there is one.
+    /// The operator after the operands in `before`, or `None` if no operator has been read.
     operator: Option<SetOperator>,
     /// The ranges of the operand that is being read.
     ranges: Vec<Range>,
     /// The depth of the bracket's innermost point in the whole pattern.
     inner: usize,
-    /// The number of characters from its `[` to the end of the text.
+    /// The number of characters from the bracket's `[` to the end of the text.
     left: usize,
     ghost shallow: { inner ≤ pattern_nesting },
 }
@@ -62,8 +62,8 @@ pub(crate) struct BracketValue {
 impl BracketFrame {
     ghost use Rattle.logos_syntax.specs.Views.{pattern_nesting, set_of, fresh_frame, value, whole, frame_view};
 
-    /// Returns a bracket of which only the opening has been read. `level` is the number of groups
-    /// and brackets around its inside.
+    /// Returns a bracket of which only the opening `opening` has been read. `level` is the number
+    /// of groups and brackets around its inside.
     fn new(alloc: Global, opening: BracketOpening, level: usize) -> Result<BracketFrame, AllocError>
         requires { level ≤ pattern_nesting }
         ensures { IfOk result (λ f. frame_view f ≡ fresh_frame opening.negated opening.lead level) }
@@ -78,7 +78,7 @@ impl BracketFrame {
         })
     }
 
-    /// Returns the set of the operands that have been read.
+    /// Returns the set of the operands that have been read, without the negation of the bracket.
     fn value(&self, alloc: Global) -> Result<RangeSet, AllocError>
         ensures { IfOk result (λ set. set_of set ≡ value (frame_view self.now)) }
     {
@@ -89,7 +89,7 @@ impl BracketFrame {
         }
     }
 
-    /// Returns the set of the bracket, as if it ended here.
+    /// Returns the set of the bracket, with its negation, as if the bracket ended here.
     fn whole(&self, alloc: Global, flags: Flags) -> Result<RangeSet, AllocError>
         ensures { IfOk result (λ set. set_of set ≡ whole flags (frame_view self.now)) }
     {
@@ -101,8 +101,8 @@ impl Frames {
     ghost use Rattle.std.specs.Prelude.{not, ◌==◌};
     ghost use Rattle.logos_syntax.specs.Views.{pattern_nesting, set_of, fresh_frame, whole, frame_view, frames_view, BracketSteps};
 
-    /// Returns a stack with one bracket. `level` is the number of groups and brackets around its
-    /// inside.
+    /// Returns a stack whose only bracket has the opening `opening`. `level` is the number of
+    /// groups and brackets around its inside.
     pub(crate) fn new(
         alloc: Global,
         opening: BracketOpening,
@@ -130,7 +130,8 @@ impl Frames {
         }
     }
 
-    /// Returns the number of characters from the innermost `[` to the end of the text.
+    /// Returns the number of characters from the `[` of the innermost bracket to the end of the
+    /// text.
     pub(crate) fn left(&self) -> usize {
         self.top.left
     }
@@ -148,7 +149,8 @@ impl Frames {
         })
     }
 
-    /// Adds an element to the innermost bracket.
+    /// Adds an element to the innermost bracket. `left` is the number of characters from the
+    /// element to the end of the text.
     ///
     /// # Errors
     ///
@@ -174,7 +176,8 @@ impl Frames {
         Ok(())
     }
 
-    /// Opens a bracket in the innermost one.
+    /// Opens a bracket inside the innermost one. `base` is the number of groups around the
+    /// outermost bracket.
     ///
     /// # Errors
     ///
@@ -201,7 +204,8 @@ impl Frames {
         Ok(())
     }
 
-    /// Ends the operand of the innermost bracket with an operator.
+    /// Ends the operand of the innermost bracket with the operator `op`, and begins the next
+    /// operand.
     ///
     /// # Errors
     ///
@@ -224,11 +228,13 @@ impl Frames {
         Ok(())
     }
 
-    /// Closes the innermost bracket, which must be inside another one.
+    /// Closes the innermost bracket, and adds its set to the bracket around it. `left` is the
+    /// number of characters from the `]` to the end of the text.
     ///
     /// # Errors
     ///
-    /// Returns `Unopened` if it is not inside another one, and `Memory` if memory runs out.
+    /// Returns `Unopened` if the bracket is not inside another bracket, and `Memory` if memory runs
+    /// out.
     fn close(&mut self, alloc: Global, flags: Flags, base: usize, left: usize) -> Result<(), Stop>
         ensures { BracketSteps flags base (frames_view self.old) BracketToken.Close result
             (frames_view self.new) }
@@ -246,13 +252,14 @@ impl Frames {
         Ok(())
     }
 
-    /// Adds the next token. `left` is the number of characters from the token to the end of the
-    /// text, and `base` the number of groups around the outermost bracket.
+    /// Adds the next token to the innermost bracket, or opens or closes a bracket. `left` is the
+    /// number of characters from the token to the end of the text, and `base` the number of groups
+    /// around the outermost bracket.
     ///
     /// # Errors
     ///
-    /// Returns the fault of the token at this position, `LimitPatternNesting` if it is nested too
-    /// deeply, or `Memory` if memory runs out.
+    /// Returns the fault of the token after the tokens before it, `LimitPatternNesting` if it is
+    /// nested too deeply, or `Memory` if memory runs out.
     pub(crate) fn step(
         &mut self,
         alloc: Global,

@@ -21,7 +21,8 @@ fn last_of(flags: Flags) -> char
     if flags.unicode { char::MAX } else { '\u{FF}' }
 }
 
-/// Returns the set, with the other cases of all members if `i` is on.
+/// Returns the set, with the other cases of its members if `i` is on. If the pattern matches bytes,
+/// only ASCII letters have other cases.
 pub(crate) fn case_closure(
     alloc: Global,
     flags: Flags,
@@ -38,7 +39,8 @@ pub(crate) fn case_closure(
     fold_ascii(alloc, &set)
 }
 
-/// Returns the set, or its complement if `negated` holds.
+/// Returns the set, or its complement if `negated`: among the bytes if the pattern matches bytes,
+/// and among all characters otherwise.
 pub(crate) fn set_or_complement(
     flags: Flags,
     negated: bool,
@@ -99,7 +101,7 @@ fn is_negated(item: BracketItem) -> bool
     }
 }
 
-/// Returns the set of an element.
+/// Returns the set of an element, with its other cases if `i` is on, and with its negation.
 fn item_set(alloc: Global, flags: Flags, item: BracketItem) -> Result<RangeSet, AllocError>
     ensures { IfOk result (λ set. set_of set ≡ item_set flags item) }
 {
@@ -123,7 +125,7 @@ fn plain_ends(flags: Flags, item: BracketItem) -> Option<(u32, u32)>
     }
 }
 
-/// Appends the ranges of an element's set.
+/// Appends the ranges of the set of the element `item` to `ranges`.
 pub(crate) fn push_item(
     alloc: Global,
     ranges: &mut Vec<Range>,
@@ -139,7 +141,7 @@ pub(crate) fn push_item(
     }
 }
 
-/// Appends a range.
+/// Appends the range from `first` to `last` to `ranges`.
 fn push_range(ranges: &mut Vec<Range>, first: u32, last: u32) -> Result<(), AllocError>
     ensures { OnOk result (members (pairs ranges.new.items) ≡
         union (members (pairs ranges.old.items)) (members ((first, last) ∷ []))) }
@@ -148,7 +150,7 @@ fn push_range(ranges: &mut Vec<Range>, first: u32, last: u32) -> Result<(), Allo
     Ok(())
 }
 
-/// Appends the ranges of a set.
+/// Appends the ranges of `set` to `ranges`.
 pub(crate) fn push_set(ranges: &mut Vec<Range>, set: &RangeSet) -> Result<(), AllocError>
     ensures { OnOk result (members (pairs ranges.new.items) ≡
         union (members (pairs ranges.old.items)) (set_of set.now)) }

@@ -5,36 +5,36 @@ ghost use Rattle.logos_token.specs.ViewImports.{name_of};
 
 use std::fmt;
 
-/// The kinds of faults of a source. Each code is printed by its name.
+/// The kind of a fault of a source. It is printed as its name.
 #[derive(Clone, Copy, PartialEq, Eq)]
 pub enum FaultCode {
-    /// The source cannot be cut into tokens here.
+    /// A point at which the source cannot be cut into tokens.
     Lexical,
-    /// The source is not an enum.
+    /// A source that is not an enum.
     NotAnEnum,
-    /// The enum is not well formed.
+    /// An enum that is not well-formed.
     Grammar,
-    /// A type of Rust that a lexer cannot hold.
+    /// A type of Rust that is not supported.
     TypeUnsupported,
     /// Tokens that are not a type.
     TypeSyntax,
-    /// The source is longer than the limit.
+    /// A source that is longer than the limit.
     LimitSource,
-    /// More delimiters are open than the limit allows.
+    /// More open delimiters than the limit allows.
     LimitTokenNesting,
-    /// More types are nested inside one another than the limit allows.
+    /// More types nested inside one another than the limit allows.
     LimitTypeNesting,
-    /// More groups, brackets and repetitions are nested than the limit allows.
+    /// More nested groups, brackets and repetitions than the limit allows.
     LimitPatternNesting,
-    /// All trees together are larger than the limit allows.
+    /// Trees that are together larger than the limit allows.
     LimitSize,
-    /// The automaton has more states than the limit allows.
+    /// An automaton with more states than the limit allows.
     LimitStates,
     /// A second lifetime parameter.
     ManyLifetimes,
     /// A constant parameter.
     ConstGeneric,
-    /// A type is set for a name that is not a type parameter.
+    /// A type for a name that is not a type parameter.
     NotTypeParameter,
     /// A second type for a type parameter.
     TypeTwice,
@@ -61,49 +61,49 @@ pub enum FaultCode {
     Utf8Twice,
     /// `error()` without a type.
     ErrorEmpty,
-    /// `error` in an unknown form.
+    /// `error` in an unsupported form.
     ErrorForm,
-    /// The export path is not a text.
+    /// An export path that is not a text.
     ExportBytes,
-    /// `export_dir` in an unknown form.
+    /// `export_dir` in an unsupported form.
     ExportForm,
-    /// `extras` in an unknown form.
+    /// `extras` in an unsupported form.
     ExtrasForm,
-    /// `skip` in an unknown form.
+    /// `skip` in an unsupported form.
     SkipForm,
     /// `skip(..)` that does not begin with a literal.
     SkipGroup,
     /// The attribute `source`, which is no longer supported.
     SourceOld,
-    /// `subpattern` in an unknown form.
+    /// `subpattern` in an unsupported form.
     SubpatternForm,
-    /// `type` in an unknown form.
+    /// `type` in an unsupported form.
     TypeForm,
-    /// The UTF-8 mode is neither `true` nor `false`.
+    /// A UTF-8 mode that is neither `true` nor `false`.
     Utf8Value,
-    /// `utf8` in an unknown form.
+    /// `utf8` in an unsupported form.
     Utf8Form,
-    /// No literal where one is expected.
+    /// No literal where a literal is expected.
     LiteralSyntax,
     /// A literal that is neither a text nor a byte string.
     NotText,
     /// Tokens after an argument.
     UnexpectedToken,
-    /// An argument without a name where only named ones are allowed.
+    /// An argument without a name where only named arguments are allowed.
     NamedExpected,
-    /// The priority is not a number that fits `usize`.
+    /// A priority that is not a number that fits `usize`.
     PriorityValue,
     /// A second priority.
     PriorityTwice,
     /// A second `allow_greedy`.
     GreedyTwice,
-    /// `priority` in an unknown form.
+    /// `priority` in an unsupported form.
     PriorityForm,
-    /// `allow_greedy` is neither `true` nor `false`.
+    /// A value of `allow_greedy` that is neither `true` nor `false`.
     GreedyValue,
-    /// `allow_greedy` in an unknown form.
+    /// `allow_greedy` in an unsupported form.
     GreedyForm,
-    /// No callback.
+    /// No callback where a callback is expected.
     CallbackValue,
     /// An inline callback without exactly one parameter.
     CallbackClosure,
@@ -111,9 +111,9 @@ pub enum FaultCode {
     CallbackBody,
     /// A second callback.
     CallbackTwice,
-    /// `callback` in an unknown form.
+    /// `callback` in an unsupported form.
     CallbackForm,
-    /// `ignore` in an unknown form.
+    /// `ignore` in an unsupported form.
     IgnoreForm,
     /// The flag `ascii_case`, which is no longer supported.
     IgnoreAscii,
@@ -131,13 +131,13 @@ pub enum FaultCode {
     NamedFields,
     /// The attribute `error`, which is no longer required.
     ErrorVariant,
-    /// `token` in an unknown form.
+    /// `token` in an unsupported form.
     TokenForm,
-    /// `regex` in an unknown form.
+    /// `regex` in an unsupported form.
     RegexForm,
     /// A text that is not a pattern.
     Regex,
-    /// The default priority does not fit `usize`.
+    /// A default priority that does not fit `usize`.
     PriorityOverflow,
     /// A text that is not the name of a subpattern.
     SubpatternName,
@@ -151,7 +151,7 @@ pub enum FaultCode {
     Utf8Subpattern,
     /// A pattern that matches the empty string.
     EmptyMatch,
-    /// Patterns with the same priority that match the same bytes.
+    /// Leaves with the same priority that match the same bytes.
     Disambiguation,
     /// A pattern with a look-around assertion before its first byte.
     NoUniversalStart,
@@ -241,7 +241,7 @@ const NAMES: [&str; 75] = [
 ];
 
 impl FaultCode {
-    /// Returns the name of the code, as printed.
+    /// Returns the name of the code, as it is printed.
     pub fn name(self) -> &'static str
         ensures { result.now ≡ name_of self }
     {

@@ -3,14 +3,15 @@
 
 use crate::token::{Delimiter, Doc, Ident, Literal, Punct, Span};
 
-/// One token. A group is followed by the entries of the tokens inside it.
+/// An entry of a token buffer: a token that is not a group, or the head of a group, which the
+/// entries of the tokens inside the group follow.
 #[derive(Clone, Copy)]
 pub enum Entry<'s> {
     Ident(Ident<'s>),
     Punct(Punct),
     Literal(Literal<'s>),
     Doc(Doc<'s>),
-    /// A group with the number of entries inside it, which follow it.
+    /// A group. The `size` entries after this entry are the tokens inside the group.
     Group {
         delimiter: Delimiter,
         span: Span,
@@ -22,7 +23,7 @@ impl Entry<'_> {
     ghost use Rattle.std.specs.Prelude.{◌≡◌};
     ghost use Rattle.logos_token.specs.ViewImports.{size_of};
 
-    /// Returns the number of entries inside this one, which follow it.
+    /// Returns the number of entries inside a group, or 0 for a token that is not a group.
     pub fn size(&self) -> usize
         ensures { result ≡ size_of self.now }
     {

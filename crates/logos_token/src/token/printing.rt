@@ -1,4 +1,4 @@
-//! Prints tokens. Callbacks, types and stripped enums are printed with it.
+//! Prints tokens as Rust text. The printers of callbacks, types and stripped enums call it.
 
 ghost use Rattle.std.specs.Prelude.{◌≡◌, ◌<◌, ◌∷◌, [], List, ℕ, IsUtf8, IfOk, IfSome, MatchOption, string_bytes, codes, if◌then◌else◌, OnOk};
 ghost use Rattle.logos_token.specs.ViewImports.{SpellsAgain, IsRunOf, EndsJoint, Spells, TokenList, none, opening_text, closing_text, gap_after, is_line_comment, printed, encode_utf8, print_part, tokens_of, printed_of, PrintsOn, LeavesFewer, tree_of, PrintsTree};
@@ -7,7 +7,7 @@ use crate::error::Memory;
 use crate::token::{Delimiter, Group, Spacing, TokenTree, Tokens};
 use std::alloc::Global;
 
-/// A printer of lexemes, each with the gap after it.
+/// A printer of lexemes: the text so far, and the gap to print before the next lexeme.
 #[derive(Drop)]
 pub struct Printer {
     /// The lexemes printed so far.
@@ -16,7 +16,7 @@ pub struct Printer {
     gap: &'static str,
 }
 
-/// A group whose opening delimiter is printed and whose closing delimiter is not.
+/// A group whose opening delimiter has been printed and whose closing delimiter has not.
 #[derive(Clone, Copy)]
 struct Outer<'t, 's> {
     /// The delimiters of the group.
@@ -47,7 +47,8 @@ pub fn closing_text(delimiter: Delimiter) -> &'static str
     }
 }
 
-/// Returns the gap to print between punctuation and the next lexeme.
+/// Returns the gap to print between punctuation of this spacing and the next lexeme: a space after
+/// `Alone`, and nothing after `Joint`.
 pub fn gap_after(spacing: Spacing) -> &'static str
     ensures { result.now ≡ gap_after spacing }
 {
@@ -57,8 +58,8 @@ pub fn gap_after(spacing: Spacing) -> &'static str
     }
 }
 
-/// Returns the gap to print between a documentation comment and the next lexeme: LF after a line
-/// comment.
+/// Returns the gap to print between the documentation comment `text` and the next lexeme: LF after
+/// a line comment, and a space after a block comment.
 pub fn gap_after_doc(text: &str) -> &'static str
     ensures { result.now ≡ (if is_line_comment text.now then 10 ∷ [] else codes " ") }
 {
@@ -86,11 +87,13 @@ impl Printer {
         self.text
     }
 
-    /// Prints a lexeme after the gap before it. `gap` is printed before the next lexeme.
+    /// Prints the gap after the previous lexeme, and the lexeme `text`. The gap after `text` will
+    /// be `gap`.
     ///
     /// # Errors
     ///
-    /// Returns `Memory` if memory runs out. A part of the lexeme may then have been printed.
+    /// Returns `Memory` if memory runs out. The gap and a part of the lexeme may then have been
+    /// printed.
     pub fn add(&mut self, text: &str, gap: &'static str) -> Result<(), Memory>
         ensures { OnOk result (printed_of self.new ≡
             print_part (printed_of self.old) (record { text = text.now; gap = gap.now })) }
@@ -101,8 +104,8 @@ impl Printer {
         Ok(())
     }
 
-    /// Prints a lexeme of one character after the gap before it. `gap` is printed before the next
-    /// lexeme.
+    /// Prints the gap after the previous lexeme, and the lexeme `character`. The gap after
+    /// `character` will be `gap`.
     ///
     /// # Errors
     ///
@@ -117,8 +120,8 @@ impl Printer {
         Ok(())
     }
 
-    /// Prints a token, or the opening delimiter of a group, whose contents are printed next.
-    /// Returns the group, or `None` for a token.
+    /// Prints a token, or the opening delimiter of a group. Returns the group, whose contents
+    /// remain to be printed, or `None` for a token that is not a group.
     fn add_tree<'t, 's>(&mut self, tree: TokenTree<'t, 's>) -> Result<Option<Group<'t, 's>>, Memory>
         ensures { IfOk result (λ inner.
             PrintsTree (printed_of self.old) (tree_of tree.entry) (printed_of self.new) inner) }
@@ -139,8 +142,8 @@ impl Printer {
     }
 }
 
-/// Closes the innermost open group and returns the trees after it. Returns `None` if no group is
-/// open.
+/// Prints the closing delimiter of the innermost open group, and returns the trees after the group.
+/// Returns `None` if no group is open.
 fn leave<'t, 's>(
     printer: &mut Printer,
     outer: &mut Vec<Outer<'t, 's>>,

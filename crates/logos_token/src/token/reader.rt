@@ -15,7 +15,7 @@ const MAX_SOURCE: usize = 16_777_216;
 /// The greatest number of delimiters that can be open at once.
 const MAX_NESTING: usize = 128;
 
-/// The reasons why a source text cannot be read into tokens.
+/// The reason why a source text cannot be read into tokens.
 #[derive(Clone, Copy, Debug, PartialEq, Eq)]
 pub enum TokenError {
     /// The first fault of the source, from the left.
@@ -48,9 +48,9 @@ impl<T: Drop> From<AllocFailed<T>> for TokenError {
 #[derive(Clone, Copy)]
 struct OpenGroup {
     delimiter: Delimiter,
-    /// The opening delimiter.
+    /// The span of the opening delimiter.
     span: Span,
-    /// The index of the group in the list of entries.
+    /// The index of the group's entry in the list of entries.
     spot: usize,
 }
 
@@ -61,7 +61,8 @@ fn is_partner(opening: Delimiter, closing: Delimiter) -> bool
     opening == closing
 }
 
-/// Begins a group at its opening delimiter.
+/// Appends the entry of a group to `entries` and the group to `open_groups`. `span` is the span of
+/// its opening delimiter. Returns `LimitTokenNesting` if 128 groups are open.
 fn begin_group(
     entries: &mut Vec<Entry<'_>>,
     open_groups: &mut Vec<OpenGroup>,
@@ -89,7 +90,8 @@ fn begin_group(
     Ok(())
 }
 
-/// Ends the innermost open group at its closing delimiter.
+/// Ends the innermost open group at the closing delimiter at `span`, and sets the span and the size
+/// of its entry. Returns `Unbalanced` at `span` if no group is open or the delimiters differ.
 fn end_group(
     entries: &mut Vec<Entry<'_>>,
     open_groups: &mut Vec<OpenGroup>,
@@ -125,7 +127,7 @@ fn end_group(
     Ok(())
 }
 
-/// Appends an entry for a token that is not a group.
+/// Appends `entry`, which is a token that is not a group, to `entries`.
 fn push<'s>(entries: &mut Vec<Entry<'s>>, entry: Entry<'s>) -> Result<(), TokenError>
     ensures ok { OnOk result (entries.new.items ≡ entries.old.items ++ entry.entry ∷ []) }
     ensures err { IfErr result (λ error. error ≡ TokenError.Memory) }
@@ -134,7 +136,8 @@ fn push<'s>(entries: &mut Vec<Entry<'s>>, entry: Entry<'s>) -> Result<(), TokenE
     Ok(())
 }
 
-/// Adds the lexeme of this kind and span to the entries. A gap adds nothing.
+/// Adds the lexeme of the kind `kind` at `span` of `source` to `entries`, and opens or ends a group
+/// at a delimiter. A gap adds nothing.
 fn add<'s>(
     entries: &mut Vec<Entry<'s>>,
     open_groups: &mut Vec<OpenGroup>,
@@ -181,7 +184,8 @@ fn add<'s>(
     }
 }
 
-/// Returns the tokens of a source that was read to its end. A group that is still open is a fault.
+/// Returns the tokens of a source that was read to its end. Returns `Unbalanced` at the innermost
+/// open delimiter if a group is still open.
 fn finish<'s>(
     entries: Vec<Entry<'s>>,
     mut open_groups: Vec<OpenGroup>,

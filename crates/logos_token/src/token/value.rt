@@ -1,5 +1,5 @@
-//! Reads the values of string and byte string literals. Definitions, subpatterns and options call
-//! it for each of their literals.
+//! Reads the values of string and byte string literals. The readers of definitions, subpatterns and
+//! options call it for each literal.
 
 ghost use Rattle.std.specs.Prelude.{◌≡◌, ℕ, ◌+◌, ◌<◌, ◌≤◌, ◌++◌, ◌⊎◌, ◌==◌, ◌&&◌, ◌||◌, List, length, slice_index, slice_range, string_bytes, option_map, IfOk, OnOk, MatchOption};
 ghost use Rattle.logos_token.specs.ViewImports.{IsCharBoundary, Holds, bytes_of, IsRest, IsAdded, IsAscii, IsValue, IsHeld, held, held_value};
@@ -22,13 +22,15 @@ pub enum LiteralValue {
 }
 
 /// Returns whether `byte` in the contents of a string begins a piece that is not the byte itself.
+/// `escapes` is `false` for a raw string.
 fn is_special(escapes: bool, byte: u8) -> bool
     ensures { result ≡ ((byte == 13) || (escapes && (byte == 92))) }
 {
     (byte == b'\r') | (escapes & (byte == b'\\'))
 }
 
-/// Returns the byte offset, at most `to`, after the bytes from `from` on that represent themselves.
+/// Returns the byte offset of the first byte from `from` on that does not represent itself, or `to`
+/// if each byte before `to` represents itself.
 fn plain_end(source: &str, escapes: bool, from: usize, to: usize) -> usize
     requires inside { from ≤ to }
     requires within { to ≤ length source.now }
@@ -46,7 +48,7 @@ fn plain_end(source: &str, escapes: bool, from: usize, to: usize) -> usize
     end
 }
 
-/// Appends the value of a piece to a text.
+/// Appends the value of a piece to the text `value`.
 fn push_text(value: &mut String, piece: Piece) -> Result<(), AllocError>
     requires { IsAscii piece }
     ensures { OnOk result (string_bytes value.new ≡ string_bytes value.old ++ bytes_of piece) }
@@ -58,8 +60,9 @@ fn push_text(value: &mut String, piece: Piece) -> Result<(), AllocError>
     }
 }
 
-/// Appends the value of the next plain bytes or piece of a string to a text, and returns the byte
-/// offset after it. Returns `None` if there is no piece at `at`.
+/// Appends to `value` the bytes of a string from `at` on that represent themselves, or the value of
+/// the piece at `at` if there are no such bytes. Returns the byte offset after them or after the
+/// piece. Returns `None` if there is neither.
 fn add_text(
     value: &mut String,
     source: &str,
@@ -87,8 +90,8 @@ fn add_text(
     Ok(Some(next))
 }
 
-/// Returns the text of a string whose contents are the span from `from` to `to`. Returns `None` if
-/// they do not consist of pieces.
+/// Returns the text of a string whose contents are the span from `from` to `to` of `source`.
+/// Returns `None` if the contents do not consist of pieces.
 fn text_between(
     alloc: Global,
     source: &str,
@@ -116,7 +119,7 @@ fn text_between(
     Ok(Some(value))
 }
 
-/// Appends the value of a piece to bytes.
+/// Appends the bytes of a piece's value to `value`.
 fn push_bytes(value: &mut Vec<u8>, piece: Piece) -> Result<(), AllocError>
     ensures { OnOk result (value.new.items ≡ value.old.items ++ bytes_of piece) }
 {
@@ -130,8 +133,8 @@ fn push_bytes(value: &mut Vec<u8>, piece: Piece) -> Result<(), AllocError>
     }
 }
 
-/// Returns the bytes of a byte string whose contents are the span from `from` to `to`. Returns
-/// `None` if they do not consist of pieces.
+/// Returns the bytes of a byte string whose contents are the span from `from` to `to` of `source`.
+/// Returns `None` if the contents do not consist of pieces.
 fn bytes_between(
     alloc: Global,
     source: &str,
@@ -159,8 +162,8 @@ fn bytes_between(
     Ok(Some(value))
 }
 
-/// Returns the value of a string or byte string whose contents are the span from `from` to `to`.
-/// Returns `None` if they are malformed.
+/// Returns the value of a string or byte string whose contents are the span from `from` to `to` of
+/// `source`. Returns `None` if the contents are malformed or belong to a C string.
 fn value_between(
     alloc: Global,
     source: &str,
@@ -187,7 +190,7 @@ fn value_between(
 }
 
 /// Returns the value of the string or byte string at the start of a text. Returns `None` if the
-/// text begins with neither.
+/// text begins with neither, or if the literal is malformed.
 fn string_value(alloc: Global, text: &str) -> Result<Option<LiteralValue>, AllocError>
     ensures { IfOk result (λ value. IsValue text.now value) }
 {

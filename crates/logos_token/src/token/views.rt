@@ -1,5 +1,5 @@
-//! Holds the tokens of a source in one flat buffer, and provides views of runs of them. All crates
-//! that read tokens use it.
+//! Token buffers, which are flat, and views of runs of their tokens. All crates that read tokens
+//! use them.
 
 ghost use Rattle.logos_token.specs.Imports.{props};
 ghost use Rattle.logos_token.specs.Flat.{IsFlat};
@@ -11,14 +11,14 @@ use crate::token::entry::Entry;
 use crate::token::{Delimiter, Doc, Ident, Literal, Punct, Span};
 use std::alloc::{AllocError, Global};
 
-/// The tokens of a whole source, which own their buffer.
+/// Tokens that own their buffer: those of a whole source, or a run that was copied or built.
 #[derive(Drop)]
 pub struct TokenStream<'s> {
     entries: Vec<Entry<'s>>,
     ghost nested: { IsFlat entries.items } by { Prim.hlevel props },
 }
 
-/// A run of neighboring token trees: a view of a buffer, which copies nothing.
+/// A run of neighboring token trees, as a view of their buffer.
 #[derive(Clone, Copy)]
 pub struct Tokens<'t, 's> {
     entries: &'t [Entry<'s>],
@@ -29,7 +29,7 @@ pub struct Tokens<'t, 's> {
 #[derive(Clone, Copy)]
 pub struct Group<'t, 's> {
     pub delimiter: Delimiter,
-    /// The span from the opening delimiter to the closing one.
+    /// The span from the opening delimiter to the closing delimiter, both included.
     pub span: Span,
     inside: Tokens<'t, 's>,
 }
@@ -54,7 +54,7 @@ impl<'s> TokenStream<'s> {
     ghost use Rattle.std.specs.Prelude.{◌≡◌, IfOk};
     ghost use Rattle.logos_token.specs.ViewImports.{identifier, none, also, IsFlat, tokens_in, stream_tokens, tokens_of};
 
-    /// Returns a buffer of these entries.
+    /// Returns a buffer of the entries `entries`.
     pub(super) fn from_entries(entries: Vec<Entry<'s>>) -> TokenStream<'s>
         requires { IsFlat entries.items }
         ensures { stream_tokens result ≡ tokens_in entries.entry.items }
@@ -62,7 +62,7 @@ impl<'s> TokenStream<'s> {
         TokenStream { entries }
     }
 
-    /// Returns a buffer that holds one identifier.
+    /// Returns a buffer whose only token is the identifier `ident`.
     ///
     /// # Errors
     ///
@@ -109,7 +109,8 @@ impl<'t, 's> Tokens<'t, 's> {
         self.entries.is_empty()
     }
 
-    /// Returns the number of tokens, with those inside groups. A group itself counts as one.
+    /// Returns the number of tokens in the run and inside its groups. A group itself counts as one
+    /// token.
     pub fn count(self) -> usize
         ensures { result ≡ count_of (tokens_of self.entry) }
     {
@@ -154,7 +155,8 @@ impl<'t, 's> Tokens<'t, 's> {
         }
     }
 
-    /// Returns the trees before `rest`. `rest` must be this run without some of its first trees.
+    /// Returns the trees of this run before `rest`. `rest` must be this run without some of its
+    /// first trees.
     pub fn before(self, rest: Tokens<'t, 's>) -> Tokens<'t, 's>
         requires { IsRestOf (tokens_of self) (tokens_of rest) }
         ensures { (split : IsRestOf (tokens_of self.entry) (tokens_of rest.entry)) →
@@ -181,7 +183,7 @@ impl<'t, 's> Tokens<'t, 's> {
         Span { from, to }
     }
 
-    /// Copies the trees into a buffer of their own.
+    /// Returns a new buffer with copies of the trees.
     ///
     /// # Errors
     ///

@@ -5,7 +5,7 @@ ghost use Rattle.logos_token.specs.Imports.{escaped_character, escaped};
 
 use crate::error::Memory;
 
-/// Appends a character as written between the quotes of a string literal.
+/// Appends a character to `text` as it is written between the quotes of a string literal.
 fn push_character(text: &mut String, character: char) -> Result<(), Memory>
     ensures { OnOk result
         (string_bytes text.new ≡ string_bytes text.old ++ escaped_character character) }
@@ -21,8 +21,8 @@ fn push_character(text: &mut String, character: char) -> Result<(), Memory>
     Ok(())
 }
 
-/// Appends `value` as written between the quotes of a string literal: `"`, `\`, LF, CR and tab as
-/// escapes, and each other character as itself.
+/// Appends `value` to `text` as it is written between the quotes of a string literal: `"`, `\`, LF,
+/// CR and tab as escapes, and each other character as itself.
 ///
 /// # Errors
 ///

@@ -1,12 +1,12 @@
-//! Tests the first tokens of a run, and removes them from it. The readers of enums, `logos_strip`
-//! and `logos_rust_file` call it.
+//! Compares the first tokens of a run, and returns the tokens after them. The readers of enums,
+//! `logos_strip` and `logos_rust_file` call it.
 
 ghost use Rattle.std.specs.Prelude.{◌≡◌, None, Some, MatchOption};
 ghost use Rattle.logos_token.specs.ViewImports.{begins_with, after_word, is_path_mark, after_colon, after_path_mark, tokens_of};
 
 use crate::token::{Punct, Spacing, TokenTree, Tokens};
 
-/// Returns whether a run begins with this punctuation, joint or alone.
+/// Returns whether the run `tokens` begins with the punctuation `mark`, joint or alone.
 pub fn begins_with(mark: char, tokens: Tokens<'_, '_>) -> bool
     ensures { result ≡ begins_with mark (tokens_of tokens.entry) }
 {
@@ -16,7 +16,7 @@ pub fn begins_with(mark: char, tokens: Tokens<'_, '_>) -> bool
     }
 }
 
-/// Returns the tokens after `word`, or `None` if the run does not begin with it.
+/// Returns the tokens after the identifier `word`, or `None` if the run does not begin with it.
 pub fn after_word<'t, 's>(word: &str, tokens: Tokens<'t, 's>) -> Option<Tokens<'t, 's>>
     ensures { MatchOption result (after_word word.now (tokens_of tokens.entry) ≡ None)
         (λ rest. after_word word.now (tokens_of tokens.entry) ≡ Some (tokens_of rest)) }
@@ -27,7 +27,7 @@ pub fn after_word<'t, 's>(word: &str, tokens: Tokens<'t, 's>) -> Option<Tokens<'
     }
 }
 
-/// Returns whether `punct` is the first `:` of `::`, given its spacing.
+/// Returns whether `punct` is a `:` with the spacing `Joint`, as the first `:` of `::` is.
 pub fn is_path_mark(punct: Punct) -> bool
     ensures { result ≡ is_path_mark punct.character punct.spacing }
 {
@@ -37,7 +37,7 @@ pub fn is_path_mark(punct: Punct) -> bool
     }
 }
 
-/// Returns the tokens after `:`, or `None` if the run does not begin with it.
+/// Returns the tokens after a `:`, joint or alone, or `None` if the run does not begin with `:`.
 fn after_colon<'t, 's>(tokens: Tokens<'t, 's>) -> Option<Tokens<'t, 's>>
     ensures { MatchOption result (after_colon (tokens_of tokens.entry) ≡ None)
         (λ rest. after_colon (tokens_of tokens.entry) ≡ Some (tokens_of rest)) }

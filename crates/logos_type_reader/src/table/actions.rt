@@ -1,4 +1,5 @@
-//! Turns an action into the next step, with the tokens after it. `table` calls it for each action.
+//! Turns an action into the next step, with the tokens that it takes. `table` calls it for each
+//! action.
 
 ghost use Rattle.std.specs.Prelude.{◌≡◌, Ok};
 ghost use Rattle.logos_type_reader.specs.Views.{tokens_of, inside_of, sign_of, opens, closes, keeps, to, outside_of, spot_of, IsFirst, IsStep, lead_sign, after_lead, opens_first, opens_type, acts, begun};
@@ -11,7 +12,7 @@ use crate::table::tokens::{first_span, first_text};
 use logos_token::token::{Delimiter, Group, TokenTree, Tokens};
 use logos_type::TypeToken;
 
-/// Returns the token that `lead` takes from the front of a run.
+/// Returns the tokens that `lead` takes from the front of `run`, as one token of a type.
 fn lead_leaf<'s>(lead: Prefix, run: Tokens<'_, 's>) -> TypeToken<'s>
     ensures { sign_of result ≡ lead_sign lead (tokens_of run.entry) }
 {
@@ -43,7 +44,9 @@ fn after_lead<'t, 's>(lead: Prefix, run: Tokens<'t, 's>) -> Tokens<'t, 's>
     }
 }
 
-/// Returns the step that opens a group. Only one group can be open at a time.
+/// Returns the step that opens `group` and continues inside it at `stage`. `rest` is the tokens
+/// after the group. Returns a mismatch at the group if a group is already open, so that `outside`
+/// is not `None`.
 fn open<'t, 's>(
     group: Group<'t, 's>,
     stage: Stage,
@@ -64,7 +67,8 @@ fn open<'t, 's>(
     Ok(TypeStep::Take(TypeToken::Open(group.delimiter), inner))
 }
 
-/// Returns the step that opens the group at the start of the run.
+/// Returns the step that opens the group at the start of the run, or a mismatch if no group comes
+/// first or a group is already open.
 fn open_first<'t, 's>(
     stage: Stage,
     run: Tokens<'t, 's>,
@@ -79,7 +83,8 @@ fn open_first<'t, 's>(
     }
 }
 
-/// Returns the step that closes the group, and continues at `stage` after it.
+/// Returns the step that closes the open group and continues at `stage` in `outside`, the tokens
+/// after the group. Returns `End` if no group is open.
 fn close<'t, 's>(delimiter: Delimiter, stage: Stage, outside: Outside<'t, 's>) -> TypeStep<'t, 's>
     ensures { IsStep (Ok result) (closes delimiter stage (outside_of outside.entry)) }
 {
@@ -95,7 +100,7 @@ fn close<'t, 's>(delimiter: Delimiter, stage: Stage, outside: Outside<'t, 's>) -
 }
 
 /// Returns the step that takes all tokens of the run without reading types in them, and continues
-/// at `stage`.
+/// at `stage` without tokens.
 fn keep<'t, 's>(stage: Stage, run: Tokens<'t, 's>, outside: Outside<'t, 's>) -> TypeStep<'t, 's>
     ensures { IsStep (Ok result)
         (keeps (tokens_of run.entry) (to stage none (outside_of outside.entry))) }
@@ -125,7 +130,8 @@ fn after<'t, 's>(
     }
 }
 
-/// Returns the next step for an action and the tokens at the spot.
+/// Returns the next step for an action and the tokens at the spot, or a mismatch if a group cannot
+/// be opened.
 pub(super) fn act<'t, 's>(
     action: TableEntry,
     run: Tokens<'t, 's>,
@@ -152,7 +158,8 @@ pub(super) fn act<'t, 's>(
     }
 }
 
-/// Returns the group at the start of a type, and the spot inside it.
+/// Returns the beginning of a type that begins with a group: its delimiter, and the spot inside it
+/// at `stage`. Returns a mismatch if no group comes first.
 fn open_type<'t, 's>(stage: Stage, run: Tokens<'t, 's>) -> Result<Beginning<'t, 's>, StepFault>
     ensures { IsFirst result (opens_type stage (tokens_of run.entry)) }
 {
@@ -171,7 +178,7 @@ fn open_type<'t, 's>(stage: Stage, run: Tokens<'t, 's>) -> Result<Beginning<'t, 
     })
 }
 
-/// Returns the first token of a type with the beginning `start`.
+/// Returns the beginning `start` of a type with its first token and the spot after it.
 pub(super) fn begin_by<'t, 's>(
     start: FirstEntry,
     run: Tokens<'t, 's>,

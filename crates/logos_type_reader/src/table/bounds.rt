@@ -1,4 +1,5 @@
-//! The steps in bounds, and at the lifetimes in `for<..>`. `table` calls one for each stage.
+//! The actions in bounds, and at the lifetimes in `for<..>`. `table` calls the function of each
+//! stage.
 
 ghost use Rattle.std.specs.Prelude.{◌≡◌};
 ghost use Rattle.logos_type_reader.specs.Views.{rest_of, tokens_of, after_bound, bound_lifetime_move, trait_move, question_move, bound_move, bound_end_move, further_move, enclosed_end_move, after_for, for_move, for_lifetime_move, for_list_move, for_end_move, path_move, OfBound, outside_of, spot_of, IsAction};
@@ -20,7 +21,8 @@ fn after_bound(kind: BoundKind) -> Stage
     }
 }
 
-/// Returns the step at `'` where a bound is expected.
+/// Returns the action at `'` where a bound is expected, or a mismatch if no name follows. `+` can
+/// join another bound if `plus`.
 fn bound_lifetime_step(plus: bool, at: &Spot<'_, '_>) -> Next
     ensures { IsAction result (spot_of at.now)
         (bound_lifetime_move plus (rest_of (tokens_of at.now.run)) (outside_of at.now.outside)) }
@@ -31,7 +33,8 @@ fn bound_lifetime_step(plus: bool, at: &Spot<'_, '_>) -> Next
     }
 }
 
-/// Returns the step where the path of a bound is expected, with an optional `for<..>` before it.
+/// Returns the action where the path of a bound is expected, with an optional `for<..>` before it,
+/// or a mismatch if neither comes first.
 pub(super) fn trait_step(kind: BoundKind, at: &Spot<'_, '_>) -> Next
     ensures { IsAction result (spot_of at.now)
         (trait_move kind (tokens_of at.now.run) (outside_of at.now.outside)) }
@@ -44,7 +47,8 @@ pub(super) fn trait_step(kind: BoundKind, at: &Spot<'_, '_>) -> Next
     }
 }
 
-/// Returns the step where the path of a bound is expected, after `for<..>`.
+/// Returns the action where the path of a bound is expected, after `for<..>`, or a mismatch if no
+/// path comes first.
 pub(super) fn trait_path_step(kind: BoundKind, at: &Spot<'_, '_>) -> Next
     ensures { IsAction result (spot_of at.now)
         (path_move OfBound (after_bound kind) (tokens_of at.now.run)) }
@@ -52,7 +56,8 @@ pub(super) fn trait_path_step(kind: BoundKind, at: &Spot<'_, '_>) -> Next
     path_step(PathKind::OfBound, after_bound(kind), at)
 }
 
-/// Returns the step where a `?` is allowed before the path of a bound.
+/// Returns the action where a `?` is allowed before the path of a bound, or a mismatch if no bound
+/// comes first.
 pub(super) fn question_step(kind: BoundKind, at: &Spot<'_, '_>) -> Next
     ensures { IsAction result (spot_of at.now)
         (question_move kind (tokens_of at.now.run) (outside_of at.now.outside)) }
@@ -63,7 +68,8 @@ pub(super) fn question_step(kind: BoundKind, at: &Spot<'_, '_>) -> Next
     }
 }
 
-/// Returns the step where a bound is expected.
+/// Returns the action where a bound is expected, or a mismatch if no bound comes first. `+` can
+/// join another bound if `plus`.
 pub(super) fn bound_step(plus: bool, at: &Spot<'_, '_>) -> Next
     ensures { IsAction result (spot_of at.now)
         (bound_move plus (tokens_of at.now.run) (outside_of at.now.outside)) }
@@ -75,7 +81,8 @@ pub(super) fn bound_step(plus: bool, at: &Spot<'_, '_>) -> Next
     }
 }
 
-/// Returns the step after a bound.
+/// Returns the action after a bound: a `+` if it comes first and `plus` is `true`, and the end of
+/// the bounds otherwise.
 pub(super) fn bound_end_step(plus: bool, at: &Spot<'_, '_>) -> Next
     ensures { IsAction result (spot_of at.now)
         (bound_end_move plus (tokens_of at.now.run) (outside_of at.now.outside)) }
@@ -88,7 +95,8 @@ pub(super) fn bound_end_step(plus: bool, at: &Spot<'_, '_>) -> Next
     }
 }
 
-/// Returns the step after a `+` that follows a bound.
+/// Returns the action after a `+` that follows a bound: that of another bound, or the end of the
+/// bounds.
 pub(super) fn further_step(at: &Spot<'_, '_>) -> Next
     ensures { IsAction result (spot_of at.now)
         (further_move (tokens_of at.now.run) (outside_of at.now.outside)) }
@@ -99,7 +107,7 @@ pub(super) fn further_step(at: &Spot<'_, '_>) -> Next
     Ok(TableEntry::End)
 }
 
-/// Returns the step after a path in the parentheses of a bound.
+/// Returns the action after a path in the parentheses of a bound, or a mismatch if a token follows.
 pub(super) fn enclosed_end_step(plus: bool, at: &Spot<'_, '_>) -> Next
     ensures { IsAction result (spot_of at.now)
         (enclosed_end_move plus (tokens_of at.now.run) (outside_of at.now.outside)) }
@@ -120,7 +128,7 @@ fn after_for(binder: Binder) -> Stage
     }
 }
 
-/// Returns the step after `for`.
+/// Returns the action after `for`, or a mismatch if no `<` follows.
 pub(super) fn for_step(binder: Binder, at: &Spot<'_, '_>) -> Next
     ensures { IsAction result (spot_of at.now)
         (for_move binder (tokens_of at.now.run) (outside_of at.now.outside)) }
@@ -133,7 +141,7 @@ pub(super) fn for_step(binder: Binder, at: &Spot<'_, '_>) -> Next
     }
 }
 
-/// Returns the step at `'` in `for<..>`.
+/// Returns the action at `'` in `for<..>`, or a mismatch if no name follows.
 fn for_lifetime_step(binder: Binder, at: &Spot<'_, '_>) -> Next
     ensures { IsAction result (spot_of at.now)
         (for_lifetime_move binder (rest_of (tokens_of at.now.run)) (outside_of at.now.outside)) }
@@ -144,7 +152,8 @@ fn for_lifetime_step(binder: Binder, at: &Spot<'_, '_>) -> Next
     }
 }
 
-/// Returns the step in `for<..>` where a lifetime is allowed.
+/// Returns the action in `for<..>` where a lifetime is allowed, or a mismatch if neither a lifetime
+/// nor `>` comes first.
 pub(super) fn for_list_step(binder: Binder, at: &Spot<'_, '_>) -> Next
     ensures { IsAction result (spot_of at.now)
         (for_list_move binder (tokens_of at.now.run) (outside_of at.now.outside)) }
@@ -156,7 +165,8 @@ pub(super) fn for_list_step(binder: Binder, at: &Spot<'_, '_>) -> Next
     }
 }
 
-/// Returns the step after a lifetime in `for<..>`.
+/// Returns the action after a lifetime in `for<..>`, or a mismatch if neither a comma nor `>`
+/// follows.
 pub(super) fn for_end_step(binder: Binder, at: &Spot<'_, '_>) -> Next
     ensures { IsAction result (spot_of at.now)
         (for_end_move binder (tokens_of at.now.run) (outside_of at.now.outside)) }

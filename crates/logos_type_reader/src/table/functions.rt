@@ -1,4 +1,4 @@
-//! The steps in function types. `table` calls one for each stage.
+//! The actions in function types. `table` calls the function of each stage.
 
 ghost use Rattle.logos_type_reader.specs.Views.{tokens_of, linked_move, unsafe_move, qualified_move, extern_move, function_move, taken_value, taken_move, typed_move, one_taken_move, variadic_move, variadic_end_move, outside_of, spot_of, IsAction};
 
@@ -6,7 +6,7 @@ use crate::table::stage::{FrontToken, Next, Prefix, Spot, Stage, TableEntry};
 use crate::table::tokens::{begins_dots, begins_word, is_typing, look, mismatch};
 use logos_token::token::Delimiter;
 
-/// Returns the step after `extern` and its literal.
+/// Returns the action after `extern` and its literal, or a mismatch if no `fn` follows.
 pub(super) fn linked_step(at: &Spot<'_, '_>) -> Next
     ensures { IsAction result (spot_of at.now)
         (linked_move (tokens_of at.now.run) (outside_of at.now.outside)) }
@@ -20,7 +20,7 @@ pub(super) fn linked_step(at: &Spot<'_, '_>) -> Next
     }
 }
 
-/// Returns the step after `unsafe`.
+/// Returns the action after `unsafe`, or a mismatch if neither `extern` nor `fn` follows.
 pub(super) fn unsafe_step(at: &Spot<'_, '_>) -> Next
     ensures { IsAction result (spot_of at.now)
         (unsafe_move (tokens_of at.now.run) (outside_of at.now.outside)) }
@@ -34,7 +34,8 @@ pub(super) fn unsafe_step(at: &Spot<'_, '_>) -> Next
     }
 }
 
-/// Returns the step after the `for<..>` of a function.
+/// Returns the action after the `for<..>` of a function, or a mismatch if neither `unsafe`,
+/// `extern` nor `fn` follows.
 pub(super) fn qualified_step(at: &Spot<'_, '_>) -> Next
     ensures { IsAction result (spot_of at.now)
         (qualified_move (tokens_of at.now.run) (outside_of at.now.outside)) }
@@ -48,7 +49,7 @@ pub(super) fn qualified_step(at: &Spot<'_, '_>) -> Next
     }
 }
 
-/// Returns the step after `extern`.
+/// Returns the action after `extern`, or a mismatch if neither a literal nor `fn` follows.
 pub(super) fn extern_step(at: &Spot<'_, '_>) -> Next
     ensures { IsAction result (spot_of at.now)
         (extern_move (tokens_of at.now.run) (outside_of at.now.outside)) }
@@ -59,7 +60,7 @@ pub(super) fn extern_step(at: &Spot<'_, '_>) -> Next
     }
 }
 
-/// Returns the step after `fn`.
+/// Returns the action after `fn`, or a mismatch if no parentheses follow.
 pub(super) fn function_step(at: &Spot<'_, '_>) -> Next
     ensures { IsAction result (spot_of at.now)
         (function_move (tokens_of at.now.run) (outside_of at.now.outside)) }
@@ -70,7 +71,7 @@ pub(super) fn function_step(at: &Spot<'_, '_>) -> Next
     }
 }
 
-/// Returns the step where the type of a parameter or `...` is expected.
+/// Returns the action where the type of a parameter or `...` is expected.
 pub(super) fn taken_value_step(at: &Spot<'_, '_>) -> Next
     ensures { IsAction result (spot_of at.now)
         (taken_value (tokens_of at.now.run) (outside_of at.now.outside)) }
@@ -81,7 +82,8 @@ pub(super) fn taken_value_step(at: &Spot<'_, '_>) -> Next
     Ok(TableEntry::Need(true, Stage::OneTaken))
 }
 
-/// Returns the step among the parameters of a function.
+/// Returns the action where a parameter of a function is allowed: the end of the parameters, the
+/// name of a parameter, its type, or `...`.
 pub(super) fn taken_step(at: &Spot<'_, '_>) -> Next
     ensures { IsAction result (spot_of at.now)
         (taken_move (tokens_of at.now.run) (outside_of at.now.outside)) }
@@ -96,7 +98,7 @@ pub(super) fn taken_step(at: &Spot<'_, '_>) -> Next
     }
 }
 
-/// Returns the step between the name of a parameter and `:`.
+/// Returns the action between the name of a parameter and `:`, or a mismatch if no `:` follows.
 pub(super) fn typed_step(at: &Spot<'_, '_>) -> Next
     ensures { IsAction result (spot_of at.now)
         (typed_move (tokens_of at.now.run) (outside_of at.now.outside)) }
@@ -107,7 +109,8 @@ pub(super) fn typed_step(at: &Spot<'_, '_>) -> Next
     }
 }
 
-/// Returns the step after one parameter of a function.
+/// Returns the action after one parameter of a function, or a mismatch if neither a comma nor the
+/// end of the parameters follows.
 pub(super) fn one_taken_step(at: &Spot<'_, '_>) -> Next
     ensures { IsAction result (spot_of at.now)
         (one_taken_move (tokens_of at.now.run) (outside_of at.now.outside)) }
@@ -119,7 +122,8 @@ pub(super) fn one_taken_step(at: &Spot<'_, '_>) -> Next
     }
 }
 
-/// Returns the step after `...`.
+/// Returns the action after `...`, or a mismatch if neither a comma nor the end of the parameters
+/// follows.
 pub(super) fn variadic_step(at: &Spot<'_, '_>) -> Next
     ensures { IsAction result (spot_of at.now)
         (variadic_move (tokens_of at.now.run) (outside_of at.now.outside)) }
@@ -131,7 +135,7 @@ pub(super) fn variadic_step(at: &Spot<'_, '_>) -> Next
     }
 }
 
-/// Returns the step after a `,` that follows `...`.
+/// Returns the action after the `,` that follows `...`, or a mismatch if a token follows.
 pub(super) fn variadic_end_step(at: &Spot<'_, '_>) -> Next
     ensures { IsAction result (spot_of at.now)
         (variadic_end_move (tokens_of at.now.run) (outside_of at.now.outside)) }

@@ -1,4 +1,5 @@
-//! The steps in references, pointers, groups, and `<T as P>`. `table` calls one for each stage.
+//! The actions in references, pointers, groups, and `<T as P>`. `table` calls the function of each
+//! stage.
 
 ghost use Rattle.logos_type_reader.specs.Views.{tokens_of, referent_move, pointer_move, list_move, list_end_move, element_end_move, length_move, self_end_move, self_trait_end_move, self_closed_move, outside_of, spot_of, IsAction};
 
@@ -6,7 +7,7 @@ use crate::table::stage::{FrontToken, Next, PathKind, Prefix, Spot, Stage, Table
 use crate::table::tokens::{begins_colons, begins_word, look, mismatch};
 use logos_token::token::Delimiter;
 
-/// Returns the step after `&` and its lifetime.
+/// Returns the action after `&` and its lifetime, if it has one.
 pub(super) fn referent_step(at: &Spot<'_, '_>) -> Next
     ensures { IsAction result (spot_of at.now)
         (referent_move (tokens_of at.now.run) (outside_of at.now.outside)) }
@@ -20,7 +21,8 @@ pub(super) fn referent_step(at: &Spot<'_, '_>) -> Next
     }
 }
 
-/// Returns the step after `*`.
+/// Returns the action after the `*` of a pointer, or a mismatch if neither `const` nor `mut`
+/// follows.
 pub(super) fn pointer_step(at: &Spot<'_, '_>) -> Next
     ensures { IsAction result (spot_of at.now)
         (pointer_move (tokens_of at.now.run) (outside_of at.now.outside)) }
@@ -33,7 +35,7 @@ pub(super) fn pointer_step(at: &Spot<'_, '_>) -> Next
     }
 }
 
-/// Returns the step in parentheses where a type is allowed.
+/// Returns the action in parentheses where a type is allowed: the end of the group, or a type.
 pub(super) fn tuple_step(at: &Spot<'_, '_>) -> Next
     ensures { IsAction result (spot_of at.now)
         (list_move (tokens_of at.now.run) (outside_of at.now.outside)) }
@@ -44,7 +46,8 @@ pub(super) fn tuple_step(at: &Spot<'_, '_>) -> Next
     }
 }
 
-/// Returns the step after a type in parentheses.
+/// Returns the action after a type in parentheses, or a mismatch if neither a comma nor the end of
+/// the group follows.
 pub(super) fn tuple_end_step(at: &Spot<'_, '_>) -> Next
     ensures { IsAction result (spot_of at.now)
         (list_end_move (tokens_of at.now.run) (outside_of at.now.outside)) }
@@ -56,7 +59,8 @@ pub(super) fn tuple_end_step(at: &Spot<'_, '_>) -> Next
     }
 }
 
-/// Returns the step after a type in brackets.
+/// Returns the action after a type in brackets, or a mismatch if neither `;` nor the end of the
+/// group follows.
 pub(super) fn element_end_step(at: &Spot<'_, '_>) -> Next
     ensures { IsAction result (spot_of at.now)
         (element_end_move (tokens_of at.now.run) (outside_of at.now.outside)) }
@@ -68,7 +72,7 @@ pub(super) fn element_end_step(at: &Spot<'_, '_>) -> Next
     }
 }
 
-/// Returns the step after the `;` of an array.
+/// Returns the action after the `;` of an array, or a mismatch if no length follows.
 pub(super) fn length_step(at: &Spot<'_, '_>) -> Next
     ensures { IsAction result (spot_of at.now)
         (length_move (tokens_of at.now.run) (outside_of at.now.outside)) }
@@ -79,7 +83,8 @@ pub(super) fn length_step(at: &Spot<'_, '_>) -> Next
     }
 }
 
-/// Returns the step after the type that follows `<`.
+/// Returns the action after the type that follows `<`, or a mismatch if neither `as` nor `>`
+/// follows.
 pub(super) fn self_end_step(at: &Spot<'_, '_>) -> Next
     ensures { IsAction result (spot_of at.now)
         (self_end_move (tokens_of at.now.run) (outside_of at.now.outside)) }
@@ -94,7 +99,7 @@ pub(super) fn self_end_step(at: &Spot<'_, '_>) -> Next
     }
 }
 
-/// Returns the step after the path that follows `as`.
+/// Returns the action after the path that follows `as`, or a mismatch if no `>` follows.
 pub(super) fn self_trait_end_step(at: &Spot<'_, '_>) -> Next
     ensures { IsAction result (spot_of at.now)
         (self_trait_end_move (tokens_of at.now.run) (outside_of at.now.outside)) }
@@ -105,7 +110,7 @@ pub(super) fn self_trait_end_step(at: &Spot<'_, '_>) -> Next
     }
 }
 
-/// Returns the step after the `>` of `<T as P>`.
+/// Returns the action after the `>` of `<T as P>`, or a mismatch if no `::` follows.
 pub(super) fn self_closed_step(at: &Spot<'_, '_>) -> Next
     ensures { IsAction result (spot_of at.now)
         (self_closed_move (tokens_of at.now.run) (outside_of at.now.outside)) }

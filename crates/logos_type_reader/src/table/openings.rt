@@ -1,4 +1,5 @@
-//! The steps at the beginnings of types. The reader of types calls `begin` for each type.
+//! The beginnings of types. The reader of types calls `begin` for each type that is more than a
+//! name.
 
 ghost use Rattle.std.specs.Prelude.{◌≡◌, Some, None, MatchOption};
 ghost use Rattle.logos_type_reader.specs.Views.{rest_of, tokens_of, first_span, reference_first, reference_lifetime_first, word_stage, word_first, mark_first, begin, is_reserved, name_of, IsFirst, first_text, IsStart};
@@ -10,7 +11,7 @@ use crate::table::stage::{
 use crate::table::tokens::{begins_colons, begins_mark, continues, first_span, first_text, look};
 use logos_token::token::{Delimiter, Tokens};
 
-/// Returns the step at `&` at the start of a type.
+/// Returns the beginning of a type that begins with `&`.
 fn reference_first(run: Tokens<'_, '_>) -> First
     ensures { IsStart result (tokens_of run.entry)
         (reference_first (rest_of (tokens_of run.entry))) }
@@ -21,7 +22,7 @@ fn reference_first(run: Tokens<'_, '_>) -> First
     }
 }
 
-/// Returns the step at `&'` at the start of a type.
+/// Returns the beginning of a type that begins with `&'`, or a mismatch if no name follows.
 fn reference_lifetime(run: Tokens<'_, '_>) -> First
     ensures { IsStart result (tokens_of run.entry)
         (reference_lifetime_first (rest_of (rest_of (tokens_of run.entry)))) }
@@ -55,7 +56,7 @@ fn word_stage(plus: bool, text: &str) -> Stage
     Stage::Named(PathKind::Plain)
 }
 
-/// Returns the step at the word at the start of a type.
+/// Returns the beginning of a type that begins with a word, or the fault that `_` is unsupported.
 fn word_first(plus: bool, run: Tokens<'_, '_>) -> First
     ensures { IsStart result (tokens_of run.entry)
         (word_first plus (first_text (tokens_of run.entry)) (first_span (tokens_of run.entry))
@@ -68,7 +69,8 @@ fn word_first(plus: bool, run: Tokens<'_, '_>) -> First
     Ok(FirstEntry::Lead(text == "impl", Prefix::Word, word_stage(plus, text)))
 }
 
-/// Returns the step at the punctuation at the start of a type.
+/// Returns the beginning of a type that begins with the punctuation `mark`, or the fault that it is
+/// unsupported or begins no type.
 fn mark_first(mark: char, run: Tokens<'_, '_>) -> First
     ensures { IsStart result (tokens_of run.entry)
         (mark_first mark (first_span (tokens_of run.entry)) (tokens_of run.entry)
@@ -86,7 +88,8 @@ fn mark_first(mark: char, run: Tokens<'_, '_>) -> First
     }
 }
 
-/// Returns the beginning of the type at the start of the run.
+/// Returns the beginning of the type at the start of the run, without its tokens, or the fault if
+/// no supported type begins.
 #[tactic(auto, unfolding(crate::specs::Table::begin))]
 fn start_at(plus: bool, run: Tokens<'_, '_>) -> First
     ensures { IsStart result (tokens_of run.entry) (begin plus (tokens_of run.entry)) }
@@ -100,7 +103,8 @@ fn start_at(plus: bool, run: Tokens<'_, '_>) -> First
     }
 }
 
-/// Returns the first token of the type at the start of the run.
+/// Returns the first token of the type at the start of the run and the spot after it, or the fault
+/// if no supported type begins. `plus` is whether `+` joins bounds.
 pub(crate) fn begin<'t, 's>(plus: bool, run: Tokens<'t, 's>) -> Result<Beginning<'t, 's>, StepFault>
     ensures { IsFirst result (begin plus (tokens_of run.entry)) }
 {
@@ -118,8 +122,8 @@ fn is_reserved(text: &str) -> bool
         | (((text == "fn") | (text == "unsafe")) | (text == "extern"))
 }
 
-/// Returns the name, and the tokens after it, if the type at the start of the tokens is exactly a
-/// name.
+/// Returns the name and the tokens after it if the type at the start of the tokens is exactly a
+/// name, and `None` otherwise.
 pub(crate) fn read_name<'t, 's>(tokens: Tokens<'t, 's>) -> Option<(&'s str, Tokens<'t, 's>)>
     ensures { MatchOption result (name_of (tokens_of tokens.entry) ≡ None)
         (λ read. (name_of (tokens_of tokens.entry) ≡ Some read.0.now)

@@ -1,4 +1,4 @@
-//! The steps in paths and in their arguments. `table` calls one for each stage.
+//! The actions in paths and in their arguments. `table` calls the function of each stage.
 
 ghost use Rattle.std.specs.Prelude.{◌≡◌};
 ghost use Rattle.logos_type_reader.specs.Views.{rest_of, tokens_of, argued, name_end, segments_move, named_move, macro_move, output_move, inputs_move, input_end_move, colons_move, lifetime_move, argument_word, arguments_move, braced_move, equals_move, constrained_move, argument_end_move, path_move, outside_of, spot_of, first_text, IsAction};
@@ -9,7 +9,7 @@ use crate::table::tokens::{
 };
 use logos_token::token::Delimiter;
 
-/// Returns the kind of a path that has had arguments.
+/// Returns the kind that a path of the kind `kind` has after it has had arguments.
 fn argued(kind: PathKind) -> PathKind
     ensures { result ≡ argued kind }
 {
@@ -19,7 +19,7 @@ fn argued(kind: PathKind) -> PathKind
     }
 }
 
-/// Returns the step after the last name of a path.
+/// Returns the action after the last name of a path: the `!` of a macro, or the end of the path.
 fn name_end(kind: PathKind, at: &Spot<'_, '_>) -> Next
     ensures { IsAction result (spot_of at.now)
         (name_end kind (tokens_of at.now.run) (outside_of at.now.outside)) }
@@ -33,7 +33,7 @@ fn name_end(kind: PathKind, at: &Spot<'_, '_>) -> Next
     }
 }
 
-/// Returns the step after the arguments of a name.
+/// Returns the action after the arguments of a name: `::`, or the end of the path.
 pub(super) fn segments_step(kind: PathKind, at: &Spot<'_, '_>) -> Next
     ensures { IsAction result (spot_of at.now)
         (segments_move kind (tokens_of at.now.run) (outside_of at.now.outside)) }
@@ -44,7 +44,7 @@ pub(super) fn segments_step(kind: PathKind, at: &Spot<'_, '_>) -> Next
     Ok(TableEntry::End)
 }
 
-/// Returns the step after a name of a path.
+/// Returns the action after a name of a path: arguments, `::`, or the action after the last name.
 pub(super) fn named_step(kind: PathKind, at: &Spot<'_, '_>) -> Next
     ensures { IsAction result (spot_of at.now)
         (named_move kind (tokens_of at.now.run) (outside_of at.now.outside)) }
@@ -61,7 +61,7 @@ pub(super) fn named_step(kind: PathKind, at: &Spot<'_, '_>) -> Next
     }
 }
 
-/// Returns the step after the `!` of a macro.
+/// Returns the action after the `!` of a macro, or a mismatch if no group follows.
 pub(super) fn macro_step(at: &Spot<'_, '_>) -> Next
     ensures { IsAction result (spot_of at.now)
         (macro_move (tokens_of at.now.run) (outside_of at.now.outside)) }
@@ -72,7 +72,7 @@ pub(super) fn macro_step(at: &Spot<'_, '_>) -> Next
     }
 }
 
-/// Returns the step after the parentheses of a path or of a function.
+/// Returns the action after the parentheses of a path or of a function: `->`, or the end.
 pub(super) fn output_step(at: &Spot<'_, '_>) -> Next
     ensures { IsAction result (spot_of at.now)
         (output_move (tokens_of at.now.run) (outside_of at.now.outside)) }
@@ -83,7 +83,7 @@ pub(super) fn output_step(at: &Spot<'_, '_>) -> Next
     Ok(TableEntry::End)
 }
 
-/// Returns the step in the parentheses of a path where a type is allowed.
+/// Returns the action in the parentheses of a path where a type is allowed: their end, or a type.
 pub(super) fn inputs_step(at: &Spot<'_, '_>) -> Next
     ensures { IsAction result (spot_of at.now)
         (inputs_move (tokens_of at.now.run) (outside_of at.now.outside)) }
@@ -94,7 +94,8 @@ pub(super) fn inputs_step(at: &Spot<'_, '_>) -> Next
     }
 }
 
-/// Returns the step after a type in the parentheses of a path.
+/// Returns the action after a type in the parentheses of a path, or a mismatch if neither a comma
+/// nor the end of the group follows.
 pub(super) fn input_end_step(at: &Spot<'_, '_>) -> Next
     ensures { IsAction result (spot_of at.now)
         (input_end_move (tokens_of at.now.run) (outside_of at.now.outside)) }
@@ -106,7 +107,8 @@ pub(super) fn input_end_step(at: &Spot<'_, '_>) -> Next
     }
 }
 
-/// Returns the step after `::`.
+/// Returns the action after `::`, or a mismatch if neither a name nor, if `arguments`, a `<`
+/// follows.
 pub(super) fn colons_step(kind: PathKind, arguments: bool, at: &Spot<'_, '_>) -> Next
     ensures { IsAction result (spot_of at.now)
         (colons_move kind arguments (tokens_of at.now.run) (outside_of at.now.outside)) }
@@ -120,7 +122,7 @@ pub(super) fn colons_step(kind: PathKind, arguments: bool, at: &Spot<'_, '_>) ->
     }
 }
 
-/// Returns the step at `'` among arguments.
+/// Returns the action at `'` among arguments, or a mismatch if no name follows.
 fn lifetime_step(kind: PathKind, at: &Spot<'_, '_>) -> Next
     ensures { IsAction result (spot_of at.now)
         (lifetime_move kind (rest_of (tokens_of at.now.run)) (outside_of at.now.outside)) }
@@ -134,7 +136,7 @@ fn lifetime_step(kind: PathKind, at: &Spot<'_, '_>) -> Next
     }
 }
 
-/// Returns the step at a name among arguments.
+/// Returns the action at a name among arguments: at the name before `=` or `:`, or at a type.
 fn argument_word(kind: PathKind, at: &Spot<'_, '_>) -> Next
     ensures { IsAction result (spot_of at.now)
         (argument_word kind (first_text (tokens_of at.now.run)) (rest_of (tokens_of at.now.run))
@@ -150,7 +152,7 @@ fn argument_word(kind: PathKind, at: &Spot<'_, '_>) -> Next
     Ok(TableEntry::Need(true, Stage::ArgumentEnd(kind)))
 }
 
-/// Returns the step among the arguments of a path.
+/// Returns the action where an argument of a path is allowed: the closing `>`, or an argument.
 pub(super) fn arguments_step(kind: PathKind, at: &Spot<'_, '_>) -> Next
     ensures { IsAction result (spot_of at.now)
         (arguments_move kind (tokens_of at.now.run) (outside_of at.now.outside)) }
@@ -167,7 +169,7 @@ pub(super) fn arguments_step(kind: PathKind, at: &Spot<'_, '_>) -> Next
     }
 }
 
-/// Returns the step in braces that are an argument.
+/// Returns the action in braces that are an argument: their tokens, or their end.
 pub(super) fn braced_step(kind: PathKind, at: &Spot<'_, '_>) -> Next
     ensures { IsAction result (spot_of at.now)
         (braced_move kind (tokens_of at.now.run) (outside_of at.now.outside)) }
@@ -178,7 +180,8 @@ pub(super) fn braced_step(kind: PathKind, at: &Spot<'_, '_>) -> Next
     }
 }
 
-/// Returns the step between a name and `=` among the arguments of a path.
+/// Returns the action between a name and `=` among the arguments of a path, or a mismatch if no `=`
+/// follows.
 pub(super) fn equals_step(kind: PathKind, at: &Spot<'_, '_>) -> Next
     ensures { IsAction result (spot_of at.now)
         (equals_move kind (tokens_of at.now.run) (outside_of at.now.outside)) }
@@ -189,7 +192,8 @@ pub(super) fn equals_step(kind: PathKind, at: &Spot<'_, '_>) -> Next
     }
 }
 
-/// Returns the step between a name and `:` among the arguments of a path.
+/// Returns the action between a name and `:` among the arguments of a path, or a mismatch if no `:`
+/// follows.
 pub(super) fn constrained_step(kind: PathKind, at: &Spot<'_, '_>) -> Next
     ensures { IsAction result (spot_of at.now)
         (constrained_move kind (tokens_of at.now.run) (outside_of at.now.outside)) }
@@ -204,7 +208,7 @@ pub(super) fn constrained_step(kind: PathKind, at: &Spot<'_, '_>) -> Next
     }
 }
 
-/// Returns the step after an argument.
+/// Returns the action after an argument, or a mismatch if neither a comma nor `>` follows.
 pub(super) fn argument_end_step(kind: PathKind, at: &Spot<'_, '_>) -> Next
     ensures { IsAction result (spot_of at.now)
         (argument_end_move kind (tokens_of at.now.run) (outside_of at.now.outside)) }
@@ -220,7 +224,8 @@ pub(super) fn argument_end_step(kind: PathKind, at: &Spot<'_, '_>) -> Next
     }
 }
 
-/// Returns the step where a path begins. `next` is the stage after it.
+/// Returns the action where a path must begin, or a mismatch if neither a name nor `::` comes
+/// first. `next` is the stage after the path.
 pub(super) fn path_step(kind: PathKind, next: Stage, at: &Spot<'_, '_>) -> Next
     ensures { IsAction result (spot_of at.now) (path_move kind next (tokens_of at.now.run)) }
 {

@@ -1,10 +1,10 @@
-//! The stages inside a type, and the steps that can follow at each. All modules of `table` and the
-//! reader of types use them.
+//! The stages inside a type, and the actions and steps that can follow at a stage. All modules of
+//! `table` and the reader of types use them.
 
 use logos_token::token::{Delimiter, Spacing, Span, Tokens};
 use logos_type::TypeToken;
 
-/// The kinds of paths.
+/// The kind of a path.
 #[derive(Clone, Copy)]
 pub(crate) enum PathKind {
     /// A type that has had no arguments yet, so that it can still be the name of a macro.
@@ -15,16 +15,17 @@ pub(crate) enum PathKind {
     OfBound,
 }
 
-/// The kinds of positions at which a bound is expected.
+/// The kind of a point at which a bound is expected.
 #[derive(Clone, Copy)]
 pub(crate) enum BoundKind {
     /// In a list. `+` can join another bound if the flag is `true`.
     Listed(bool),
-    /// In the parentheses of a bound in such a list.
+    /// In the parentheses of a bound in a list. After them `+` can join another bound if the flag
+    /// is `true`.
     Enclosed(bool),
 }
 
-/// The constructs before which `for<..>` is allowed.
+/// A construct before which `for<..>` is allowed.
 #[derive(Clone, Copy)]
 pub(crate) enum Binder {
     OfFunction,
@@ -44,9 +45,9 @@ pub(crate) enum Stage {
     Colons(PathKind, bool),
     /// After `<`, or `,` among arguments.
     Arguments(PathKind),
-    /// Between a name and `=`.
+    /// Between a name and `=` among arguments.
     Equals(PathKind),
-    /// After that `=`.
+    /// After the `=` that follows a name among arguments.
     Value(PathKind),
     /// Between a name and `:` among arguments.
     Constrained(PathKind),
@@ -54,7 +55,7 @@ pub(crate) enum Stage {
     Braced(PathKind),
     /// After an argument.
     ArgumentEnd(PathKind),
-    /// After the `!` of a macro.
+    /// After the name of a macro and its `!`.
     Macro,
     /// After `(`, or `,`, in the parentheses of a path.
     Inputs,
@@ -72,9 +73,9 @@ pub(crate) enum Stage {
     SelfTraitEnd,
     /// After the `>` that ends `<T as P>`.
     SelfClosed,
-    /// After `&` and its lifetime.
+    /// After `&` and its lifetime, if it has one.
     Referent,
-    /// After `*`.
+    /// After the `*` of a pointer.
     Pointer,
     /// After `mut`, `const` or `->`.
     Target,
@@ -82,7 +83,7 @@ pub(crate) enum Stage {
     List,
     /// After a type in parentheses.
     ListEnd,
-    /// After `[`.
+    /// After the `[` of a slice or an array.
     Element,
     /// After a type in brackets.
     ElementEnd,
@@ -90,19 +91,20 @@ pub(crate) enum Stage {
     Length,
     /// After the tokens of an array's length.
     LengthEnd,
-    /// Where a bound is expected.
+    /// Where a bound is expected. `+` can join another bound if the flag is `true`.
     Bound(bool),
-    /// After the `(` of a bound.
+    /// After the `(` of a bound. After its `)` `+` can join another bound if the flag is `true`.
     Question(bool),
     /// Where the path of a bound is expected, with an optional `for<..>` before it.
     Trait(BoundKind),
     /// After the `for<..>` of a bound.
     TraitPath(BoundKind),
-    /// After a bound.
+    /// After a bound. `+` can join another bound if the flag is `true`.
     BoundEnd(bool),
     /// After the `+` that follows a bound.
     Further,
-    /// After a path in the parentheses of a bound.
+    /// After a path in the parentheses of a bound. After them `+` can join another bound if the
+    /// flag is `true`.
     EnclosedEnd(bool),
     /// After `for`.
     For(Binder),
@@ -122,13 +124,13 @@ pub(crate) enum Stage {
     Function,
     /// After `(`, or `,`, among the parameters of a function.
     Taken,
-    /// Between a name and `:`.
+    /// Between the name of a parameter of a function and `:`.
     Typed,
-    /// After that `:`.
+    /// After the `:` that follows the name of a parameter.
     TypedValue,
     /// After one parameter of a function.
     OneTaken,
-    /// After `...`.
+    /// After the `...` among the parameters of a function.
     Variadic,
     /// After the `,` that follows `...`.
     VariadicEnd,
@@ -146,27 +148,27 @@ pub(crate) struct Spot<'t, 's> {
     pub outside: Outside<'t, 's>,
 }
 
-/// The next step at a spot.
+/// The next step at a spot, with the tokens that it takes.
 #[derive(Clone, Copy)]
 pub(crate) enum TypeStep<'t, 's> {
     /// Ends the construct that was begun.
     End,
-    /// Takes this token.
+    /// Takes this token and continues at the spot.
     Take(TypeToken<'s>, Spot<'t, 's>),
-    /// Takes this token, which occurs only in unsupported types.
+    /// Takes this token, which occurs only in unsupported types, and continues at the spot.
     Bar(TypeToken<'s>, Spot<'t, 's>),
     /// Reads a type and continues at this stage. `+` can join bounds if the flag is `true`.
     Need(bool, Stage),
     /// Reads a type that is never replaced and continues at this stage.
     KeepType(Stage),
-    /// Takes these tokens without reading types in them.
+    /// Takes these tokens without reading types in them, and continues at the spot.
     Keep(Tokens<'t, 's>, Spot<'t, 's>),
     /// Takes this token, with which a path or bounds begin, reads the path or bounds from the spot
     /// on, and continues at the stage.
     Nest(TypeToken<'s>, Spot<'t, 's>, Stage),
 }
 
-/// The first token of a run.
+/// The class of the first token of a run.
 #[derive(Clone, Copy)]
 pub(crate) enum FrontToken {
     /// None: the run has no tokens.
@@ -183,34 +185,35 @@ pub(crate) enum FrontToken {
     Group(Delimiter),
 }
 
-/// The tokens that a step takes from the front of a run.
+/// The tokens that an action takes from the front of a run.
 #[derive(Clone, Copy)]
 pub(crate) enum Prefix {
-    /// The name.
+    /// A name.
     Word,
-    /// This character of punctuation.
+    /// A token that is this character of punctuation.
     Mark(char),
-    /// The literal.
+    /// A literal.
     Literal,
-    /// `::`
+    /// The two tokens of `::`.
     Colons,
-    /// `->`
+    /// The two tokens of `->`.
     Arrow,
-    /// `...`
+    /// The three tokens of `...`.
     Dots,
-    /// `&`
+    /// An `&` without a lifetime.
     Reference,
-    /// `&` and a lifetime.
+    /// An `&` and the two tokens of a lifetime.
     ReferenceLifetime,
     /// `'` and a name, among the angle arguments of a path that is a type.
     Lifetime,
     /// `'` and a name elsewhere.
     OtherLifetime,
-    /// The delimiters of the group.
+    /// A group with these delimiters.
     Group(Delimiter),
 }
 
-/// The next action. It refers to no tokens, so it is equal for all runs that begin alike.
+/// The next action at a spot: a step without its tokens, so that it is equal for all runs that
+/// begin alike.
 #[derive(Clone, Copy)]
 pub(crate) enum TableEntry {
     /// End the construct that was begun.
@@ -247,23 +250,23 @@ pub(crate) struct Beginning<'t, 's> {
 /// The beginning of a type, without its tokens.
 #[derive(Clone, Copy)]
 pub(crate) enum FirstEntry {
-    /// Begins with these tokens and continues at this stage. The flag is whether they occur only in
-    /// unsupported types.
+    /// A type that begins with these tokens and continues after them at this stage. The flag is
+    /// whether the tokens occur only in unsupported types.
     Lead(bool, Prefix, Stage),
-    /// Begins with a group and continues inside it at this stage.
+    /// A type that begins with a group and continues inside it at this stage.
     Open(Stage),
 }
 
-/// The reasons why no step fits.
+/// The reason why no step fits.
 #[derive(Clone, Copy)]
 pub(crate) enum StepFault {
-    /// An unsupported type is at this span.
+    /// An unsupported type, at this span.
     Unsupported(Span),
-    /// A token that does not fit is at this span.
+    /// A token that does not fit, at this span, which is `0..0` at the end of the tokens.
     Mismatch(Span),
 }
 
-/// The action at a spot, or the reason why none fits.
+/// The action at a spot, or the reason why no action fits.
 pub(crate) type Next = Result<TableEntry, StepFault>;
 
 /// The beginning of a type, or the reason why no type begins.

@@ -1,4 +1,4 @@
-//! Classifies the first tokens of a run. The steps of the grammar call it.
+//! Classifies the first tokens of a run. The functions of the grammar's stages call it.
 
 ghost use Rattle.std.specs.Prelude.{◌≡◌};
 ghost use Rattle.logos_type_reader.specs.Views.{rest_of, tokens_of, mismatches, first_span, begins_colons, begins_mark, begins_arrow, begins_dots, begins_parenthesis, begins_bound, typing, continues, spot_of, Looks, first_text, begins_word, IsAction};
@@ -120,14 +120,14 @@ pub(super) fn is_typing(run: Tokens<'_, '_>) -> bool
     begins_mark(':', run) & !begins_colons(run)
 }
 
-/// Returns whether a path continues after a name.
+/// Returns whether the run, which follows a name, continues a path: with `<`, `::` or parentheses.
 pub(super) fn continues(run: Tokens<'_, '_>) -> bool
     ensures { result ≡ continues (tokens_of run.entry) }
 {
     begins_mark('<', run) | begins_colons(run) | begins_parenthesis(run)
 }
 
-/// Returns whether the run begins with a bound.
+/// Returns whether the run begins with a token that can begin a bound.
 pub(super) fn begins_bound(run: Tokens<'_, '_>) -> bool
     ensures { result ≡ begins_bound (tokens_of run.entry) }
 {
@@ -137,14 +137,14 @@ pub(super) fn begins_bound(run: Tokens<'_, '_>) -> bool
     begins_mark('\'', run) | begins_mark('?', run) | begins_colons(run) | begins_parenthesis(run)
 }
 
-/// Returns the fault that the first token at the spot does not fit.
+/// Returns a mismatch at the first token of the spot, or at `0..0` if there is none.
 pub(super) fn mismatch(at: &Spot<'_, '_>) -> Next
     ensures { IsAction result (spot_of at.now) (mismatches (tokens_of at.now.run)) }
 {
     Err(StepFault::Mismatch(first_span(at.run)))
 }
 
-/// Returns the fault that the second token at the spot does not fit.
+/// Returns a mismatch at the second token of the spot, or at `0..0` if there is none.
 pub(super) fn mismatch_after(at: &Spot<'_, '_>) -> Next
     ensures { IsAction result (spot_of at.now) (mismatches (rest_of (tokens_of at.now.run))) }
 {

@@ -1,5 +1,5 @@
-//! Builds buffers tree by tree. Stripping, and copying of types and callbacks, build buffers with
-//! it.
+//! Builds token buffers tree by tree. The code that strips enums, and that copies types and
+//! callbacks, calls it.
 
 ghost use Rattle.std.specs.Prelude.{◌≡◌, ◌++◌, List, map, IfOk, OnOk};
 ghost use Rattle.logos_token.specs.ViewImports.{group, none, also, append, value_of, flat_token, stream_tokens, tree_of, inside_of};
@@ -10,7 +10,7 @@ use crate::token::views::{Group, TokenStream, TokenTree};
 use crate::token::{Delimiter, Span};
 use std::alloc::Global;
 
-/// Appends the entry of a tree, and after it the entries inside the tree.
+/// Appends to `entries` the entry of a tree, and after it the entries inside the tree.
 fn push_tree<'s>(entries: &mut Vec<Entry<'s>>, tree: TokenTree<'_, 's>) -> Result<(), Memory>
     ensures { OnOk result (map value_of entries.new.items ≡
         map value_of entries.old.items ++ flat_token (tree_of tree.entry)) }
@@ -33,7 +33,7 @@ fn push_tree<'s>(entries: &mut Vec<Entry<'s>>, tree: TokenTree<'_, 's>) -> Resul
 }
 
 impl<'s> TokenStream<'s> {
-    /// Returns a buffer without trees.
+    /// Returns a buffer without trees, which takes its memory from `alloc`.
     pub fn new(alloc: Global) -> TokenStream<'s>
         ensures { stream_tokens result ≡ none }
     {
@@ -56,7 +56,7 @@ impl<'s> TokenStream<'s> {
         Ok(TokenStream { entries })
     }
 
-    /// Returns a group that holds all trees of the buffer.
+    /// Returns a group with these delimiters and this span, which contains all trees of the buffer.
     pub fn group(&self, delimiter: Delimiter, span: Span) -> Group<'_, 's>
         ensures { group result.delimiter result.span (inside_of result) ≡
             group delimiter span (stream_tokens self.now) }
