@@ -49,8 +49,8 @@ fn push_byte_string(page: &mut Page, bytes: &[u8])
     page.push("\"");
 }
 
-/// Returns the shown part of bytes: all of at most sixty, otherwise the first 57 to 60, without a
-/// part of a character.
+/// Returns the shown part of bytes: all of at most sixty, otherwise the first 57 to 60, which end
+/// between characters if the bytes are UTF-8.
 fn clipped(bytes: &[u8]) -> &[u8]
     ensures { result.now ≡ shown.clipped bytes.now }
 {

@@ -1,4 +1,4 @@
-//! The leaves that a graph marks. Used by `logos_causes`.
+//! Finds the leaves that a graph marks. Used by `logos_causes`.
 
 ghost use Rattle.std.specs.Prelude.{◌≡◌, ℕ, ◌<◌, ◌⊎◌, ◌↔◌, IfOk, length, option_map};
 ghost use Rattle.logos_inspect.specs.Imports.{leaf_number, state_type_of, AreMarks, IsSet, Marks, AddsMark};
@@ -27,7 +27,7 @@ pub fn marked_leaves(alloc: Global, graph: &Graph<'_>) -> Result<Vec<bool>, Allo
     Ok(flags)
 }
 
-/// Sets the flags of the leaves that a state marks.
+/// Sets to `true` the flags of the leaves that a state of this type marks.
 fn add_marks(flags: &mut Vec<bool>, state_type: StateType)
     ensures count { length flags.new.items ≡ length flags.old.items }
     ensures each { (k : ℕ) → k < length flags.old.items → IsSet flags.new.items k
@@ -37,7 +37,7 @@ fn add_marks(flags: &mut Vec<bool>, state_type: StateType)
     add_mark(flags, state_type.early);
 }
 
-/// Sets the flag of a leaf, if a leaf is given.
+/// Sets the flag of `leaf` to `true`. Changes nothing for `None` or a leaf without a flag.
 fn add_mark(flags: &mut Vec<bool>, leaf: Option<LeafId>)
     ensures { AddsMark flags.old.items (option_map leaf_number leaf) flags.new.items }
 {
