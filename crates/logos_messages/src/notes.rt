@@ -73,7 +73,7 @@ pub(crate) fn text_of(text: &Option<String>) -> Option<&str>
     }
 }
 
-/// Appends a note or a help.
+/// Appends the object of a note or a help with this text. `level` is `note` or `help`.
 pub(crate) fn push_one(lines: &mut JsonLines, level: &str, text: &str)
     ensures { YieldsNotes lines.old lines.new }
 {
@@ -107,7 +107,7 @@ fn push_help(lines: &mut JsonLines, help: Option<&str>)
     }
 }
 
-/// Appends a note or a help.
+/// Appends the object of a note or a help with this text. `level` is `note` or `help`.
 fn push_note(lines: &mut JsonLines, level: &str, text: &str)
     ensures { Gains (note_tokens (record { level = level.now; text = text.now })) lines.old lines.new }
 {
