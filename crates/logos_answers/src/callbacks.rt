@@ -1,5 +1,5 @@
 //! Appends a note about the variants of two lexers for which the callbacks are written differently.
-//! Called for `--compare`.
+//! Used by `logos_replies` for `--compare`.
 
 use crate::difference::NamedLexer;
 use crate::names::variant_of;

@@ -1,4 +1,4 @@
-//! Compares two lexers by the names of their variants. Called for `--compare`.
+//! Compares two lexers by the names of their variants. Used by `logos_replies` for `--compare`.
 
 ghost use Rattle.std.specs.Prelude.{◌≡◌, [], Some, IfOk, OnOk, length, option_map};
 ghost use Rattle.logos_answers.specs.Views.{AreDistinct, AreNumbers, Grows, IsGraphOf, IsNumberOf, IsCompared, compared_by};

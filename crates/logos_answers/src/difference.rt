@@ -1,5 +1,5 @@
 //! Appends the match or the error that each of two lexers finds first in an input on which they
-//! differ. Used by `callbacks`, `logos_records` and `logos_show`.
+//! differ. Used by `callbacks`, `logos_records`, `logos_replies` and `logos_show`.
 
 ghost use Rattle.std.specs.Prelude.{◌≡◌, ◌++◌, ℕ, List, OnOk, codes, if◌then◌else◌};
 ghost use Rattle.logos_answers.specs.Imports.{Gains, difference_line, mode_line};

@@ -1,5 +1,5 @@
 //! Appends for each leaf an input on which it is found, and an input on which it loses to another
-//! leaf. Called for `--examples`.
+//! leaf. Used by `logos_html`, `logos_records` and `logos_replies`.
 
 ghost use Rattle.std.specs.Prelude.{◌≡◌, ◌++◌, ℕ, [], codes, IfOk, MatchOption, OnOk, length, option_map};
 ghost use Rattle.logos_answers.specs.Views as shown;

@@ -1,4 +1,4 @@
-//! Compares an answer with a stored one. Called for `--expect`.
+//! Compares an answer with a stored one. Used by `logos_replies` for `--expect`.
 
 ghost use Rattle.std.specs.Prelude.{◌≡◌, ◌≤◌, ◌↔◌, ◌++◌, ℕ, List, IsTrue, drop, length, take};
 ghost use Rattle.logos_answers.specs.Imports.{Gains, IsLineStart, ShowsAgreement, line_text, timeless};

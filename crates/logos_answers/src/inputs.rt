@@ -1,4 +1,5 @@
-//! Appends inputs that together take all edges of a graph. Called for `--inputs`.
+//! Appends inputs that together take all edges of a graph. Used by `logos_records` and
+//! `logos_replies` for `--inputs`.
 
 ghost use Rattle.std.specs.Prelude.{◌≡◌, IfOk, map, take};
 ghost use Rattle.logos_answers.specs.Imports.{flat_map, Gains, ShowsInputs, input_line};

@@ -1,4 +1,5 @@
-//! Appends the matches that begin at an offset of an input. Called for `--at`.
+//! Appends the matches that begin at an offset of an input. Used by `difference`, `examples`,
+//! `logos_replies` and other crates.
 
 ghost use Rattle.std.specs.Prelude.{◌≡◌, ◌<◌, ◌≤◌, ◌-◌, ◌==◌, ℕ, List, None, Some, IfOk, OnErr, OnOk, codes, get_or, if◌then◌else◌, length};
 ghost use Rattle.logos_answers.specs.Imports as shown;

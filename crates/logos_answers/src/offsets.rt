@@ -1,4 +1,4 @@
-//! Finds the byte offset of a line and a column of an input. Used by `logos_show`.
+//! Finds the byte offset of a line and a column of an input. Used by `logos_replies`.
 
 ghost use Rattle.std.specs.Prelude.{◌≡◌, ◌↔◌, ℕ, IsTrue, MatchOption, false};
 ghost use Rattle.logos_answers.specs.Imports.{IsOffsetOf, continues};

@@ -1,4 +1,4 @@
-//! Appends the leaves of a lexer as a table, and the costs of the lexer. Called by `logos_show`.
+//! Appends the leaves of a lexer as a table, and the costs of the lexer. Used by `logos_replies`.
 
 use logos_inspect::{Costs, LeafRow};
 use logos_page::{Page, digits};

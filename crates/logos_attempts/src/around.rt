@@ -1,4 +1,5 @@
-//! Finds the match or the error around an offset of an input. Called for `--at`.
+//! Finds the match or the error around an offset of an input. Used by `entries`, `partial_lines`
+//! and `logos_replies`.
 
 ghost use Rattle.std.specs.Prelude.{◌≡◌, ◌<◌, ◌≤◌, ℕ, List, IfSome, length};
 ghost use Rattle.logos_attempts.specs.Views.{Finds, Gains, IsAround, IsAroundText, LeadsTo, around_text, kind_text, location_in, location_text};

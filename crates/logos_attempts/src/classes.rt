@@ -1,5 +1,5 @@
-//! Appends sets of bytes in a short form, as a pattern spells them. Used by `partial_lines` and
-//! `logos_html`.
+//! Appends sets of bytes in a short form, as a pattern spells them. Used by `partials`,
+//! `partial_lines` and `logos_diagram`.
 
 ghost use Rattle.std.specs.Prelude.{◌<◌};
 

@@ -1,4 +1,5 @@
-//! Appends the lines of partial matches. Called for `--at`, where no leaf matches.
+//! Appends the lines of partial matches. Used by `logos_html` and `logos_replies`, where no leaf
+//! matches.
 
 ghost use Rattle.std.specs.Prelude.{◌≡◌, ◌≤◌, ℕ, List, IfOk, IsTrue, OnErr, OnOk, length, string_bytes};
 ghost use Rattle.logos_attempts.specs.Views.{AddsLine, ArePartialLines, CodeFinds, Gains, IsPartialText, failed, partial_line, read_text, reader_text};

@@ -1,5 +1,5 @@
 //! Finds partial matches: for each leaf the longest prefix of a match that an input has at an
-//! offset, and the bytes that continue the prefix. Used by `partial_lines` and `logos_replies`.
+//! offset, and the bytes that continue the prefix. Used by `partial_lines`.
 
 use crate::classes::run_at;
 use logos_automaton::dfa::Dfa;

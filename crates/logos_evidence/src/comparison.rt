@@ -1,4 +1,4 @@
-//! Compares two lexers. Called for `logos_show --compare`.
+//! Compares two lexers. Used by `logos_answers` for `--compare`.
 
 ghost use Rattle.std.specs.Prelude.{◌≡◌, ℕ, List, [], IfOk, Option, is_some, slice_get};
 ghost use Rattle.logos_evidence.specs.Views.{IsGraphOf, rules_of, IsShortestDifference, FindTheSame, pair_next, pair_goal, shown, IsAnswer};
@@ -66,9 +66,9 @@ fn one_leads(next: Option<usize>, twin: Option<usize>) -> bool
 }
 
 impl GraphPair<'_> {
-    /// Returns whether the last matches of the two graphs, or their errors before any match, differ
-    /// after a step from the point `at`. `mark` and `twin` are the leaves whose matches end there.
-    /// `parts` is whether only one of the errors ends there.
+    /// Returns whether the last matches of the two graphs, or without any match their errors,
+    /// differ after a step from the point `at`. `mark` and `twin` are the leaves of the two graphs
+    /// whose matches end at this point. `parts` is whether the error of only one graph ends there.
     fn differs_after(
         &self,
         at: Point,

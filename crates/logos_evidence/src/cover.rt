@@ -1,4 +1,5 @@
-//! Finds inputs that together take all edges of a graph. Called for `--inputs`.
+//! Finds inputs that together take all edges of a graph. Used by `logos_answers` and
+//! `logos_records` for `--inputs`.
 
 ghost use Rattle.std.specs.Prelude.{◌≡◌, IfOk, map};
 ghost use Rattle.logos_evidence.specs.Imports.{AreCoveringInputs, edge_next, edge_goal, shown};

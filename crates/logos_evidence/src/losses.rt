@@ -1,5 +1,5 @@
-//! Finds a shortest input on which a leaf matches, but another leaf is found first. Called for
-//! `--examples` and for warnings.
+//! Finds a shortest input on which a leaf matches, but another leaf is found first. Used by
+//! `logos_answers` for `--examples`, and by `logos_causes` for warnings.
 
 ghost use Rattle.std.specs.Prelude.{◌≡◌, ◌==◌, [], IfOk, MatchOption, option_map};
 ghost use Rattle.logos_evidence.specs.Imports.{list_any, IsGraphOf, rules_of, IsShortestLoss, NeverLoses, dfa_of, loss_next, loss_goal, shown};

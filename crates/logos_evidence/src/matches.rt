@@ -1,4 +1,5 @@
-//! Finds all matches of leaves that begin at an offset of an input. Called for `--at`.
+//! Finds all matches of leaves that begin at an offset of an input. Used by `meetings`,
+//! `logos_answers`, `logos_causes` and `logos_records`.
 
 ghost use Rattle.std.specs.Prelude.{◌≡◌, ◌≤◌, ◌⊎◌, ◌++◌, [], IfOk, MatchOption, OnOk, length, map};
 ghost use Rattle.logos_evidence.specs.Views.{AllStart, IsGraphOf, rules_of, IsBytes, AreMatches, IsAtMost, IsWinner, match_to, priority_of};

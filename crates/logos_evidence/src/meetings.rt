@@ -1,5 +1,5 @@
-//! Finds a shortest input that several leaves match with the same priority. Called to explain
-//! ambiguities.
+//! Finds a shortest input that several leaves match with the same priority. Used by `logos_causes`
+//! to explain ambiguities.
 
 ghost use Rattle.std.specs.Prelude.{◌≡◌, ◌<◌, ◌∷◌, ℕ, List, IfOk, IsTrue, MatchOption, false, length, if◌then◌else◌, option_map, bytes_eq};
 ghost use Rattle.logos_evidence.specs.Imports.{IsStrictlyIncreasing, AllStart, highest_of, top_of, IsGraphOf, rules_of, IsShortestMeeting, NeverMeet, meeting_next, meeting_goal};

@@ -1,5 +1,5 @@
-//! Defines the setting for colors, and its names in `--color`. Used by `logos_cli` and
-//! `logos_options`.
+//! Defines the setting for colors, and its names in `--color`. Used by `logos_cli`, `logos_options`
+//! and `logos_screen`.
 
 ghost use Rattle.std.specs.Prelude.{◌≡◌};
 ghost use Rattle.logos_host.specs.Colors.{color_named, has_colors};

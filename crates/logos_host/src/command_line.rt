@@ -1,4 +1,4 @@
-//! Reads the arguments with which a program is called. Called by the `main` of each program.
+//! Reads the arguments with which a program is called. Used by `logos_program` for each program.
 
 ghost use Rattle.std.specs.Prelude.{◌≡◌, ◌↔◌, ◌⊎◌, IfErr};
 ghost use Rattle.logos_host.specs.Views.{status_of};

@@ -1,5 +1,5 @@
-//! Declares the comparison of files with bytes, and with each other. Called for `--check` and
-//! `--version`.
+//! Declares the comparison of files with bytes, and with each other. Used by `logos_cli` for
+//! `--check`, by `logos_options` for `--version`, and by `logos_show`.
 
 ghost use Rattle.std.specs.Prelude.{◌≡◌, ℕ, List, Bool, ⊤, IfOk};
 ghost use Rattle.logos_host.specs.declared.comparison.Occurrence.{Occurrence as OccurrenceValue};

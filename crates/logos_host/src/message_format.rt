@@ -1,5 +1,5 @@
-//! Defines the formats of messages, and their names in `--message-format`. Used by `logos_cli` and
-//! `logos_options`.
+//! Defines the formats of messages, and their names in `--message-format`. Used by `logos_cli`,
+//! `logos_options`, `logos_show` and the crates that report warnings.
 
 ghost use Rattle.std.specs.Prelude.{◌≡◌};
 ghost use Rattle.logos_host.specs.Formats.{format_named};

@@ -1,5 +1,5 @@
-//! Defines the reasons for which a file cannot be read or written. Used by `failure`,
-//! `logos_commands` and `logos_items`.
+//! Defines the reasons for which a file cannot be read or written. Used by `failure`, `files`,
+//! `system`, `logos_commands` and `logos_items`.
 
 ghost use Rattle.std.specs.Prelude.{◌≡◌};
 ghost use Rattle.logos_host.specs.Messages.{reason_text};

@@ -1,4 +1,5 @@
-//! Makes the rows of leaves in a table. Used by `logos_answers`, `logos_records` and `logos_show`.
+//! Makes the rows of leaves in a table. Used by `logos_answers`, `logos_html`, `logos_records` and
+//! `logos_replies`.
 
 ghost use Rattle.std.specs.Prelude.{◌≡◌, ◌↔◌, IsTrue, IfOk, Some, option_map, option_copied};
 ghost use Rattle.logos_inspect.specs.Views.{location_at, held, IsRowOf, IsTextAt, ShowsCallback, default_priority, held_priority, moved, variant_name};

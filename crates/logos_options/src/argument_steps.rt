@@ -1,4 +1,5 @@
-//! Reads the arguments of a command line one after another. Used by `arguments` and `paths`.
+//! Reads the arguments of a command line one after another. Used by `arguments`, `paths` and
+//! `logos_questions`.
 
 ghost use Rattle.std.specs.Prelude.{◌≡◌, IfErr, IfOk, None, Some, option_map};
 ghost use Rattle.logos_options.specs.Imports.{status_of, option_named, begins_option, split_at_equals, step, step_value, with_assigned, with_option, with_written};

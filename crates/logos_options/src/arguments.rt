@@ -1,4 +1,5 @@
-//! Reads the arguments of a command line: paths and options. Used by `logos_cli` and `logos_show`.
+//! Reads the arguments of a command line: paths and options. Used by `logos_cli`, `logos_items` and
+//! `logos_questions`.
 
 ghost use Rattle.std.specs.Prelude.{◌≡◌, IfErr, IfOk, None, Some, is_some, map, option_map, set, string_bytes};
 ghost use Rattle.logos_options.specs.Imports.{arguments_of, arguments_value, nothing_given, number, option_value, role_of, settings_value, settled, status_of, use_value, with_found, with_path, with_question, with_role, with_setting, with_word, with_arguments};

@@ -1,4 +1,5 @@
-//! Writes the help of a program, with each option that the program takes. Called for `--help`.
+//! Writes the help of a program, with each option that the program takes. Used by `logos_cli` and
+//! `logos_show`.
 
 ghost use Rattle.std.specs.Prelude.{◌≡◌, IfErr};
 ghost use Rattle.logos_options.specs.Imports.{IsNoMisuse, IsOutputFailure, status_of};

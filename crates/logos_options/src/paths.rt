@@ -1,4 +1,5 @@
-//! Reads the paths of a command line. Used by `logos_cli`, `logos_items` and `logos_show`.
+//! Reads the paths of a command line. Used by `arguments`, `logos_cli`, `logos_items` and
+//! `logos_show`.
 
 ghost use Rattle.std.specs.Prelude.{◌≡◌, ◌++◌, IfOk, OnOk, map, option_map, string_bytes};
 ghost use Rattle.logos_options.specs.Imports.{found_path, next_paths, next_progress, path_named, paths_of, step, texts_of, use_value};

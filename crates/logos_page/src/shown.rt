@@ -1,6 +1,6 @@
 //! Defines the form in which characters are shown. No text of a file, of a message or of a name
 //! reaches a terminal unchanged, since some characters move the cursor, change colors or change the
-//! order of the text. Used by `page`, `logos_host` and `logos_report`.
+//! order of the text. Used by `page`, `logos_host`, `logos_report` and `logos_screen`.
 
 ghost use Rattle.std.specs.Prelude.{◌≡◌, ◌<◌, ◌+◌};
 ghost use Rattle.logos_page.specs.Imports.{is_in_range, is_unsafe, occur_in};

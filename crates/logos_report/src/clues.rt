@@ -1,5 +1,5 @@
-//! Clues about faults beyond their messages. `logos_causes` finds those for the faults of a graph,
-//! and `logos_help` adds the help for each.
+//! Defines clues about faults beyond their messages. `logos_causes` finds the clues about the
+//! faults of a graph, and `logos_help` adds the help for each fault.
 
 ghost use Rattle.std.specs.Prelude.{◌≡◌, [], if◌then◌else◌, MatchOption, false, nat_lt, true};
 ghost use Rattle.logos_report.specs.Views.{fault_of, is_ambiguity, is_explained, follows, sizes_of, starts_in, starts_of, stepped, next_after, next_value};

@@ -11,7 +11,7 @@ use crate::source::Part;
 use logos_page::{Page, Style};
 use logos_token::error::SpannedError;
 
-/// A fault whose location was shown. Its notes and its help follow.
+/// A fault whose location is in the report already, and whose notes and help are appended next.
 #[derive(Clone, Copy)]
 pub(crate) struct ShownFault<'f, 'p, 't> {
     pub(crate) part: Part<'p, 't>,

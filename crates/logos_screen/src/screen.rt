@@ -1,5 +1,5 @@
-//! Determines the form in which an output is shown: its colors and its width. Used by `logos_cli`
-//! and `logos_show`.
+//! Determines the form in which an output is shown: its colors and its width. Used by
+//! `color_output`, `item_line`, `logos_items` and `logos_show`.
 
 ghost use Rattle.std.specs.Prelude.{◌≡◌};
 ghost use Rattle.logos_screen.specs.Views.{IsScreenOf, is_plain};

@@ -1,5 +1,4 @@
-//! Makes the warnings for mistakes in enums. Used by `logos_causes`, `logos_derive` and
-//! `logos_file_warnings`.
+//! Makes the warnings for mistakes in enums. Used by `logos_causes` and `logos_file_warnings`.
 
 ghost use Rattle.std.specs.Prelude.{◌≡◌, ◌≢◌, ◌++◌, [], IfOk, OnOk, codes, map, string_bytes};
 ghost use Rattle.logos_warnings.specs.Views.{AddsAbout, AreAbout, AreOfEnum, AreOfText, AreOfTokens, IsAbout, enum_value, mistake_text, mistake_value, span_of, tokens_of};

@@ -1,4 +1,4 @@
-//! Searches for inputs that together take all steps of a machine. Called for `--inputs`.
+//! Searches for inputs that together take all steps of a machine. Used by `covering_inputs`.
 
 ghost use Rattle.std.specs.Prelude.{◌≡◌, ◌<◌, ◌∷◌, ◌++◌, [], true, IfOk, OnOk, Contains, Some, length, map, slice_get};
 ghost use Rattle.logos_evidence.specs.search.Views.{AreCovering, end_at, pending_goal, GoDown, PendingPoint as At};

@@ -1,4 +1,5 @@
-//! Defines machines that read bytes, and their points. Used by all modules that search.
+//! Defines machines that read bytes, and their points. Used by all modules that search or define
+//! machines.
 
 /// A point that a machine can reach. Each machine defines the meaning of the fields.
 #[derive(Clone, Copy, PartialEq, Eq, Hash)]
