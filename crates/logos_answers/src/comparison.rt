@@ -13,12 +13,12 @@ use std::alloc::{AllocError, Global};
 /// The result of a comparison of two lexers.
 #[derive(Debug, Drop)]
 pub enum Compared {
-    /// The two lexers find the same variants and errors from each offset of each input.
+    /// The two lexers find equal variants and errors from each offset of each input.
     Same,
     /// At the beginning of this input, one lexer finds an item of another kind, variant or length
     /// than the other one.
     Differ(Vec<u8>),
-    /// One lexer reads UTF-8, and the other one reads any bytes.
+    /// One lexer reads UTF-8, and the other lexer reads any bytes.
     OtherMode,
 }
 

@@ -116,7 +116,8 @@ fn push_title(page: &mut Page, name: &str)
     page.push("\n");
 }
 
-/// Appends the line of a variant that has items, if the leaf `number` is its last one. `sum` is the
+/// Appends the line of a variant that has items, if the leaf `number` is its last leaf. `sum` is
+/// the
 /// number of items of the variant's leaves up to the leaf `number`. Returns the sum before the next
 /// leaf: `sum`, or 0 after the last leaf of a variant.
 fn push_sum(page: &mut Page, leaves: &[CodeLeaf<'_>], number: usize, sum: usize) -> usize

@@ -98,8 +98,8 @@ fn loss_of(alloc: Global, graph: &Graph<'_>, leaf: usize) -> Result<Option<Loss>
     }
 }
 
-/// Returns an input with the leaf whose match a lexer finds at its beginning, or `None` if no leaf
-/// matches there.
+/// Returns `input` with the leaf whose match a lexer finds at the beginning of the input, or `None`
+/// if no leaf matches there.
 fn with_winner(alloc: Global, graph: &Graph<'_>, input: Vec<u8>) -> Result<Option<Loss>, AllocError>
     ensures { IfOk result (λ loss. (leaf : ℕ) →
         IsGraphOf graph.now.leaves graph.now.utf8 graph.now → graph.now.faults ≡ [] →

@@ -21,9 +21,9 @@ struct MatchStart<'a, 's> {
     from: usize,
 }
 
-/// Appends a line for each leaf that has matches which begin at the byte offset `from` of an input,
-/// with the longest of them. Then appends a line with the leaf whose match a lexer takes there, and
-/// the reason, or a line which states that no leaf matches.
+/// Appends a line for each leaf with a match that begins at the byte offset `from` of an input: the
+/// leaf, its priority, and its longest match from there. Then appends a line with the leaf whose
+/// match a lexer takes there, and the reason, or a line which states that no leaf matches.
 ///
 /// # Errors
 ///

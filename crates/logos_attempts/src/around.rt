@@ -31,9 +31,9 @@ pub struct Surrounding {
     pub to: usize,
 }
 
-/// Returns the match or the error that begins before the byte `offset` of an input and ends after
-/// it, among those that a lexer from the first byte on finds. Returns `None` if there is none, or
-/// if the lexer refuses the input, since it is not UTF-8. No callback is called.
+/// Returns the match or the error of a lexer on an input that begins before the byte `offset` and
+/// ends after it. The lexer begins at the first byte, and calls no callback. Returns `None` if
+/// there is no such match or error, or if the lexer refuses the input, since it is not UTF-8.
 pub fn match_around(code: &Code<'_>, input: &[u8], offset: usize) -> Option<Surrounding>
     requires { offset ≤ length input.now }
     ensures { IfSome result (IsAround code.now input.now offset) }

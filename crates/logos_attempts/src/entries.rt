@@ -16,7 +16,7 @@ const MOST: usize = 4_194_304;
 pub struct Entries {
     /// The number of entries of each state.
     pub counts: Vec<usize>,
-    /// The byte offset before which the counted match attempts begin.
+    /// The byte offset at which the first match attempt that is not counted begins.
     pub end: usize,
     /// The sum of the counts.
     total: usize,

@@ -45,8 +45,8 @@ struct Edge {
     target: usize,
 }
 
-/// Returns the partial match from the byte offset `from` of an input of each leaf that has one, in
-/// the order of the leaves.
+/// Returns the partial match of each leaf that has a partial match from the byte offset `from` of
+/// an input, in the order of the leaves.
 ///
 /// # Errors
 ///

@@ -31,8 +31,8 @@ fn highest(leaves: &[Leaf<'_>], listed: &[usize]) -> usize
     highest
 }
 
-/// Returns the leaves of `rest` after `leaf`, or `None` if the first one is not `leaf`. Returns
-/// `rest` unchanged if `counts` is `false`.
+/// Returns `rest` without its first leaf if that is `leaf`, otherwise `None`. Returns `rest`
+/// unchanged if `counts` is `false`.
 fn after_leaf(rest: &[usize], leaf: usize, counts: bool) -> Option<&[usize]>
     ensures { MatchOption result
         (IsTrue counts × ((ys : List ℕ) → bytes_eq (leaf ∷ ys) rest.now ≡ false))

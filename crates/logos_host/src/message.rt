@@ -22,7 +22,8 @@ pub fn report<E: Write>(failure: &Failure<'_>, usage: &str, err: &mut E) -> io::
     err.flush()
 }
 
-/// Writes the message of a failure. It ends with `usage` for invalid arguments and unknown options.
+/// Writes the message of a failure. The message ends with `usage` for invalid arguments and unknown
+/// options.
 fn write_message<E: Write>(failure: &Failure<'_>, usage: &str, err: &mut E) -> io::Result<()>
     ensures { OnOk result (Appends (E.contents err.old) (E.contents err.new)
         (message_of usage.now failure.now)) }

@@ -23,7 +23,7 @@ pub struct LeafRow<'l> {
     /// The options of the definition.
     pub options: LeafOptions,
     pub priority: usize,
-    /// Whether the priority is the default one.
+    /// Whether the priority is the default priority of the pattern.
     pub is_default: bool,
     /// The callback as it is written, if there is one.
     pub callback: Option<&'l str>,

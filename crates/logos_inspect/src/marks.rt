@@ -10,7 +10,7 @@ use std::alloc::{AllocError, Global};
 /// Returns for each leaf of a graph, by its number, whether a state marks it.
 ///
 /// If a graph without faults does not mark a leaf, maximal munch never finds the leaf in any input:
-/// at each of its matches, another leaf has a longer one, or one of the same length and a higher
+/// at each of its matches, another leaf has a longer match, or a match of equal length and a higher
 /// priority. A leaf that has only late marks may never be found either: each of its matches may be
 /// followed by a longer one.
 ///

@@ -232,7 +232,8 @@ impl JsonLines {
         self.is_whole = self.is_whole & is_ended;
     }
 
-    /// Returns all bytes, with those before the lines. The last line must have been ended.
+    /// Returns the bytes with which the value was made, and the bytes of all lines. The last line
+    /// must have been ended.
     ///
     /// # Errors
     ///

@@ -167,8 +167,8 @@ impl<'c> NextFaults<'c> {
         }
     }
 
-    /// Returns the patterns that explain a fault with this code: for `NoUniversalStart` those that
-    /// can examine the bytes before their start, otherwise none.
+    /// Returns the patterns that explain a fault with this code: for `NoUniversalStart` the
+    /// patterns that can examine the bytes before their start, otherwise none.
     pub fn starts(self, code: FaultCode) -> &'c [Start]
         ensures { result.now ≡ (if is_explained code then self.entry.starts.now else []) }
     {

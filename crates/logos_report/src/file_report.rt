@@ -26,11 +26,11 @@ pub struct Refused {
 /// The faults of a part of a file, and the parts around it.
 #[derive(Clone, Copy)]
 pub struct FaultListing<'f> {
-    /// The parts before this one.
+    /// The parts of the file before this part.
     pub earlier: &'f [Refused],
     /// The faults of this part.
     pub faults: &'f [SpannedError],
-    /// The parts after this one.
+    /// The parts of the file after this part.
     pub later: &'f [Refused],
 }
 

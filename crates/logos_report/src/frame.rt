@@ -38,7 +38,7 @@ pub(crate) struct Marks<'l> {
 }
 
 /// Appends the location of the start of `span`, the lines at which the span begins and ends, and
-/// carets of this style under the span. Long lines are cut around the span, which is in bytes of
+/// carets of this style under the span. Long lines are cut around the span. `span` is in bytes of
 /// the part. Returns the number of digits of the last line's number.
 pub fn push_frame(page: &mut Page, part: Part<'_, '_>, span: Span, style: Style) -> usize
     ensures { Shows (location_line page.old.is_colored part.entry.source.now part.entry.offset span.from
@@ -144,8 +144,8 @@ fn push_arrow(page: &mut Page, source: &Source<'_>, location: Location)
     page.push("\n");
 }
 
-/// Appends an empty margin, and the first and the last line of a span with carets under them, or
-/// its only line.
+/// Appends an empty margin, and the only line of a span, or its first and its last line, with
+/// carets under each.
 fn push_lines(page: &mut Page, frame: Frame<'_, '_>)
     ensures { Shows [] page.old page.new }
 {

@@ -30,7 +30,7 @@ pub struct Warning {
 
 /// Appends the first 50 warnings of a part of a file, or all if there are fewer, in order, and the
 /// number of warnings that are left out, unless it is 0. For each warning, the appended text has a
-/// line with its message and one with its location.
+/// line with its message and a line with its location.
 pub fn push_warnings(page: &mut Page, part: Part<'_, '_>, warnings: &[Warning])
     ensures { Shows (warnings_texts page.old.is_colored part.entry.source.now part.entry.offset
         warnings.now) page.old page.new }

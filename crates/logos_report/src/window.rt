@@ -202,8 +202,8 @@ impl LineWindow<'_> {
         column.saturating_sub(1).saturating_sub(self.front)
     }
 
-    /// Returns the number of columns that are shown before `column`, a column of the line, with
-    /// those of the dots.
+    /// Returns the number of columns that are shown before `column`, a column of the line. The
+    /// columns of the dots count too.
     pub(crate) fn columns_before(self, column: usize) -> usize {
         let dots = if self.is_cut() { 3 } else { 0 };
         let shown = self.characters_before(column).saturating_sub(self.skipped);

@@ -50,7 +50,7 @@ pub enum Mistake<'s> {
 }
 
 /// Returns the mistakes in an enum: first the mistakes in its own attributes and in its variants'
-/// attributes, in source order, and last `NoPattern` or `NoDerive`, if one applies. `derives` is
+/// attributes, in source order, and last `NoPattern` or `NoDerive`, if it applies. `derives` is
 /// whether the enum derives `Logos`. Returns no mistakes for an enum that neither derives `Logos`
 /// nor has helper attributes.
 ///

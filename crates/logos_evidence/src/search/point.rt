@@ -12,7 +12,7 @@ pub struct Point {
     pub begun: bool,
     /// Whether a condition that a goal requires, such as a match, was met on the way.
     pub met: bool,
-    /// A property of the last match on the way, such as whether a given leaf has it.
+    /// A property of the last match on the way, such as whether it is a match of the searched leaf.
     pub last: bool,
 }
 
