@@ -15,8 +15,8 @@ use std::alloc::{AllocError, Global};
 pub enum Compared {
     /// The two lexers find equal variants and errors from each offset of each input.
     Same,
-    /// At the beginning of this input, one lexer finds an item of another kind, variant or length
-    /// than the other one.
+    /// The two lexers find items of different kinds, variants or lengths at the beginning of this
+    /// input.
     Differ(Vec<u8>),
     /// One lexer reads UTF-8, and the other lexer reads any bytes.
     OtherMode,

@@ -117,9 +117,8 @@ fn push_title(page: &mut Page, name: &str)
 }
 
 /// Appends the line of a variant that has items, if the leaf `number` is its last leaf. `sum` is
-/// the
-/// number of items of the variant's leaves up to the leaf `number`. Returns the sum before the next
-/// leaf: `sum`, or 0 after the last leaf of a variant.
+/// the number of items of the variant's leaves up to the leaf `number`. Returns the sum before the
+/// next leaf: `sum`, or 0 after the last leaf of a variant.
 fn push_sum(page: &mut Page, leaves: &[CodeLeaf<'_>], number: usize, sum: usize) -> usize
     requires { number < length leaves.now }
     ensures line { Gains (line_after leaves.now number sum) page.old page.new }

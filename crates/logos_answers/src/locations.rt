@@ -37,8 +37,7 @@ pub fn number_by_text(text: &str) -> Option<usize>
 
 /// Returns the number whose digits are those of `number` followed by `digits`. Returns `None` if
 /// the digits do not spell a positive number of at most seventeen digits without leading zeros.
-/// This
-/// bound also limits the depth of the recursion.
+/// This bound also limits the depth of the recursion.
 fn digits_after(number: usize, digits: &[u8]) -> Option<usize>
     ensures { result ≡ digits_after (Some number) digits.now }
 {

@@ -119,10 +119,9 @@ impl Machine for GraphPair<'_> {
 
 /// Compares two lexers of the same mode. Returns `Same` if they find equal matches and errors from
 /// each offset of each input, otherwise `Differ` with a shortest input at whose beginning they do
-/// not. Matches
-/// are equal if they end at the same offset and their leaves have the same name; errors, if they
-/// end at the same offset. Among inputs of the same length, the search prefers letters, then
-/// digits, then punctuation.
+/// not. Matches are equal if they end at the same offset and their leaves have the same name;
+/// errors, if they end at the same offset. Among inputs of the same length, the search prefers
+/// letters, then digits, then punctuation.
 ///
 /// The graphs must have no faults. Callbacks are not compared. Skips are matches too: a lexer that
 /// skips two blanks one by one differs from a lexer that skips both at once.

@@ -30,8 +30,7 @@ pub struct KnownFault<'f> {
 
 /// Appends the faults of a part of a file, in order. For each fault, the appended text has a line
 /// with the name of its code and the first line of its message, and a line with its location in the
-/// file.
-/// In a set of ambiguous leaves with a clue the first fault has the line, and all have their
+/// file. In a set of ambiguous leaves with a clue the first fault has the line, and all have their
 /// locations under it. Of more than 50 faults with one code the first 50 and the number of the
 /// others are appended.
 pub fn push_faults(page: &mut Page, part: Part<'_, '_>, errors: &Errors, clues: &Clues)
