@@ -1,4 +1,5 @@
-//! Variants of two lexers whose callbacks are written differently. Called for `--compare`.
+//! Appends a note about the variants of two lexers for which the callbacks are written differently.
+//! Used by `logos_replies` for `--compare`.
 
 use crate::difference::NamedLexer;
 use crate::names::variant_of;
@@ -12,13 +13,13 @@ use std::alloc::{AllocError, Global};
 struct Known<'l> {
     /// The names of the lexer's variants, and `skip` if it has skips.
     variants: IndexSet<&'l str>,
-    /// The names of the lexer's variants with the callbacks of their leaves. A missing callback is
-    /// an empty text.
+    /// Pairs of a name in `variants` and the callback of a leaf with this name. A missing callback
+    /// is an empty text.
     callbacks: IndexSet<(&'l str, &'l str)>,
 }
 
-/// Appends a note that names each common variant of two lexers whose callbacks are written
-/// differently. Appends nothing if there is no such variant.
+/// Appends a note that names each variant of both lexers for which they have differently written
+/// callbacks. Skips count as one variant, `skip`. Appends nothing if there is no such variant.
 ///
 /// # Errors
 ///
@@ -33,7 +34,8 @@ pub fn push_callbacks<'l>(
     push_differing(alloc, page, &known, other)
 }
 
-/// Appends the note about a lexer, given the variants and callbacks of another one.
+/// Appends the note about two lexers: `other`, and the lexer with the variants and callbacks in
+/// `known`.
 fn push_differing<'l>(
     alloc: Global,
     page: &mut Page,
@@ -44,7 +46,7 @@ fn push_differing<'l>(
     push_names_of(alloc, page, known, &other)
 }
 
-/// Appends the note about two lexers, given their variants and callbacks.
+/// Appends the note about two lexers, whose variants and callbacks are in `known` and `other`.
 fn push_names_of<'l>(
     alloc: Global,
     page: &mut Page,
@@ -58,7 +60,7 @@ fn push_names_of<'l>(
     Ok(())
 }
 
-/// Returns the variants of a lexer, and their callbacks.
+/// Returns the variants of a lexer, and the callbacks of their leaves.
 fn known_of<'l>(alloc: Global, one: NamedLexer<'l, '_>) -> Result<Known<'l>, AllocError> {
     let mut known = Known {
         variants: IndexSet::new(alloc),
@@ -70,7 +72,7 @@ fn known_of<'l>(alloc: Global, one: NamedLexer<'l, '_>) -> Result<Known<'l>, All
     Ok(known)
 }
 
-/// Adds the variant of a leaf and its callback.
+/// Adds to `known` the variant `name` of a leaf, and the pair of `name` and the leaf's callback.
 fn add_leaf<'l>(known: &mut Known<'l>, name: &'l str, callback: &'l str) -> Result<(), AllocError> {
     match known.variants.insert_full(name) {
         Ok(_) => {}
@@ -82,7 +84,7 @@ fn add_leaf<'l>(known: &mut Known<'l>, name: &'l str, callback: &'l str) -> Resu
     }
 }
 
-/// Returns the name of the variant of a leaf, or `skip`.
+/// Returns the name of the variant of a leaf, or `skip` if the leaf is a skip.
 fn name_of<'l>(leaf: &'l Leaf<'_>) -> &'l str {
     match variant_of(&leaf.kind) {
         Some(name) => name,
@@ -90,7 +92,8 @@ fn name_of<'l>(leaf: &'l Leaf<'_>) -> &'l str {
     }
 }
 
-/// Returns the callback of a leaf as it is written, or an empty text if it has none.
+/// Returns the callback of a leaf as it is written in `text`, the text of its enum, or an empty
+/// text if the leaf has none.
 fn callback_of<'l>(text: &'l str, leaf: &Leaf<'_>) -> &'l str {
     let Some(callback) = &leaf.callback else {
         return "";
@@ -102,7 +105,8 @@ fn callback_of<'l>(text: &'l str, leaf: &Leaf<'_>) -> &'l str {
     }
 }
 
-/// Adds the common variants for which one lexer has a callback that the other one does not have.
+/// Adds to `differing` each variant in both `known` and `other` for which `known` has a callback
+/// that `other` does not have.
 fn add_differing<'l>(
     differing: &mut IndexSet<&'l str>,
     known: &Known<'l>,
@@ -114,7 +118,8 @@ fn add_differing<'l>(
     Ok(())
 }
 
-/// Adds the variant of a pair, if the other lexer has the variant without this callback.
+/// Adds to `differing` the variant of `pair`, a variant with a callback, if `other` has the variant
+/// but not this pair.
 fn add_if_differing<'l>(
     differing: &mut IndexSet<&'l str>,
     pair: (&'l str, &'l str),
@@ -129,7 +134,7 @@ fn add_if_differing<'l>(
     }
 }
 
-/// Appends the note about these variants, if there are any.
+/// Appends the note that names these variants, unless there are none.
 fn push_note(page: &mut Page, variants: &[&str]) {
     if variants.is_empty() {
         return;
@@ -139,7 +144,7 @@ fn push_note(page: &mut Page, variants: &[&str]) {
     page.push(" are written in another way: what they do is not compared\n");
 }
 
-/// Appends names, with commas between them.
+/// Appends names in backticks, with commas between them.
 fn push_names(page: &mut Page, names: &[&str]) {
     for number in 0..names.len() {
         page.push(if number == 0 { "`" } else { ", `" });

@@ -1,4 +1,4 @@
-//! Compares two lexers by the names of their variants. Called for `--compare`.
+//! Compares two lexers by the names of their variants. Used by `logos_replies` for `--compare`.
 
 ghost use Rattle.std.specs.Prelude.{◌≡◌, [], Some, IfOk, OnOk, length, option_map};
 ghost use Rattle.logos_answers.specs.Views.{AreDistinct, AreNumbers, Grows, IsGraphOf, IsNumberOf, IsCompared, compared_by};
@@ -13,11 +13,12 @@ use std::alloc::{AllocError, Global};
 /// The result of a comparison of two lexers.
 #[derive(Debug, Drop)]
 pub enum Compared {
-    /// The two lexers find the same variants and errors from each offset of each input.
+    /// The two lexers find equal variants and errors from each offset of each input.
     Same,
-    /// The lexers find different variants or errors at the beginning of this input.
+    /// The two lexers find items of different kinds, variants or lengths at the beginning of this
+    /// input.
     Differ(Vec<u8>),
-    /// One lexer reads UTF-8, and the other one reads any bytes.
+    /// One lexer reads UTF-8, and the other lexer reads any bytes.
     OtherMode,
 }
 
@@ -55,7 +56,7 @@ pub fn compare_lexers(
     Ok(compared_by(made))
 }
 
-/// Returns the result for two lexers that read inputs of the same kind.
+/// Returns the result for two lexers that both read text or both read any bytes.
 fn compared_by(made: Comparison) -> Compared
     ensures { result ≡ compared_by made }
 {
@@ -65,8 +66,8 @@ fn compared_by(made: Comparison) -> Compared
     }
 }
 
-/// Returns a number for each leaf: 0 for a skip, and for each other leaf the number of its variant
-/// in a table, to which new variants are added.
+/// Returns a number for each leaf: 0 for a skip, and for each other leaf one more than the index of
+/// its variant in `table`. Adds new variants to `table`.
 fn numbers_of<'l>(
     alloc: Global,
     table: &mut IndexSet<&'l str>,
@@ -86,7 +87,8 @@ fn numbers_of<'l>(
     Ok(numbers)
 }
 
-/// Returns the number of a variant, or 0 for a skip. Adds a new name to the table.
+/// Returns the number of the variant `name`, which is one more than its index in `table`, or 0 for
+/// `None`, which is a skip. Adds a new name to `table`.
 fn number_of<'l>(table: &mut IndexSet<&'l str>, name: Option<&'l str>) -> Result<usize, AllocError>
     ensures number { IfOk result (λ number. IsNumberOf table.new.keys
         (option_map (λ name. name.now) name.entry) number) }
@@ -100,7 +102,7 @@ fn number_of<'l>(table: &mut IndexSet<&'l str>, name: Option<&'l str>) -> Result
     }
 }
 
-/// Returns the index of a name in a table, plus 1. Adds a new name to the table.
+/// Returns the index of `name` in `table`, plus 1. Adds a new name to `table`.
 fn index_of<'l>(table: &mut IndexSet<&'l str>, name: &'l str) -> Result<usize, AllocError>
     ensures number { IfOk result (λ number. IsNumberOf table.new.keys (Some name.now) number) }
     ensures grows { OnOk result (Grows table.old.keys table.new.keys) }

@@ -1,4 +1,4 @@
-//! Counts the items of each kind. Used by `notes` and `logos_items`.
+//! Counts the items of each leaf, and the errors. Used by `notes` and `logos_items`.
 
 ghost use Rattle.std.specs.Prelude.{◌≡◌, ◌<◌, length, option_map};
 ghost use Rattle.logos_answers.specs.Imports.{Gains, code_variant, count_line, next_shares_variant, is_same_name, line_after, sum_after, time_line, title_line, variant_line};
@@ -15,7 +15,7 @@ pub struct Counts {
     errors: usize,
 }
 
-/// The measurements of a whole input.
+/// The length of a whole input, and the time that its items took.
 #[derive(Clone, Copy)]
 pub struct Totals {
     pub bytes: usize,
@@ -40,7 +40,8 @@ impl Counts {
         Ok(Counts { by_leaf, errors: 0 })
     }
 
-    /// Counts an item of a leaf.
+    /// Adds 1 to the number of items of a leaf, up to `usize::MAX`. Changes nothing if there is no
+    /// such leaf.
     #[inline(always)]
     pub fn count_token(&mut self, leaf: usize)
         ensures leaves { CountsItem leaf self.old.by_leaf.items self.new.by_leaf.items }
@@ -51,7 +52,7 @@ impl Counts {
         }
     }
 
-    /// Counts an error.
+    /// Adds 1 to the number of errors, up to `usize::MAX`.
     pub fn count_error(&mut self)
         ensures leaves { self.new.by_leaf.items ≡ self.old.by_leaf.items }
         ensures errors { self.new.errors ≡ one_more self.old.errors }
@@ -59,9 +60,9 @@ impl Counts {
         self.errors = self.errors.saturating_add(1);
     }
 
-    /// Appends the counts for an input: the name of the enum, a line with the number of items for
-    /// each variant that has items, the number of errors, and the measurements. The leaves of a
-    /// variant must be consecutive.
+    /// Appends the counts for an input: `name`, the name of the enum, a line with the number of
+    /// items for each variant that has items, the number of errors, and the length and the time in
+    /// `totals`. The leaves of a variant must be consecutive.
     pub fn push_totals(&self, page: &mut Page, name: &str, leaves: &[CodeLeaf<'_>], totals: Totals)
         ensures { Gains (totals_text name.now leaves.now self.now.by_leaf.items self.now.errors
             totals.bytes totals.passed) page.old page.new }
@@ -86,7 +87,7 @@ impl Counts {
         }
     }
 
-    /// Appends the number of errors, and the measurements.
+    /// Appends the lines with the number of errors, and with the length and the time in `totals`.
     fn push_ends(&self, page: &mut Page, totals: Totals)
         ensures { Gains (ends_text self.now.errors totals.bytes totals.passed) page.old page.new }
     {
@@ -95,7 +96,7 @@ impl Counts {
         push_time(page, totals.passed);
     }
 
-    /// Returns the number of items of a leaf.
+    /// Returns the number of items of the leaf `number`, or 0 if there is no such leaf.
     pub(crate) fn of_leaf(&self, number: usize) -> usize
         ensures { result ≡ slice_index self.now.by_leaf.items number }
     {
@@ -106,7 +107,7 @@ impl Counts {
     }
 }
 
-/// Appends the line that names an enum.
+/// Appends an empty line, and the line that names an enum.
 fn push_title(page: &mut Page, name: &str)
     ensures { Gains (title_line name.now) page.old page.new }
 {
@@ -115,9 +116,9 @@ fn push_title(page: &mut Page, name: &str)
     page.push("\n");
 }
 
-/// Appends the line of a variant at its last leaf. `sum` is the number of the items of the leaves
-/// of the variant up to the leaf `number`. Returns the sum for the next leaf, which is 0 after the
-/// end of a variant.
+/// Appends the line of a variant that has items, if the leaf `number` is its last leaf. `sum` is
+/// the number of items of the variant's leaves up to the leaf `number`. Returns the sum before the
+/// next leaf: `sum`, or 0 after the last leaf of a variant.
 fn push_sum(page: &mut Page, leaves: &[CodeLeaf<'_>], number: usize, sum: usize) -> usize
     requires { number < length leaves.now }
     ensures line { Gains (line_after leaves.now number sum) page.old page.new }
@@ -152,7 +153,8 @@ fn is_same_name(one: Option<&str>, other: Option<&str>) -> bool
     }
 }
 
-/// Returns the name of the variant of a leaf, or `None` for a skip and if there is no such leaf.
+/// Returns the name of the variant of the leaf `number`, or `None` for a skip and if there is no
+/// such leaf.
 pub fn code_name_at<'l>(leaves: &'l [CodeLeaf<'_>], number: usize) -> Option<&'l str>
     ensures { option_map (λ name. name.now) result ≡ code_variant leaves.now number }
 {
@@ -162,7 +164,7 @@ pub fn code_name_at<'l>(leaves: &'l [CodeLeaf<'_>], number: usize) -> Option<&'l
     }
 }
 
-/// Appends the line of a variant, if it has items.
+/// Appends the line of the variant `name`. Appends nothing if `count` is 0 or `name` is `None`.
 fn push_variant(page: &mut Page, name: Option<&str>, count: usize)
     ensures { Gains (variant_line (option_map (λ name. name.now) name.entry) count)
         page.old page.new }

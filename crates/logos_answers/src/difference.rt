@@ -1,5 +1,5 @@
-//! The findings of two lexers at an input on which they differ. Used by `callbacks`,
-//! `logos_records` and `logos_show`.
+//! Appends the match or the error that each of two lexers finds first in an input on which they
+//! differ. Used by `callbacks`, `logos_records`, `logos_replies` and `logos_show`.
 
 ghost use Rattle.std.specs.Prelude.{◌≡◌, ◌++◌, ℕ, List, OnOk, codes, if◌then◌else◌};
 ghost use Rattle.logos_answers.specs.Imports.{Gains, difference_line, mode_line};
@@ -26,14 +26,14 @@ pub struct NamedLexer<'m, 's> {
     pub code: &'m Code<'s>,
 }
 
-/// The finding of a lexer at the beginning of an input.
+/// The match or the error that a lexer finds at the beginning of an input.
 #[derive(Clone, Copy)]
 pub struct Finding<'f> {
-    /// The leaf of the match, or `None` for an error.
+    /// The number of the match's leaf, or `None` if there is no match.
     pub leaf: Option<usize>,
-    /// The variant of the match, or `None` for a skip or an error.
+    /// The name of the match's variant, or `None` for a skip or if there is no match.
     pub variant: Option<&'f str>,
-    /// The bytes of the match or of the error.
+    /// The bytes of the match or of the error, which are none if the lexer finds neither.
     pub bytes: &'f [u8],
 }
 
@@ -54,7 +54,8 @@ fn push_mode(page: &mut Page, one: NamedLexer<'_, '_>)
     page.push(mode_text(one.graph.utf8_mode()));
 }
 
-/// Returns the text after the path of a lexer that reads UTF-8, or any bytes.
+/// Returns the text after the path of a lexer, which states that it reads UTF-8 if `is_utf8` holds,
+/// and any bytes otherwise.
 fn mode_text(is_utf8: bool) -> &'static str
     ensures { result.now ≡ (if is_utf8 then codes " reads UTF-8\n" else codes " reads any bytes\n") }
 {
@@ -65,7 +66,8 @@ fn mode_text(is_utf8: bool) -> &'static str
     }
 }
 
-/// Appends an input on which two lexers differ, and their first findings there.
+/// Appends a line with an input on which two lexers differ, and for each lexer a line with the
+/// match or the error that it finds first there.
 ///
 /// # Errors
 ///
@@ -95,7 +97,8 @@ fn push_input(page: &mut Page, input: &[u8])
     page.push("\n");
 }
 
-/// Returns the lines with the findings of two lexers at the beginning of an input.
+/// Returns the lines with the match or the error that each of two lexers finds at the beginning of
+/// an input.
 fn findings_text(
     alloc: Global,
     one: NamedLexer<'_, '_>,
@@ -108,7 +111,7 @@ fn findings_text(
     page.finish()
 }
 
-/// Appends the line with the finding of a lexer at the beginning of an input.
+/// Appends the line with the match or the error that a lexer finds at the beginning of an input.
 fn push_finding(
     alloc: Global,
     page: &mut Page,
@@ -124,7 +127,7 @@ fn push_finding(
     Ok(())
 }
 
-/// Appends an error, or `nothing` if it is empty.
+/// Appends the bytes of an error in quotes, or `nothing` if there are none.
 fn push_error(page: &mut Page, error: &[u8]) {
     if error.is_empty() {
         page.push("nothing");
@@ -134,7 +137,8 @@ fn push_error(page: &mut Page, error: &[u8]) {
     }
 }
 
-/// Returns the bytes of the error at the beginning of an input, or no bytes if there is no error.
+/// Returns the bytes of the error that a lexer finds at the beginning of an input, or no bytes if
+/// it finds no error there.
 fn first_error<'i>(code: &Code<'_>, input: &'i [u8]) -> &'i [u8] {
     let emit = |_leaf: LeafId, _slice: &[u8]| Action::Emit;
     let Ok(lexer) = Lexer::new_bytes(code, input, emit) else {
@@ -147,7 +151,7 @@ fn first_error<'i>(code: &Code<'_>, input: &'i [u8]) -> &'i [u8] {
     }
 }
 
-/// Returns the finding of a lexer at the beginning of an input.
+/// Returns the match or the error that a lexer finds at the beginning of an input.
 ///
 /// # Errors
 ///
@@ -168,7 +172,8 @@ pub fn finding_of<'f>(
     }
 }
 
-/// Returns the finding of a lexer whose first match in an input is `found`.
+/// Returns the match `found` at the beginning of an input, with the name of its variant and its
+/// bytes.
 fn finding_by<'f>(one: NamedLexer<'f, '_>, input: &'f [u8], found: Match) -> Finding<'f> {
     Finding {
         leaf: Some(found.leaf),

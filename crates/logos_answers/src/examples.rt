@@ -1,4 +1,5 @@
-//! Examples of the inputs that leaves find, and of those that they lose. Called for `--examples`.
+//! Appends for each leaf an input on which it is found, and an input on which it loses to another
+//! leaf. Used by `logos_html`, `logos_records` and `logos_replies`.
 
 ghost use Rattle.std.specs.Prelude.{◌≡◌, ◌++◌, ℕ, [], codes, IfOk, MatchOption, OnOk, length, option_map};
 ghost use Rattle.logos_answers.specs.Views as shown;
@@ -13,7 +14,8 @@ use logos_page::Page;
 use logos_pattern::leaf::Leaf;
 use std::alloc::{AllocError, Global};
 
-/// An input on which a leaf is found, and one on which it loses to another leaf.
+/// Two examples for a leaf: an input on which it is found, and an input on which it loses to
+/// another leaf.
 #[derive(Drop)]
 pub struct Evidence {
     /// A shortest input on which a lexer finds a match of the leaf first, if there is one.
@@ -22,11 +24,11 @@ pub struct Evidence {
     pub loss: Option<Loss>,
 }
 
-/// An input on which a leaf matches and another one is found instead.
+/// An input on which a leaf matches, but another leaf is found first.
 #[derive(Drop)]
 pub struct Loss {
     pub input: Vec<u8>,
-    /// The number of the leaf that is found.
+    /// The number of the leaf that is found first.
     pub winner: usize,
 }
 
@@ -48,7 +50,7 @@ pub fn push_examples(alloc: Global, page: &mut Page, graph: &Graph<'_>) -> Resul
     Ok(())
 }
 
-/// Appends the line of a leaf.
+/// Appends the line with the examples for a leaf.
 fn push_example(
     alloc: Global,
     page: &mut Page,
@@ -64,8 +66,9 @@ fn push_example(
     Ok(())
 }
 
-/// Returns an input on which a leaf of a graph without faults is found, and one on which it loses
-/// to another leaf.
+/// Returns a shortest input on which a leaf of a graph without faults is found first, and a
+/// shortest input on which the leaf matches but another leaf is found first. Each is `None` if
+/// there is no such input.
 ///
 /// # Errors
 ///
@@ -81,7 +84,8 @@ pub fn evidence_of(alloc: Global, graph: &Graph<'_>, leaf: usize) -> Result<Evid
     Ok(Evidence { found, loss })
 }
 
-/// Returns an input that a leaf loses, if there is one.
+/// Returns a shortest input on which a leaf matches but another leaf is found first, with that
+/// leaf, or `None` if there is no such input.
 fn loss_of(alloc: Global, graph: &Graph<'_>, leaf: usize) -> Result<Option<Loss>, AllocError>
     ensures { IfOk result (λ loss. IsGraphOf graph.now.leaves graph.now.utf8 graph.now →
         graph.now.faults ≡ [] → MatchOption (option_map shown.loss_value loss)
@@ -94,7 +98,8 @@ fn loss_of(alloc: Global, graph: &Graph<'_>, leaf: usize) -> Result<Option<Loss>
     }
 }
 
-/// Returns an input with the leaf that is found first in it, or `None` if no leaf is found there.
+/// Returns `input` with the leaf whose match a lexer finds at the beginning of the input, or `None`
+/// if no leaf matches there.
 fn with_winner(alloc: Global, graph: &Graph<'_>, input: Vec<u8>) -> Result<Option<Loss>, AllocError>
     ensures { IfOk result (λ loss. (leaf : ℕ) →
         IsGraphOf graph.now.leaves graph.now.utf8 graph.now → graph.now.faults ≡ [] →
@@ -112,7 +117,7 @@ fn with_winner(alloc: Global, graph: &Graph<'_>, input: Vec<u8>) -> Result<Optio
     }
 }
 
-/// Appends the line of a leaf, with the inputs that it finds and loses.
+/// Appends the line of a leaf with the examples in `evidence`.
 fn push_evidence(page: &mut Page, leaves: &[Leaf<'_>], leaf: usize, evidence: &Evidence)
     ensures { Gains (shown.evidence_line leaves.now leaf
         (option_map (λ input. input.items) evidence.now.found)
@@ -124,7 +129,7 @@ fn push_evidence(page: &mut Page, leaves: &[Leaf<'_>], leaf: usize, evidence: &E
     page.push("\n");
 }
 
-/// Appends the input that a leaf finds, or `finds nothing`.
+/// Appends the input on which a leaf is found, or `finds nothing` if there is none.
 fn push_found(page: &mut Page, found: &Option<Vec<u8>>)
     ensures { Gains (shown.found_text (option_map (λ input. input.items) found.now))
         page.old page.new }
@@ -135,7 +140,7 @@ fn push_found(page: &mut Page, found: &Option<Vec<u8>>)
     }
 }
 
-/// Appends an input that a leaf finds.
+/// Appends `finds`, and an input on which a leaf is found, in quotes.
 fn push_example_of(page: &mut Page, input: &[u8])
     ensures { Gains (codes "finds " ++ quoted input.now) page.old page.new }
 {
@@ -143,7 +148,8 @@ fn push_example_of(page: &mut Page, input: &[u8])
     push_quoted(page, input);
 }
 
-/// Appends the input that a leaf loses, if there is one.
+/// Appends the input on which a leaf loses, and the leaf that is found there, if there is such an
+/// input.
 fn push_loss(page: &mut Page, leaves: &[Leaf<'_>], loss: &Option<Loss>)
     ensures { Gains (shown.loss_text leaves.now (option_map shown.loss_value loss.now))
         page.old page.new }
@@ -153,7 +159,7 @@ fn push_loss(page: &mut Page, leaves: &[Leaf<'_>], loss: &Option<Loss>)
     }
 }
 
-/// Appends an input that a leaf loses, and the leaf that wins it.
+/// Appends `loses`, an input on which a leaf loses, and the leaf `winner` that is found there.
 fn push_lost(page: &mut Page, leaves: &[Leaf<'_>], input: &[u8], winner: usize)
     ensures { Gains (codes ", loses " ++ (quoted input.now
         ++ (codes " to " ++ leaf_text leaves.now winner))) page.old page.new }

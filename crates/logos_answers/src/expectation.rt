@@ -1,4 +1,4 @@
-//! Compares an answer with a stored one. Called for `--expect`.
+//! Compares an answer with a stored one. Used by `logos_replies` for `--expect`.
 
 ghost use Rattle.std.specs.Prelude.{◌≡◌, ◌≤◌, ◌↔◌, ◌++◌, ℕ, List, IsTrue, drop, length, take};
 ghost use Rattle.logos_answers.specs.Imports.{Gains, IsLineStart, ShowsAgreement, line_text, timeless};
@@ -8,12 +8,13 @@ use crate::quotes::push_quoted;
 use logos_lines::{Cursor, Location};
 use logos_page::Page;
 
-/// The beginning of the line that may differ between two runs.
+/// The beginning of the line with the time, which differs between equal calls of a program.
 const TIME: &[u8] = b"milliseconds: ";
 
-/// Appends the result of comparing an answer with the one that is stored at `path`, and returns
-/// whether they are equal. If they are not, the result is the line and the column of the stored
-/// answer at which they first differ, and both lines. A last line with the time is not compared.
+/// Appends the result of comparing the answer `made` with the answer `stored` in the file at
+/// `path`, and returns whether they are equal. If they are not, the result is the line and the
+/// column of the stored answer at which they first differ, and the line of each answer there. A
+/// last line with the time is not compared.
 pub fn push_agreement(page: &mut Page, path: &str, stored: &[u8], made: &[u8]) -> bool
     ensures same { IsTrue result ↔ (timeless stored.now ≡ timeless made.now) }
     ensures shows { ShowsAgreement path.now result page.old page.new }
@@ -28,7 +29,8 @@ pub fn push_agreement(page: &mut Page, path: &str, stored: &[u8], made: &[u8]) -
     false
 }
 
-/// Returns an answer without its last line, if that is the line with the time.
+/// Returns an answer without its last line if that is the line with the time, otherwise the whole
+/// answer.
 fn without_time(answer: &[u8]) -> &[u8]
     ensures { result.now ≡ timeless answer.now }
 {
@@ -39,7 +41,7 @@ fn without_time(answer: &[u8]) -> &[u8]
     answer
 }
 
-/// Returns the offset at which the line with the offset `at` begins.
+/// Returns the byte offset at which the line that contains the offset `at` begins.
 fn line_start(text: &[u8], at: usize) -> usize
     requires { at ≤ length text.now }
     ensures { IsLineStart text.now at result }
@@ -51,7 +53,7 @@ fn line_start(text: &[u8], at: usize) -> usize
     start
 }
 
-/// Returns the bytes before an offset, or all bytes if there are fewer.
+/// Returns the bytes before the offset `at`, or all bytes if the text is shorter.
 fn front_of(text: &[u8], at: usize) -> &[u8]
     ensures { result.now ≡ take at text.now }
 {
@@ -61,7 +63,7 @@ fn front_of(text: &[u8], at: usize) -> &[u8]
     }
 }
 
-/// Returns the bytes from an offset to the end, or none if there are fewer.
+/// Returns the bytes from the offset `at` to the end, or no bytes if the text is shorter.
 fn tail_of(text: &[u8], at: usize) -> &[u8]
     ensures { result.now ≡ drop at text.now }
 {
@@ -71,7 +73,8 @@ fn tail_of(text: &[u8], at: usize) -> &[u8]
     }
 }
 
-/// Appends the first difference of two answers.
+/// Appends the location in the stored answer at which two answers first differ, and the line of
+/// each answer there.
 fn push_difference(page: &mut Page, path: &str, stored: &[u8], made: &[u8])
     ensures { (rest : List ℕ) × Gains (shown_text path.now ++ rest) page.old page.new }
 {
@@ -94,7 +97,8 @@ fn common_length(one: &[u8], other: &[u8]) -> usize
     at
 }
 
-/// Returns the bytes of the line that begins at an offset.
+/// Returns the bytes of the line that begins at the offset `start`, without its LF, or no bytes if
+/// the text is shorter.
 fn line_from(text: &[u8], start: usize) -> &[u8] {
     let tail = tail_of(text, start);
     match tail.iter().position(|byte| *byte == b'\n') {
@@ -103,7 +107,8 @@ fn line_from(text: &[u8], start: usize) -> &[u8] {
     }
 }
 
-/// Appends the line and the column of an offset of a text.
+/// Appends the line and the column of the byte offset `at` of a text, and the rest of the line that
+/// reports a difference.
 fn push_location(page: &mut Page, text: &[u8], at: usize)
     ensures { (added : List ℕ) × Gains added page.old page.new }
 {
@@ -112,7 +117,7 @@ fn push_location(page: &mut Page, text: &[u8], at: usize)
     push_point(page, cursor.location());
 }
 
-/// Appends a location, and the rest of the line that reports a difference.
+/// Appends a colon, a location, and the rest of the line that reports a difference.
 fn push_point(page: &mut Page, location: Location)
     ensures { (added : List ℕ) × Gains added page.old page.new }
 {
@@ -123,7 +128,7 @@ fn push_point(page: &mut Page, location: Location)
     page.push(": the answer is another\n");
 }
 
-/// Appends the text `before`, and a line of an answer in quotes.
+/// Appends a line with the text `before`, and a line of an answer in quotes.
 fn push_line(page: &mut Page, before: &str, line: &[u8])
     ensures { Gains (line_text before.now line.now) page.old page.new }
 {

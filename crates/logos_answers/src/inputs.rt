@@ -1,4 +1,5 @@
-//! Inputs that together take all edges of a graph. Called for `--inputs`.
+//! Appends inputs that together take all edges of a graph. Used by `logos_records` and
+//! `logos_replies` for `--inputs`.
 
 ghost use Rattle.std.specs.Prelude.{◌≡◌, IfOk, map, take};
 ghost use Rattle.logos_answers.specs.Imports.{flat_map, Gains, ShowsInputs, input_line};
@@ -29,7 +30,7 @@ pub fn push_inputs(
     Ok(inputs.len())
 }
 
-/// Returns the first inputs, at most `most`.
+/// Returns the first `most` inputs, or all if there are fewer.
 pub fn first_of(inputs: &[Vec<u8>], most: usize) -> &[Vec<u8>]
     ensures { result.now ≡ take most inputs.now }
 {
@@ -48,7 +49,7 @@ fn push_literals(page: &mut Page, inputs: &[Vec<u8>])
     }
 }
 
-/// Appends the line of an input.
+/// Appends the line of an input, which is a Rust literal.
 fn push_line(page: &mut Page, input: &[u8])
     ensures { Gains (input_line input.now) page.old page.new }
 {

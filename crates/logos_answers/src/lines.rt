@@ -1,4 +1,4 @@
-//! The line of an item. Used by `logos_items`.
+//! Appends the line of an item to a block of bytes. Used by `logos_items`.
 
 ghost use Rattle.std.specs.Prelude.{◌≡◌, ◌<◌, ◌≤◌, ◌+◌, length};
 
@@ -8,7 +8,7 @@ use logos_lines::Location;
 use std::alloc::AllocError;
 use std::str;
 
-/// The maximum number of characters of an item that are shown.
+/// The maximum number of characters of an item that are shown, or of bytes if it is not UTF-8.
 const SHOWN: usize = 60;
 
 /// The maximum length in bytes of a location: two numbers of 20 digits with a colon between them.
@@ -21,12 +21,13 @@ const HEAD: usize = 64;
 /// escape of four bytes for each shown byte, a quote and a line end.
 pub const LINE: usize = 347;
 
-/// Appends the line of an item: its location, its head, which names it, and its text in quotes. A
-/// short line is assembled in `line` first.
+/// Appends the line of an item to `block`: its location, `head`, which names the item and opens the
+/// quotes, and its text `slice` with the closing quote. A short line is assembled in `line` first.
 ///
 /// # Errors
 ///
-/// Returns `AllocError` if memory runs out. Then a part of the line may have been appended.
+/// Returns `AllocError` if memory runs out. Then a part of the line may have been appended to
+/// `block`.
 #[inline(always)]
 pub fn push_item(
     block: &mut Vec<u8>,
@@ -46,8 +47,8 @@ pub fn push_item(
     block.extend_from_slice(b"\n")
 }
 
-/// Writes a location as `line:column` so that it ends at `POSITION`, and returns the index at which
-/// it begins.
+/// Writes a location as `line:column` into `line` so that it ends at the index `POSITION`, and
+/// returns the index at which it begins.
 #[inline(always)]
 fn write_location(line: &mut [u8; LINE], location: Location) -> usize
     ensures { result ≤ 41 }
@@ -58,8 +59,8 @@ fn write_location(line: &mut [u8; LINE], location: Location) -> usize
     write_digits(location.line as u64, line, colon)
 }
 
-/// Writes the rest of a line after the location of an item with a short ASCII text, and returns the
-/// index at which it ends.
+/// Writes the rest of the line of an item with a short ASCII text into `line`, after the location,
+/// and returns the index at which the line ends.
 #[inline(always)]
 fn write_short(line: &mut [u8; LINE], head: &[u8], slice: &[u8]) -> usize
     requires head { length head.now ≤ 64 }
@@ -76,7 +77,7 @@ fn write_short(line: &mut [u8; LINE], head: &[u8], slice: &[u8]) -> usize
     at + 2
 }
 
-/// Writes a text, and returns the index at which it ends.
+/// Writes `text` into `line` from the index `at` on, and returns the index at which it ends.
 #[inline(always)]
 fn write_text(line: &mut [u8], at: usize, text: &[u8]) -> usize
     requires { at + length text.now ≤ length line.old }
@@ -87,7 +88,8 @@ fn write_text(line: &mut [u8], at: usize, text: &[u8]) -> usize
     end
 }
 
-/// Writes a byte, or its escape if it needs one in quotes, and returns the index after it.
+/// Writes a byte, or its escape if it needs one in quotes, into `text` from the index `at` on, and
+/// returns the index at which it ends.
 #[inline(always)]
 fn write_byte(text: &mut [u8], at: usize, byte: u8) -> usize
     requires { at + 4 ≤ length text.old }
@@ -107,7 +109,8 @@ fn is_plain(byte: u8) -> bool {
     (b' ' <= byte) & (byte <= b'~') & (byte != b'"') & (byte != b'\\')
 }
 
-/// Writes the escape of a byte, and returns the index at which it ends.
+/// Writes the escape of a byte into `text` from the index `at` on, and returns the index at which
+/// it ends.
 fn write_escape(text: &mut [u8], at: usize, byte: u8) -> usize
     requires { at + 4 ≤ length text.old }
     ensures after { at ≤ result }
@@ -124,8 +127,8 @@ fn write_escape(text: &mut [u8], at: usize, byte: u8) -> usize
     at + 4
 }
 
-/// Returns the letter after the backslash in the escape of a byte, or `None` if that escape does
-/// not have exactly two bytes.
+/// Returns the second byte of the escape of `byte`, or `None` if the escape is longer than two
+/// bytes.
 fn letter_of(byte: u8) -> Option<u8> {
     match byte {
         b'"' | b'\\' => Some(byte),
@@ -136,7 +139,7 @@ fn letter_of(byte: u8) -> Option<u8> {
     }
 }
 
-/// Returns the hexadecimal digit of a number below 16.
+/// Returns the hexadecimal digit of a number below 16, as an ASCII byte in upper case.
 fn hexadecimal_digit(number: u8) -> u8
     requires { number < 16 }
 {
@@ -147,14 +150,15 @@ fn hexadecimal_digit(number: u8) -> u8
     }
 }
 
-/// Appends a number in decimal. If memory runs out, nothing was appended.
+/// Appends a number in decimal to `block`. If memory runs out, nothing was appended.
 fn push_number(block: &mut Vec<u8>, number: usize) -> Result<(), AllocError> {
     let mut digits = [0; 20];
     let from = write_digits(number as u64, &mut digits, 20);
     block.extend_from_slice(&digits[from..])
 }
 
-/// Appends the shown part of an item, and the closing quote.
+/// Appends the shown part of an item, the closing quote, and the item's length if a part is not
+/// shown.
 fn push_quoted(block: &mut Vec<u8>, slice: &[u8]) -> Result<(), AllocError> {
     match str::from_utf8(slice) {
         Ok(text) => push_text(block, text),
@@ -162,7 +166,8 @@ fn push_quoted(block: &mut Vec<u8>, slice: &[u8]) -> Result<(), AllocError> {
     }
 }
 
-/// Appends the shown part of a text, and the closing quote.
+/// Appends the first `SHOWN` characters of a text, the closing quote, and the number of characters
+/// if there are more.
 fn push_text(block: &mut Vec<u8>, text: &str) -> Result<(), AllocError> {
     for character in text.chars().take(SHOWN) {
         push_character(block, character)?;
@@ -170,7 +175,8 @@ fn push_text(block: &mut Vec<u8>, text: &str) -> Result<(), AllocError> {
     push_end(block, text.chars().count(), " characters")
 }
 
-/// Appends the shown part of bytes that are not UTF-8, and the closing quote.
+/// Appends the first `SHOWN` of these bytes, which are not UTF-8, the closing quote, and the number
+/// of bytes if there are more.
 fn push_bytes(block: &mut Vec<u8>, slice: &[u8]) -> Result<(), AllocError> {
     for byte in slice.iter().take(SHOWN) {
         push_byte(block, *byte)?;
@@ -178,7 +184,8 @@ fn push_bytes(block: &mut Vec<u8>, slice: &[u8]) -> Result<(), AllocError> {
     push_end(block, slice.len(), " bytes")
 }
 
-/// Appends the closing quote, and the length if a part is not shown.
+/// Appends the closing quote, and two dots with the length `count` and its `unit` if a part is not
+/// shown.
 fn push_end(block: &mut Vec<u8>, count: usize, unit: &str) -> Result<(), AllocError> {
     block.extend_from_slice(b"\"")?;
     if count <= SHOWN {
@@ -189,7 +196,7 @@ fn push_end(block: &mut Vec<u8>, count: usize, unit: &str) -> Result<(), AllocEr
     block.extend_from_slice(unit.as_bytes())
 }
 
-/// Appends a character, or its escape.
+/// Appends a character, or its escape if it needs one in quotes.
 fn push_character(block: &mut Vec<u8>, character: char) -> Result<(), AllocError> {
     let code = character as u32;
     if code < 128 {
@@ -202,7 +209,8 @@ fn push_character(block: &mut Vec<u8>, character: char) -> Result<(), AllocError
     block.extend_from_slice(character.encode_utf8(&mut bytes).as_bytes())
 }
 
-/// Appends the escape of a hidden character, with its number.
+/// Appends the escape of a hidden character: `\u{..}` with the four or six hexadecimal digits of
+/// its number `code`.
 fn push_number_escape(block: &mut Vec<u8>, code: u32) -> Result<(), AllocError> {
     block.extend_from_slice(b"\\u{")?;
     if code > 0xFFFF {
@@ -219,7 +227,7 @@ fn push_two_digits(block: &mut Vec<u8>, byte: u8) -> Result<(), AllocError> {
     block.extend_from_slice(&digits)
 }
 
-/// Appends a byte, or its escape.
+/// Appends a byte, or its escape if it needs one in quotes.
 fn push_byte(block: &mut Vec<u8>, byte: u8) -> Result<(), AllocError> {
     let mut text = [0; 4];
     let to = write_byte(&mut text, 0, byte);

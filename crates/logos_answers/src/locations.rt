@@ -1,12 +1,12 @@
-//! A line and a column in an argument. Used by `logos_questions`.
+//! Reads a line and a column from an argument. Used by `logos_questions`.
 
 ghost use Rattle.std.specs.Prelude.{◌≡◌, Some};
 ghost use Rattle.logos_answers.specs.Locations.{digits_after, number_named, location_named, location_of, positive, with_digit};
 
 use logos_lines::Location;
 
-/// Returns the line and the column in an argument such as `2:14`, or `None` if it has another form.
-/// Both are counted from 1, and have at most seventeen digits.
+/// Returns the line and the column in an argument such as `2:14`, or `None` if the argument is not
+/// two numbers, as `number_by_text` reads them, with a colon between them.
 pub fn location_by_word(word: &str) -> Option<Location>
     ensures { result ≡ location_named word.now }
 {
@@ -16,7 +16,7 @@ pub fn location_by_word(word: &str) -> Option<Location>
     }
 }
 
-/// Returns a location, if both its parts are valid.
+/// Returns the location with this line and this column, or `None` if one of them is `None`.
 fn location_of(line: Option<usize>, column: Option<usize>) -> Option<Location>
     ensures { result ≡ location_of line column }
 {
@@ -27,8 +27,8 @@ fn location_of(line: Option<usize>, column: Option<usize>) -> Option<Location>
     }
 }
 
-/// Returns the number in a text, which is at least 1 and has at most seventeen digits, or `None` if
-/// the text is not such a number.
+/// Returns the decimal number in a text, or `None` if the text is not a positive number of at most
+/// seventeen digits without leading zeros.
 pub fn number_by_text(text: &str) -> Option<usize>
     ensures { result ≡ number_named text.now }
 {
@@ -36,8 +36,8 @@ pub fn number_by_text(text: &str) -> Option<usize>
 }
 
 /// Returns the number whose digits are those of `number` followed by `digits`. Returns `None` if
-/// that is not a positive number of at most seventeen decimal digits without leading zeros. This
-/// bound also limits the depth of the recursion.
+/// the digits do not spell a positive number of at most seventeen digits without leading zeros.
+/// This bound also limits the depth of the recursion.
 fn digits_after(number: usize, digits: &[u8]) -> Option<usize>
     ensures { result ≡ digits_after (Some number) digits.now }
 {
@@ -50,7 +50,8 @@ fn digits_after(number: usize, digits: &[u8]) -> Option<usize>
     }
 }
 
-/// Returns a number with one more digit, unless the result is 0 or has more than seventeen digits.
+/// Returns the number with the digits of `number` and the digit `byte`, or `None` if `byte` is not
+/// an ASCII digit, or the result is 0 or has more than seventeen digits.
 fn with_digit(number: usize, byte: u8) -> Option<usize>
     ensures { result ≡ with_digit number byte }
 {
@@ -66,7 +67,7 @@ fn with_digit(number: usize, byte: u8) -> Option<usize>
     positive(number * 10 + (byte - b'0') as usize)
 }
 
-/// Returns a number, unless it is 0.
+/// Returns a number, or `None` if it is 0.
 fn positive(number: usize) -> Option<usize>
     ensures { result ≡ positive number }
 {

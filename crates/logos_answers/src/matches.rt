@@ -1,4 +1,5 @@
-//! The matches from an offset of an input. Called for `--at`.
+//! Appends the matches that begin at an offset of an input. Used by `difference`, `examples`,
+//! `logos_replies` and other crates.
 
 ghost use Rattle.std.specs.Prelude.{◌≡◌, ◌<◌, ◌≤◌, ◌-◌, ◌==◌, ℕ, List, None, Some, IfOk, OnErr, OnOk, codes, get_or, if◌then◌else◌, length};
 ghost use Rattle.logos_answers.specs.Imports as shown;
@@ -12,7 +13,7 @@ use logos_page::Page;
 use logos_pattern::leaf::Leaf;
 use std::alloc::{AllocError, Global};
 
-/// An offset of an input, with the leaves that may match from it.
+/// A byte offset `from` of an input, with the leaves whose matches may begin there.
 #[derive(Clone, Copy)]
 struct MatchStart<'a, 's> {
     leaves: &'a [Leaf<'s>],
@@ -20,8 +21,9 @@ struct MatchStart<'a, 's> {
     from: usize,
 }
 
-/// Appends a line for each leaf that matches from a byte offset of an input, with its longest match
-/// from there, and then a line with the match that a lexer takes there, and the reason.
+/// Appends a line for each leaf with a match that begins at the byte offset `from` of an input: the
+/// leaf, its priority, and its longest match from there. Then appends a line with the leaf whose
+/// match a lexer takes there, and the reason, or a line which states that no leaf matches.
 ///
 /// # Errors
 ///
@@ -51,8 +53,8 @@ pub fn push_matches(
     Ok(())
 }
 
-/// Appends the match that a lexer takes at the beginning of an input, and returns whether there is
-/// one.
+/// Appends the match that a lexer takes at the beginning of an input, and returns `true`. Returns
+/// `false` and appends nothing if no leaf matches there.
 ///
 /// # Errors
 ///
@@ -77,8 +79,9 @@ pub fn push_first(
     Ok(true)
 }
 
-/// Returns the last match of each leaf, or `None` for a leaf without a match. If the matches are in
-/// the order of their ends, the last match of a leaf is its longest one.
+/// Returns the last match in `matches` of each of `count` leaves, or `None` for a leaf without a
+/// match. If the matches are in the order of their ends, the last match of a leaf is its longest
+/// one.
 ///
 /// # Errors
 ///
@@ -97,7 +100,8 @@ pub fn longest_of(
     Ok(longest)
 }
 
-/// Sets the match of the leaf of `found`, in place of an earlier one.
+/// Sets the match of the leaf of `found` in `longest` to `found`, in place of an earlier match.
+/// Changes nothing if there is no such leaf.
 fn set_longest(longest: &mut Vec<Option<Match>>, found: Match)
     ensures count { length longest.new.items ≡ length longest.old.items }
     ensures each { (leaf : ℕ) → leaf < length longest.old.items →
@@ -109,7 +113,7 @@ fn set_longest(longest: &mut Vec<Option<Match>>, found: Match)
     }
 }
 
-/// Appends the lines of the leaves that match.
+/// Appends a line for each match in `longest`.
 fn push_lines(page: &mut Page, start: MatchStart<'_, '_>, longest: &[Option<Match>])
     ensures { Gains (shown.lines_of start.entry.leaves.now start.entry.input.now start.entry.from
         longest.now) page.old page.new }
@@ -119,7 +123,7 @@ fn push_lines(page: &mut Page, start: MatchStart<'_, '_>, longest: &[Option<Matc
     }
 }
 
-/// Appends the line of a leaf, if it matches.
+/// Appends the line of a leaf with its match `found`, or nothing if it has no match.
 fn push_found(page: &mut Page, start: MatchStart<'_, '_>, found: Option<Match>)
     ensures { Gains (shown.line_or_none start.entry.leaves.now start.entry.input.now start.entry.from
         found) page.old page.new }
@@ -129,7 +133,7 @@ fn push_found(page: &mut Page, start: MatchStart<'_, '_>, found: Option<Match>)
     }
 }
 
-/// Appends the line of a match.
+/// Appends the line of a match: its leaf, its priority, its length and its text.
 fn push_line(page: &mut Page, start: MatchStart<'_, '_>, found: Match)
     ensures { Gains (shown.match_line start.entry.leaves.now start.entry.input.now start.entry.from
         found) page.old page.new }
@@ -141,7 +145,7 @@ fn push_line(page: &mut Page, start: MatchStart<'_, '_>, found: Match)
     push_extent(page, start, found.end);
 }
 
-/// Appends the beginning of the line of a leaf.
+/// Appends the beginning of the line of a leaf: its number and its name.
 pub(crate) fn push_head(page: &mut Page, leaves: &[Leaf<'_>], leaf: usize)
     ensures { Gains (shown.leaf_head leaves.now leaf) page.old page.new }
 {
@@ -152,7 +156,8 @@ pub(crate) fn push_head(page: &mut Page, leaves: &[Leaf<'_>], leaf: usize)
     page.push("  ");
 }
 
-/// Appends the length of a match, and its text.
+/// Appends the length and the text of a match that ends at the offset `end` of the input, and a
+/// line end.
 fn push_extent(page: &mut Page, start: MatchStart<'_, '_>, end: usize)
     ensures { Gains (shown.extent_text start.entry.input.now start.entry.from end) page.old page.new }
 {
@@ -162,14 +167,14 @@ fn push_extent(page: &mut Page, start: MatchStart<'_, '_>, end: usize)
     page.push("\n");
 }
 
-/// Returns the length of a match from one offset to another, in bytes.
+/// Returns the length in bytes of a match from the offset `from` to the offset `end`.
 fn length_from(from: usize, end: usize) -> usize
     ensures { result ≡ end - from }
 {
     end.saturating_sub(from)
 }
 
-/// Appends a number of bytes with its unit.
+/// Appends a number of bytes, and `byte` or `bytes`.
 fn push_length(page: &mut Page, count: usize)
     ensures { Gains (shown.length_text count) page.old page.new }
 {
@@ -177,15 +182,14 @@ fn push_length(page: &mut Page, count: usize)
     page.push(unit_of(count));
 }
 
-/// Returns the unit after a number of bytes.
+/// Returns the unit after a number of bytes: ` byte` for 1, otherwise ` bytes`.
 fn unit_of(count: usize) -> &'static str
     ensures { result.now ≡ (if count == 1 then codes " byte" else codes " bytes") }
 {
     if count == 1 { " byte" } else { " bytes" }
 }
 
-/// Returns the bytes of an input between two offsets, or no bytes if it does not have these
-/// offsets.
+/// Returns the bytes `from..to` of an input, or no bytes if the input has no such bytes.
 pub fn bytes_between(input: &[u8], from: usize, to: usize) -> &[u8]
     ensures { result.now ≡ shown.bytes_between input.now from to }
 {
@@ -195,7 +199,8 @@ pub fn bytes_between(input: &[u8], from: usize, to: usize) -> &[u8]
     }
 }
 
-/// Appends the line with the match that a lexer takes, or a line which states that no leaf matches.
+/// Appends the line with the leaf whose match a lexer takes, and the reason, or a line which states
+/// that no leaf matches.
 fn push_verdict(page: &mut Page, leaves: &[Leaf<'_>], matches: &[Match])
     ensures { (text : List ℕ) × shown.IsVerdict leaves.now matches.now text
         × Gains text page.old page.new }
@@ -206,7 +211,7 @@ fn push_verdict(page: &mut Page, leaves: &[Leaf<'_>], matches: &[Match])
     }
 }
 
-/// Appends the line with the match that a lexer takes.
+/// Appends the line with the leaf of `found`, the match that a lexer takes, and the reason.
 fn push_winner(page: &mut Page, leaves: &[Leaf<'_>], matches: &[Match], found: Match)
     ensures { Gains (shown.winner_text leaves.now matches.now found) page.old page.new }
 {
@@ -214,7 +219,7 @@ fn push_winner(page: &mut Page, leaves: &[Leaf<'_>], matches: &[Match], found: M
     page.push(reason(matches, found));
 }
 
-/// Returns the reason that a match is taken.
+/// Returns the end of the line with the match that a lexer takes: the reason that it takes `found`.
 fn reason(matches: &[Match], found: Match) -> &'static str
     ensures { result.now ≡ shown.reason matches.now found }
 {
@@ -225,7 +230,7 @@ fn reason(matches: &[Match], found: Match) -> &'static str
     }
 }
 
-/// Returns whether another leaf has a match of the same length.
+/// Returns whether a match of another leaf ends where `found` ends.
 fn has_rival(matches: &[Match], found: Match) -> bool
     ensures { result ≡ shown.has_rival matches.now found }
 {

@@ -1,4 +1,5 @@
-//! The names of leaves. Used by `logos_records`.
+//! Returns and appends the names of leaves. Used by `matches`, `examples`, `logos_records` and
+//! other crates.
 
 ghost use Rattle.std.specs.Prelude.{◌≡◌, option_map};
 ghost use Rattle.logos_answers.specs.Imports.{Gains, leaf_name, leaf_text, name_at, variant_name, variant_text};
@@ -6,7 +7,7 @@ ghost use Rattle.logos_answers.specs.Imports.{Gains, leaf_name, leaf_text, name_
 use logos_page::Page;
 use logos_pattern::leaf::{Leaf, VariantKind};
 
-/// Returns the name of the variant of a kind, or `None` for a skip.
+/// Returns the name of the variant in the kind of a leaf, or `None` for a skip.
 pub fn variant_of<'l>(kind: &'l VariantKind<'_>) -> Option<&'l str>
     ensures { option_map (λ name. name.now) result ≡ variant_name kind.now }
 {
@@ -17,8 +18,8 @@ pub fn variant_of<'l>(kind: &'l VariantKind<'_>) -> Option<&'l str>
     }
 }
 
-/// Returns the variant of the leaf with a number, or `None` for a skip and if there is no such
-/// leaf.
+/// Returns the name of the variant of the leaf with the number `leaf`, or `None` for a skip and if
+/// there is no such leaf.
 pub fn variant_at<'l>(leaves: &'l [Leaf<'_>], leaf: usize) -> Option<&'l str>
     ensures { option_map (λ name. name.now) result ≡ variant_text leaves.now leaf }
 {
@@ -28,7 +29,7 @@ pub fn variant_at<'l>(leaves: &'l [Leaf<'_>], leaf: usize) -> Option<&'l str>
     }
 }
 
-/// Returns the name of a leaf: that of its variant, or `skip`.
+/// Returns the name of a leaf: the name of its variant, or `skip`.
 fn leaf_name<'l>(leaf: &'l Leaf<'_>) -> &'l str
     ensures { result.now ≡ leaf_name leaf.now }
 {
@@ -38,7 +39,8 @@ fn leaf_name<'l>(leaf: &'l Leaf<'_>) -> &'l str
     }
 }
 
-/// Returns the name of the leaf with a number, or an empty text if there is no such leaf.
+/// Returns the name of the leaf with the number `leaf`, which is `skip` for a skip, or an empty
+/// text if there is no such leaf.
 pub fn name_at<'l>(leaves: &'l [Leaf<'_>], leaf: usize) -> &'l str
     ensures { result.now ≡ name_at leaves.now leaf }
 {
@@ -48,7 +50,7 @@ pub fn name_at<'l>(leaves: &'l [Leaf<'_>], leaf: usize) -> &'l str
     }
 }
 
-/// Appends the name and the number of a leaf.
+/// Appends the name in backticks and the number of the leaf with the number `leaf`.
 pub fn push_leaf(page: &mut Page, leaves: &[Leaf<'_>], leaf: usize)
     ensures { Gains (leaf_text leaves.now leaf) page.old page.new }
 {

@@ -1,12 +1,12 @@
-//! The note which states that callbacks were not called. Used by `logos_items`.
+//! Makes the note which states that callbacks were not called. Used by `logos_items`.
 
 use crate::counts::{Counts, code_name_at};
 use logos_code::code::CodeLeaf;
 use logos_page::Page;
 use std::alloc::{AllocError, Global};
 
-/// Returns a note that names each variant with items of a leaf that has a callback. It is empty if
-/// there is no such variant.
+/// Returns a note that names each variant of which a leaf has a callback and items, or an empty
+/// text if there is no such variant. The leaves of a variant must be consecutive.
 ///
 /// # Errors
 ///
@@ -27,7 +27,8 @@ pub fn note_of(
     page.finish()
 }
 
-/// Returns the name of the variant of a leaf, if the leaf has a callback and items.
+/// Returns the name of the variant of the leaf `number`, or `None` if the leaf has no callback or
+/// no items, is a skip, or does not exist.
 fn variant_at<'l>(leaves: &'l [CodeLeaf<'_>], counts: &Counts, number: usize) -> Option<&'l str> {
     if counts.of_leaf(number) == 0 {
         return None;
@@ -39,8 +40,9 @@ fn variant_at<'l>(leaves: &'l [CodeLeaf<'_>], counts: &Counts, number: usize) ->
     code_name_at(leaves, number)
 }
 
-/// Appends a variant, unless it is `last`. Returns the last variant that was appended, or an empty
-/// text if there is none.
+/// Appends `variant` to the note, unless it is `None` or equals `last`, which is the last variant
+/// in the note. Returns the variant that is then the last one, or an empty text if the note has
+/// none.
 fn push_variant<'l>(page: &mut Page, variant: Option<&'l str>, last: &'l str) -> &'l str {
     let Some(variant) = variant else {
         return last;

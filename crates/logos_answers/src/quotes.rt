@@ -1,5 +1,6 @@
-//! Bytes in the form in which they are shown in quotes. Control characters, invisible characters,
-//! and those that change the direction of a line are escaped.
+//! Appends bytes in quotes, with escapes for control characters, invisible characters, and
+//! characters that change the direction of a line. Used by the modules that append inputs or
+//! matches, and by other crates.
 
 ghost use Rattle.std.specs.Prelude.{◌≡◌, ◌<◌, ◌/◌, ◌%◌, length};
 ghost use Rattle.logos_answers.specs.Quoting as shown;
@@ -8,8 +9,9 @@ ghost use Rattle.logos_answers.specs.Imports.{Gains};
 use logos_page::Page;
 use std::str;
 
-/// Appends bytes in quotes: as a text if they are UTF-8, otherwise with the other bytes escaped. Of
-/// more than sixty bytes only the first ones are shown.
+/// Appends bytes in quotes: as a text if the shown bytes are UTF-8, otherwise with each byte from
+/// 128 on escaped. Of more than sixty bytes the first 57 to 60 are shown, with two dots after the
+/// closing quote.
 pub fn push_quoted(page: &mut Page, bytes: &[u8])
     ensures { Gains (shown.quoted bytes.now) page.old page.new }
 {
@@ -18,8 +20,8 @@ pub fn push_quoted(page: &mut Page, bytes: &[u8])
     page.push(closing(bytes));
 }
 
-/// Appends bytes as a Rust literal: a string if they are UTF-8, otherwise a byte string. It has one
-/// line, and no byte is left out.
+/// Appends bytes as a Rust literal on one line: a string if they are UTF-8, otherwise a byte
+/// string. No byte is left out.
 pub(crate) fn push_literal(page: &mut Page, bytes: &[u8])
     ensures { Gains (shown.literal bytes.now) page.old page.new }
 {
@@ -29,7 +31,7 @@ pub(crate) fn push_literal(page: &mut Page, bytes: &[u8])
     }
 }
 
-/// Appends a text as a Rust literal.
+/// Appends a text as a string literal of Rust.
 fn push_string(page: &mut Page, text: &str)
     ensures { Gains (shown.string_literal text.now) page.old page.new }
 {
@@ -38,7 +40,7 @@ fn push_string(page: &mut Page, text: &str)
     page.push("\"");
 }
 
-/// Appends bytes that are not UTF-8 as a Rust literal.
+/// Appends bytes that are not UTF-8 as a byte string literal of Rust.
 fn push_byte_string(page: &mut Page, bytes: &[u8])
     ensures { Gains (shown.byte_literal bytes.now) page.old page.new }
 {
@@ -47,7 +49,8 @@ fn push_byte_string(page: &mut Page, bytes: &[u8])
     page.push("\"");
 }
 
-/// Returns the shown part of bytes.
+/// Returns the shown part of bytes: all of at most sixty, otherwise the first 57 to 60, which end
+/// between characters if the bytes are UTF-8.
 fn clipped(bytes: &[u8]) -> &[u8]
     ensures { result.now ≡ shown.clipped bytes.now }
 {
@@ -57,7 +60,8 @@ fn clipped(bytes: &[u8]) -> &[u8]
     bytes
 }
 
-/// Returns the number of shown bytes of more than sixty.
+/// Returns the number of shown bytes of more than sixty: the greatest from 57 to 60 after which no
+/// continuation byte follows, or 57.
 fn cut_of(bytes: &[u8]) -> usize
     requires { 60 < length bytes.now }
     ensures cut { result ≡ shown.cut_of bytes.now }
@@ -82,14 +86,16 @@ pub(crate) fn continues(byte: u8) -> bool
     (128 <= byte) & (byte < 192)
 }
 
-/// Returns the text after the shown part of bytes.
+/// Returns the text after the shown part of bytes: a quote, with two dots after it if there are
+/// more than sixty bytes.
 fn closing(bytes: &[u8]) -> &'static str
     ensures { result.now ≡ shown.closing bytes.now }
 {
     if bytes.len() > 60 { "\".." } else { "\"" }
 }
 
-/// Appends the shown form of bytes between the quotes.
+/// Appends the shown form of bytes: as a text if they are UTF-8, otherwise with each byte from 128
+/// on escaped.
 fn push_shown(page: &mut Page, bytes: &[u8])
     ensures { Gains (shown.shown_bytes bytes.now) page.old page.new }
 {
@@ -117,7 +123,7 @@ fn push_bytes(page: &mut Page, bytes: &[u8])
     }
 }
 
-/// Appends the shown form of a byte.
+/// Appends the shown form of a byte that is not part of a text: from 128 on, its escape.
 fn push_byte(page: &mut Page, byte: u8)
     ensures { Gains (shown.shown_byte byte) page.old page.new }
 {
@@ -128,7 +134,7 @@ fn push_byte(page: &mut Page, byte: u8)
     }
 }
 
-/// Appends the escape of a byte.
+/// Appends the escape of a byte: `\x` and two hexadecimal digits.
 fn push_byte_escape(page: &mut Page, byte: u8)
     ensures { Gains (shown.byte_escape byte) page.old page.new }
 {
@@ -137,7 +143,7 @@ fn push_byte_escape(page: &mut Page, byte: u8)
     page.push_char(hex_digit(byte as u32));
 }
 
-/// Appends the shown form of a character.
+/// Appends the shown form of a character: the character, or its escape.
 fn push_character(page: &mut Page, character: char)
     ensures { Gains (shown.shown_character character) page.old page.new }
 {
@@ -151,7 +157,8 @@ fn push_character(page: &mut Page, character: char)
     }
 }
 
-/// Appends the shown form of a character that has no escape of two characters.
+/// Appends the shown form of a character without an escape of two characters: its numeric escape if
+/// it is hidden, otherwise the character.
 fn push_other(page: &mut Page, character: char)
     ensures { Gains (shown.shown_other character) page.old page.new }
 {
@@ -162,7 +169,7 @@ fn push_other(page: &mut Page, character: char)
     }
 }
 
-/// Appends the escape of a hidden character.
+/// Appends the escape of the hidden character with this number: `\x` in ASCII, otherwise `\u{..}`.
 fn push_escape(page: &mut Page, number: u32)
     ensures { Gains (shown.hidden_escape number) page.old page.new }
 {
@@ -173,7 +180,7 @@ fn push_escape(page: &mut Page, number: u32)
     }
 }
 
-/// Appends the escape of a character, with its number.
+/// Appends the escape `\u{..}` of the character with this number.
 fn push_number_escape(page: &mut Page, number: u32)
     ensures { Gains (shown.number_escape number) page.old page.new }
 {
@@ -182,7 +189,7 @@ fn push_number_escape(page: &mut Page, number: u32)
     page.push("}");
 }
 
-/// Appends the last four hexadecimal digits of a number, or six if it has more than four.
+/// Appends the last four hexadecimal digits of a number, or the last six if it is 65,536 or more.
 fn push_number_digits(page: &mut Page, number: u32)
     ensures { Gains (shown.number_digits number) page.old page.new }
 {
@@ -194,7 +201,7 @@ fn push_number_digits(page: &mut Page, number: u32)
     }
 }
 
-/// Appends the two hexadecimal digits before the last four.
+/// Appends the two hexadecimal digits before the last four of a number.
 fn push_two_digits_before(page: &mut Page, number: u32)
     ensures { Gains (shown.two_digits_before number) page.old page.new }
 {
@@ -212,7 +219,7 @@ fn push_four_digits(page: &mut Page, number: u32)
     page.push_char(hex_digit(number));
 }
 
-/// Returns the last hexadecimal digit of a number.
+/// Returns the last hexadecimal digit of a number, in upper case.
 fn hex_digit(number: u32) -> char
     ensures { result ≡ shown.hex_digit (number % 16) }
 {
@@ -224,7 +231,7 @@ fn hex_digit(number: u32) -> char
     }
 }
 
-/// Returns whether a character is escaped because it is hidden.
+/// Returns whether the character with this number is hidden, so that it is shown as an escape.
 pub(crate) fn is_hidden(number: u32) -> bool
     ensures { result ≡ shown.is_hidden number }
 {
@@ -232,7 +239,8 @@ pub(crate) fn is_hidden(number: u32) -> bool
         | (is_hidden_filler(number) | (is_hidden_mark(number) | is_hidden_special(number)))
 }
 
-/// Returns whether a character is a control character, or one of the first invisible ones.
+/// Returns whether a character is a control character, or one of the invisible characters up to
+/// U+061C.
 fn is_hidden_low(number: u32) -> bool
     ensures { result ≡ shown.is_hidden_low number }
 {
@@ -250,8 +258,8 @@ fn is_hidden_filler(number: u32) -> bool
             | (is_between(0x180B, 0x180F, number) | ((number == 0x3164) | (number == 0xFFA0))))
 }
 
-/// Returns whether a character has no width, ends a line, changes its direction, or selects a
-/// variant of a glyph.
+/// Returns whether a character has no width, ends a line, changes the direction of a line, or
+/// selects a variant of a glyph.
 fn is_hidden_mark(number: u32) -> bool
     ensures { result ≡ shown.is_hidden_mark number }
 {
@@ -261,7 +269,7 @@ fn is_hidden_mark(number: u32) -> bool
                 | (is_between(0xFE00, 0xFE0F, number) | (number == 0xFEFF))))
 }
 
-/// Returns whether a character is one of the specials or of the tags.
+/// Returns whether a character is in the Unicode blocks of specials or of tags and selectors.
 fn is_hidden_special(number: u32) -> bool
     ensures { result ≡ shown.is_hidden_special number }
 {

@@ -1,4 +1,4 @@
-//! The leaves of a lexer as a table. Called by `logos_show`.
+//! Appends the leaves of a lexer as a table, and the costs of the lexer. Used by `logos_replies`.
 
 use logos_inspect::{Costs, LeafRow};
 use logos_page::{Page, digits};
@@ -10,7 +10,7 @@ const TAB: usize = 4;
 /// The maximum number of bytes of a pattern or a callback that are shown.
 const MOST: usize = 60;
 
-/// The widths of the columns of a table, in characters.
+/// The widths of the columns of a table, in characters, of which a tab counts as four.
 #[derive(Clone, Copy)]
 struct Widths {
     variant: usize,
@@ -19,7 +19,8 @@ struct Widths {
     callback: usize,
 }
 
-/// Appends a table: the headings of its columns, and the rows of leaves with their numbers.
+/// Appends a table: the line with the headings of its columns, and a line for each row of `rows`
+/// with its number.
 pub fn push_rows(page: &mut Page, rows: &[LeafRow<'_>]) {
     let widths = widths_of(rows);
     push_heads(page, widths);
@@ -28,7 +29,7 @@ pub fn push_rows(page: &mut Page, rows: &[LeafRow<'_>]) {
     }
 }
 
-/// Appends the cost of a lexer.
+/// Appends the costs of a lexer, a line for each, between two empty lines.
 pub fn push_costs(page: &mut Page, costs: Costs) {
     page.push("\n");
     push_cost(page, "states", costs.states);
@@ -37,7 +38,7 @@ pub fn push_costs(page: &mut Page, costs: Costs) {
     page.push("\n");
 }
 
-/// Returns the cell in the column of variants: the variant, or `skip`.
+/// Returns the cell in the column of variants: the name of the variant, or `skip`.
 fn variant_cell<'l>(row: LeafRow<'l>) -> &'l str {
     match row.variant {
         Some(name) => name,
@@ -69,7 +70,7 @@ fn callback_cell<'l>(row: LeafRow<'l>) -> &'l str {
     }
 }
 
-/// Returns the text before the first LF.
+/// Returns the text before the first LF, or the whole text if it has none.
 fn first_line(text: &str) -> &str {
     match text.split_once('\n') {
         Some((line, _)) => line,
@@ -91,7 +92,7 @@ fn widths_of(rows: &[LeafRow<'_>]) -> Widths {
     widths
 }
 
-/// Returns the widths of the columns with one more row.
+/// Returns the widths of the columns that fit `row` and have at least the widths `widths`.
 fn widened(widths: Widths, row: LeafRow<'_>) -> Widths {
     Widths {
         variant: max(widths.variant, width_of(variant_cell(row))),
@@ -106,7 +107,7 @@ fn pattern_width(row: LeafRow<'_>) -> usize {
     cut_width(pattern_cell(row)).saturating_add(options_cell(row).len())
 }
 
-/// Returns the width of the shown form of a text, which is cut if it is long.
+/// Returns the width of a text as `push_cut` shows it: cut if it is long.
 fn cut_width(text: &str) -> usize {
     match long_front(text) {
         Some(front) => width_of(front).saturating_add(2),
@@ -114,14 +115,14 @@ fn cut_width(text: &str) -> usize {
     }
 }
 
-/// Returns the prefix of a long text that is shown with two dots after it, or `None` for a short
-/// text.
+/// Returns the shown prefix of a text of more than `MOST` bytes, or `None` for a text that is not
+/// cut.
 fn long_front(text: &str) -> Option<&str> {
     let (front, rest) = text.split_at_checked(text.floor_char_boundary(MOST))?;
     if rest.is_empty() { None } else { Some(front) }
 }
 
-/// Returns the width of a text, in columns.
+/// Returns the width of a text, in characters, of which a tab counts as four.
 fn width_of(text: &str) -> usize {
     let mut width: usize = 0;
     for character in text.chars() {
@@ -130,12 +131,12 @@ fn width_of(text: &str) -> usize {
     width
 }
 
-/// Returns the width of a character, in columns.
+/// Returns the width of a character, which is 4 for a tab and otherwise 1.
 fn columns_of(character: char) -> usize {
     if character == '\t' { TAB } else { 1 }
 }
 
-/// Appends the headings of the columns.
+/// Appends the line with the headings of the columns.
 fn push_heads(page: &mut Page, widths: Widths) {
     page.push("leaf  ");
     push_cell(page, "variant", widths.variant);
@@ -146,7 +147,7 @@ fn push_heads(page: &mut Page, widths: Widths) {
     page.push("line\n");
 }
 
-/// Appends the row of the leaf `number`.
+/// Appends the line with the row of the leaf `number`.
 fn push_row(page: &mut Page, number: usize, row: LeafRow<'_>, widths: Widths) {
     push_right(page, number, 4);
     push_cell(page, variant_cell(row), widths.variant);
@@ -168,14 +169,15 @@ fn push_row(page: &mut Page, number: usize, row: LeafRow<'_>, widths: Widths) {
     page.push("\n");
 }
 
-/// Appends a text in a form that cannot control a terminal, with spaces up to a width and two more
-/// after it.
+/// Appends a text in a form that cannot control a terminal, with spaces after it up to `width`, and
+/// two more spaces.
 fn push_cell(page: &mut Page, text: &str, width: usize) {
     page.push_shown(text);
     page.push_times(" ", width.saturating_sub(width_of(text)).saturating_add(2));
 }
 
-/// Appends a text in a form that cannot control a terminal, cut if it is long.
+/// Appends a text in a form that cannot control a terminal. Of a text of more than `MOST` bytes,
+/// appends a prefix and two dots.
 fn push_cut(page: &mut Page, text: &str) {
     match long_front(text) {
         Some(front) => {
@@ -186,7 +188,7 @@ fn push_cut(page: &mut Page, text: &str) {
     }
 }
 
-/// Appends a number, with spaces before it up to a width, and two spaces after it.
+/// Appends a number, with spaces before it up to `width`, and two spaces after it.
 fn push_right(page: &mut Page, number: usize, width: usize) {
     page.push_times(" ", width.saturating_sub(digits(number)));
     page.push_number(number);

@@ -1,4 +1,5 @@
-//! The match or the error around an offset of an input. Called for `--at`.
+//! Finds the match or the error around an offset of an input. Used by `entries`, `partial_lines`
+//! and `logos_replies`.
 
 ghost use Rattle.std.specs.Prelude.{◌≡◌, ◌<◌, ◌≤◌, ℕ, List, IfSome, length};
 ghost use Rattle.logos_attempts.specs.Views.{Finds, Gains, IsAround, IsAroundText, LeadsTo, around_text, kind_text, location_in, location_text};
@@ -16,13 +17,13 @@ use std::str;
 pub enum SurroundingKind {
     /// A skipped match.
     Skip,
-    /// A match of the leaf with this number.
+    /// A match of the leaf with this number, which is not skipped.
     Leaf(usize),
     /// Bytes that no leaf matches.
     Error,
 }
 
-/// A match or an error that a lexer finds, with its span.
+/// A match or an error that a lexer finds, with its span in bytes of the input.
 #[derive(Clone, Copy, Debug, PartialEq, Eq)]
 pub struct Surrounding {
     pub kind: SurroundingKind,
@@ -30,9 +31,9 @@ pub struct Surrounding {
     pub to: usize,
 }
 
-/// Returns the match or the error that begins before an offset of an input and ends after it, if a
-/// lexer that begins at the first byte finds one. No callback is called. An input that the lexer
-/// refuses, since it is not UTF-8, has none.
+/// Returns the match or the error of a lexer on an input that begins before the byte `offset` and
+/// ends after it. The lexer begins at the first byte, and calls no callback. Returns `None` if
+/// there is no such match or error, or if the lexer refuses the input, since it is not UTF-8.
 pub fn match_around(code: &Code<'_>, input: &[u8], offset: usize) -> Option<Surrounding>
     requires { offset ≤ length input.now }
     ensures { IfSome result (IsAround code.now input.now offset) }
@@ -48,8 +49,8 @@ fn is_refused(code: &Code<'_>, input: &[u8]) -> bool {
     code.is_utf8() & str::from_utf8(input).is_err()
 }
 
-/// Returns the match or the error that begins before an offset of an input and ends after it, if
-/// there is one.
+/// Returns the match or the error that begins before the byte `offset` of an input and ends after
+/// it, or `None` if there is none.
 fn found_around(code: &Code<'_>, input: &[u8], offset: usize) -> Option<Surrounding>
     requires { offset ≤ length input.now }
     ensures { IfSome result (IsAround code.now input.now offset) }
@@ -65,7 +66,8 @@ fn found_around(code: &Code<'_>, input: &[u8], offset: usize) -> Option<Surround
     None
 }
 
-/// Returns the match or the error at an offset before the end of an input.
+/// Returns the match or the error that begins at the byte offset `from`, which must be before the
+/// end of the input.
 pub(crate) fn found_at(code: &Code<'_>, input: &[u8], from: usize) -> Surrounding
     requires { from < length input.now }
     ensures finds { Finds code.now input.now result }
@@ -88,7 +90,8 @@ fn around_of(kind: SurroundingKind, from: usize, to: usize) -> Surrounding
     Surrounding { kind, from, to }
 }
 
-/// Appends a line with the match or the error around a byte offset of an input, if there is one.
+/// Appends a line with the match or the error that begins before the byte `offset` of an input and
+/// ends after it, if there is one.
 pub fn push_around(
     page: &mut Page,
     code: &Code<'_>,
@@ -105,7 +108,8 @@ pub fn push_around(
     }
 }
 
-/// Appends the line of a match or an error.
+/// Appends the line of a match or an error: its kind, the locations of its start and its end, and
+/// its text.
 fn push_found(page: &mut Page, leaves: &[Leaf<'_>], input: &[u8], found: Surrounding)
     ensures { Gains (around_text leaves.now input.now found) page.old page.new }
 {
@@ -120,7 +124,7 @@ fn push_found(page: &mut Page, leaves: &[Leaf<'_>], input: &[u8], found: Surroun
     page.push("\n");
 }
 
-/// Appends the kind of a match or an error.
+/// Appends the kind of a match or an error: a skipped match, the leaf, or an error.
 fn push_kind(page: &mut Page, leaves: &[Leaf<'_>], kind: SurroundingKind)
     ensures { Gains (kind_text leaves.now kind) page.old page.new }
 {
@@ -131,7 +135,8 @@ fn push_kind(page: &mut Page, leaves: &[Leaf<'_>], kind: SurroundingKind)
     }
 }
 
-/// Returns the location of an offset of an input, or of its end if the offset is past it.
+/// Returns the location of the byte `offset` of an input, or of the end of the input if the offset
+/// is past it.
 pub(crate) fn location_in(input: &[u8], offset: usize) -> Location
     ensures { result ≡ location_in input.now offset }
 {
@@ -140,7 +145,7 @@ pub(crate) fn location_in(input: &[u8], offset: usize) -> Location
     cursor.location()
 }
 
-/// Appends a location.
+/// Appends a location as `line:column`.
 pub(crate) fn push_location(page: &mut Page, location: Location)
     ensures { Gains (location_text location) page.old page.new }
 {

@@ -1,4 +1,5 @@
-//! Sets of bytes in a short form, as in a pattern. Used by `partial_lines` and `logos_html`.
+//! Appends sets of bytes in a short form, as a pattern spells them. Used by `partials`,
+//! `partial_lines` and `logos_diagram`.
 
 ghost use Rattle.std.specs.Prelude.{◌<◌};
 
@@ -13,7 +14,8 @@ const NEEDED: usize = 12;
 const ASCII: usize = 128;
 
 /// Appends a set of bytes, one of which a leaf needs next. If the set contains the first byte of
-/// every character outside ASCII, appends the ASCII characters that it excludes.
+/// every character outside ASCII, appends `any byte`, `any character`, or the ASCII characters that
+/// the set excludes.
 pub(crate) fn push_needed(page: &mut Page, class: &ByteClass) {
     if !is_wide(class) {
         return push_class(page, class, NEEDED);
@@ -27,7 +29,7 @@ pub(crate) fn push_needed(page: &mut Page, class: &ByteClass) {
     push_excluded(page, &class.to_table());
 }
 
-/// Returns whether a set has all bytes that begin a character outside ASCII.
+/// Returns whether one range of a set contains all bytes that begin a character outside ASCII.
 fn is_wide(class: &ByteClass) -> bool {
     has_run(class, 0xC2, 0xF4)
 }
@@ -40,7 +42,8 @@ fn has_run(class: &ByteClass, first: u8, last: u8) -> bool {
         .any(|range| (*range.start() <= first) & (last <= *range.end()))
 }
 
-/// Appends the ASCII characters that are not in a set, between brackets, as an excluding set.
+/// Appends the ASCII characters whose flags in `table` are `false`, as an excluding class between
+/// brackets, such as `[^a-z]`.
 pub fn push_excluded(page: &mut Page, table: &[bool; 256]) {
     page.push("[^");
     for byte in 0..ASCII {
@@ -49,14 +52,15 @@ pub fn push_excluded(page: &mut Page, table: &[bool; 256]) {
     page.push("]");
 }
 
-/// Appends a range of bytes, if there is one.
+/// Appends a range of bytes, or nothing for `None`.
 fn push_run(page: &mut Page, range: Option<RangeInclusive<u8>>) {
     if let Some(range) = range {
         push_range(page, &range);
     }
 }
 
-/// Returns the longest range of bytes whose flags are `flag`, if one begins at `from`.
+/// Returns the longest range of bytes whose flags in `table` are `flag` and that begins at `from`,
+/// or `None` if no such range begins there.
 pub(crate) fn run_at(table: &[bool], flag: bool, from: usize) -> Option<RangeInclusive<u8>> {
     if !has_flag(table, flag, from) {
         return None;
@@ -68,7 +72,7 @@ pub(crate) fn run_at(table: &[bool], flag: bool, from: usize) -> Option<RangeInc
     Some(RangeInclusive::new((from % 256) as u8, (end.saturating_sub(1) % 256) as u8))
 }
 
-/// Returns whether the flag of a byte is `flag`.
+/// Returns whether the flag of a byte in `table` is `flag`, or `false` past the end of the table.
 fn has_flag(table: &[bool], flag: bool, byte: usize) -> bool {
     match table.get(byte) {
         Some(found) => *found == flag,
@@ -86,7 +90,8 @@ fn run_end(table: &[bool], flag: bool, from: usize) -> usize {
     table.len()
 }
 
-/// Appends at most `most` ranges of a set of bytes, between brackets, and the number of the others.
+/// Appends the first `most` ranges of a set of bytes between brackets, and the number of further
+/// ranges, if there are any.
 pub fn push_class(page: &mut Page, class: &ByteClass, most: usize) {
     page.push("[");
     for range in class.ranges.iter().take(most) {
@@ -96,7 +101,7 @@ pub fn push_class(page: &mut Page, class: &ByteClass, most: usize) {
     push_others(page, class.ranges.len().saturating_sub(most));
 }
 
-/// Appends the number of the ranges that are left out, if there are any.
+/// Appends ` +` and the number of the ranges that are left out, unless it is 0.
 fn push_others(page: &mut Page, count: usize) {
     if count > 0 {
         page.push(" +");

@@ -11,20 +11,20 @@ use std::alloc::{AllocError, Global};
 /// The number of entries after which no further match attempt is counted.
 const MOST: usize = 4_194_304;
 
-/// The number of times that match attempts enter each state, on the front of an input.
+/// The number of times that match attempts enter each state, on a prefix of an input.
 #[derive(Drop)]
 pub struct Entries {
     /// The number of entries of each state.
     pub counts: Vec<usize>,
-    /// The byte offset before which the counted match attempts begin.
+    /// The byte offset at which the first match attempt that is not counted begins.
     pub end: usize,
     /// The sum of the counts.
     total: usize,
 }
 
 /// Returns the number of times that match attempts enter each state of a graph. The match attempts
-/// begin in the first `most` bytes of an input, and end with these bytes. After 4,194,304 entries
-/// no further match attempt is counted.
+/// begin in the first `most` bytes of an input, and are followed only to the end of these bytes.
+/// After 4,194,304 entries no further match attempt is counted.
 ///
 /// # Errors
 ///
@@ -53,7 +53,8 @@ pub fn entries_of(
     Ok(entries)
 }
 
-/// Counts the states that the next match attempt enters before a byte.
+/// Adds to `entries` the states that the match attempt from `entries.end` enters up to the byte
+/// offset `end` of the input.
 fn add_attempt(entries: &mut Entries, states: &[&StateData], input: &[u8], end: usize)
     requires { end ≤ length input.now }
     ensures { entries.new.end ≡ entries.old.end }
@@ -72,7 +73,7 @@ fn add_attempt(entries: &mut Entries, states: &[&StateData], input: &[u8], end: 
     }
 }
 
-/// Counts the state to which the end of the input leads, if there is one.
+/// Adds to `entries` the state to which the end of the input leads from `state`, if there is one.
 fn add_end(entries: &mut Entries, states: &[&StateData], state: usize)
     ensures { entries.new.end ≡ entries.old.end }
 {
@@ -81,7 +82,7 @@ fn add_end(entries: &mut Entries, states: &[&StateData], state: usize)
     }
 }
 
-/// Counts an entry of a state.
+/// Adds an entry of `state` to its count, if there is such a state, and to the total.
 fn add_entry(entries: &mut Entries, state: usize)
     ensures { entries.new.end ≡ entries.old.end }
 {
@@ -91,7 +92,7 @@ fn add_entry(entries: &mut Entries, state: usize)
     }
 }
 
-/// Returns the state to which a byte leads, if there is one.
+/// Returns the state to which `byte` leads from `state`, or `None` if there is none.
 fn target_of(states: &[&StateData], state: usize, byte: u8) -> Option<usize> {
     let data = states.get(state)?;
     for edge in &data.normal {
@@ -102,7 +103,7 @@ fn target_of(states: &[&StateData], state: usize, byte: u8) -> Option<usize> {
     None
 }
 
-/// Returns the state to which the end of the input leads, if there is one.
+/// Returns the state to which the end of the input leads from `state`, or `None` if there is none.
 fn target_at_end(states: &[&StateData], state: usize) -> Option<usize> {
     let data = states.get(state)?;
     let next = data.eoi?;

@@ -1,4 +1,5 @@
-//! The lines of partial matches. Called for `--at`, where no leaf matches.
+//! Appends the lines of partial matches. Used by `logos_html` and `logos_replies`, where no leaf
+//! matches.
 
 ghost use Rattle.std.specs.Prelude.{◌≡◌, ◌≤◌, ℕ, List, IfOk, IsTrue, OnErr, OnOk, length, string_bytes};
 ghost use Rattle.logos_attempts.specs.Views.{AddsLine, ArePartialLines, CodeFinds, Gains, IsPartialText, failed, partial_line, read_text, reader_text};
@@ -17,7 +18,7 @@ use std::alloc::{AllocError, Global};
 /// The maximum number of leaves that are shown.
 const SHOWN: usize = 8;
 
-/// An offset of an input, with the leaves that read from it.
+/// A byte offset `from` of an input, with the leaves that may read bytes from there.
 #[derive(Clone, Copy)]
 struct ReadStart<'a, 's> {
     leaves: &'a [Leaf<'s>],
@@ -25,10 +26,10 @@ struct ReadStart<'a, 's> {
     from: usize,
 }
 
-/// Appends a line for each of at most eight leaves that read at least one byte from an offset of an
-/// input, if no leaf matches from there: the bytes that the leaf reads, and the bytes that can
-/// continue them. Leaves that read furthest come first, and the number of the other leaves comes
-/// last.
+/// Appends the lines of partial matches from the byte offset `from` of an input, if a lexer finds
+/// an error there. Each of at most eight leaves that read at least one byte has a line: the bytes
+/// that the leaf reads, and the bytes that can follow. Leaves that read furthest come first, and a
+/// line with the number of the other leaves comes last.
 ///
 /// # Errors
 ///
@@ -55,7 +56,7 @@ pub fn push_partials(
     Ok(())
 }
 
-/// Returns whether a lexer finds an error at an offset.
+/// Returns whether a lexer finds an error at the byte offset `from` of an input.
 fn fails_at(code: &Code<'_>, input: &[u8], from: usize) -> bool
     requires { from ≤ length input.now }
     ensures { IsTrue result → (to : ℕ) × CodeFinds code.now input.now from (failed to) }
@@ -66,7 +67,7 @@ fn fails_at(code: &Code<'_>, input: &[u8], from: usize) -> bool
     }
 }
 
-/// Returns the lines of partial matches.
+/// Returns the lines of the partial matches from the byte offset `from` of an input.
 fn lines_of(
     alloc: Global,
     graph: &Graph<'_>,
@@ -87,11 +88,12 @@ fn lines_of(
     page.finish()
 }
 
-/// Appends the lines of partial matches.
+/// Appends the lines of the first `SHOWN` partial matches by rank, and a line with the number of
+/// the others.
 ///
 /// # Errors
 ///
-/// Returns `AllocError` if memory runs out. Then a part may have been appended.
+/// Returns `AllocError` if memory runs out. Then some lines may have been appended.
 fn push_lines(
     alloc: Global,
     page: &mut Page,
@@ -109,8 +111,8 @@ fn push_lines(
     Ok(())
 }
 
-/// Returns a line with the number of the partial matches that are not shown, or an empty text if it
-/// is 0.
+/// Returns a line with `count`, the number of partial matches that are not shown, or an empty text
+/// if it is 0.
 fn others_text(alloc: Global, count: usize) -> Result<String, AllocError> {
     let mut page = Page::new(alloc, false);
     if count > 0 {
@@ -121,7 +123,7 @@ fn others_text(alloc: Global, count: usize) -> Result<String, AllocError> {
     page.finish()
 }
 
-/// Appends the line of the partial match with this rank, if there is one.
+/// Appends the line of the partial match with this rank, counted from 0, if there is one.
 ///
 /// # Errors
 ///
@@ -142,7 +144,7 @@ fn push_ranked(
     push_checked(alloc, page, start, partial)
 }
 
-/// Returns the partial match with this rank, if there is one.
+/// Returns the partial match with this rank, counted from 0, or `None` if there is none.
 fn ranked(partials: &[PartialMatch], rank: usize) -> Option<&PartialMatch> {
     for partial in partials {
         if rank_of(partials, partial) == rank {
@@ -152,7 +154,7 @@ fn ranked(partials: &[PartialMatch], rank: usize) -> Option<&PartialMatch> {
     None
 }
 
-/// Returns the number of partial matches that come before another one.
+/// Returns the number of partial matches in `partials` that come before `partial`.
 fn rank_of(partials: &[PartialMatch], partial: &PartialMatch) -> usize {
     let mut rank: usize = 0;
     for other in partials {
@@ -161,12 +163,12 @@ fn rank_of(partials: &[PartialMatch], partial: &PartialMatch) -> usize {
     rank
 }
 
-/// Returns whether a partial match is longer than another one, or as long and of an earlier leaf.
+/// Returns whether `one` ends after `other`, or ends where `other` does and is of an earlier leaf.
 fn is_before(one: &PartialMatch, other: &PartialMatch) -> bool {
     (one.end > other.end) | ((one.end == other.end) & (one.leaf < other.leaf))
 }
 
-/// Appends the line of a partial match, if it has at least one byte of the input.
+/// Appends the line of a partial match, if it has at least one byte and ends in the input.
 ///
 /// # Errors
 ///
@@ -191,7 +193,8 @@ fn push_checked(
     Ok(())
 }
 
-/// Appends the line of a partial match.
+/// Appends the line of a partial match: its leaf, the bytes that the leaf reads, and `needs`, the
+/// text of the bytes that can follow.
 fn push_line(page: &mut Page, start: ReadStart<'_, '_>, partial: &PartialMatch, needs: &str)
     ensures { Gains (partial_line start.entry.leaves.now start.entry.input.now start.entry.from
         partial.now.leaf partial.now.end needs.now) page.old page.new }
@@ -203,7 +206,7 @@ fn push_line(page: &mut Page, start: ReadStart<'_, '_>, partial: &PartialMatch, 
     page.push("\n");
 }
 
-/// Appends the leaf of a partial match.
+/// Appends the number and the name of the leaf of a partial match.
 fn push_reader(page: &mut Page, start: ReadStart<'_, '_>, leaf: usize)
     ensures { Gains (reader_text start.entry.leaves.now leaf) page.old page.new }
 {
@@ -213,7 +216,8 @@ fn push_reader(page: &mut Page, start: ReadStart<'_, '_>, leaf: usize)
     page.push(name_at(start.leaves, leaf));
 }
 
-/// Appends the bytes that a leaf reads, and the location at which they end.
+/// Appends the bytes that a leaf reads up to the byte offset `end`, and the location of that
+/// offset.
 fn push_read(page: &mut Page, start: ReadStart<'_, '_>, end: usize)
     ensures { Gains (read_text start.entry.input.now start.entry.from end) page.old page.new }
 {
@@ -223,7 +227,7 @@ fn push_read(page: &mut Page, start: ReadStart<'_, '_>, end: usize)
     push_location(page, location_in(start.input, end));
 }
 
-/// Returns the text of the bytes that continue a partial match, and of those that complete it.
+/// Returns the text of the bytes that continue a partial match, and of the bytes that complete it.
 fn needs_of(alloc: Global, partial: &PartialMatch) -> Result<String, AllocError> {
     let mut page = Page::new(alloc, false);
     push_next(&mut page, partial);
@@ -232,7 +236,7 @@ fn needs_of(alloc: Global, partial: &PartialMatch) -> Result<String, AllocError>
 }
 
 /// Appends the bytes that continue a partial match, and the end of the input if it completes a
-/// match.
+/// match or no byte continues the partial match.
 fn push_next(page: &mut Page, partial: &PartialMatch) {
     if partial.next.ranges.is_empty() {
         page.push("the end of the input");
@@ -244,7 +248,8 @@ fn push_next(page: &mut Page, partial: &PartialMatch) {
     }
 }
 
-/// Appends the bytes that complete a partial match, unless all bytes that continue it do.
+/// Appends the bytes that complete a partial match, unless there are none, or all bytes that
+/// continue the partial match complete it.
 fn push_last(page: &mut Page, partial: &PartialMatch) {
     if partial.last.ranges.is_empty() | (partial.last == partial.next) {
         return;

@@ -1,5 +1,5 @@
-//! Partial matches: for each leaf the longest prefix of a match that an input has at an offset, and
-//! the bytes that continue it. Used by `partial_lines`.
+//! Finds partial matches: for each leaf the longest prefix of a match that an input has at an
+//! offset, and the bytes that continue the prefix. Used by `partial_lines`.
 
 use crate::classes::run_at;
 use logos_automaton::dfa::Dfa;
@@ -18,33 +18,35 @@ pub struct PartialMatch {
     pub end: usize,
     /// The bytes that continue the prefix, or before which a match ends.
     pub next: ByteClass,
-    /// The bytes that complete a match at the end of an input.
+    /// The bytes after which a match ends, if the input ends there.
     pub last: ByteClass,
-    /// Whether the end of the input completes a match.
+    /// Whether a match ends where the prefix ends, if the input ends there.
     pub may_end: bool,
 }
 
-/// The states that an automaton enters on an input from an offset, and the states to which edges
-/// lead from them.
+/// The states that an automaton enters on an input from an offset, and all states to which edges
+/// lead from these states.
 #[derive(Drop)]
 struct Walk {
-    /// For each state the end of the longest prefix of the input that leads to it, or 0.
+    /// For each state the byte offset at which the longest prefix that leads to the state ends, or
+    /// 0 if no prefix leads to it.
     ends: Vec<usize>,
-    /// The states that are entered, and all states to which edges lead from them.
+    /// The states that are entered, and all states to which edges lead from them, directly or over
+    /// other states.
     reached: Vec<usize>,
     /// The edges between the reached states. Equal edges for consecutive bytes are stored once.
     edges: Vec<Edge>,
 }
 
-/// An edge of an automaton.
+/// An edge of an automaton, from `state` to `target`.
 #[derive(Clone, Copy)]
 struct Edge {
     state: usize,
     target: usize,
 }
 
-/// Returns the partial matches of all leaves from a byte offset of an input, in the order of the
-/// leaves.
+/// Returns the partial match of each leaf that has a partial match from the byte offset `from` of
+/// an input, in the order of the leaves.
 ///
 /// # Errors
 ///
@@ -64,8 +66,8 @@ pub fn partial_matches(
     Ok(found)
 }
 
-/// Returns the states that an automaton enters on an input from an offset, and the states to which
-/// edges lead from them.
+/// Returns the states that an automaton enters on an input from the byte offset `from`, and all
+/// states to which edges lead from these states.
 fn walk_of(alloc: Global, dfa: &Dfa, input: &[u8], from: usize) -> Result<Walk, AllocError> {
     let ends = ends_of(alloc, dfa, input, from)?;
     let mut walk = Walk {
@@ -77,8 +79,8 @@ fn walk_of(alloc: Global, dfa: &Dfa, input: &[u8], from: usize) -> Result<Walk, 
     Ok(walk)
 }
 
-/// Returns for each state the end of the longest prefix, from the offset `from`, that leads to it,
-/// or 0 if none does.
+/// Returns for each state the byte offset at which the longest run of the input from `from` that
+/// leads to the state ends, or 0 if no run leads to it.
 fn ends_of(alloc: Global, dfa: &Dfa, input: &[u8], from: usize) -> Result<Vec<usize>, AllocError> {
     let mut ends = vec![in alloc; 0; state_count(dfa)]?;
     let mut state = dfa.start().index();
@@ -89,7 +91,8 @@ fn ends_of(alloc: Global, dfa: &Dfa, input: &[u8], from: usize) -> Result<Vec<us
     Ok(ends)
 }
 
-/// Returns the state to which a byte leads. A number that is not a state is returned unchanged.
+/// Returns the state to which `byte` leads from `state`. Returns `state` unchanged if the automaton
+/// does not have it.
 fn next_by(dfa: &Dfa, state: usize, byte: usize) -> usize {
     if state >= state_count(dfa) {
         return state;
@@ -97,7 +100,7 @@ fn next_by(dfa: &Dfa, state: usize, byte: usize) -> usize {
     row_at(dfa, state)[byte % 256] as usize
 }
 
-/// Returns whether a state lists a leaf.
+/// Returns whether `state` lists a leaf, or `false` if the automaton does not have the state.
 fn lists(dfa: &Dfa, state: usize, leaf: usize) -> bool {
     if state >= state_count(dfa) {
         return false;
@@ -105,7 +108,8 @@ fn lists(dfa: &Dfa, state: usize, leaf: usize) -> bool {
     leaves_at(dfa, state).contains(&leaf)
 }
 
-/// Returns whether the state that follows at the end of the input lists a leaf.
+/// Returns whether the state to which the end of the input leads from `state` lists a leaf, or
+/// `false` if the automaton does not have `state`.
 fn lists_at_end(dfa: &Dfa, state: usize, leaf: usize) -> bool {
     if state >= state_count(dfa) {
         return false;
@@ -113,14 +117,16 @@ fn lists_at_end(dfa: &Dfa, state: usize, leaf: usize) -> bool {
     lists(dfa, end_at(dfa, state) as usize, leaf)
 }
 
-/// Sets the end of the longest prefix that leads to a state.
+/// Sets the end of the longest prefix that leads to `state` to `end`. Changes nothing if there is
+/// no such state.
 fn set_end(ends: &mut Vec<usize>, state: usize, end: usize) {
     if state < ends.len() {
         ends[state] = end;
     }
 }
 
-/// Adds the states that a prefix enters, all states after them, and the edges between them.
+/// Adds to `walk` the states with an end, all states to which edges lead from them, and these
+/// edges.
 fn add_reached(alloc: Global, dfa: &Dfa, walk: &mut Walk) -> Result<(), AllocError> {
     let count = walk.ends.len();
     let mut seen = vec![in alloc; false; count]?;
@@ -131,7 +137,7 @@ fn add_reached(alloc: Global, dfa: &Dfa, walk: &mut Walk) -> Result<(), AllocErr
     Ok(())
 }
 
-/// Adds the states that a prefix enters.
+/// Appends to `reached` the states whose end is not 0, and marks them in `seen`.
 fn add_entered(
     seen: &mut Vec<bool>,
     reached: &mut Vec<usize>,
@@ -145,8 +151,8 @@ fn add_entered(
     Ok(())
 }
 
-/// Adds the states to which bytes lead from the state with this number among the reached ones, if
-/// there is one, and the edges to them.
+/// Adds to `walk` the states to which bytes lead from the reached state at the index `number`, and
+/// the edges to them. Changes nothing if there is no such reached state.
 fn add_next(
     dfa: &Dfa,
     seen: &mut Vec<bool>,
@@ -163,7 +169,8 @@ fn add_next(
     Ok(())
 }
 
-/// Adds the edge of a state for a byte, and its target, unless the byte before leads there too.
+/// Adds to `walk` the edge of `state` for `byte` and the target of the edge, unless the byte before
+/// leads to the target too.
 fn add_edge(
     dfa: &Dfa,
     seen: &mut Vec<bool>,
@@ -179,7 +186,7 @@ fn add_edge(
     add_state(seen, &mut walk.reached, target)
 }
 
-/// Adds a state that was not seen before.
+/// Appends `state` to `reached` and marks it in `seen`, if it exists and was not seen before.
 fn add_state(
     seen: &mut Vec<bool>,
     reached: &mut Vec<usize>,
@@ -196,7 +203,7 @@ fn add_state(
     Ok(())
 }
 
-/// Adds the partial match of a leaf, if it reads a byte.
+/// Appends to `found` the partial match of a leaf, if the leaf reads at least one byte.
 fn add_partial(
     alloc: Global,
     found: &mut Vec<PartialMatch>,
@@ -219,7 +226,7 @@ fn add_partial(
 }
 
 /// Returns for each state whether it is open: whether it was reached, and a match of the leaf can
-/// end after it.
+/// end there or later.
 fn open_states(
     alloc: Global,
     dfa: &Dfa,
@@ -234,7 +241,8 @@ fn open_states(
     Ok(open)
 }
 
-/// Opens each reached state from which edges lead to an open state or to one that lists the leaf.
+/// Marks in `open` each reached state from which edges lead to an open state or to a state that
+/// lists the leaf, directly or over other states.
 fn open_before(dfa: &Dfa, walk: &Walk, leaf: usize, open: &mut Vec<bool>) {
     for _ in 0..walk.reached.len() {
         if !open_more(dfa, walk, leaf, open) {
@@ -243,8 +251,8 @@ fn open_before(dfa: &Dfa, walk: &Walk, leaf: usize, open: &mut Vec<bool>) {
     }
 }
 
-/// Opens the states whose edges lead to open ones, or to one that lists the leaf, the last edge
-/// first. Returns whether one was opened.
+/// Marks in `open` the states from which an edge leads to an open state or to a state that lists
+/// the leaf, in one pass from the last edge to the first. Returns whether a state was marked.
 fn open_more(dfa: &Dfa, walk: &Walk, leaf: usize, open: &mut Vec<bool>) -> bool {
     let count = walk.edges.len();
     let mut is_more = false;
@@ -256,7 +264,8 @@ fn open_more(dfa: &Dfa, walk: &Walk, leaf: usize, open: &mut Vec<bool>) -> bool 
     is_more
 }
 
-/// Opens a state if a condition holds. Returns whether it was opened.
+/// Marks `state` in `open` if `is_open` holds and there is such a state. Returns whether the state
+/// was marked.
 fn open_if(open: &mut Vec<bool>, state: usize, is_open: bool) -> bool {
     if (state >= open.len()) | !is_open {
         return false;
@@ -270,7 +279,7 @@ fn continues(dfa: &Dfa, leaf: usize, open: &[bool], state: usize) -> bool {
     is_set(open, state) | lists(dfa, state, leaf)
 }
 
-/// Returns a flag, or `false` past the end.
+/// Returns the flag at `index`, or `false` past the end.
 fn is_set(flags: &[bool], index: usize) -> bool {
     match flags.get(index) {
         Some(flag) => *flag,
@@ -278,7 +287,8 @@ fn is_set(flags: &[bool], index: usize) -> bool {
     }
 }
 
-/// Returns the end of the longest prefix that leads to a state, or 0 if none does.
+/// Returns the byte offset at which the longest prefix that leads to `state` ends, or 0 if no
+/// prefix leads to it.
 fn end_of(walk: &Walk, state: usize) -> usize {
     match walk.ends.get(state) {
         Some(end) => *end,
@@ -286,7 +296,8 @@ fn end_of(walk: &Walk, state: usize) -> usize {
     }
 }
 
-/// Returns the open state with the last end, if a prefix entered an open one.
+/// Returns the open state to which the longest prefix leads, or `None` if no prefix leads to an
+/// open state.
 fn furthest(walk: &Walk, open: &[bool]) -> Option<usize> {
     let mut best = None;
     for state in 0..walk.ends.len() {
@@ -295,7 +306,8 @@ fn furthest(walk: &Walk, open: &[bool]) -> Option<usize> {
     best
 }
 
-/// Returns `state` if it was entered, is open, and has a later end than `best`; otherwise `best`.
+/// Returns `state` if it is open, and a longer prefix leads to it than to `best`, otherwise `best`.
+/// No prefix leads to `None`.
 fn later(walk: &Walk, open: &[bool], best: Option<usize>, state: usize) -> Option<usize> {
     let least = match best {
         Some(best) => end_of(walk, best),
@@ -307,7 +319,8 @@ fn later(walk: &Walk, open: &[bool], best: Option<usize>, state: usize) -> Optio
     best
 }
 
-/// Returns for each byte whether it continues a prefix, or a match ends before it.
+/// Returns for each byte whether it continues the prefix that leads to `state`, or a match of the
+/// leaf ends before it.
 fn next_table(dfa: &Dfa, state: usize, leaf: usize, open: &[bool]) -> [bool; 256] {
     let mut table = [false; 256];
     for byte in 0..256 {
@@ -316,7 +329,8 @@ fn next_table(dfa: &Dfa, state: usize, leaf: usize, open: &[bool]) -> [bool; 256
     table
 }
 
-/// Returns for each byte whether a match ends after it, if the input ends there.
+/// Returns for each byte whether a match of the leaf ends after it, if the byte follows the prefix
+/// that leads to `state` and ends the input.
 fn last_table(dfa: &Dfa, state: usize, leaf: usize) -> [bool; 256] {
     let mut table = [false; 256];
     for byte in 0..256 {
@@ -325,7 +339,7 @@ fn last_table(dfa: &Dfa, state: usize, leaf: usize) -> [bool; 256] {
     table
 }
 
-/// Returns the set of the bytes whose flags are set.
+/// Returns the set of the bytes whose flags in `table` are `true`.
 fn class_of(alloc: Global, table: &[bool; 256]) -> Result<ByteClass, AllocError> {
     let mut ranges = Vec::new(alloc);
     for byte in 0..256 {
@@ -334,7 +348,7 @@ fn class_of(alloc: Global, table: &[bool; 256]) -> Result<ByteClass, AllocError>
     Ok(ByteClass { ranges })
 }
 
-/// Adds a range, if there is one.
+/// Appends a range to `ranges`, or nothing for `None`.
 fn add_run(
     ranges: &mut Vec<RangeInclusive<u8>>,
     range: Option<RangeInclusive<u8>>,

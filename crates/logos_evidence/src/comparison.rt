@@ -1,4 +1,4 @@
-//! Compares two lexers. Called for `logos_show --compare`.
+//! Compares two lexers. Used by `logos_answers` for `--compare`.
 
 ghost use Rattle.std.specs.Prelude.{◌≡◌, ℕ, List, [], IfOk, Option, is_some, slice_get};
 ghost use Rattle.logos_evidence.specs.Views.{IsGraphOf, rules_of, IsShortestDifference, FindTheSame, pair_next, pair_goal, shown, IsAnswer};
@@ -38,7 +38,8 @@ struct GraphPair<'g> {
     utf8: bool,
 }
 
-/// Returns whether two marks are leaves of the same name.
+/// Returns whether the leaves `mark` and `twin` have equal names in `names` and `others`, or both
+/// have no name there.
 fn same_mark(names: &[usize], mark: usize, others: &[usize], twin: usize) -> bool
     ensures { result ≡ machines.same_option (slice_get names.now mark) (slice_get others.now twin) }
 {
@@ -57,7 +58,7 @@ fn is_cut(utf8: bool, byte: u8) -> bool
     !utf8 | ((byte < 0x80) | (0xC0 <= byte))
 }
 
-/// Returns whether exactly one of two steps leads to a state.
+/// Returns whether exactly one of two steps leads to a state: `next` and `twin` are their targets.
 fn one_leads(next: Option<usize>, twin: Option<usize>) -> bool
     ensures { result ≡ machines.one_leads next twin }
 {
@@ -65,8 +66,9 @@ fn one_leads(next: Option<usize>, twin: Option<usize>) -> bool
 }
 
 impl GraphPair<'_> {
-    /// Returns whether the last matches of the two graphs differ after a step at which `mark` and
-    /// `twin` are found. `parts` is whether errors may end at different offsets.
+    /// Returns whether the last matches of the two graphs, or without any match their errors,
+    /// differ after a step from the point `at`. `mark` and `twin` are the leaves of the two graphs
+    /// whose matches end at this point. `parts` is whether the error of only one graph ends there.
     fn differs_after(
         &self,
         at: Point,
@@ -116,13 +118,13 @@ impl Machine for GraphPair<'_> {
 }
 
 /// Compares two lexers of the same mode. Returns `Same` if they find equal matches and errors from
-/// each offset of each input; otherwise a shortest input at whose beginning they do not. Matches
-/// are equal if they end at the same offset and their leaves have the same name; errors, if they
-/// end at the same offset. Among inputs of the same length, it prefers letters, then digits, then
-/// punctuation.
+/// each offset of each input, otherwise `Differ` with a shortest input at whose beginning they do
+/// not. Matches are equal if they end at the same offset and their leaves have the same name;
+/// errors, if they end at the same offset. Among inputs of the same length, the search prefers
+/// letters, then digits, then punctuation.
 ///
 /// The graphs must have no faults. Callbacks are not compared. Skips are matches too: a lexer that
-/// skips two blanks one by one differs from one that skips them at once.
+/// skips two blanks one by one differs from a lexer that skips both at once.
 ///
 /// # Errors
 ///

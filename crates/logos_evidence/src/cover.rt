@@ -1,4 +1,5 @@
-//! Inputs that together take all edges of a graph. Called for `--inputs`.
+//! Finds inputs that together take all edges of a graph. Used by `logos_answers` and
+//! `logos_records` for `--inputs`.
 
 ghost use Rattle.std.specs.Prelude.{◌≡◌, IfOk, map};
 ghost use Rattle.logos_evidence.specs.Imports.{AreCoveringInputs, edge_next, edge_goal, shown};
@@ -9,7 +10,8 @@ use crate::search::{Machine, Point, covering};
 use logos_graph::graph::{Graph, StateData};
 use std::alloc::{AllocError, Global};
 
-/// A machine that follows the edges of a graph.
+/// A machine that follows the edges of a graph. Its goals are the states with an edge at the end of
+/// the input.
 #[derive(Clone, Copy)]
 struct EdgeMachine<'g> {
     states: &'g [&'g StateData],
@@ -30,14 +32,15 @@ impl Machine for EdgeMachine<'_> {
     }
 }
 
-/// Returns inputs that together take all edges of a graph that any input takes: each edge from one
-/// state to another by a byte, and each edge at the end of an input. They are seeds for tests and
-/// fuzzers.
+/// Returns inputs that together take all edges of a graph that any input takes: each edge from a
+/// state by a byte to its target, and each edge at the end of an input. The inputs are seeds for
+/// tests and fuzzers.
 ///
-/// Each input takes an edge that no earlier one takes, so there are at most as many inputs as
-/// edges. In UTF-8 mode they are UTF-8. Inputs that reach deep states come first. Each input has at
-/// most one byte for each state on its way, and up to four more. If the enum has many long keywords
-/// and a leaf for names, the total length of all inputs can be the square of the number of states.
+/// Each input takes an edge that no earlier input takes, so there are at most as many inputs as
+/// edges. In UTF-8 mode the inputs are UTF-8. Inputs that lead to states far from the root come
+/// first. Each input has at most one byte for each state on its way, and up to four more. If the
+/// enum has many long keywords and a leaf for names, the total length of all inputs can be the
+/// square of the number of states.
 ///
 /// # Errors
 ///

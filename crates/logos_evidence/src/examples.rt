@@ -1,4 +1,5 @@
-//! Examples of a leaf's matches. Called for `--examples`.
+//! Finds a shortest input on which a leaf is found first. Used by `logos_answers` for `--examples`,
+//! and by the other modules that follow graphs.
 
 ghost use Rattle.std.specs.Prelude.{◌≡◌, [], IfOk, MatchOption};
 ghost use Rattle.logos_evidence.specs.Imports.{IsGraphOf, rules_of, HasNoExample, IsShortestExample, example_next, example_goal, shown};
@@ -17,8 +18,8 @@ struct Examples<'g> {
     leaf: usize,
 }
 
-/// Returns whether the last match is a match of `leaf`: the match of the leaf `mark`, or without
-/// one an earlier match, for which `before` is the answer.
+/// Returns whether the last match after a step is a match of `leaf`: whether `mark`, the leaf whose
+/// match ends at the step, is `leaf`, or for `None` the answer `before` the step.
 pub(crate) fn is_last(leaf: usize, mark: Option<usize>, before: bool) -> bool
     ensures { result ≡ machines.is_last leaf mark before }
 {
@@ -66,8 +67,8 @@ impl Machine for Examples<'_> {
 }
 
 /// Returns a shortest input on which a lexer finds a match of a leaf first, or `None` if and only
-/// if there is none. Among inputs of the same length, it prefers letters, then digits, then
-/// punctuation.
+/// if there is no such input. Among inputs of the same length, the search prefers letters, then
+/// digits, then punctuation.
 ///
 /// The graph must have no faults.
 ///

@@ -1,4 +1,5 @@
-//! Steps of a graph, and the matches that end on them. Used by all searches in graphs.
+//! Takes steps of a graph, and finds the matches that end at a step. Used by `comparison`, `cover`,
+//! `examples` and `losses`.
 
 ghost use Rattle.std.specs.Prelude.{◌≡◌, [], IfOk, find, length, map, option_map};
 ghost use Rattle.logos_evidence.specs.Imports.{has_byte, IsFinished, edge_of, graph_state_of, is_in, shown};
@@ -41,7 +42,8 @@ fn holds(class: &ByteClass, byte: u8) -> bool
     false
 }
 
-/// Returns the target of the edge that holds a byte, if there is one.
+/// Returns the target of the first of these edges whose class holds `byte`, or `None` if there is
+/// none.
 fn target_of(edges: &[(ByteClass, State)], byte: u8) -> Option<usize>
     ensures { result ≡ option_map (λ edge. edge.1)
         (find (λ edge. is_in edge.0 byte) (map edge_of edges.now)) }
@@ -54,7 +56,8 @@ fn target_of(edges: &[(ByteClass, State)], byte: u8) -> Option<usize>
     None
 }
 
-/// Returns the target of the edge of a state that holds a byte, if there is one.
+/// Returns the target of the edge of the state `from` whose class holds `byte`, or `None` if there
+/// is none.
 fn target_in(from: &StateData, byte: u8) -> Option<usize>
     ensures { result ≡ option_map (λ edge. edge.1)
         (find (λ edge. is_in edge.0 byte) (graph_state_of from.now).normal) }
@@ -62,7 +65,8 @@ fn target_in(from: &StateData, byte: u8) -> Option<usize>
     target_of(&from.normal, byte)
 }
 
-/// Returns the state to which a byte leads, if there is one.
+/// Returns the state to which `byte` leads from `state`, or `None` if there is no such edge or no
+/// such `state`.
 pub(crate) fn next_by(states: &[&StateData], state: usize, byte: u8) -> Option<usize>
     ensures { result ≡ graphs.next_by (shown states.now) state byte }
 {
@@ -71,7 +75,8 @@ pub(crate) fn next_by(states: &[&StateData], state: usize, byte: u8) -> Option<u
     Some(target)
 }
 
-/// Returns the state to which the end of the input leads, if there is one.
+/// Returns the state to which the end of the input leads from `state`, or `None` if there is no
+/// such edge or no such `state`.
 pub(crate) fn next_at_end(states: &[&StateData], state: usize) -> Option<usize>
     ensures { result ≡ graphs.next_at_end (shown states.now) state }
 {
@@ -80,7 +85,8 @@ pub(crate) fn next_at_end(states: &[&StateData], state: usize) -> Option<usize>
     Some(next.index())
 }
 
-/// Returns the leaf whose match ends at a state, if there is one.
+/// Returns the early mark of a state: the leaf whose match ends at the state, or `None` if there is
+/// none or no such state.
 fn early_of(states: &[&StateData], state: usize) -> Option<usize>
     ensures { result ≡ lasts.early_of (shown states.now) state }
 {
@@ -89,7 +95,8 @@ fn early_of(states: &[&StateData], state: usize) -> Option<usize>
     Some(leaf.0)
 }
 
-/// Returns the leaf whose match ends one byte before a state, if there is one.
+/// Returns the late mark of a state: the leaf whose match ends one byte before the state, or `None`
+/// if there is none or no such state.
 fn late_of(states: &[&StateData], state: usize) -> Option<usize>
     ensures { result ≡ lasts.late_of (shown states.now) state }
 {
@@ -98,8 +105,9 @@ fn late_of(states: &[&StateData], state: usize) -> Option<usize>
     Some(leaf.0)
 }
 
-/// Returns the leaf whose match ends at `state`, if there is one. A late mark of `next`, the state
-/// to which the step leads, precedes an early mark of `state`.
+/// Returns the leaf whose match ends at `state`, or `None` if there is none: the late mark of
+/// `next`, the state to which the step from `state` leads, or without one the early mark of
+/// `state`.
 pub(crate) fn seen_by(states: &[&StateData], state: usize, next: Option<usize>) -> Option<usize>
     ensures { result ≡ lasts.seen_by (shown states.now) state next }
 {

@@ -1,4 +1,5 @@
-//! Inputs as evidence about lexers: examples, differences, coverage. Called by `logos_show`.
+//! Inputs as evidence about lexers: examples, differences, coverage. Called by `logos_answers` and
+//! `logos_causes`.
 
 #![tactic(auto)]
 

@@ -1,5 +1,5 @@
-//! Inputs on which a leaf matches and another one takes the match. Called for `--examples` and for
-//! warnings.
+//! Finds a shortest input on which a leaf matches, but another leaf is found first. Used by
+//! `logos_answers` for `--examples`, and by `logos_causes` for warnings.
 
 ghost use Rattle.std.specs.Prelude.{◌≡◌, ◌==◌, [], IfOk, MatchOption, option_map};
 ghost use Rattle.logos_evidence.specs.Imports.{list_any, IsGraphOf, rules_of, IsShortestLoss, NeverLoses, dfa_of, loss_next, loss_goal, shown};
@@ -29,7 +29,7 @@ fn is_among(leaf: usize, leaves: &[usize]) -> bool
     leaves.iter().any(|other| *other == leaf)
 }
 
-/// Returns whether a leaf is among `leaves`, if there are any.
+/// Returns whether a leaf is among `leaves`, or `false` for `None`.
 fn lists(leaf: usize, leaves: Option<&[usize]>) -> bool
     ensures { result ≡ machines.lists leaf (option_map (λ listed. listed.now) leaves.entry) }
 {
@@ -67,7 +67,7 @@ impl Machine for Losses<'_> {
 
 /// Returns a shortest input that begins with a match of the leaf, but in which a lexer finds a
 /// match of another leaf first. Returns `None` if and only if there is no such input. Among inputs
-/// of the same length, it prefers letters, then digits, then punctuation.
+/// of the same length, the search prefers letters, then digits, then punctuation.
 ///
 /// The graph must have no faults.
 ///

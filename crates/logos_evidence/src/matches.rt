@@ -1,4 +1,5 @@
-//! The matches from an offset of an input. Called for `--at`.
+//! Finds all matches of leaves that begin at an offset of an input. Used by `meetings`,
+//! `logos_answers`, `logos_causes` and `logos_records`.
 
 ghost use Rattle.std.specs.Prelude.{◌≡◌, ◌≤◌, ◌⊎◌, ◌++◌, [], IfOk, MatchOption, OnOk, length, map};
 ghost use Rattle.logos_evidence.specs.Views.{AllStart, IsGraphOf, rules_of, IsBytes, AreMatches, IsAtMost, IsWinner, match_to, priority_of};
@@ -8,7 +9,7 @@ use logos_graph::graph::Graph;
 use logos_pattern::leaf::Leaf;
 use std::alloc::{AllocError, Global};
 
-/// A match of a leaf from an offset of an input.
+/// A match of a leaf that begins at a known offset of an input.
 #[derive(Clone, Copy, Debug, PartialEq, Eq)]
 pub struct Match {
     /// The number of the leaf.
@@ -29,11 +30,11 @@ pub(crate) fn priority_of(leaves: &[Leaf<'_>], leaf: usize) -> usize
     }
 }
 
-/// Adds a match that ends at `end` for each leaf in `listed`.
+/// Appends to `found` a match that ends at the byte offset `end` for each leaf in `listed`.
 ///
 /// # Errors
 ///
-/// Returns `AllocError` if memory runs out.
+/// Returns `AllocError` if memory runs out. Then some of the matches may have been appended.
 fn add_matches(
     found: &mut Vec<Match>,
     leaves: &[Leaf<'_>],
@@ -54,8 +55,9 @@ fn add_matches(
     Ok(())
 }
 
-/// Returns all matches of all leaves from a byte offset of an input, in the order of their ends,
-/// and at the same end in the order of the leaves. The offset is at most the length of the input.
+/// Returns all matches of all leaves that begin at the byte offset `from` of an input, in the order
+/// of their ends, and at the same end in the order of the leaves. `from` must be at most the length
+/// of the input.
 ///
 /// The leaves must have no faults except ambiguous sets. The input is read to its end.
 ///
@@ -95,8 +97,8 @@ pub fn matches_from(
     Ok(found)
 }
 
-/// Returns the better of two matches: the longer one; of two of the same length the one of higher
-/// priority; otherwise the first.
+/// Returns the better of two matches: the longer match, of two matches of the same length the one
+/// of higher priority, and `one` if the priorities are equal too.
 fn better(one: Match, other: Match) -> Match
     ensures among { (result ≡ one) ⊎ (result ≡ other) }
     ensures first { IsAtMost one result }
@@ -111,9 +113,9 @@ fn better(one: Match, other: Match) -> Match
     one
 }
 
-/// Returns the match that a lexer selects among those from an offset: the longest, and of several
-/// the one of highest priority. If leaves are ambiguous, it is the match of one of them. Returns
-/// `None` if there is no match.
+/// Returns the match that a lexer selects among `matches`, which are all matches from an offset:
+/// the longest match, and of several longest ones the first of highest priority. Returns `None` if
+/// there is no match.
 pub fn winner(matches: &[Match]) -> Option<Match>
     ensures { MatchOption result (matches.now ≡ []) (IsWinner matches.now) }
 {

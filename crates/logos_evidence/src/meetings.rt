@@ -1,4 +1,5 @@
-//! Inputs that several leaves match with the same priority. Called to explain ambiguities.
+//! Finds a shortest input that several leaves match with the same priority. Used by `logos_causes`
+//! to explain ambiguities.
 
 ghost use Rattle.std.specs.Prelude.{◌≡◌, ◌<◌, ◌∷◌, ℕ, List, IfOk, IsTrue, MatchOption, false, length, if◌then◌else◌, option_map, bytes_eq};
 ghost use Rattle.logos_evidence.specs.Imports.{IsStrictlyIncreasing, AllStart, highest_of, top_of, IsGraphOf, rules_of, IsShortestMeeting, NeverMeet, meeting_next, meeting_goal};
@@ -19,7 +20,7 @@ struct Meetings<'g, 's> {
     set: &'g [usize],
 }
 
-/// Returns the highest priority among the listed leaves.
+/// Returns the highest priority among the leaves in `listed`, or 0 if there are none.
 fn highest(leaves: &[Leaf<'_>], listed: &[usize]) -> usize
     ensures { result ≡ highest_of (rules_of leaves.now) listed.now }
 {
@@ -30,8 +31,8 @@ fn highest(leaves: &[Leaf<'_>], listed: &[usize]) -> usize
     highest
 }
 
-/// Returns the rest of a set after its first leaf, or `None` if its first leaf is not `leaf`. If
-/// `counts` is not set, returns the whole set.
+/// Returns `rest` without its first leaf if that is `leaf`, otherwise `None`. Returns `rest`
+/// unchanged if `counts` is `false`.
 fn after_leaf(rest: &[usize], leaf: usize, counts: bool) -> Option<&[usize]>
     ensures { MatchOption result
         (IsTrue counts × ((ys : List ℕ) → bytes_eq (leaf ∷ ys) rest.now ≡ false))
@@ -45,7 +46,8 @@ fn after_leaf(rest: &[usize], leaf: usize, counts: bool) -> Option<&[usize]>
     if *first == leaf { Some(others) } else { None }
 }
 
-/// Returns whether the listed leaves of highest priority are exactly `set`.
+/// Returns whether the leaves of highest priority in `listed` are exactly `set`. Both are in
+/// ascending order.
 fn is_top(leaves: &[Leaf<'_>], listed: &[usize], set: &[usize]) -> bool
     ensures { result ≡ bytes_eq (top_of (rules_of leaves.now) listed.now) set.now }
 {
@@ -61,7 +63,8 @@ fn is_top(leaves: &[Leaf<'_>], listed: &[usize], set: &[usize]) -> bool
     rest.is_empty()
 }
 
-/// Returns whether leaves are listed, and those of highest priority among them are exactly `set`.
+/// Returns whether the leaves of highest priority in `listed` are exactly `set`, or `false` if
+/// `listed` is `None`.
 fn tops_are(leaves: &[Leaf<'_>], listed: Option<&[usize]>, set: &[usize]) -> bool
     ensures { result ≡ machines.tops_are (rules_of leaves.now) set.now (option_map (λ listed. listed.now) listed.entry) }
 {
@@ -71,8 +74,8 @@ fn tops_are(leaves: &[Leaf<'_>], listed: Option<&[usize]>, set: &[usize]) -> boo
     }
 }
 
-/// Returns the point at a state. If `met` is set, returns the one point after the set was met,
-/// whatever the state is.
+/// Returns the point at a state, or if `met` holds the point after the set was met, which is equal
+/// for all states.
 fn point_at(state: usize, met: bool) -> Point
     ensures { result ≡ machines.meeting_at state met }
 {
@@ -107,8 +110,8 @@ impl Machine for Meetings<'_, '_> {
 }
 
 /// Returns a shortest input that begins with a span for which exactly the leaves of a set have the
-/// match of highest priority, or `None` if and only if there is none. Among inputs of the same
-/// length, it prefers letters, then digits, then punctuation.
+/// match of highest priority, or `None` if and only if there is no such input. Among inputs of the
+/// same length, the search prefers letters, then digits, then punctuation.
 ///
 /// The set must be nonempty and in ascending order. The leaves must have no faults except ambiguous
 /// sets.

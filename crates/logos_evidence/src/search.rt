@@ -1,5 +1,5 @@
 //! Searches over machines that read bytes: for a shortest input that leads to a goal, and for
-//! inputs that together take all steps. Called by the other modules of this crate.
+//! inputs that together take all steps. Used by the other modules of this crate.
 
 ghost use Rattle.std.specs.Prelude.{◌≡◌, IfOk, MatchOption};
 ghost use Rattle.logos_evidence.specs.search.Views.{IsShortest, NoneLeads, pending_goal};
@@ -25,11 +25,12 @@ pub(crate) fn is_goal<M: Machine>(machine: &M, pending: PendingPoint) -> bool
     machine.is_goal(pending.point) & (pending.rest.count == 0)
 }
 
-/// Returns a shortest input that leads a machine from a point to a goal, or `None` if there is
-/// none. Among inputs of the same length, it prefers letters, then digits, then punctuation.
+/// Returns a shortest input that leads a machine from the point `start` to a goal, or `None` if
+/// there is no such input. Among inputs of the same length, the search prefers letters, then
+/// digits, then punctuation.
 ///
-/// If `utf8` is set, inputs are UTF-8, otherwise any bytes. Each point is stored with its
-/// predecessor and byte.
+/// If `utf8` holds, inputs are UTF-8, otherwise any bytes. The search stores each visited point
+/// with its predecessor and the byte that leads from there.
 ///
 /// # Errors
 ///

@@ -1,4 +1,5 @@
-//! Steps of an automaton, and the leaves that its states list. Used by `losses` and `meetings`.
+//! Takes steps of an automaton, and returns the leaves that its states list. Used by `losses` and
+//! `meetings`.
 
 ghost use Rattle.std.specs.Prelude.{◌≡◌, option_map, slice_get};
 ghost use Rattle.logos_automaton.specs.DfaView.{dfa_of};
@@ -7,7 +8,8 @@ ghost use Rattle.logos_evidence.specs.inside.Steps as steps;
 use logos_automaton::dfa::Dfa;
 use logos_automaton::dfa::parts::{end_at, leaves_at, row_at, state_count};
 
-/// Returns the state to which a byte leads, if the automaton has the state.
+/// Returns the state to which `byte` leads from `state`, or `None` if the automaton does not have
+/// `state`.
 pub(crate) fn step_by(dfa: &Dfa, state: usize, byte: u8) -> Option<usize>
     ensures { result ≡ steps.step_by (dfa_of dfa.now) state byte }
 {
@@ -17,7 +19,8 @@ pub(crate) fn step_by(dfa: &Dfa, state: usize, byte: u8) -> Option<usize>
     Some(row_at(dfa, state)[byte as usize] as usize)
 }
 
-/// Returns the state to which the end of the input leads, if the automaton has the state.
+/// Returns the state to which the end of the input leads from `state`, or `None` if the automaton
+/// does not have `state`.
 fn step_at_end(dfa: &Dfa, state: usize) -> Option<usize>
     ensures { result ≡ steps.step_at_end (dfa_of dfa.now) state }
 {
@@ -27,7 +30,7 @@ fn step_at_end(dfa: &Dfa, state: usize) -> Option<usize>
     Some(end_at(dfa, state) as usize)
 }
 
-/// Returns the leaves that a state lists, if the automaton has the state.
+/// Returns the leaves that `state` lists, or `None` if the automaton does not have `state`.
 pub(crate) fn listed(dfa: &Dfa, state: usize) -> Option<&[usize]>
     ensures { option_map (λ leaves. leaves.now) result ≡ slice_get (dfa_of dfa.now).matches state }
 {
@@ -37,7 +40,8 @@ pub(crate) fn listed(dfa: &Dfa, state: usize) -> Option<&[usize]>
     Some(leaves_at(dfa, state))
 }
 
-/// Returns the leaves that the state after the end of the input lists, if there is such a state.
+/// Returns the leaves that the state after the end of the input lists, to which `state` leads, or
+/// `None` if the automaton does not have `state`.
 pub(crate) fn listed_at_end(dfa: &Dfa, state: usize) -> Option<&[usize]>
     ensures { option_map (λ leaves. leaves.now) result ≡ steps.listed_at_end (dfa_of dfa.now) state }
 {

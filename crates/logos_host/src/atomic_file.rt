@@ -1,5 +1,5 @@
-//! Writes a file of the system entirely or not at all: writes a new file beside it, and then
-//! renames the new file to its name. Called by `Disk` and `SourceDisk`.
+//! Writes a file of the system entirely or not at all: writes a new file beside the old one, and
+//! then renames the new file to the name of the old one. Used by `Disk`.
 
 use crate::paths::file_name;
 use std::fs::Metadata;
@@ -8,16 +8,17 @@ use std::os::unix::fs::{MetadataExt, PermissionsExt};
 use std::rt::Files;
 use std::{fs, io};
 
-/// The maximum length of a chain of links that is followed to a file.
+/// The number of links after which a chain of links to a file is refused.
 const LINKS: usize = 40;
 
 /// The permission bits of a file's mode, to read, write and execute it.
 const RIGHTS: u32 = 0o777;
 
-/// Writes a file entirely or not at all. First creates the missing folders of its path.
+/// Writes `bytes` to the file at `path` entirely or not at all. If there is no such file, first
+/// creates the missing folders of its path, which stay if a later step fails.
 ///
-/// If the path is a link, its target is replaced, or created if it does not exist. A device or a
-/// pipe is written directly.
+/// If the path is that of a link, the target of the link is replaced, or created if it does not
+/// exist. A device or a pipe is written directly.
 pub(crate) fn write_whole<R: Files + AllocGlobal + Clone + Drop>(
     rt: &R,
     path: &str,
@@ -34,7 +35,8 @@ pub(crate) fn write_whole<R: Files + AllocGlobal + Clone + Drop>(
     }
 }
 
-/// Follows the links at `path`, and returns the path of the missing file to which they lead.
+/// Returns the path of the missing file to which the links at `path` lead, which is `path` if it is
+/// no link. Fails if there are `LINKS` links or more.
 fn target_of<R: Files + AllocGlobal>(rt: &R, path: &str) -> io::Result<String> {
     let mut target = String::from_str(rt.alloc(), path)?;
     for _ in 0..LINKS {
@@ -46,7 +48,7 @@ fn target_of<R: Files + AllocGlobal>(rt: &R, path: &str) -> io::Result<String> {
     Err(io::Error::from(ErrorKind::FilesystemLoop))
 }
 
-/// Returns the path to which the link `link` at `path` leads.
+/// Returns the path to which a link at `path` leads whose target is `link`.
 fn joined<R: AllocGlobal>(rt: &R, path: &str, link: &str) -> io::Result<String> {
     let mut target = String::new(rt.alloc());
     if !link.starts_with('/') && path.contains('/') {
@@ -57,7 +59,8 @@ fn joined<R: AllocGlobal>(rt: &R, path: &str, link: &str) -> io::Result<String> 
     Ok(target)
 }
 
-/// Replaces the content of a file, and keeps its owner and its mode.
+/// Replaces the file at `path` by a new file with `bytes`, and with the owner and the mode of `old`
+/// as far as `keep_owner` sets them.
 fn replace_file<R: Files + AllocGlobal + Clone + Drop>(
     rt: &R,
     path: &str,
@@ -73,8 +76,8 @@ fn replace_file<R: Files + AllocGlobal + Clone + Drop>(
     remove_after_error(rt, beside.as_str(), done)
 }
 
-/// Sets the owner, the group and the mode of a file to those of `old`. If the system refuses the
-/// owner, the bits that run the file as another user are cleared.
+/// Sets the owner, the group and the mode of the file at `path` to those of `old`. If the system
+/// refuses the owner or the group, sets only the bits of the mode that are in `RIGHTS`.
 fn keep_owner<R: Files>(rt: &R, path: &str, old: &Metadata) -> io::Result<()> {
     let mut permissions = old.permissions();
     let new = fs::metadata(rt, path)?;
@@ -85,7 +88,8 @@ fn keep_owner<R: Files>(rt: &R, path: &str, old: &Metadata) -> io::Result<()> {
     fs::set_permissions(rt, path, permissions)
 }
 
-/// Creates a file that does not exist, and the missing folders of its path.
+/// Creates the file at `path`, which does not exist, with `bytes`, and the missing folders of its
+/// path.
 fn create_file<R: Files + AllocGlobal + Clone + Drop>(
     rt: &R,
     path: &str,
@@ -97,8 +101,8 @@ fn create_file<R: Files + AllocGlobal + Clone + Drop>(
     remove_after_error(rt, beside.as_str(), done)
 }
 
-/// Writes a new file beside another one, and returns its path. Its name contains the process id.
-/// Files left there by processes that have ended are removed first.
+/// Writes `bytes` to a new file beside the file at `path`, and returns the path of the new file:
+/// `path`, the process id and `.new`. First removes the files that ended processes left there.
 fn write_beside<R: Files + AllocGlobal + Clone + Drop>(
     rt: &R,
     path: &str,
@@ -113,7 +117,7 @@ fn write_beside<R: Files + AllocGlobal + Clone + Drop>(
     Ok(beside)
 }
 
-/// Returns the process id, or 0 if the system does not report it.
+/// Returns the process id in decimal, or `0` if the system does not report the id.
 fn own_number<R: Files + AllocGlobal>(rt: &R) -> io::Result<String> {
     match fs::read_link(rt, "/proc/self") {
         Ok(number) => Ok(number.into_string()),
@@ -121,7 +125,7 @@ fn own_number<R: Files + AllocGlobal>(rt: &R) -> io::Result<String> {
     }
 }
 
-/// Removes the files that were left beside a file by processes that have ended.
+/// Removes the new files that ended processes left beside the file at `path`.
 fn remove_leftovers<R: Files + AllocGlobal + Clone + Drop>(rt: &R, path: &str) -> io::Result<()> {
     let folder = match folder_of(path) {
         "" => ".",
@@ -135,7 +139,8 @@ fn remove_leftovers<R: Files + AllocGlobal + Clone + Drop>(rt: &R, path: &str) -
     Ok(())
 }
 
-/// Removes the file `other` of a folder if an ended process left it beside the file `name`.
+/// Removes the file `other` of a folder if an ended process left it beside the file `name`. An
+/// error of the removal is ignored.
 fn remove_leftover<R: Files + AllocGlobal>(
     rt: &R,
     name: &str,
@@ -155,8 +160,8 @@ fn remove_leftover<R: Files + AllocGlobal>(
     Ok(())
 }
 
-/// Returns the process id in the name `other` of a new file beside the file `name`, if `other` is
-/// such a name.
+/// Returns the process id in the name `other` of a new file beside the file `name`, or `None` if
+/// `other` is no such name.
 fn process_of<'n>(name: &str, other: &'n str) -> Option<&'n str> {
     let process = other
         .strip_prefix(name)?
@@ -166,13 +171,13 @@ fn process_of<'n>(name: &str, other: &'n str) -> Option<&'n str> {
     if is_number { Some(process) } else { None }
 }
 
-/// Writes all bytes to a file, and closes it.
+/// Writes all bytes to a file, flushes the file, and closes it.
 fn write_all<F: Write + Drop>(mut file: F, bytes: &[u8]) -> io::Result<()> {
     file.write_all(bytes)?;
     file.flush()
 }
 
-/// Removes a file if a step failed, and returns the result of the step.
+/// Removes the file at `path` if `done`, the result of a step, is an error. Returns `done`.
 fn remove_after_error<R: Files>(rt: &R, path: &str, done: io::Result<()>) -> io::Result<()> {
     if done.is_err() {
         let _ = fs::remove_file(rt, path);
@@ -180,7 +185,7 @@ fn remove_after_error<R: Files>(rt: &R, path: &str, done: io::Result<()>) -> io:
     done
 }
 
-/// Returns the folder of a file: its path up to the last `/`, or an empty path if it has no `/`.
+/// Returns the folder of a file: its path before the last `/`, or an empty path if it has no `/`.
 fn folder_of(path: &str) -> &str {
     match path.rsplit_once('/') {
         Some((folder, _)) => folder,

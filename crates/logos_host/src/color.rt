@@ -1,4 +1,5 @@
-//! The condition under which a text has colors. Used by `logos_cli` and `logos_options`.
+//! Defines the setting for colors, and its names in `--color`. Used by `logos_cli`, `logos_options`
+//! and `logos_screen`.
 
 ghost use Rattle.std.specs.Prelude.{◌≡◌};
 ghost use Rattle.logos_host.specs.Colors.{color_named, has_colors};
@@ -6,11 +7,11 @@ ghost use Rattle.logos_host.specs.Colors.{color_named, has_colors};
 /// The condition under which a text has colors.
 #[derive(Clone, Copy, Debug, PartialEq, Eq)]
 pub enum Color {
-    /// Always.
+    /// The text always has colors.
     Always,
-    /// Never.
+    /// The text never has colors.
     Never,
-    /// On a terminal.
+    /// The text has colors if it is written to a terminal.
     Auto,
 }
 

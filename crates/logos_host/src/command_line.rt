@@ -1,4 +1,4 @@
-//! Reads the arguments with which a program is called. Called by the `main` of each program.
+//! Reads the arguments with which a program is called. Used by `logos_program` for each program.
 
 ghost use Rattle.std.specs.Prelude.{◌≡◌, ◌↔◌, ◌⊎◌, IfErr};
 ghost use Rattle.logos_host.specs.Views.{status_of};
@@ -34,7 +34,7 @@ fn arguments_of<R: Env + AllocGlobal>(rt: &R) -> io::Result<Vec<String>> {
     Ok(arguments)
 }
 
-/// Returns the failure for unreadable arguments.
+/// Returns the failure for arguments whose reading ends with an error of the kind `why`.
 fn unreadable(why: ErrorKind) -> Failure<'static>
     ensures memory { (status_of result ≡ 3) ↔ (why ≡ ErrorKind.OutOfMemory) }
     ensures known { (status_of result ≡ 2) ⊎ (status_of result ≡ 3) }

@@ -1,4 +1,5 @@
-//! Comparison of files with bytes, and with each other. Called for `--check` and `--version`.
+//! Declares the comparison of files with bytes, and with each other. Used by `logos_cli` for
+//! `--check`, by `logos_options` for `--version`, and by `logos_show`.
 
 ghost use Rattle.std.specs.Prelude.{◌≡◌, ℕ, List, Bool, ⊤, IfOk};
 ghost use Rattle.logos_host.specs.declared.comparison.Occurrence.{Occurrence as OccurrenceValue};
@@ -13,7 +14,7 @@ pub enum Occurrence {
     Same,
     /// The file has other bytes, cannot be read, or is a folder, a device or a pipe.
     Differs,
-    /// There is no file.
+    /// The system finds no file at the path.
     Missing,
 }
 
@@ -26,7 +27,8 @@ pub trait ComparableFiles: Files {
     // Holds if two paths lead to one file.
     ghost same_finds: { Self → List ℕ → List ℕ → Bool → Type 0 } = { λ _ _ _ _. ⊤ };
 
-    /// Compares the file at a path with some bytes. Only a regular file is read.
+    /// Returns whether the file at `path` has exactly `bytes`, has other content, or is missing.
+    /// Only a regular file is read.
     ///
     /// # Errors
     ///
@@ -38,8 +40,8 @@ pub trait ComparableFiles: Files {
             Self.read_yields self.old path.now bytes.now self.new) }
         ensures ends { Self.read_ends self.old self.new };
 
-    /// Returns the bytes of the file at a path, for a message. There are none if it is not a
-    /// regular file, cannot be read, or has more than 67,108,864 bytes.
+    /// Returns the bytes of the file at `path`, for a message. Returns no bytes if the file is not
+    /// a regular file, cannot be read, or has more than 67,108,864 bytes.
     ///
     /// # Errors
     ///

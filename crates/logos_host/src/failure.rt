@@ -19,13 +19,13 @@ pub enum Failure<'w> {
         what: &'static str,
         word: &'w str,
     },
-    /// An argument is not an option of the program. `nearest` is the name of the nearest option, or
-    /// empty if none is near.
+    /// The argument `word` is not an option of the program. `nearest` is the name of the nearest
+    /// option, or empty if no option is near.
     UnknownOption {
         word: &'w str,
         nearest: &'static str,
     },
-    /// The output file is the input file.
+    /// The output file, which has this path, is the input file.
     OwnOutput(&'w str),
     /// The source is refused, for the reasons in this text.
     Refused(String),
@@ -76,8 +76,8 @@ impl From<Memory> for Failure<'_> {
 }
 
 impl Failure<'_> {
-    /// Returns the exit status: 1 if something is refused, 2 if the arguments are invalid or name
-    /// the input as the output, 3 if a file or memory fails.
+    /// Returns the exit status: 1 if the source is refused or the input is not UTF-8, 2 if the
+    /// arguments are invalid or name the input as the output, and 3 for each other failure.
     pub fn status(&self) -> u8
         ensures { result ≡ status_of self.now }
     {
@@ -88,7 +88,8 @@ impl Failure<'_> {
         }
     }
 
-    /// Returns the failure for a file that cannot be read.
+    /// Returns the failure for an error of reading the file at `path`: `Read`, `NotText` or
+    /// `Memory`.
     pub fn of_reading<'w>(path: &'w str, error: FileError) -> Failure<'w>
         ensures failure { IsReadingFailure path.now error result }
         ensures unread { IsUnread path.now result }
@@ -101,7 +102,8 @@ impl Failure<'_> {
         }
     }
 
-    /// Returns the failure for a file that cannot be written.
+    /// Returns the failure for an error of writing the file at `path`: `Write` if the error has a
+    /// reason, otherwise `Memory`.
     pub fn of_writing<'w>(path: &'w str, error: FileError) -> Failure<'w>
         ensures failure { IsWritingFailure path.now error result }
         ensures unwritten { IsUnwritten path.now result }
@@ -113,7 +115,8 @@ impl Failure<'_> {
         }
     }
 
-    /// Returns the failure for an error of standard output.
+    /// Returns the failure for an error of standard output: `Closed` if its reader has closed it,
+    /// otherwise `Output`.
     pub fn of_output(error: &io::Error) -> Failure<'static>
         ensures closed { error_kind error.now ≡ ErrorKind.BrokenPipe → result ≡ Closed }
         ensures other { error_kind error.now ≢ ErrorKind.BrokenPipe → result ≡ Output }
@@ -124,7 +127,8 @@ impl Failure<'_> {
     }
 }
 
-/// Returns the failure for an error of standard output that has this kind.
+/// Returns the failure for an error of standard output that has this kind: `Closed` for
+/// `BrokenPipe`, otherwise `Output`.
 fn output_failure(kind: ErrorKind) -> Failure<'static>
     ensures closed { kind ≡ ErrorKind.BrokenPipe → result ≡ Closed }
     ensures other { kind ≢ ErrorKind.BrokenPipe → result ≡ Output }

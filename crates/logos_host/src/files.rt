@@ -1,11 +1,11 @@
-//! The interface to files, by their paths. `Disk` and `SourceDisk` implement it, and the tests have
-//! further implementations.
+//! Declares the interface to files by their paths. `Disk` and `SourceDisk` implement the interface,
+//! and the tests have further implementations.
 
 ghost use Rattle.std.specs.Prelude.{ℕ, List, ⊤, IfOk, OnOk};
 
 use crate::reason::Reason;
 
-/// The errors of an operation on a file.
+/// The error of an operation on a file.
 #[derive(Clone, Copy, Debug, PartialEq, Eq)]
 pub enum FileError {
     /// The file was not read or written, for this reason.
@@ -17,7 +17,7 @@ pub enum FileError {
     Memory,
 }
 
-/// Files by their paths.
+/// Files that are read and written by their paths.
 pub trait Files {
     // Relates the files before a read, the path, all bytes that are read, and the files after it.
     ghost read_yields: { Self → List ℕ → List ℕ → Self → Type 0 } = { λ _ _ _ _. ⊤ };
@@ -33,7 +33,7 @@ pub trait Files {
     // fails.
     ghost write_ends: { Self → List ℕ → Self → Type 0 } = { λ _ _ _. ⊤ };
 
-    /// Returns all bytes of the file at this path.
+    /// Returns all bytes of the file at `path`.
     ///
     /// # Errors
     ///
@@ -42,7 +42,7 @@ pub trait Files {
         ensures yields { IfOk result (λ bytes. read_yields self.old path.now bytes.items self.new) }
         ensures ends { read_ends self.old self.new };
 
-    /// Replaces the content of the file at this path with these bytes, and creates the missing
+    /// Replaces the content of the file at `path` with `bytes`. Creates the file and the missing
     /// folders of the path.
     ///
     /// # Errors

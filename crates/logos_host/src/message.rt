@@ -1,5 +1,4 @@
-//! The messages of failures in `logos_cli` and `logos_show`. They begin with `error:` and state the
-//! reason.
+//! Writes the messages of failures, with their reasons. Used by `logos_cli` and `logos_show`.
 
 ghost use Rattle.std.specs.Prelude.{◌++◌, OnOk, codes, decimal};
 ghost use Rattle.logos_host.specs.Views.{Appends, hint_line, message_of, misuse_line, path_line, shown_char, shown_text};
@@ -9,12 +8,12 @@ use logos_page::occur_in;
 use std::io;
 use std::io::Write;
 
-/// Writes the message of a failure, and flushes the writer. The message for invalid arguments ends
-/// with `usage`.
+/// Writes the message of a failure to `err`, and flushes the writer. The message for invalid
+/// arguments and unknown options ends with `usage`. The message for `Closed` is empty.
 ///
 /// # Errors
 ///
-/// Returns the error of the writer. Then a part of the message may be written.
+/// Returns the error of the writer. Then a part of the message may have been written.
 pub fn report<E: Write>(failure: &Failure<'_>, usage: &str, err: &mut E) -> io::Result<()>
     ensures { OnOk result (Appends (E.contents err.old) (E.contents err.new)
         (message_of usage.now failure.now)) }
@@ -23,7 +22,8 @@ pub fn report<E: Write>(failure: &Failure<'_>, usage: &str, err: &mut E) -> io::
     err.flush()
 }
 
-/// Writes the message of a failure.
+/// Writes the message of a failure. The message ends with `usage` for invalid arguments and unknown
+/// options.
 fn write_message<E: Write>(failure: &Failure<'_>, usage: &str, err: &mut E) -> io::Result<()>
     ensures { OnOk result (Appends (E.contents err.old) (E.contents err.new)
         (message_of usage.now failure.now)) }
@@ -54,7 +54,7 @@ fn write_message<E: Write>(failure: &Failure<'_>, usage: &str, err: &mut E) -> i
     }
 }
 
-/// Writes the message for a file that is not UTF-8.
+/// Writes the message for the file at `path`, which is UTF-8 only up to the byte `valid_up_to`.
 fn write_not_text<E: Write>(path: &str, valid_up_to: usize, err: &mut E) -> io::Result<()>
     ensures { OnOk result (Appends (E.contents err.old) (E.contents err.new)
         (codes "error: cannot read " ++ (shown_text path.now
@@ -65,7 +65,7 @@ fn write_not_text<E: Write>(path: &str, valid_up_to: usize, err: &mut E) -> io::
     writeln!(err, ": it is not UTF-8 at byte {valid_up_to}")
 }
 
-/// Writes a line with a path between two texts.
+/// Writes a line with `path` between the texts `before` and `after`.
 fn write_path<E: Write>(before: &str, path: &str, after: &str, err: &mut E) -> io::Result<()>
     ensures { OnOk result (Appends (E.contents err.old) (E.contents err.new)
         (path_line before.now path.now after.now)) }
@@ -86,7 +86,8 @@ fn write_shown<E: Write>(text: &str, err: &mut E) -> io::Result<()>
     Ok(())
 }
 
-/// Writes a character in a form that cannot control a terminal: a tab as four blanks.
+/// Writes a character in a form that cannot control a terminal: a tab as four spaces, and each
+/// other character as `occur_in` returns it.
 fn write_shown_char<E: Write>(character: char, err: &mut E) -> io::Result<()>
     ensures { OnOk result (Appends (E.contents err.old) (E.contents err.new)
         (shown_char character)) }
@@ -98,7 +99,7 @@ fn write_shown_char<E: Write>(character: char, err: &mut E) -> io::Result<()>
     write!(err, "{shown}")
 }
 
-/// Writes the reason that the arguments are invalid, and the usage.
+/// Writes the line with the reason that the arguments are invalid, and the usage.
 fn write_misuse<E: Write>(what: &str, word: &str, usage: &str, err: &mut E) -> io::Result<()>
     ensures { OnOk result (Appends (E.contents err.old) (E.contents err.new)
         (misuse_line what.now word.now ++ usage.now)) }
@@ -107,7 +108,8 @@ fn write_misuse<E: Write>(what: &str, word: &str, usage: &str, err: &mut E) -> i
     err.write_all(usage.as_bytes())
 }
 
-/// Writes the reason that the arguments are invalid.
+/// Writes the line with `what`, the reason that the arguments are invalid, and with the invalid
+/// argument `word`, unless that is empty.
 fn write_misuse_line<E: Write>(what: &str, word: &str, err: &mut E) -> io::Result<()>
     ensures { OnOk result (Appends (E.contents err.old) (E.contents err.new)
         (misuse_line what.now word.now)) }
@@ -120,8 +122,8 @@ fn write_misuse_line<E: Write>(what: &str, word: &str, err: &mut E) -> io::Resul
     writeln!(err, "`")
 }
 
-/// Writes the message for an unknown option: the argument, the option that may be meant, and the
-/// usage.
+/// Writes the message for an unknown option: the argument `word`, the option `nearest` that may be
+/// meant, unless that is empty, and the usage.
 fn write_unknown<E: Write>(word: &str, nearest: &str, usage: &str, err: &mut E) -> io::Result<()>
     ensures { OnOk result (Appends (E.contents err.old) (E.contents err.new)
         (misuse_line (codes "unknown option") word.now ++ (hint_line nearest.now ++ usage.now))) }
@@ -131,7 +133,7 @@ fn write_unknown<E: Write>(word: &str, nearest: &str, usage: &str, err: &mut E) 
     err.write_all(usage.as_bytes())
 }
 
-/// Writes the option that may be meant, if there is one.
+/// Writes the line with the option `nearest` that may be meant, or nothing if that is empty.
 fn write_hint<E: Write>(nearest: &str, err: &mut E) -> io::Result<()>
     ensures { OnOk result (Appends (E.contents err.old) (E.contents err.new)
         (hint_line nearest.now)) }

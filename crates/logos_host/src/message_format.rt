@@ -1,4 +1,5 @@
-//! The formats of messages, and their names in `--message-format`.
+//! Defines the formats of messages, and their names in `--message-format`. Used by `logos_cli`,
+//! `logos_options`, `logos_show` and the crates that report warnings.
 
 ghost use Rattle.std.specs.Prelude.{◌≡◌};
 ghost use Rattle.logos_host.specs.Formats.{format_named};
@@ -6,9 +7,9 @@ ghost use Rattle.logos_host.specs.Formats.{format_named};
 /// The format of messages.
 #[derive(Clone, Copy, Debug, PartialEq, Eq)]
 pub enum MessageFormat {
-    /// A report.
+    /// A report that people read.
     Human,
-    /// Lines of JSON.
+    /// Lines of JSON that programs read.
     Json,
 }
 

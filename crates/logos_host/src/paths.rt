@@ -1,4 +1,5 @@
-//! The paths of files. Used by `logos_cli`, `logos_commands` and `logos_expand`.
+//! Finds the names of files in their paths. Used by `atomic_file`, `logos_cli`, `logos_commands`
+//! and `logos_expand`.
 
 ghost use Rattle.std.specs.Prelude.{◌≡◌};
 ghost use Rattle.logos_host.specs.Imports.{file_name};

@@ -1,4 +1,5 @@
-//! The messages of failures in `logos`: one line, without a reason. Used by `logos_commands`.
+//! Writes the messages of failures in `logos`, without the reasons of the system. Used by
+//! `logos_commands`.
 
 ghost use Rattle.std.specs.Prelude.{◌++◌, OnOk, codes};
 ghost use Rattle.logos_host.specs.Views.{Appends, plain_message_of};
@@ -7,12 +8,12 @@ use crate::failure::Failure;
 use std::io;
 use std::io::Write;
 
-/// Writes the plain message of a failure, and flushes the writer. For invalid arguments the message
-/// is `usage`.
+/// Writes the plain message of a failure to `err`, and flushes the writer. For invalid arguments,
+/// unknown options, and an output that is the input, the message is `usage`.
 ///
 /// # Errors
 ///
-/// Returns the error of the writer. Then a part of the message may be written.
+/// Returns the error of the writer. Then a part of the message may have been written.
 pub fn report_plainly<E: Write>(failure: &Failure<'_>, usage: &str, err: &mut E) -> io::Result<()>
     ensures { OnOk result (Appends (E.contents err.old) (E.contents err.new)
         (plain_message_of usage.now failure.now)) }
@@ -41,7 +42,7 @@ fn write_plainly<E: Write>(failure: &Failure<'_>, usage: &str, err: &mut E) -> i
     }
 }
 
-/// Writes the message for a file that cannot be read.
+/// Writes the message for the file at `path`, which cannot be read.
 fn write_unread<E: Write>(path: &str, err: &mut E) -> io::Result<()>
     ensures { OnOk result (Appends (E.contents err.old) (E.contents err.new)
         (codes "cannot read " ++ (path.now ++ codes "\n"))) }

@@ -1,4 +1,4 @@
-//! Reads whole files. The programs read sources and inputs with these functions.
+//! Reads whole files. Used by all three programs for sources and inputs.
 
 ghost use Rattle.std.specs.Prelude.{◌≡◌, IfErr, IfOk, string_bytes};
 ghost use Rattle.logos_host.specs.Views.{IsNoMisuse, IsUnread, status_of};
@@ -6,7 +6,7 @@ ghost use Rattle.logos_host.specs.Views.{IsNoMisuse, IsUnread, status_of};
 use crate::failure::Failure;
 use crate::files::{FileError, Files};
 
-/// Returns all bytes of a file.
+/// Returns all bytes of the file at `path`.
 ///
 /// # Errors
 ///
@@ -24,7 +24,7 @@ pub fn read_bytes<'w, F: Files>(path: &'w str, files: &mut F) -> Result<Vec<u8>,
     }
 }
 
-/// Returns the text of a file.
+/// Returns the text of the file at `path`.
 ///
 /// # Errors
 ///
@@ -44,7 +44,7 @@ pub fn read_text<'w, F: Files>(path: &'w str, files: &mut F) -> Result<String, F
     }
 }
 
-/// Returns the text of a file.
+/// Returns the text of the file at `path`, or the error `NotText` if the file is not UTF-8.
 fn text_at<F: Files>(path: &str, files: &mut F) -> Result<String, FileError>
     ensures read { IfOk result (λ text.
         F.read_yields files.old path.now (string_bytes text) files.new) }

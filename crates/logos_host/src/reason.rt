@@ -1,4 +1,5 @@
-//! The reasons why a file cannot be read or written. Used by `logos_commands` and `logos_items`.
+//! Defines the reasons for which a file cannot be read or written. Used by `failure`, `files`,
+//! `system`, `logos_commands` and `logos_items`.
 
 ghost use Rattle.std.specs.Prelude.{◌≡◌};
 ghost use Rattle.logos_host.specs.Messages.{reason_text};
@@ -50,7 +51,8 @@ impl Reason {
         }
     }
 
-    /// Returns the part of a message after the path.
+    /// Returns the text after the path in the message of a failure: `: ` and the reason, or an
+    /// empty text for `Other`.
     pub fn text(self) -> &'static str
         ensures { result.now ≡ reason_text self }
     {

@@ -1,4 +1,4 @@
-//! The files of the system, for programs that read sources. Used by `logos_cli`.
+//! Implements the files of the system for programs that read sources. Used by `logos_cli`.
 
 use crate::comparison::{ComparableFiles, Occurrence};
 use crate::files::{FileError, Files};
@@ -12,9 +12,9 @@ use std::{fs, io};
 /// that the text is still too long after its last character is removed.
 const MAX_READ: u64 = 16_777_221;
 
-/// The files that a runtime can access, for reading sources. At most `MAX_READ` bytes of a file are
-/// read, enough to detect that it is too long for a source. A device without an end is therefore
-/// refused as too long.
+/// The files that a runtime can access, as sources. At most `MAX_READ` bytes of a file are read,
+/// which is enough to detect that the file is too long for a source. A device without an end is
+/// therefore refused as too long.
 #[derive(Drop)]
 pub struct SourceDisk<'r, R> {
     /// The runtime.
@@ -48,7 +48,8 @@ impl<R: Runtime + AllocGlobal + Clone + Drop> ComparableFiles for SourceDisk<'_,
     }
 }
 
-/// Returns the bytes of a file, or a prefix of them that is too long for a source.
+/// Returns all bytes of the file at `path` if there are fewer than `MAX_READ`, otherwise a prefix
+/// that is too long for a source and ends with a whole character.
 fn read_front<R: Runtime + AllocGlobal>(rt: &R, path: &str) -> io::Result<Vec<u8>> {
     let mut bytes = Vec::new(rt.alloc());
     fs::File::open(rt, path)?
@@ -60,7 +61,8 @@ fn read_front<R: Runtime + AllocGlobal>(rt: &R, path: &str) -> io::Result<Vec<u8
     Ok(bytes)
 }
 
-/// Removes the last character, which may be incomplete.
+/// Removes the last character of `bytes`, which may be incomplete: its continuation bytes and its
+/// first byte, but at most four bytes.
 fn cut_last(bytes: &mut Vec<u8>) {
     for _ in 0..4 {
         match bytes.pop() {

@@ -1,4 +1,4 @@
-//! The files of the system. Used by `source_disk`, `logos_program` and `logos_show`.
+//! Implements the files of the system. Used by `source_disk`, `logos_program` and `logos_show`.
 
 use crate::atomic_file::write_whole;
 use crate::comparison::{ComparableFiles, Occurrence};
@@ -69,7 +69,7 @@ impl<R: Runtime + AllocGlobal + Clone + Drop> ComparableFiles for Disk<'_, R> {
 /// The maximum length of a file that is read for a message, in bytes.
 const MAX_SHOWN: u64 = 67_108_864;
 
-/// Returns the bytes of a file, or no bytes if it cannot be read.
+/// Returns the bytes of the file at `path`, or no bytes if the file cannot be read.
 fn bytes_at<R: Runtime + AllocGlobal>(rt: &R, path: &str) -> Result<Vec<u8>, AllocError> {
     match fs::read(rt, path) {
         Ok(bytes) => Ok(bytes),
@@ -83,7 +83,7 @@ fn is_same(one: &Metadata, other: &Metadata) -> bool {
     one.is_file() && one.dev() == other.dev() && one.ino() == other.ino()
 }
 
-/// Returns the error for a failed operation on a file.
+/// Returns the error for an operation on a file that failed with `error`.
 pub(crate) fn file_error(error: &io::Error) -> FileError {
     match error.kind() {
         ErrorKind::OutOfMemory => FileError::Memory,

@@ -1,4 +1,4 @@
-//! Writes to standard output, directly or in blocks, and to files.
+//! Writes to standard output, directly or in blocks, and to files. Used by all three programs.
 
 ghost use Rattle.std.specs.Prelude.{◌≡◌, ◌<◌, [], IfErr, OnOk, vec_capacity, vec_len};
 ghost use Rattle.logos_host.specs.Views.{Appends, AppendsFront, IsNoMisuse, IsOutputFailure, IsUnwritten, status_of};
@@ -8,11 +8,11 @@ use crate::files::Files;
 use std::io;
 use std::io::Write;
 
-/// Writes all bytes, and flushes the writer.
+/// Writes all bytes to `out`, and flushes the writer.
 ///
 /// # Errors
 ///
-/// Returns the error of the writer. Then a part of the bytes may be written.
+/// Returns the error of the writer. Then a part of the bytes may have been written.
 pub fn write_through<O: Write>(bytes: &[u8], out: &mut O) -> io::Result<()>
     ensures { OnOk result (Appends (O.contents out.old) (O.contents out.new) bytes.now) }
 {
@@ -20,12 +20,12 @@ pub fn write_through<O: Write>(bytes: &[u8], out: &mut O) -> io::Result<()>
     out.flush()
 }
 
-/// Writes bytes to standard output, and flushes it.
+/// Writes bytes to `out`, which is standard output, and flushes the writer.
 ///
 /// # Errors
 ///
-/// Returns `Output` if writing fails, or `Closed` if the reader has closed the output. Then a part
-/// of the bytes may be written.
+/// Returns `Closed` if the reader has closed the output, and `Output` if writing fails for another
+/// reason. Then a part of the bytes may have been written.
 pub fn print_bytes<'w, O: Write>(bytes: &[u8], out: &mut O) -> Result<(), Failure<'w>>
     ensures printed { OnOk result (Appends (O.contents out.old) (O.contents out.new) bytes.now) }
     ensures failed { IfErr result IsOutputFailure }
@@ -38,7 +38,7 @@ pub fn print_bytes<'w, O: Write>(bytes: &[u8], out: &mut O) -> Result<(), Failur
     }
 }
 
-/// Replaces the content of the file at a path with `bytes`.
+/// Replaces the content of the file at `path` with `bytes`. Creates the file if there is none.
 ///
 /// # Errors
 ///
@@ -59,12 +59,12 @@ pub fn write_file<'w, F: Files>(
     }
 }
 
-/// Writes a block and empties it, if it has at least `length` bytes.
+/// Writes a block to `out` and empties it, if it has at least `length` bytes.
 ///
 /// # Errors
 ///
-/// Returns the error of the writer. Then a part of the block may be written, and the block is
-/// empty.
+/// Returns the error of the writer. Then a part of the block may have been written, and the block
+/// is empty.
 #[inline(always)]
 pub fn write_full<O: Write>(block: &mut Vec<u8>, length: usize, out: &mut O) -> io::Result<()>
     requires { 0 < length }
@@ -79,12 +79,12 @@ pub fn write_full<O: Write>(block: &mut Vec<u8>, length: usize, out: &mut O) -> 
     write_block(block, out)
 }
 
-/// Writes a block, and empties it.
+/// Writes a block to `out`, and empties it.
 ///
 /// # Errors
 ///
-/// Returns the error of the writer. Then a part of the block may be written, and the block is
-/// empty.
+/// Returns the error of the writer. Then a part of the block may have been written, and the block
+/// is empty.
 pub fn write_block<O: Write>(block: &mut Vec<u8>, out: &mut O) -> io::Result<()>
     ensures empty { block.new.items ≡ [] }
     ensures room { vec_capacity block.new ≡ vec_capacity block.old }

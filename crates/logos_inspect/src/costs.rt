@@ -1,4 +1,4 @@
-//! The cost of a lexer. Used by `logos_answers`, `logos_records` and `logos_show`.
+//! Measures the cost of a lexer. Used by `logos_answers`, `logos_records` and `logos_replies`.
 
 ghost use Rattle.std.specs.Prelude.{◌≡◌};
 ghost use Rattle.logos_inspect.specs.Views.{costs};

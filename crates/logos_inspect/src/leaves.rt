@@ -1,4 +1,5 @@
-//! The rows of leaves in a table. Used by `logos_answers`, `logos_records` and `logos_show`.
+//! Makes the rows of leaves in a table. Used by `logos_answers`, `logos_html`, `logos_records` and
+//! `logos_replies`.
 
 ghost use Rattle.std.specs.Prelude.{◌≡◌, ◌↔◌, IsTrue, IfOk, Some, option_map, option_copied};
 ghost use Rattle.logos_inspect.specs.Views.{location_at, held, IsRowOf, IsTextAt, ShowsCallback, default_priority, held_priority, moved, variant_name};
@@ -22,7 +23,7 @@ pub struct LeafRow<'l> {
     /// The options of the definition.
     pub options: LeafOptions,
     pub priority: usize,
-    /// Whether the priority is the default one.
+    /// Whether the priority is the default priority of the pattern.
     pub is_default: bool,
     /// The callback as it is written, if there is one.
     pub callback: Option<&'l str>,
@@ -60,7 +61,7 @@ pub fn row_of<'l>(
     })
 }
 
-/// Returns the name of the variant of a leaf, unless it is a skip.
+/// Returns the name of the variant in the kind of a leaf, or `None` for a skip.
 fn variant_name<'l>(kind: &'l VariantKind<'_>) -> Option<&'l str>
     ensures { option_copied result ≡ variant_name kind.now }
 {
@@ -87,8 +88,8 @@ fn has_default_priority(
     Ok(default == Some(priority))
 }
 
-/// Returns the default priority of a `token` with this literal, or `None` if the literal has no
-/// value.
+/// Returns the default priority of a `token` with the literal `text`, or `None` if the literal has
+/// no value.
 fn token_priority(alloc: Global, text: &str) -> Result<Option<usize>, Memory>
     ensures { IfOk result (λ priority. priority ≡ option_map held_priority (held text.now)) }
 {
@@ -104,7 +105,7 @@ fn token_priority(alloc: Global, text: &str) -> Result<Option<usize>, Memory>
     }
 }
 
-/// Returns the text of a callback as it is written, if there is a callback.
+/// Returns a callback as it is written in `text`, or `None` if there is no callback.
 fn callback_text<'l>(text: &'l str, callback: Option<&Callback<'_>>) -> Option<&'l str>
     ensures { ShowsCallback text.now (option_copied callback.entry) (option_copied result) }
 {
@@ -114,7 +115,7 @@ fn callback_text<'l>(text: &'l str, callback: Option<&Callback<'_>>) -> Option<&
     }
 }
 
-/// Returns the text at a span, or an empty text if there is no such span.
+/// Returns the part of `text` at a span, or an empty text if `text` has no such span.
 fn text_at(text: &str, span: Span) -> &str
     ensures { IsTextAt text.now span result.now }
 {
@@ -124,7 +125,7 @@ fn text_at(text: &str, span: Span) -> &str
     }
 }
 
-/// Returns the line of the file at the offset `from`, which is relative to `offset`.
+/// Returns the number of the file's line with the byte `offset + from`, counted from 1.
 fn line_at(lines: &LineIndex<'_>, offset: usize, from: usize) -> usize
     ensures { result ≡ (location_at lines.now (moved offset from)).line }
 {

@@ -1,5 +1,5 @@
 //! The properties of a lexer that a program shows: its leaves and its cost. Called by
-//! `logos_answers`, `logos_records` and `logos_show`.
+//! `logos_answers`, `logos_records` and `logos_replies`.
 
 #![tactic(auto)]
 

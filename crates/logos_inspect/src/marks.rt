@@ -1,4 +1,4 @@
-//! The leaves that a graph marks. Used by `logos_causes`.
+//! Finds the leaves that a graph marks. Used by `logos_causes`.
 
 ghost use Rattle.std.specs.Prelude.{◌≡◌, ℕ, ◌<◌, ◌⊎◌, ◌↔◌, IfOk, length, option_map};
 ghost use Rattle.logos_inspect.specs.Imports.{leaf_number, state_type_of, AreMarks, IsSet, Marks, AddsMark};
@@ -10,7 +10,7 @@ use std::alloc::{AllocError, Global};
 /// Returns for each leaf of a graph, by its number, whether a state marks it.
 ///
 /// If a graph without faults does not mark a leaf, maximal munch never finds the leaf in any input:
-/// at each of its matches, another leaf has a longer one, or one of the same length and a higher
+/// at each of its matches, another leaf has a longer match, or a match of equal length and a higher
 /// priority. A leaf that has only late marks may never be found either: each of its matches may be
 /// followed by a longer one.
 ///
@@ -27,7 +27,7 @@ pub fn marked_leaves(alloc: Global, graph: &Graph<'_>) -> Result<Vec<bool>, Allo
     Ok(flags)
 }
 
-/// Sets the flags of the leaves that a state marks.
+/// Sets to `true` the flags of the leaves that a state of this type marks.
 fn add_marks(flags: &mut Vec<bool>, state_type: StateType)
     ensures count { length flags.new.items ≡ length flags.old.items }
     ensures each { (k : ℕ) → k < length flags.old.items → IsSet flags.new.items k
@@ -37,7 +37,7 @@ fn add_marks(flags: &mut Vec<bool>, state_type: StateType)
     add_mark(flags, state_type.early);
 }
 
-/// Sets the flag of a leaf, if a leaf is given.
+/// Sets the flag of `leaf` to `true`. Changes nothing for `None` or a leaf without a flag.
 fn add_mark(flags: &mut Vec<bool>, leaf: Option<LeafId>)
     ensures { AddsMark flags.old.items (option_map leaf_number leaf) flags.new.items }
 {

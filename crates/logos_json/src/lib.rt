@@ -1,5 +1,5 @@
-//! Lines of JSON, each with one object, that are written token by token. Called by
-//! `logos_messages` and `logos_records`.
+//! Writes lines of JSON, each with one object, token by token. Called by `logos_messages` and
+//! `logos_records`.
 
 #![tactic(auto)]
 

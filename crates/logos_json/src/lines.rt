@@ -1,4 +1,4 @@
-//! Lines of JSON to which tokens are appended. Used by `logos_messages` and `logos_records`.
+//! Writes lines of JSON token by token. Used by `logos_messages` and `logos_records`.
 
 ghost use Rattle.std.specs.Prelude.{◌≡◌, ◌↔◌, ◌∷◌, [], true, IfOk, IsOk, IsTrue, decimal, option_map};
 ghost use Rattle.logos_json.specs.Imports.{Ends, Finishes, Gains, bool_member, byte_tokens, bytes_member, flat_map, list_member, maybe_bytes, maybe_number, maybe_text, null_member, number_member, text_member, begin_array, begin_object, boolean, end_array, end_object, key, null, number, string};
@@ -8,8 +8,8 @@ use std::alloc::{AllocError, Global};
 use std::marker::Model;
 use std::{mem, str};
 
-/// Lines of JSON to which tokens are appended. They record whether memory ran out, so only `finish`
-/// can fail.
+/// Lines of JSON to which tokens are appended. The value records whether memory ran out, so only
+/// `finish` can fail.
 #[derive(Drop)]
 pub struct JsonLines {
     writer: Writer,
@@ -30,7 +30,7 @@ impl Model for JsonLines {
 }
 
 impl JsonLines {
-    /// Returns an empty line after the bytes `out`.
+    /// Returns lines that begin with the bytes `out`, to which an empty line is appended.
     pub fn new(alloc: Global, out: Vec<u8>) -> JsonLines
         ensures { result ≡ record { before = out.items; tokens = []; is_whole = true } }
     {
@@ -41,7 +41,7 @@ impl JsonLines {
         }
     }
 
-    /// Begins an object.
+    /// Appends the beginning of an object.
     pub fn begin_object(&mut self)
         ensures { Gains (begin_object ∷ []) self.old self.new }
     {
@@ -50,7 +50,7 @@ impl JsonLines {
         }
     }
 
-    /// Ends an object.
+    /// Appends the end of an object.
     pub fn end_object(&mut self)
         ensures { Gains (end_object ∷ []) self.old self.new }
     {
@@ -59,7 +59,7 @@ impl JsonLines {
         }
     }
 
-    /// Begins a list.
+    /// Appends the beginning of a list.
     fn begin_array(&mut self)
         ensures { Gains (begin_array ∷ []) self.old self.new }
     {
@@ -68,7 +68,7 @@ impl JsonLines {
         }
     }
 
-    /// Ends a list.
+    /// Appends the end of a list.
     pub fn end_list(&mut self)
         ensures { Gains (end_array ∷ []) self.old self.new }
     {
@@ -86,7 +86,7 @@ impl JsonLines {
         }
     }
 
-    /// Begins a member with a list, whose elements are pushed next.
+    /// Appends the beginning of a member with a list, whose elements are pushed next.
     pub fn begin_list(&mut self, name: &str)
         ensures { Gains (key name.now ∷ begin_array ∷ []) self.old self.new }
     {
@@ -162,7 +162,7 @@ impl JsonLines {
         self.null();
     }
 
-    /// Appends a member with a text, or with null if there is none.
+    /// Appends a member with a text, or with null for `None`.
     pub fn push_maybe_text(&mut self, name: &str, text: Option<&str>)
         ensures { Gains (maybe_text name.now (option_map (λ t. t.now) text.entry)) self.old self.new }
     {
@@ -172,7 +172,7 @@ impl JsonLines {
         }
     }
 
-    /// Appends a member with a number, or with null if there is none.
+    /// Appends a member with a number, or with null for `None`.
     pub fn push_maybe_number(&mut self, name: &str, value: Option<usize>)
         ensures { Gains (maybe_number name.now value) self.old self.new }
     {
@@ -182,7 +182,7 @@ impl JsonLines {
         }
     }
 
-    /// Appends a member with bytes: a text, or a list of numbers if they are not UTF-8.
+    /// Appends a member with bytes: a text if they are UTF-8, otherwise a list of numbers.
     pub fn push_bytes(&mut self, name: &str, bytes: &[u8])
         ensures { Gains (bytes_member name.now bytes.now) self.old self.new }
     {
@@ -192,7 +192,7 @@ impl JsonLines {
         }
     }
 
-    /// Appends a member with bytes, or with null if there are none.
+    /// Appends a member with bytes, as `push_bytes` does, or with null for `None`.
     pub fn push_maybe_bytes(&mut self, name: &str, bytes: Option<&[u8]>)
         ensures { Gains (maybe_bytes name.now (option_map (λ b. b.now) bytes.entry)) self.old
             self.new }
@@ -203,7 +203,7 @@ impl JsonLines {
         }
     }
 
-    /// Appends a member with a list of numbers.
+    /// Appends a member with a list of the bytes as numbers.
     fn push_list(&mut self, name: &str, bytes: &[u8])
         ensures { Gains (list_member name.now (flat_map byte_tokens bytes.now)) self.old self.new }
     {
@@ -212,7 +212,7 @@ impl JsonLines {
         self.end_list();
     }
 
-    /// Appends numbers, as elements of a list.
+    /// Appends the bytes as numbers, which are elements of a list.
     fn push_elements(&mut self, bytes: &[u8])
         ensures { Gains (flat_map byte_tokens bytes.now) self.old self.new }
     {
@@ -221,7 +221,7 @@ impl JsonLines {
         }
     }
 
-    /// Ends the line, and begins an empty one.
+    /// Appends LF, which ends the line, and begins an empty line.
     pub fn end_line(&mut self)
         ensures { Ends self.old self.new }
     {
@@ -232,7 +232,8 @@ impl JsonLines {
         self.is_whole = self.is_whole & is_ended;
     }
 
-    /// Returns all bytes. The last line must have been ended.
+    /// Returns the bytes with which the value was made, and the bytes of all lines. The last line
+    /// must have been ended.
     ///
     /// # Errors
     ///

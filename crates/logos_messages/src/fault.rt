@@ -1,4 +1,4 @@
-//! The line of a fault. Used by `messages` and `notes`.
+//! Appends the line of JSON for a fault. Used by `messages` and `notes`.
 
 ghost use Rattle.std.specs.Prelude.{◌≡◌, None, false, IfOk, IfSome, OnOk, option_map, string_bytes};
 ghost use Rattle.logos_messages.specs.Imports.{HasLongLine, YieldsMessage, PutsFault, InReport, fault_head, fault_of, fault_texts};
@@ -11,22 +11,22 @@ use logos_page::Page;
 use logos_report::{KnownFault, Member, Part, Start, push_fault, push_put_in, put_in};
 use std::alloc::{AllocError, Global};
 
-/// A fault, with its clues.
+/// A fault of a part of a file, with the clues about it.
 #[derive(Clone, Copy)]
 pub(crate) struct FaultMessage<'f, 'c, 'p, 't> {
     pub(crate) part: Part<'p, 't>,
     pub(crate) known: KnownFault<'f>,
     /// The fault as a member of its set of ambiguous leaves, if there is a clue about the set.
     pub(crate) member: Option<Member<'c>>,
-    /// The patterns that explain the fault.
+    /// The patterns that explain the fault, which may be none.
     pub(crate) starts: &'c [Start],
 }
 
-/// Appends the line of a fault.
+/// Appends to `lines` the line of a fault.
 ///
 /// # Errors
 ///
-/// Returns `AllocError` if memory runs out for its report.
+/// Returns `AllocError` if memory runs out for the report of the fault. Then nothing was appended.
 pub(crate) fn push_fault_line(
     lines: &mut JsonLines,
     alloc: Global,
@@ -42,7 +42,8 @@ pub(crate) fn push_fault_line(
     Ok(())
 }
 
-/// Appends a fault with its report `rendered` and the text about a substituted subpattern.
+/// Appends the object of a fault, with its report `rendered` and `put_in`, the text about a
+/// substituted subpattern.
 fn push_message(
     lines: &mut JsonLines,
     message: FaultMessage<'_, '_, '_, '_>,
@@ -67,7 +68,8 @@ fn push_message(
     lines.end_object();
 }
 
-/// Returns the report of a fault without colors, or `None` if its lines are long.
+/// Returns the report of a fault without colors, or `None` if its span begins or ends in a long
+/// line.
 fn rendered(
     alloc: Global,
     message: FaultMessage<'_, '_, '_, '_>,

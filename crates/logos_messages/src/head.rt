@@ -1,4 +1,5 @@
-//! The beginning of the line of a fault. Used by `fault`, `rest_line` and `warnings`.
+//! Appends the first members in the line of a fault or a warning. Used by `fault`, `rest_line` and
+//! `warnings`.
 
 ghost use Rattle.std.specs.Prelude.{◌≡◌, ◌++◌, [], ◌∷◌, codes, if◌then◌else◌};
 ghost use Rattle.logos_messages.specs.Imports.{Gains, code_member, error_tokens, fault_head, fault_of, level_of, message_tokens, name_of};
@@ -7,7 +8,8 @@ use logos_json::JsonLines;
 use logos_report::{first_line, is_error};
 use logos_token::error::{FaultCode, SpannedError};
 
-/// Appends the marker of a diagnostic, and the message, the code and the level of its fault.
+/// Appends the marker of a diagnostic, the first line of a fault's message, and the code and the
+/// level of the fault.
 pub(crate) fn push_head(lines: &mut JsonLines, fault: &SpannedError)
     ensures { Gains (fault_head (fault_of fault.now)) lines.old lines.new }
 {
@@ -16,7 +18,7 @@ pub(crate) fn push_head(lines: &mut JsonLines, fault: &SpannedError)
     lines.push_text("level", level_of(fault.code));
 }
 
-/// Appends the marker of a diagnostic, and its message.
+/// Appends the marker of a diagnostic and its message, as members.
 pub(crate) fn push_message(lines: &mut JsonLines, message: &str)
     ensures { Gains (message_tokens message.now) lines.old lines.new }
 {
@@ -24,7 +26,7 @@ pub(crate) fn push_message(lines: &mut JsonLines, message: &str)
     lines.push_text("message", message);
 }
 
-/// Appends the code of a fault, as a member.
+/// Appends the code of a fault as a member, which is null for a fault that is not an error.
 pub(crate) fn push_code(lines: &mut JsonLines, code: FaultCode)
     ensures { Gains (code_member code) lines.old lines.new }
 {
@@ -42,7 +44,7 @@ fn level_of(code: FaultCode) -> &'static str
     if is_error(code) { "error" } else { "note" }
 }
 
-/// Appends the code of a fault that is an error.
+/// Appends the code of an error as a member, whose value is an object.
 fn push_error_code(lines: &mut JsonLines, code: FaultCode)
     ensures { Gains (error_tokens code) lines.old lines.new }
 {

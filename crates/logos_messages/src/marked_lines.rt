@@ -1,4 +1,4 @@
-//! Lines of a file, and the columns of a span in them. Used by `spans`.
+//! Appends the lines of a span, with its columns in each line. Used by `spans`.
 
 ghost use Rattle.std.specs.Prelude.{◌≡◌, ◌≤◌, [], ◌∷◌, length, chars};
 ghost use Rattle.logos_messages.specs.Imports.{Gains, YieldsLineList, YieldsLines, first_column, last_column, marked_tokens};
@@ -13,15 +13,15 @@ const LINES: usize = 8;
 /// The maximum length of a line that is shown, in bytes.
 pub(crate) const LONG: usize = 400;
 
-/// The start and the end of a span.
+/// A span of a file, by the locations of its start and of its end.
 #[derive(Clone, Copy)]
 pub(crate) struct Reach {
     pub(crate) first: Location,
     pub(crate) last: Location,
 }
 
-/// Appends a member with the lines of a span. Long lines are left out. If the span has many lines,
-/// all of them are left out.
+/// Appends a member with the list of a span's lines. Lines of more than `LONG` bytes are left out.
+/// If the span has more than `LINES` lines after its first one, the list is empty.
 pub(crate) fn push_lines(lines: &mut JsonLines, source: &Source<'_>, reach: Reach)
     ensures { YieldsLineList source.now.text reach.first reach.last lines.old lines.new }
 {
@@ -30,7 +30,8 @@ pub(crate) fn push_lines(lines: &mut JsonLines, source: &Source<'_>, reach: Reac
     lines.end_list();
 }
 
-/// Appends the lines of a span that are not long, unless the span has many lines.
+/// Appends the lines of a span that have at most `LONG` bytes, unless the span has more than
+/// `LINES` lines after its first one.
 fn push_each_line(lines: &mut JsonLines, source: &Source<'_>, reach: Reach)
     ensures { YieldsLines source.now.text reach.first reach.last lines.old lines.new }
 {
@@ -42,7 +43,8 @@ fn push_each_line(lines: &mut JsonLines, source: &Source<'_>, reach: Reach)
     }
 }
 
-/// Appends a line, unless it is long.
+/// Appends the line of a file with this number and the columns of a span in it, unless the line has
+/// more than `LONG` bytes or the file has no such line.
 fn push_line(lines: &mut JsonLines, source: &Source<'_>, reach: Reach, number: usize)
     requires after { reach.first.line ≤ number }
     requires before { number ≤ reach.last.line }
@@ -58,7 +60,8 @@ fn push_line(lines: &mut JsonLines, source: &Source<'_>, reach: Reach, number: u
     }
 }
 
-/// Returns the column at which a span begins in a line.
+/// Returns the column at which a span begins in the line `number`: its own column in its first
+/// line, otherwise 1.
 fn first_column(reach: Reach, number: usize) -> usize
     ensures { result ≡ first_column reach.first number }
 {
@@ -69,7 +72,8 @@ fn first_column(reach: Reach, number: usize) -> usize
     }
 }
 
-/// Returns the exclusive column at which a span ends in a line with this text.
+/// Returns the column before which a span ends in the line `number` with this text: its own column
+/// in its last line, otherwise the column after the text.
 fn last_column(reach: Reach, number: usize, text: &str) -> usize
     ensures { result ≡ last_column reach.last number text.now }
 {
@@ -87,7 +91,7 @@ fn char_count(text: &str) -> usize
     text.chars().count()
 }
 
-/// Appends a line with the columns of a span in it.
+/// Appends an object for a line with this text, and with the columns `from..to` of a span in it.
 fn push_marked(lines: &mut JsonLines, text: &str, from: usize, to: usize)
     ensures { Gains (marked_tokens (record { text = text.now; from = from; to = to })) lines.old
         lines.new }

@@ -1,5 +1,5 @@
-//! The faults of a source, one line for each, but at most 50 of one code. Used by `logos_expand`
-//! and `logos_show`.
+//! Appends the faults of a source as lines of JSON: a line for each fault, but for at most 50 with
+//! one code. Used by `logos_expand` and `logos_show`.
 
 ghost use Rattle.std.specs.Prelude.{◌≡◌, ◌≤◌, ◌<◌, ◌+◌, ◌++◌, List, ℕ, IfOk, OnErr, OnOk, length, take};
 ghost use Rattle.logos_json.specs.Lines.{LinesValue};
@@ -19,10 +19,10 @@ use std::alloc::{AllocError, Global};
 /// rustc's diagnostics, of which `rendered` is the report by `push_faults`, without colors. The
 /// clues about a fault are among its notes.
 ///
-/// At most 50 faults of one code have a line. Instead of the next one, a line of the level
-/// `failure-note` has the number of those that are left out. Lines of the file that have more than
-/// 400 bytes are left out, and then `rendered` is null. Thus the lines take memory linear in the
-/// messages of the faults that have one.
+/// At most 50 faults with one code have a line. Instead of the 51st fault, a line of the level
+/// `failure-note` has the number of faults that are left out. Lines of the file that have more than
+/// 400 bytes are left out, and `rendered` is null if the span of the fault begins or ends in such a
+/// line. Thus the appended lines take memory linear in the messages of the faults that have a line.
 ///
 /// # Errors
 ///
@@ -43,8 +43,8 @@ pub fn push_messages(
     Ok(())
 }
 
-/// Appends the lines of the faults of these parts of a file, in order, like `push_messages`. At
-/// most 50 faults of one code in all parts have a line.
+/// Appends the lines of the faults of these parts of a file, in order, as `push_messages` does. At
+/// most 50 faults with one code in all parts together have a line.
 ///
 /// # Errors
 ///
@@ -114,7 +114,7 @@ fn push_parts(
     Ok(())
 }
 
-/// Appends the lines of the faults of the part with a number.
+/// Appends the lines of the faults of the part at the index `number`.
 fn push_part(
     lines: &mut JsonLines,
     alloc: Global,
@@ -143,7 +143,8 @@ fn push_part(
     Ok(())
 }
 
-/// Appends the lines of the faults of a part. `first` is the state before the first of them.
+/// Appends the lines of the faults of a part, `listing.faults`. `first` has the clues at the first
+/// of them.
 fn push_all(
     lines: &mut JsonLines,
     alloc: Global,
@@ -176,8 +177,9 @@ fn push_all(
     Ok(())
 }
 
-/// Appends the line of the fault of a part with this number. At most 50 faults of one code have a
-/// line. Instead of the next one, a line has the number of those that are left out.
+/// Appends the line of the fault at the index `number` of a part, if fewer than 50 faults with its
+/// code precede it in the file. In place of the 51st fault with a code, appends a line with the
+/// number of faults that are left out. Appends nothing for a later one.
 fn push_counted(
     lines: &mut JsonLines,
     alloc: Global,

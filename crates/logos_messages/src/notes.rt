@@ -1,4 +1,5 @@
-//! The notes and the help of a fault. Used by `fault`, `rest_line` and `warnings`.
+//! Appends the notes and the help of a fault or a warning. Used by `fault`, `rest_line` and
+//! `warnings`.
 
 ghost use Rattle.std.specs.Prelude.{◌≡◌, [], ◌∷◌, option_map, string_bytes};
 ghost use Rattle.logos_messages.specs.Imports.{Gains, YieldsNoteList, YieldsNotes, list_member, note_tokens, nothing_tokens};
@@ -7,7 +8,7 @@ use crate::fault::FaultMessage;
 use logos_json::JsonLines;
 use logos_report::{MOST, Member, Start};
 
-/// Appends the notes and the help of a fault, as a member.
+/// Appends the notes and the help of a fault, as a member with a list.
 pub(crate) fn push_notes(
     lines: &mut JsonLines,
     message: FaultMessage<'_, '_, '_, '_>,
@@ -23,8 +24,8 @@ pub(crate) fn push_notes(
     lines.end_list();
 }
 
-/// Appends the text about the subpattern whose substitution shifts the byte of a fault, if there is
-/// one.
+/// Appends a note with `put_in`, the text about the subpattern whose substitution shifts the byte
+/// of a fault, or nothing for `None`.
 fn push_put_in(lines: &mut JsonLines, put_in: &Option<String>)
     ensures { YieldsNotes lines.old lines.new }
 {
@@ -33,7 +34,8 @@ fn push_put_in(lines: &mut JsonLines, put_in: &Option<String>)
     }
 }
 
-/// Appends a note for each pattern that can examine the bytes before its start, but at most 50.
+/// Appends a note with the name of the leaf for each of the first 50 patterns that can examine the
+/// bytes before their start.
 fn push_starts(lines: &mut JsonLines, starts: &[Start])
     ensures { YieldsNotes lines.old lines.new }
 {
@@ -42,7 +44,8 @@ fn push_starts(lines: &mut JsonLines, starts: &[Start])
     }
 }
 
-/// Appends the clue about a set of ambiguous leaves, and the help for a fault.
+/// Appends the clue about the set of ambiguous leaves of a fault, and the help for the fault, if
+/// there are any.
 fn push_advice(lines: &mut JsonLines, message: FaultMessage<'_, '_, '_, '_>)
     ensures { YieldsNotes lines.old lines.new }
 {
@@ -50,7 +53,8 @@ fn push_advice(lines: &mut JsonLines, message: FaultMessage<'_, '_, '_, '_>)
     push_help(lines, message.known.help);
 }
 
-/// Appends the clue about a set of ambiguous leaves, if this is one of its faults.
+/// Appends a note with the clue about the set of ambiguous leaves of `member`, or nothing for
+/// `None`.
 fn push_known(lines: &mut JsonLines, member: Option<Member<'_>>)
     ensures { YieldsNotes lines.old lines.new }
 {
@@ -59,7 +63,7 @@ fn push_known(lines: &mut JsonLines, member: Option<Member<'_>>)
     }
 }
 
-/// Returns an optional text by reference.
+/// Returns a reference to a text, or `None` if there is no text.
 pub(crate) fn text_of(text: &Option<String>) -> Option<&str>
     ensures { option_map (λ t. t.now) result ≡ option_map string_bytes text.now }
 {
@@ -69,14 +73,14 @@ pub(crate) fn text_of(text: &Option<String>) -> Option<&str>
     }
 }
 
-/// Appends a note or a help.
+/// Appends the object of a note or a help with this text. `level` is `note` or `help`.
 pub(crate) fn push_one(lines: &mut JsonLines, level: &str, text: &str)
     ensures { YieldsNotes lines.old lines.new }
 {
     push_note(lines, level, text);
 }
 
-/// Appends a note for each line of a message after its first one.
+/// Appends a note for each line of a message after its first one, without empty lines.
 fn push_other_lines(lines: &mut JsonLines, message: &str)
     ensures { YieldsNotes lines.old lines.new }
 {
@@ -94,7 +98,7 @@ fn push_other_line(lines: &mut JsonLines, text: &str)
     }
 }
 
-/// Appends the help for a fault, if there is one.
+/// Appends the object with the help for a fault, if there is one.
 fn push_help(lines: &mut JsonLines, help: Option<&str>)
     ensures { YieldsNotes lines.old lines.new }
 {
@@ -103,7 +107,7 @@ fn push_help(lines: &mut JsonLines, help: Option<&str>)
     }
 }
 
-/// Appends a note or a help.
+/// Appends the object of a note or a help with this text. `level` is `note` or `help`.
 fn push_note(lines: &mut JsonLines, level: &str, text: &str)
     ensures { Gains (note_tokens (record { level = level.now; text = text.now })) lines.old lines.new }
 {
@@ -115,7 +119,7 @@ fn push_note(lines: &mut JsonLines, level: &str, text: &str)
     lines.end_object();
 }
 
-/// Appends the empty members of a note: its spans, notes and report.
+/// Appends the members that a note leaves empty: its spans, its notes and its report.
 fn push_nothing_else(lines: &mut JsonLines)
     ensures { Gains nothing_tokens lines.old lines.new }
 {

@@ -1,4 +1,4 @@
-//! The spans of a fault or a warning. Used by `fault` and `warnings`.
+//! Appends the spans of a fault or a warning. Used by `fault` and `warnings`.
 
 ghost use Rattle.std.specs.Prelude.{◌≡◌, [], ◌∷◌, IsTrue, List, Some, None, codes, option_map};
 ghost use Rattle.logos_messages.specs.Imports.{Gains, HasLongLine, IsLongAt, YieldsOther, YieldsSpan, YieldsSpanList, bytes_tokens, label_tokens, locations_tokens};
@@ -8,7 +8,8 @@ use logos_json::JsonLines;
 use logos_report::Part;
 use logos_token::token::Span;
 
-/// Appends a span of a part of a file. Without a label it is the primary span of its fault.
+/// Appends the object of a span of a part of a file, which is the primary span of its fault if
+/// `label` is `None`.
 fn push_span(lines: &mut JsonLines, part: Part<'_, '_>, span: Span, label: Option<&str>)
     ensures { YieldsSpan part.entry.source.now part.entry.offset span (option_map (λ t. t.now) label.entry)
         lines.old lines.new }
@@ -25,7 +26,7 @@ fn push_span(lines: &mut JsonLines, part: Part<'_, '_>, span: Span, label: Optio
     lines.end_object();
 }
 
-/// Appends the second span of a fault, if it has one.
+/// Appends the second span `also` of a fault or a warning, or nothing for `None`.
 fn push_other(lines: &mut JsonLines, part: Part<'_, '_>, also: Option<Span>)
     ensures { YieldsOther part.entry.source.now part.entry.offset also lines.old lines.new }
 {
@@ -34,8 +35,8 @@ fn push_other(lines: &mut JsonLines, part: Part<'_, '_>, also: Option<Span>)
     }
 }
 
-/// Appends the spans of a fault or a warning, as a member: the primary one, and the second one, if
-/// it has one.
+/// Appends the spans of a fault or a warning as a member with a list: the primary span `span`, and
+/// the second span `also`, if there is one. Both are in bytes of the part.
 pub(crate) fn push_spans(lines: &mut JsonLines, part: Part<'_, '_>, span: Span, also: Option<Span>)
     ensures { YieldsSpanList part.entry.source.now part.entry.offset span also lines.old lines.new }
 {
@@ -45,7 +46,8 @@ pub(crate) fn push_spans(lines: &mut JsonLines, part: Part<'_, '_>, span: Span, 
     lines.end_list();
 }
 
-/// Appends the file of a span, and its bytes.
+/// Appends the path of the file of a span, and the start and the end of the span in bytes of the
+/// file.
 fn push_bytes(lines: &mut JsonLines, part: Part<'_, '_>, span: Span)
     ensures { Gains (bytes_tokens part.entry.source.now part.entry.offset span) lines.old lines.new }
 {
@@ -54,7 +56,7 @@ fn push_bytes(lines: &mut JsonLines, part: Part<'_, '_>, span: Span)
     lines.push_number("byte_end", span.to.saturating_add(part.offset));
 }
 
-/// Appends the lines and the columns of a span.
+/// Appends the lines and the columns of the start and of the end of a span.
 fn push_locations(lines: &mut JsonLines, reach: Reach)
     ensures { Gains (locations_tokens reach.first reach.last) lines.old lines.new }
 {
@@ -64,7 +66,8 @@ fn push_locations(lines: &mut JsonLines, reach: Reach)
     lines.push_number("column_end", reach.last.column);
 }
 
-/// Appends the members that state whether a span is the primary one of its fault, and its label.
+/// Appends the members which state whether a span is the primary span of its fault, as it is if
+/// `label` is `None`, and its label.
 fn push_label(lines: &mut JsonLines, label: Option<&str>)
     ensures { Gains (label_tokens (option_map (λ t. t.now) label.entry)) lines.old lines.new }
 {
@@ -74,7 +77,7 @@ fn push_label(lines: &mut JsonLines, label: Option<&str>)
     }
 }
 
-/// Appends the label of a second span.
+/// Appends the members of a second span which state that it is not primary, and its label.
 fn push_other_label(lines: &mut JsonLines, label: &str)
     ensures { Gains (label_tokens (Some label.now)) lines.old lines.new }
 {
@@ -82,7 +85,7 @@ fn push_other_label(lines: &mut JsonLines, label: &str)
     lines.push_text("label", label);
 }
 
-/// Appends the mark of a primary span.
+/// Appends the members of a primary span which state that it is primary, and has no label.
 fn push_primary(lines: &mut JsonLines)
     ensures { Gains (label_tokens None) lines.old lines.new }
 {
@@ -90,7 +93,7 @@ fn push_primary(lines: &mut JsonLines)
     lines.push_null("label");
 }
 
-/// Returns whether a span begins or ends in a long line.
+/// Returns whether a span of a part begins or ends in a line of more than `LONG` bytes.
 pub(crate) fn has_long_line(part: Part<'_, '_>, span: Span) -> bool
     ensures { IsTrue result → HasLongLine part.entry.source.now part.entry.offset span }
 {
@@ -100,7 +103,7 @@ pub(crate) fn has_long_line(part: Part<'_, '_>, span: Span) -> bool
     is_long(part, span.to)
 }
 
-/// Returns whether the line of an offset is long.
+/// Returns whether the line with the byte `offset` of a part has more than `LONG` bytes.
 fn is_long(part: Part<'_, '_>, offset: usize) -> bool
     ensures { IsTrue result → IsLongAt part.entry.source.now part.entry.offset offset }
 {

@@ -1,4 +1,5 @@
-//! The warnings of a part of a file, one line for each. Used by `logos_file_warnings`.
+//! Appends the warnings of a part of a file as lines of JSON: a line for each of the first 50. Used
+//! by `logos_file_warnings`.
 
 ghost use Rattle.std.specs.Prelude.{◌≡◌, ◌++◌, ℕ, List, None, false, IfOk, IfSome, OnErr, OnOk, option_map, string_bytes};
 ghost use Rattle.logos_messages.specs.Imports.{AreWarnings, Gains, HasLongLine, YieldsMessage, YieldsNoteList, YieldsNotes, PutsWarning, PutsWarnings, InReport, shown_of, warning_head, warning_texts};
@@ -12,9 +13,9 @@ use logos_report::{Part, Warning, first_of, push_warning};
 use logos_token::error::Memory;
 use std::alloc::{AllocError, Global};
 
-/// Appends a line of JSON for each warning of a part of a file, in order, but at most 50. A line
-/// has the members of rustc's diagnostics, of which `rendered` is the report of the warning,
-/// without colors, or null if its lines are long.
+/// Appends a line of JSON for each of the first 50 warnings of a part of a file, in order. A line
+/// has the members of rustc's diagnostics, of which `rendered` is the report of the warning without
+/// colors, or null if the span of the warning begins or ends in a line of more than 400 bytes.
 ///
 /// # Errors
 ///
@@ -81,7 +82,7 @@ fn push_line(
     Ok(())
 }
 
-/// Appends a warning, and this report of it.
+/// Appends the object of a warning, with the report `rendered`, or null for `None`.
 fn push_object(lines: &mut JsonLines, part: Part<'_, '_>, warning: &Warning, rendered: Option<&str>)
     ensures { YieldsMessage part.entry.source.now part.entry.offset
         (warning_head (string_bytes warning.now.message)) warning.now.span warning.now.also
@@ -95,7 +96,7 @@ fn push_object(lines: &mut JsonLines, part: Part<'_, '_>, warning: &Warning, ren
     lines.end_object();
 }
 
-/// Appends the marker of a diagnostic, and the message and the level of its warning.
+/// Appends the marker of a diagnostic, the message of a warning, a null code, and the level.
 fn push_head(lines: &mut JsonLines, message: &str)
     ensures { Gains (warning_head message.now) lines.old lines.new }
 {
@@ -104,7 +105,7 @@ fn push_head(lines: &mut JsonLines, message: &str)
     lines.push_text("level", "warning");
 }
 
-/// Appends the note and the help of a warning, as a member.
+/// Appends the note and the help of a warning, as a member with a list.
 fn push_notes(lines: &mut JsonLines, warning: &Warning)
     ensures { YieldsNoteList lines.old lines.new }
 {
@@ -114,7 +115,7 @@ fn push_notes(lines: &mut JsonLines, warning: &Warning)
     lines.end_list();
 }
 
-/// Appends a note or a help, if there is one.
+/// Appends a note or a help with this level and text, or nothing for `None`.
 fn push_text(lines: &mut JsonLines, level: &str, text: Option<&str>)
     ensures { YieldsNotes lines.old lines.new }
 {
@@ -123,7 +124,8 @@ fn push_text(lines: &mut JsonLines, level: &str, text: Option<&str>)
     }
 }
 
-/// Returns the report of a warning without colors, or `None` if its lines are long.
+/// Returns the report of a warning without colors, or `None` if its span begins or ends in a long
+/// line.
 fn rendered(
     alloc: Global,
     part: Part<'_, '_>,

@@ -1,4 +1,5 @@
-//! Reads the arguments of a command line one after another. Called by `arguments` and `paths`.
+//! Reads the arguments of a command line one after another. Used by `arguments`, `paths` and
+//! `logos_questions`.
 
 ghost use Rattle.std.specs.Prelude.{◌≡◌, IfErr, IfOk, None, Some, option_map};
 ghost use Rattle.logos_options.specs.Imports.{status_of, option_named, begins_option, split_at_equals, step, step_value, with_assigned, with_option, with_written};
@@ -6,7 +7,7 @@ ghost use Rattle.logos_options.specs.Imports.{status_of, option_named, begins_op
 use crate::options::OptionName;
 use logos_host::Failure;
 
-/// A given option with its value.
+/// An option of a command line, with its value.
 #[derive(Clone, Copy)]
 pub struct GivenOption<'w> {
     pub option: OptionName,
@@ -23,7 +24,7 @@ pub enum Use<'w> {
     Given(GivenOption<'w>),
 }
 
-/// The state of reading after some arguments.
+/// The progress of reading a command line after some of its arguments.
 #[derive(Clone, Copy)]
 pub struct ArgumentProgress {
     /// The option whose value the next argument is, if there is one.
@@ -32,19 +33,20 @@ pub struct ArgumentProgress {
     pub is_over: bool,
 }
 
-/// The result of reading one more argument.
+/// The result of reading one more argument: the progress after it, and its meaning if it completes
+/// a path or an option.
 #[derive(Clone, Copy)]
 pub struct ArgumentStep<'w> {
     pub progress: ArgumentProgress,
     pub found: Option<Use<'w>>,
 }
 
-/// Reads one more argument.
+/// Returns the result of reading the argument `word` after the arguments that led to `progress`.
 ///
 /// # Errors
 ///
-/// Returns `UnknownOption` for an argument that begins with `-` and is not an option, and `Misuse`
-/// if an option that takes no value has one.
+/// Returns `UnknownOption` for an argument that begins with `-`, has further bytes and is not an
+/// option, and `Misuse` for an option that takes no value but has one after `=`.
 pub fn next_step<'w>(
     progress: ArgumentProgress,
     word: &'w str,
@@ -72,7 +74,7 @@ pub fn next_step<'w>(
     step_written(progress, word)
 }
 
-/// Returns a step that found a path or an option.
+/// Returns the step to `progress` that found the path or the option `one`.
 fn found<'w>(progress: ArgumentProgress, one: Use<'w>) -> ArgumentStep<'w>
     ensures { result ≡ record { progress = progress; found = Some one.entry } }
 {
@@ -82,7 +84,8 @@ fn found<'w>(progress: ArgumentProgress, one: Use<'w>) -> ArgumentStep<'w>
     }
 }
 
-/// Reads an argument that is not the value of an option, up to and including `--`.
+/// Returns the result of reading an argument that is not the value of an option and does not follow
+/// `--`.
 fn step_written<'w>(
     progress: ArgumentProgress,
     word: &'w str,
@@ -105,7 +108,8 @@ fn step_written<'w>(
     step_option(progress, word)
 }
 
-/// Reads an argument that may be an option.
+/// Returns the result of reading an argument that is not `--`: an option, with or without its
+/// value, or a path.
 fn step_option<'w>(
     progress: ArgumentProgress,
     word: &'w str,
@@ -130,7 +134,8 @@ fn step_option<'w>(
     }
 }
 
-/// Reads an argument that begins with `-` and is not an option: an option with its value after `=`.
+/// Returns the result of reading an argument that begins with `-` and is not the name of an option:
+/// an option with its value after `=`, or a failure.
 fn step_assigned<'w>(
     progress: ArgumentProgress,
     word: &'w str,
@@ -155,7 +160,7 @@ fn step_assigned<'w>(
     }
 }
 
-/// Returns the parts before and after the first `=` of an argument, if it has one.
+/// Returns the parts before and after the first `=` of an argument, or `None` if it has no `=`.
 fn split_at_equals(word: &str) -> Option<(&str, &str)>
     ensures { option_map (λ parts. (parts.0.now, parts.1.now)) result ≡ split_at_equals word.now }
 {
@@ -165,7 +170,7 @@ fn split_at_equals(word: &str) -> Option<(&str, &str)>
     }
 }
 
-/// Returns the failure for an argument that is not an option.
+/// Returns the failure for an argument that is not an option, without a nearest option.
 fn unknown<'w>(word: &'w str) -> Failure<'w>
     ensures { status_of result ≡ 2 }
 {

@@ -1,5 +1,5 @@
-//! Reads the arguments of a command line: paths and options. Called by `logos_cli` and
-//! `logos_show`.
+//! Reads the arguments of a command line: paths and options. Used by `logos_cli`, `logos_items` and
+//! `logos_questions`.
 
 ghost use Rattle.std.specs.Prelude.{◌≡◌, IfErr, IfOk, None, Some, is_some, map, option_map, set, string_bytes};
 ghost use Rattle.logos_options.specs.Imports.{arguments_of, arguments_value, nothing_given, number, option_value, role_of, settings_value, settled, status_of, use_value, with_found, with_path, with_question, with_role, with_setting, with_word, with_arguments};
@@ -10,27 +10,27 @@ use crate::paths::path_by_word;
 use crate::program::Program;
 use logos_host::Failure;
 
-/// The arguments of a command line.
+/// The arguments of a command line, as far as they were read.
 #[derive(Clone, Copy)]
 pub struct Arguments<'w> {
-    /// The first path.
+    /// The first path, if there is one.
     pub first: Option<&'w str>,
-    /// The second path.
+    /// The second path, if there is one.
     pub second: Option<&'w str>,
     /// The settings that are given.
     pub settings: Settings<'w>,
     /// The question, such as `--examples`, if there is one.
     pub question: Option<GivenOption<'w>>,
-    /// The option whose text is requested.
+    /// The option that requests a text, such as `--help`, if there is one.
     pub text: Option<OptionName>,
-    /// The state of reading after the arguments so far.
+    /// The progress of reading after these arguments.
     pub progress: ArgumentProgress,
 }
 
-/// The settings that are given, with their values.
+/// The settings of a command line, with their values.
 #[derive(Clone, Copy)]
 pub struct Settings<'w> {
-    /// For each option, by its number, its value if the option is given.
+    /// For each option, by its number, its value, or `None` if the option is not given.
     values: [Option<&'w str>; OPTIONS],
 }
 
@@ -38,8 +38,8 @@ impl<'w> Settings<'w> {
     ghost use Rattle.std.specs.Prelude.{◌≡◌, option_map};
     ghost use Rattle.logos_options.specs.Arguments.{is_set, setting, settings_value};
 
-    /// Returns the value of an option, if the option is given. The value is empty for an option
-    /// that takes none.
+    /// Returns the value of an option, or `None` if the option is not given. The value is empty for
+    /// an option that takes no value.
     pub fn value(&self, option: OptionName) -> Option<&'w str>
         ensures { option_map (λ text. text.now) result ≡ setting option (settings_value self.now) }
     {
@@ -57,11 +57,14 @@ impl<'w> Settings<'w> {
     }
 }
 
-/// Reads the arguments of a command line. Arguments after `--help` or `--version` are not read.
+/// Returns the paths and the options in the arguments of a command line. Arguments after `--help`
+/// or `--version` are not read.
 ///
 /// # Errors
 ///
-/// Returns `Misuse` or `UnknownOption` if the program does not take the arguments.
+/// Returns `UnknownOption` for an option that the program does not take. Returns `Misuse` if an
+/// option lacks its value or has a value that it does not take, if a setting is given twice, and
+/// for a second question, or a third path of `logos_show`.
 pub fn arguments_of(program: Program, arguments: &[String]) -> Result<Arguments<'_>, Failure<'_>>
     ensures read { IfOk result (λ parsed.
         arguments_of program (map string_bytes arguments.now) ≡ Some (arguments_value parsed)) }
@@ -74,14 +77,15 @@ pub fn arguments_of(program: Program, arguments: &[String]) -> Result<Arguments<
     }
 }
 
-/// Returns the failure for invalid arguments: the reason, and the invalid argument.
+/// Returns the failure for invalid arguments, with the reason `what` and the invalid argument
+/// `word`.
 pub fn misuse<'w>(what: &'static str, word: &'w str) -> Failure<'w>
     ensures { status_of result ≡ 2 }
 {
     Failure::Misuse { what, word }
 }
 
-/// Reads all arguments, up to an option that requests a text.
+/// Returns the paths and the options in these arguments, up to an option that requests a text.
 fn read_arguments(program: Program, arguments: &[String]) -> Result<Arguments<'_>, Failure<'_>>
     ensures read { IfOk result (λ parsed. with_arguments program (Some nothing_given)
         (map string_bytes arguments.now) ≡ Some (arguments_value parsed)) }
@@ -110,7 +114,7 @@ fn read_arguments(program: Program, arguments: &[String]) -> Result<Arguments<'_
     Ok(parsed)
 }
 
-/// Returns the arguments, or fails if the last option lacks its value and no text is requested.
+/// Returns `arguments`, or `Misuse` if the last option lacks its value and no text is requested.
 fn settled(arguments: Arguments<'_>) -> Result<Arguments<'_>, Failure<'_>>
     ensures read { IfOk result (λ all.
         settled (Some (arguments_value arguments.entry)) ≡ Some (arguments_value all)) }
@@ -123,7 +127,7 @@ fn settled(arguments: Arguments<'_>) -> Result<Arguments<'_>, Failure<'_>>
     }
 }
 
-/// Reads one more argument, unless a text is requested.
+/// Returns `arguments` with the argument `word`, or unchanged if a text is requested.
 fn read_word<'w>(
     program: Program,
     arguments: Arguments<'w>,
@@ -161,7 +165,7 @@ fn has_text(text: Option<OptionName>) -> bool
     }
 }
 
-/// Reads a path or an option, if one was found.
+/// Returns `arguments` with the path or the option in `found`, or unchanged for `None`.
 fn read_found<'w>(
     program: Program,
     arguments: Arguments<'w>,
@@ -190,7 +194,8 @@ fn unknown<'w>(option: OptionName) -> Failure<'w>
     }
 }
 
-/// Reads an argument that is a path. `logos_show` takes at most two.
+/// Returns `arguments` with a path, if it is the first or the second one. A later path is `Misuse`
+/// for `logos_show`, and changes nothing for `logos_cli`, which reads its paths with `paths_of`.
 fn read_path<'w>(
     program: Program,
     arguments: Arguments<'w>,
@@ -216,7 +221,7 @@ fn read_path<'w>(
     }
 }
 
-/// Reads an option that the program takes.
+/// Returns `arguments` with an option that the program takes.
 fn read_option<'w>(
     arguments: Arguments<'w>,
     one: GivenOption<'w>,
@@ -236,7 +241,7 @@ fn read_option<'w>(
     }
 }
 
-/// Reads a setting, which may be given only once.
+/// Returns `arguments` with a setting, or `Misuse` if the setting was given before.
 fn read_setting<'w>(
     arguments: Arguments<'w>,
     one: GivenOption<'w>,
@@ -255,7 +260,7 @@ fn read_setting<'w>(
     })
 }
 
-/// Returns the settings with the value of one more option.
+/// Returns the settings with the option `one` and its value.
 fn settings_with<'w>(settings: Settings<'w>, one: GivenOption<'w>) -> Settings<'w>
     ensures { settings_value result
         ≡ set (settings_value settings.entry) (number one.entry.option) (Some one.entry.value.now) }
@@ -265,7 +270,7 @@ fn settings_with<'w>(settings: Settings<'w>, one: GivenOption<'w>) -> Settings<'
     Settings { values }
 }
 
-/// Reads a question, of which only one may be given.
+/// Returns `arguments` with a question, or `Misuse` if a question was given before.
 fn read_question<'w>(
     arguments: Arguments<'w>,
     one: GivenOption<'w>,

@@ -1,4 +1,5 @@
-//! The help of a program, with each option that the program takes. Called for `--help`.
+//! Writes the help of a program, with each option that the program takes. Used by `logos_cli` and
+//! `logos_show`.
 
 ghost use Rattle.std.specs.Prelude.{◌≡◌, IfErr};
 ghost use Rattle.logos_options.specs.Imports.{IsNoMisuse, IsOutputFailure, status_of};
@@ -16,12 +17,12 @@ pub struct HelpText {
     pub end: &'static str,
 }
 
-/// Writes the help of a program, and flushes the writer.
+/// Writes the help of a program to `out`, and flushes the writer.
 ///
 /// # Errors
 ///
-/// Returns `Output` if writing fails, or `Closed` if the reader has closed the output. Then a part
-/// of the help may be written.
+/// Returns `Closed` if the reader has closed the output, and `Output` if writing fails for another
+/// reason. Then a part of the help may have been written.
 pub fn print_help<'w, O: Write>(
     program: Program,
     help: HelpText,
@@ -45,7 +46,7 @@ fn write_help<O: Write>(program: Program, help: HelpText, out: &mut O) -> io::Re
     out.flush()
 }
 
-/// Writes the lines of these options for the help of a program.
+/// Writes the lines for the options in `rows` that a program takes, in the help of the program.
 fn write_rows<O: Write>(program: Program, rows: &[OptionRow], out: &mut O) -> io::Result<()> {
     for row in rows {
         out.write_all(program.help_of(row).as_bytes())?;

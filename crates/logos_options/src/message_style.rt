@@ -1,5 +1,5 @@
-//! The style of messages: the settings `--color` and `--message-format`. Used by `logos_cli` and
-//! `logos_questions`.
+//! Reads the style of messages from the settings `--color` and `--message-format`. Used by
+//! `logos_cli` and `logos_questions`.
 
 ghost use Rattle.std.specs.Prelude.{◌≡◌, IfErr, IfOk, None, Some, option_map};
 ghost use Rattle.logos_options.specs.Imports.{color_given, format_given, settings_value, status_of, style_given};
@@ -8,7 +8,7 @@ use crate::arguments::{Settings, misuse};
 use crate::options::OptionName;
 use logos_host::{Color, Failure, MessageFormat, color_by_name, format_by_name};
 
-/// The style of messages.
+/// The style of messages: their format, and whether they have colors.
 #[derive(Clone, Copy, Debug, PartialEq, Eq)]
 pub struct MessageStyle {
     pub format: MessageFormat,
@@ -16,12 +16,12 @@ pub struct MessageStyle {
     pub color: Color,
 }
 
-/// Returns the style that the settings select. The default is a report, with colors if it is
-/// written to a terminal.
+/// Returns the style that the settings select. The default is a report, with colors if the report
+/// is written to a terminal.
 ///
 /// # Errors
 ///
-/// Returns `Misuse` if a value is not that of a color or of a format.
+/// Returns `Misuse` if the value of `--color` or of `--message-format` is unknown.
 pub fn style_given<'w>(settings: &Settings<'w>) -> Result<MessageStyle, Failure<'w>>
     ensures given { IfOk result (λ style.
         style_given (settings_value settings.now) ≡ Some style) }
@@ -38,7 +38,8 @@ pub fn style_given<'w>(settings: &Settings<'w>) -> Result<MessageStyle, Failure<
     }
 }
 
-/// Returns the color setting for the value of `--color`.
+/// Returns the color setting for the value of `--color`, which is `Auto` for `None`, or `Misuse` if
+/// the value is unknown.
 fn color_given<'w>(name: Option<&'w str>) -> Result<Color, Failure<'w>>
     ensures given { IfOk result (λ color.
         color_given (option_map (λ name. name.now) name.entry) ≡ Some color) }
@@ -55,7 +56,8 @@ fn color_given<'w>(name: Option<&'w str>) -> Result<Color, Failure<'w>>
     }
 }
 
-/// Returns the format of messages for the value of `--message-format`.
+/// Returns the format for the value of `--message-format`, which is `Human` for `None`, or `Misuse`
+/// if the value is unknown.
 fn format_given<'w>(name: Option<&'w str>) -> Result<MessageFormat, Failure<'w>>
     ensures given { IfOk result (λ format.
         format_given (option_map (λ name. name.now) name.entry) ≡ Some format) }

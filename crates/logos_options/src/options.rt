@@ -1,10 +1,11 @@
-//! The table of options: the name of each, whether it has a value, its effect, and its lines in the
-//! help of each program that takes it. Every reader of arguments looks options up here.
+//! Defines the table of options: the name of each option, whether it has a value, its effect, and
+//! its lines in the help of each program that takes the option. Used by all modules that read
+//! arguments.
 
 ghost use Rattle.std.specs.Prelude.{◌≡◌, ◌<◌, Some, is_some, map};
 ghost use Rattle.logos_options.specs.Imports.{is_named, named_in, number, option_named, role_of, row_value, takes_value, word_of};
 
-/// An option. The rows of the table are in this order.
+/// An option of `logos_cli` or `logos_show`. The rows of the table are in this order.
 #[derive(Clone, Copy, Debug, PartialEq, Eq)]
 pub enum OptionName {
     Output,
@@ -32,15 +33,16 @@ pub(crate) const OPTIONS: usize = 17;
 /// The effect of an option.
 #[derive(Clone, Copy, Debug, PartialEq, Eq)]
 pub enum OptionRole {
-    /// Changes a setting. Each setting is given at most once.
+    /// The option changes a setting, and is given at most once.
     Setting,
-    /// Requests an answer about the lexers, such as `--examples`. At most one is given.
+    /// The option requests an answer about the lexers, as `--examples` does. At most one such
+    /// option is given.
     Question,
-    /// Requests a text. No argument after it is read.
+    /// The option requests a text, as `--help` does. No argument after the option is read.
     Text,
 }
 
-/// A row of the table.
+/// A row of the table of options.
 #[derive(Clone, Copy)]
 pub(crate) struct OptionRow {
     pub(crate) option: OptionName,
@@ -298,7 +300,7 @@ pub(crate) const ROWS: [OptionRow; OPTIONS] = [
 ];
 
 impl OptionName {
-    /// Returns the option with this name, such as `--output` or `-o`, if there is one.
+    /// Returns the option with this name, such as `--output` or `-o`, or `None` if there is none.
     pub fn by_word(word: &str) -> Option<OptionName>
         ensures { result ≡ option_named word.now }
     {
@@ -336,7 +338,8 @@ impl OptionName {
     }
 }
 
-/// Returns the option of the first of these rows that has the name `word`, if there is one.
+/// Returns the option of the first of these rows with the name or the short name `word`, or `None`
+/// if there is none.
 fn named_in(rows: &[OptionRow], word: &str) -> Option<OptionName>
     ensures { result ≡ named_in (map row_value rows.now) word.now }
 {

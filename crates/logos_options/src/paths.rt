@@ -1,4 +1,5 @@
-//! The paths of a command line. Used by `logos_cli`, `logos_items` and `logos_show`.
+//! Reads the paths of a command line. Used by `arguments`, `logos_cli`, `logos_items` and
+//! `logos_show`.
 
 ghost use Rattle.std.specs.Prelude.{◌≡◌, ◌++◌, IfOk, OnOk, map, option_map, string_bytes};
 ghost use Rattle.logos_options.specs.Imports.{found_path, next_paths, next_progress, path_named, paths_of, step, texts_of, use_value};
@@ -30,8 +31,8 @@ pub fn paths_of<'w>(alloc: Global, arguments: &'w [String]) -> Result<Vec<&'w st
     Ok(paths)
 }
 
-/// Appends the path that one more argument names, if it is a path. Returns the state of reading
-/// after it.
+/// Appends to `paths` the path that the argument `word` names, if it is a path. Returns the
+/// progress after the argument, which is `progress` for an invalid argument.
 fn push_path<'w>(
     paths: &mut Vec<&'w str>,
     progress: ArgumentProgress,
@@ -50,7 +51,7 @@ fn push_path<'w>(
     }
 }
 
-/// Appends a path, if one was found.
+/// Appends to `paths` the path in `found`, if there is one.
 fn push_found<'w>(paths: &mut Vec<&'w str>, found: Option<Use<'w>>) -> Result<(), Memory>
     ensures { OnOk result (texts_of paths.new.items
         ≡ texts_of paths.old.items ++ found_path (option_map use_value found.entry)) }
@@ -61,8 +62,8 @@ fn push_found<'w>(paths: &mut Vec<&'w str>, found: Option<Use<'w>>) -> Result<()
     Ok(())
 }
 
-/// Returns the path that an argument names: that of standard input for `-`, and otherwise the
-/// argument itself.
+/// Returns the path that an argument names: `STANDARD_INPUT` for `-`, and otherwise the argument
+/// itself.
 pub fn path_by_word(word: &str) -> &str
     ensures { result.now ≡ path_named word.now }
 {

@@ -1,11 +1,11 @@
-//! The programs that have options. Used by `logos_cli`, `logos_questions` and `logos_show`.
+//! Defines the programs that take options. Used by `logos_cli`, `logos_questions` and `logos_show`.
 
 ghost use Rattle.std.specs.Prelude.{◌≡◌};
 ghost use Rattle.logos_options.specs.Imports.{cli_takes, show_takes};
 
 use crate::options::{OptionName, OptionRow, ROWS};
 
-/// The programs that take options.
+/// A program that takes options.
 #[derive(Clone, Copy, Debug, PartialEq, Eq)]
 pub enum Program {
     /// `logos_cli`.
@@ -28,8 +28,8 @@ impl Program {
         }
     }
 
-    /// Returns the lines for a row in the help of the program, which are empty if the program does
-    /// not take the option.
+    /// Returns the lines for the option of a row in the help of the program, or an empty text if
+    /// the program does not take the option.
     pub(crate) fn help_of(self, row: &OptionRow) -> &'static str {
         let lines = match self {
             Program::Cli => row.cli,

@@ -1,4 +1,4 @@
-//! The version of a program, and the line that names its commit. Used by `logos_cli` and
+//! Writes the version of a program, and the line that names its commit. Used by `logos_cli` and
 //! `logos_show`.
 
 ghost use Rattle.std.specs.Prelude.{◌≡◌, ◌-◌, IfErr, drop, length};
@@ -11,15 +11,17 @@ use std::io::Write;
 /// The path of the program that runs.
 const PROGRAM: &str = "/proc/self/exe";
 
-/// The length of the line in bytes: `commit: `, forty digits and a line end.
+/// The length in bytes of the line that names a commit: `commit: `, forty digits and a line end.
 const LENGTH: usize = 49;
 
-/// Writes the version of a program, and the line that names its commit, if the program has one.
+/// Writes to `out` the text `version`, and the line that names the commit of the running program,
+/// if its file ends with such a line. Flushes the writer.
 ///
 /// # Errors
 ///
-/// Returns `Output` if writing fails, or `Closed` if the reader has closed the output, and `Memory`
-/// if memory runs out. Then a part of the text may be written.
+/// Returns `Closed` if the reader has closed the output, and `Output` if writing fails for another
+/// reason. Then a part of the text may have been written. Returns `Memory` if memory runs out. Then
+/// nothing was written.
 pub fn print_version<'w, F: ComparableFiles, O: Write>(
     version: &str,
     files: &F,
@@ -38,9 +40,9 @@ pub fn print_version<'w, F: ComparableFiles, O: Write>(
     }
 }
 
-/// Returns the last line of a program, with its end, if it is `commit: ` and forty lower-case
-/// hexadecimal digits; otherwise no bytes. `tools/release.sh` and `tools/install.sh` append it to
-/// the programs.
+/// Returns the line at the end of a program that names its commit, with the line end, or no bytes
+/// if the last bytes are not such a line. `tools/release.sh` and `tools/install.sh` append the line
+/// to the programs.
 fn commit_line(program: &[u8]) -> &[u8]
     ensures { result.now ≡ commit_line program.now }
 {
@@ -61,7 +63,8 @@ fn last_bytes(program: &[u8]) -> &[u8]
     }
 }
 
-/// Returns whether `line` names a commit.
+/// Returns whether `line` names a commit: it is `commit: `, forty lower-case hexadecimal digits and
+/// LF.
 fn is_commit_line(line: &[u8]) -> bool
     ensures { result ≡ is_commit_line line.now }
 {

@@ -1,5 +1,5 @@
-//! A text with optional colors, and the characters that are safe to show on a terminal. Reports and
-//! answers are written with it.
+//! A text with optional colors, and the characters that are safe to show on a terminal. Used for
+//! reports and answers.
 
 #![tactic(auto)]
 

@@ -1,4 +1,5 @@
-//! A text to which parts are appended, with optional colors.
+//! Defines a text to which parts are appended, with optional colors. Used by all crates that append
+//! to reports or answers.
 
 ghost use Rattle.std.specs.Prelude.{◌≡◌, ◌↔◌, [], true, IfOk, IsOk, IsTrue, decimal, encode_utf8, length, string_bytes};
 ghost use Rattle.logos_page.specs.Views.{shown_char, shown_text, Gains, begun, ended, painted, style_text, times};
@@ -16,12 +17,12 @@ pub enum Style {
     Warning,
     /// The frame around a line of a file: bold and blue.
     Frame,
-    /// Bold.
+    /// An emphasized text: bold.
     Strong,
 }
 
-/// A text to which parts are appended. It records whether memory ran out, so only `finish` can
-/// fail.
+/// A text to which parts are appended, with optional colors. A page records whether memory ran out,
+/// so only `finish` can fail.
 #[derive(Drop)]
 pub struct Page {
     text: String,
@@ -43,7 +44,7 @@ impl Model for Page {
 }
 
 impl Page {
-    /// Returns an empty page, with or without colors.
+    /// Returns an empty page, which has colors if `is_colored` holds.
     pub fn new(alloc: Global, is_colored: bool) -> Page
         ensures { result ≡ record { text = []; is_colored = is_colored; is_whole = true } }
     {
@@ -72,7 +73,8 @@ impl Page {
         }
     }
 
-    /// Appends a character in a form that cannot control a terminal.
+    /// Appends a character in a form that cannot control a terminal: a tab as four spaces, and each
+    /// other character as `occur_in` returns it.
     pub fn push_shown_char(&mut self, character: char)
         ensures { Gains (shown_char character) self.old self.new }
     {
@@ -84,7 +86,7 @@ impl Page {
     }
 
     /// Appends a text in a form that cannot control a terminal: ASCII control characters as their
-    /// pictures, tabs as four blanks, and U+FFFD for other characters that control a terminal,
+    /// pictures, tabs as four spaces, and U+FFFD for other characters that control a terminal,
     /// change the order of a text or are invisible.
     pub fn push_shown(&mut self, text: &str)
         ensures { Gains (shown_text text.now) self.old self.new }
@@ -94,7 +96,7 @@ impl Page {
         }
     }
 
-    /// Appends a number.
+    /// Appends a number in decimal.
     pub fn push_number(&mut self, number: usize)
         ensures { Gains (decimal number) self.old self.new }
     {
@@ -114,7 +116,7 @@ impl Page {
         }
     }
 
-    /// Begins a part in a style, if there are colors.
+    /// Begins a part in a style: appends its escape sequence, if the page has colors.
     pub fn begin(&mut self, style: Style)
         ensures { Gains (begun self.old.is_colored style) self.old self.new }
     {
@@ -123,7 +125,7 @@ impl Page {
         }
     }
 
-    /// Ends a part that has a style, if there are colors.
+    /// Ends a part that has a style: appends the escape sequence for this, if the page has colors.
     pub fn end(&mut self)
         ensures { Gains (ended self.old.is_colored) self.old self.new }
     {
@@ -132,7 +134,7 @@ impl Page {
         }
     }
 
-    /// Appends a text in a style.
+    /// Appends a text, in a style if the page has colors.
     pub fn paint(&mut self, style: Style, text: &str)
         ensures { Gains (painted self.old.is_colored style text.now) self.old self.new }
     {

@@ -1,6 +1,6 @@
-//! The form in which characters are shown. No text of a file, of a message or of a name reaches a
-//! terminal unchanged, since some characters move the cursor, change colors or change the order of
-//! the text. Used by `page` and `logos_report`.
+//! Defines the form in which characters are shown. No text of a file, of a message or of a name
+//! reaches a terminal unchanged, since some characters move the cursor, change colors or change the
+//! order of the text. Used by `page`, `logos_host`, `logos_report` and `logos_screen`.
 
 ghost use Rattle.std.specs.Prelude.{◌≡◌, ◌<◌, ◌+◌};
 ghost use Rattle.logos_page.specs.Imports.{is_in_range, is_unsafe, occur_in};
@@ -11,7 +11,8 @@ use unicode_width::UnicodeWidthChar;
 const TAB: usize = 4;
 
 /// Returns the character that represents a character other than a tab on a terminal: the picture of
-/// an ASCII control character, U+FFFD for any other unsafe one, or otherwise the character itself.
+/// an ASCII control character, U+FFFD for any other unsafe character, or otherwise the character
+/// itself.
 pub fn occur_in(character: char) -> char
     ensures { result ≡ occur_in character }
 {
@@ -27,7 +28,7 @@ pub fn occur_in(character: char) -> char
     }
 }
 
-/// Returns the picture of an ASCII control character.
+/// Returns the picture of the ASCII control character with the number `code`, which is below 32.
 fn picture(code: u32) -> char
     requires { code < 32 }
     ensures { result ≡ 0x2400 + code }
@@ -62,7 +63,7 @@ fn is_in_range(code: u32, first: u32, last: u32) -> bool
     (first <= code) & (code <= last)
 }
 
-/// Returns the width of a shown character, in columns of a terminal.
+/// Returns the width of a character as it is shown, in columns of a terminal.
 pub fn columns_of(character: char) -> usize {
     if character == '\t' {
         return TAB;

@@ -1,5 +1,5 @@
-//! Clues about faults beyond their messages. `logos_causes` finds those for the faults of a graph,
-//! and `logos_help` adds the help for each.
+//! Defines clues about faults beyond their messages. `logos_causes` finds the clues about the
+//! faults of a graph, and `logos_help` adds the help for each fault.
 
 ghost use Rattle.std.specs.Prelude.{◌≡◌, [], if◌then◌else◌, MatchOption, false, nat_lt, true};
 ghost use Rattle.logos_report.specs.Views.{fault_of, is_ambiguity, is_explained, follows, sizes_of, starts_in, starts_of, stepped, next_after, next_value};
@@ -15,7 +15,8 @@ pub struct Clues {
     pub meetings: Vec<Meeting>,
     /// The patterns that can examine the bytes before their start.
     pub starts: Vec<Start>,
-    /// The help for each fault, in the order of the faults. A fault without an entry has no help.
+    /// The help for each fault, in the order of the faults. A fault whose entry is `None` or
+    /// missing has no help.
     pub helps: Vec<Option<&'static str>>,
 }
 
@@ -24,7 +25,8 @@ pub struct Clues {
 pub struct Meeting {
     /// The names of the leaves, in the order of their faults.
     pub names: Vec<String>,
-    /// A text on which the leaves meet, and the priority that would decide between them.
+    /// The text of the note: an input on which the leaves meet, and the priority that would decide
+    /// between them.
     pub note: String,
 }
 
@@ -50,13 +52,13 @@ impl Clues {
     }
 }
 
-/// The next faults of a source, with the clues about them and the number of faults of the current
-/// set that were passed.
+/// The clues about the faults of a source that remain, and the number of faults of the current set
+/// of ambiguous leaves that were passed.
 #[derive(Clone, Copy)]
 pub struct NextFaults<'c> {
-    /// The clues about the sets that have faults left.
+    /// The clues about the sets of ambiguous leaves of which faults remain.
     meetings: &'c [Meeting],
-    /// The number of passed faults of the first of these sets.
+    /// The number of faults that were passed of the first set in `meetings`.
     passed: usize,
     /// The patterns that can examine the bytes before their start.
     starts: &'c [Start],
@@ -72,7 +74,7 @@ pub struct Member<'c> {
     pub number: usize,
 }
 
-/// Returns the state before the first fault.
+/// Returns the clues at the first fault of a source: all of `clues`, with no fault passed.
 pub fn first_faults(clues: &Clues) -> NextFaults<'_>
     ensures faults { next_value result ≡ record { sizes = sizes_of clues.now; passed = 0 } }
     ensures starts { starts_in result ≡ starts_of clues.now }
@@ -92,7 +94,8 @@ fn is_ambiguity(code: FaultCode) -> bool
     matches!(code, FaultCode::Disambiguation)
 }
 
-/// Returns the state after a fault of a set of ambiguous leaves.
+/// Returns the clues after a fault of a set of ambiguous leaves. Returns `next` unchanged if no set
+/// with a clue remains.
 fn stepped(next: NextFaults<'_>) -> NextFaults<'_>
     ensures faults { next_value result
         ≡ stepped (next_value next.entry) (next_value next.entry).sizes }
@@ -115,7 +118,7 @@ fn stepped(next: NextFaults<'_>) -> NextFaults<'_>
 }
 
 impl<'c> NextFaults<'c> {
-    /// Returns the state after `fault`.
+    /// Returns the clues after `fault`, which is the next fault.
     pub fn after(self, fault: &SpannedError) -> NextFaults<'c>
         ensures faults { next_value result
             ≡ next_after (next_value self.entry) (fault_of fault.now) }
@@ -132,13 +135,13 @@ impl<'c> NextFaults<'c> {
         }
     }
 
-    /// Returns the help for the next fault, if there is one.
+    /// Returns the help for the next fault, or `None` if it has none.
     pub fn help(self) -> Option<&'static str> {
         *self.helps.first()?
     }
 
-    /// Returns `fault`, which is the next fault, as a member of its set of ambiguous leaves, if
-    /// there is a clue about the set.
+    /// Returns `fault`, which is the next fault, as a member of its set of ambiguous leaves, or
+    /// `None` if it is not of an ambiguous leaf or no clue about a set remains.
     pub fn member(self, fault: &SpannedError) -> Option<Member<'c>>
         ensures { MatchOption result (follows (next_value self.entry) (fault_of fault.now) ≡ false)
             (λ member. (follows (next_value self.entry) (fault_of fault.now)
@@ -153,7 +156,8 @@ impl<'c> NextFaults<'c> {
         }
     }
 
-    /// Returns whether the next fault belongs to the report of an earlier one.
+    /// Returns whether `fault`, which is the next fault, is shown in the report of an earlier fault
+    /// of its set.
     pub(crate) fn follows(self, fault: &SpannedError) -> bool
         ensures { result ≡ follows (next_value self.entry) (fault_of fault.now) }
     {
@@ -163,8 +167,8 @@ impl<'c> NextFaults<'c> {
         }
     }
 
-    /// Returns the patterns that explain a fault with this code: for `NoUniversalStart` those that
-    /// can examine the bytes before their start, otherwise none.
+    /// Returns the patterns that explain a fault with this code: for `NoUniversalStart` the
+    /// patterns that can examine the bytes before their start, otherwise none.
     pub fn starts(self, code: FaultCode) -> &'c [Start]
         ensures { result.now ≡ (if is_explained code then self.entry.starts.now else []) }
     {
@@ -176,7 +180,7 @@ impl<'c> NextFaults<'c> {
 }
 
 impl Member<'_> {
-    /// Returns the name of the leaf, or an empty text if the set does not have the fault.
+    /// Returns the name of the fault's leaf, or an empty text if the set has fewer leaves.
     pub fn name(&self) -> &str {
         match self.meeting.names.get(self.number) {
             Some(name) => name.as_str(),

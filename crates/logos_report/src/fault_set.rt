@@ -3,17 +3,18 @@
 
 use logos_token::error::{Detail, SpannedError};
 
-/// The faults of a set of ambiguous leaves, with the one that is shown.
+/// The faults of a set of ambiguous leaves, and the index of the fault that is shown.
 #[derive(Clone, Copy)]
 pub struct FaultSet<'f> {
     /// The faults, in the order of the leaves; none if the shown fault is not of an ambiguous leaf.
     faults: &'f [SpannedError],
-    /// The number of the shown fault.
+    /// The index of the shown fault in `faults`.
     own: usize,
 }
 
 impl<'f> FaultSet<'f> {
-    /// Returns the fault with this number among the others of the set, if there is one.
+    /// Returns the fault at the index `number` of the set without the shown fault, or `None` if
+    /// there are fewer.
     pub(crate) fn other(self, number: usize) -> Option<&'f SpannedError> {
         if number < self.own {
             self.faults.get(number)
@@ -23,8 +24,8 @@ impl<'f> FaultSet<'f> {
     }
 }
 
-/// Returns the set of the fault with this number. It is empty if the fault is not of an ambiguous
-/// leaf.
+/// Returns the set of the fault at the index `number`, which is the shown fault. The set is empty
+/// if the fault is not of an ambiguous leaf, or if there is no such fault.
 pub fn set_at(faults: &[SpannedError], number: usize) -> FaultSet<'_> {
     let from = begin_of_set(faults, number);
     let to = end_of_set(faults, number);
@@ -48,8 +49,8 @@ fn continues_set(fault: &SpannedError) -> bool {
     }
 }
 
-/// Returns whether the fault with this number belongs to a set of ambiguous leaves, and is not its
-/// first fault.
+/// Returns whether the fault at the index `number` belongs to a set of ambiguous leaves, and is not
+/// its first fault.
 fn continues_at(faults: &[SpannedError], number: usize) -> bool {
     match faults.get(number) {
         Some(fault) => continues_set(fault),
@@ -57,7 +58,8 @@ fn continues_at(faults: &[SpannedError], number: usize) -> bool {
     }
 }
 
-/// Returns the number of the first fault of the set of a fault.
+/// Returns the index of the first fault in the set of the fault `number`, or `number` if this fault
+/// continues no set.
 fn begin_of_set(faults: &[SpannedError], number: usize) -> usize {
     let mut from = number;
     while from > 0 && continues_at(faults, from) {
@@ -66,8 +68,8 @@ fn begin_of_set(faults: &[SpannedError], number: usize) -> usize {
     from
 }
 
-/// Returns the number after the last fault of the set of a fault, or the number of the fault itself
-/// if the fault is not of an ambiguous leaf.
+/// Returns the index after the last fault in the set of the fault `number`, or `number` if this
+/// fault is not of an ambiguous leaf or there is no such fault.
 fn end_of_set(faults: &[SpannedError], number: usize) -> usize {
     let Some(fault) = faults.get(number) else {
         return number;
@@ -78,7 +80,8 @@ fn end_of_set(faults: &[SpannedError], number: usize) -> usize {
     }
 }
 
-/// Returns the number of the first fault, at least `from`, that does not continue a set.
+/// Returns the first index, at least `from`, of a fault that does not continue a set, or the number
+/// of faults if there is none.
 fn end_from(faults: &[SpannedError], from: usize) -> usize {
     for number in from..faults.len() {
         if !continues_set(&faults[number]) {

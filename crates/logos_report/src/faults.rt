@@ -22,16 +22,17 @@ pub const MOST: usize = 50;
 #[derive(Clone, Copy)]
 pub struct KnownFault<'f> {
     pub fault: &'f SpannedError,
-    /// The faults of the set of the fault, if the fault is of an ambiguous leaf.
+    /// The set of the fault, which is empty if the fault is not of an ambiguous leaf.
     pub set: FaultSet<'f>,
     /// The help for the fault, if there is one.
     pub help: Option<&'static str>,
 }
 
-/// Appends the faults of a part of a file, in order. For each, the appended text has a line with
-/// the name of its code and the first line of its message, and one with its location in the file.
-/// In a set of ambiguous leaves with a clue the first fault has the line, and all have their
-/// locations under it.
+/// Appends the faults of a part of a file, in order. For each fault, the appended text has a line
+/// with the name of its code and the first line of its message, and a line with its location in the
+/// file. In a set of ambiguous leaves with a clue the first fault has the line, and all have their
+/// locations under it. Of more than 50 faults with one code the first 50 and the number of the
+/// others are appended.
 pub fn push_faults(page: &mut Page, part: Part<'_, '_>, errors: &Errors, clues: &Clues)
     ensures { Shows (faults_texts page.old.is_colored part.entry.source.now part.entry.offset
         (starts_of clues.now) (sizes_of clues.now) errors.now) page.old page.new }
@@ -44,7 +45,8 @@ pub fn push_faults(page: &mut Page, part: Part<'_, '_>, errors: &Errors, clues: 
     push_all(page, part, listing, first_faults(clues));
 }
 
-/// Appends the faults of a part. `first` is the state before the first of them.
+/// Appends the faults of a part, `listing.faults`, in order. `first` has the clues at the first of
+/// them.
 pub(crate) fn push_all(
     page: &mut Page,
     part: Part<'_, '_>,
@@ -64,8 +66,9 @@ pub(crate) fn push_all(
     }
 }
 
-/// Appends the fault of a part with this number. At most 50 faults of one code are shown. Instead
-/// of the next one, the number of faults that are left out is appended.
+/// Appends `fault`, which is at the index `number` of its part, if fewer than 50 faults with its
+/// code precede it in the file. In place of the 51st fault with a code, appends the number of
+/// faults that are left out. Appends nothing for a later one.
 fn push_counted(
     page: &mut Page,
     part: Part<'_, '_>,
@@ -94,7 +97,8 @@ fn push_counted(
     }
 }
 
-/// Appends the number of faults of a code that are left out, and an empty line.
+/// Appends a line with the number `count` of faults with a code that are left out, and an empty
+/// line.
 pub fn push_rest(page: &mut Page, code: FaultCode, count: usize)
     ensures { Shows (rest_line page.old.is_colored code count ∷ []) page.old page.new }
 {
@@ -102,7 +106,7 @@ pub fn push_rest(page: &mut Page, code: FaultCode, count: usize)
     page.push("\n");
 }
 
-/// Appends the line with the number of faults of a code that are left out.
+/// Appends the line with the number `count` of faults with a code that are left out.
 fn push_rest_line(page: &mut Page, code: FaultCode, count: usize)
     ensures { Gains (rest_line page.old.is_colored code count) page.old page.new }
 {
@@ -111,7 +115,8 @@ fn push_rest_line(page: &mut Page, code: FaultCode, count: usize)
     page.push("\n");
 }
 
-/// Appends the text after the code of faults that are left out.
+/// Appends the text after a code in the line about the faults that are left out: their number, and
+/// that they are not shown.
 fn push_rest_text(page: &mut Page, count: usize)
     ensures { Gains (painted page.old.is_colored Style.Strong (rest_text count)) page.old page.new }
 {
@@ -133,8 +138,8 @@ pub(crate) fn count_code(faults: &[SpannedError], code: FaultCode) -> usize
     count
 }
 
-/// Returns the number of these faults that have this code, but at most one more than the number
-/// that is shown. The search begins at the last fault, so that the time of all these calls is
+/// Returns the number of these faults that have this code, but at most `MOST + 1`. The search
+/// begins at the last fault, so that the time of the calls for all faults of a list together is
 /// linear in the number of faults.
 pub(crate) fn seen_of(faults: &[SpannedError], code: FaultCode) -> usize
     ensures { result ≡ seen_of code (faults_of faults.now) }
@@ -151,7 +156,7 @@ pub(crate) fn seen_of(faults: &[SpannedError], code: FaultCode) -> usize
     count
 }
 
-/// Returns whether a fault has a code.
+/// Returns whether the code of a fault has the name of `code`.
 fn has_code(fault: &SpannedError, code: FaultCode) -> bool
     ensures { result ≡ has_name (name_of code) (fault_of fault.now) }
 {
@@ -166,7 +171,7 @@ pub fn count_errors(errors: &Errors, clues: &Clues) -> usize
     count_all(errors.list(), first_faults(clues))
 }
 
-/// Returns the number of error reports for `faults`. `first` is the state before the first of them.
+/// Returns the number of error reports for `faults`. `first` has the clues at the first of them.
 fn count_all(faults: &[SpannedError], first: NextFaults<'_>) -> usize
     ensures { result ≡ errors_after (next_value first.entry) (faults_of faults.now) }
 {
@@ -179,21 +184,22 @@ fn count_all(faults: &[SpannedError], first: NextFaults<'_>) -> usize
     count
 }
 
-/// Returns whether a report of an error begins with a fault.
+/// Returns whether a report of an error begins with `fault`: it is an error, and is not shown in
+/// the report of an earlier fault of its set. `next` has the clues at `fault`.
 pub fn begins_error(next: NextFaults<'_>, fault: &SpannedError) -> bool
     ensures { result ≡ begins_error (next_value next.entry) (fault_of fault.now) }
 {
     is_error(fault.code) & !next.follows(fault)
 }
 
-/// Returns whether a fault with this code is an error.
+/// Returns whether a fault with this code is an error, which all but `Previous` are.
 pub fn is_error(code: FaultCode) -> bool
     ensures { result ≡ is_error code }
 {
     !matches!(code, FaultCode::Previous)
 }
 
-/// Appends the line with the number of errors.
+/// Appends the line that ends a report: `count` as the number of errors.
 pub fn push_summary(page: &mut Page, count: usize)
     ensures { Gains (summary_line page.old.is_colored count) page.old page.new }
 {
@@ -204,7 +210,7 @@ pub fn push_summary(page: &mut Page, count: usize)
     page.push("\n");
 }
 
-/// Appends the number of errors.
+/// Appends the rest of the line that ends a report: `: aborting due to`, and the number of errors.
 fn push_count(page: &mut Page, count: usize)
     ensures { Gains (count_text count) page.old page.new }
 {
@@ -224,7 +230,8 @@ fn errors_text(count: usize) -> &'static str
     }
 }
 
-/// Appends a fault, its notes and its help.
+/// Appends a fault: the code and the first line of its message, its location and its lines, its
+/// notes and its help, and an empty line.
 pub fn push_fault(page: &mut Page, part: Part<'_, '_>, known: KnownFault<'_>)
     ensures { Shows (fault_texts page.old.is_colored part.entry.source.now part.entry.offset
         (fault_of known.entry.fault.now)) page.old page.new }
@@ -234,8 +241,8 @@ pub fn push_fault(page: &mut Page, part: Part<'_, '_>, known: KnownFault<'_>)
     push_notes(page, ShownFault { part, known, width });
 }
 
-/// Appends the location of a fault, and its lines with carets, unless the source is too long.
-/// Returns the width of the column of line numbers.
+/// Appends the location of a fault, and its lines with carets, but no lines for a source that is
+/// too long. Returns the width of the column of line numbers.
 fn push_span(page: &mut Page, part: Part<'_, '_>, fault: &SpannedError) -> usize
     ensures { Shows (location_line page.old.is_colored part.entry.source.now part.entry.offset
         fault.now.span.from ∷ []) page.old page.new }
@@ -247,8 +254,8 @@ fn push_span(page: &mut Page, part: Part<'_, '_>, fault: &SpannedError) -> usize
     push_marked(page, part, fault, "")
 }
 
-/// Appends the location of a fault, and its lines with carets and a label. Returns the width of the
-/// column of line numbers.
+/// Appends the location of a fault, and its lines with carets and `label` after them. Returns the
+/// width of the column of line numbers.
 pub(crate) fn push_marked(
     page: &mut Page,
     part: Part<'_, '_>,
@@ -266,7 +273,7 @@ pub(crate) fn push_marked(
     push_frame_with(page, part, fault.span.from, marks)
 }
 
-/// Appends the code of a fault and the first line of its message.
+/// Appends the line with the code of a fault and the first line of its message.
 pub(crate) fn push_head(page: &mut Page, fault: &SpannedError)
     ensures { Gains (head_line page.old.is_colored (fault_of fault.now)) page.old page.new }
 {
@@ -286,7 +293,7 @@ fn push_message(page: &mut Page, line: &str)
     page.end();
 }
 
-/// Appends the code of a fault.
+/// Appends the code of a fault as `error[CODE]`, or `note` if a fault with this code is no error.
 fn push_code(page: &mut Page, code: FaultCode)
     ensures { Gains (code_text page.old.is_colored code) page.old page.new }
 {
@@ -297,7 +304,7 @@ fn push_code(page: &mut Page, code: FaultCode)
     }
 }
 
-/// Appends the code of a fault that is an error.
+/// Appends the code of an error as `error[CODE]`.
 fn push_error_code(page: &mut Page, code: FaultCode)
     ensures { Gains (painted page.old.is_colored Style.Error
         (codes "error[" ++ (name_of code ++ codes "]"))) page.old page.new }
@@ -309,7 +316,7 @@ fn push_error_code(page: &mut Page, code: FaultCode)
     page.end();
 }
 
-/// Returns the style of the carets of a fault.
+/// Returns the style of the carets of a fault with this code.
 fn style_of(code: FaultCode) -> Style {
     if is_error(code) {
         Style::Error
@@ -318,7 +325,7 @@ fn style_of(code: FaultCode) -> Style {
     }
 }
 
-/// Returns a text up to its first LF.
+/// Returns a text up to its first LF, without it, or the whole text if it has none.
 pub fn first_line(text: &str) -> &str
     ensures { result.now ≡ first_line text.now }
 {

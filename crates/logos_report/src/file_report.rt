@@ -1,5 +1,5 @@
-//! The faults of a whole file, part by part. The parts share the count of shown faults. Used by
-//! `logos_derive`, `logos_expand` and `logos_messages`.
+//! Appends the faults of a whole file to a report, part by part. The parts share the count of shown
+//! faults. Used by `logos_derive`, `logos_expand` and `logos_messages`.
 
 ghost use Rattle.std.specs.Prelude.{◌≡◌, ◌++◌, ◌+◌, ◌<◌, ◌^◌, ◌-◌, length, min};
 ghost use Rattle.logos_page.specs.Pages.{PageValue};
@@ -11,7 +11,8 @@ use crate::source::{Part, Source};
 use logos_page::Page;
 use logos_token::error::{Errors, FaultCode, SpannedError};
 
-/// The faults of a part of a file: of an enum, or of a file that cannot be read.
+/// The faults of a part of a file, with the clues about them. The part is an enum, or the whole
+/// file if it cannot be read.
 #[derive(Drop)]
 pub struct Refused {
     /// The byte offset of the part in the file.
@@ -25,11 +26,11 @@ pub struct Refused {
 /// The faults of a part of a file, and the parts around it.
 #[derive(Clone, Copy)]
 pub struct FaultListing<'f> {
-    /// The parts before this one.
+    /// The parts of the file before this part.
     pub earlier: &'f [Refused],
     /// The faults of this part.
     pub faults: &'f [SpannedError],
-    /// The parts after this one.
+    /// The parts of the file after this part.
     pub later: &'f [Refused],
 }
 
@@ -43,7 +44,7 @@ pub fn push_refused(page: &mut Page, source: &Source<'_>, refused: &[Refused])
     }
 }
 
-/// Appends the faults of the part with a number.
+/// Appends the faults of the part at the index `number`.
 fn push_part(page: &mut Page, source: &Source<'_>, refused: &[Refused], number: usize)
     requires { number < length refused.now }
     ensures colored { page.new.is_colored ≡ page.old.is_colored }
@@ -66,8 +67,8 @@ fn push_part(page: &mut Page, source: &Source<'_>, refused: &[Refused], number: 
     );
 }
 
-/// Returns the number of faults of these parts, and of `front`, that have this code, but at most
-/// one more than the number that is shown. The search begins at the last fault.
+/// Returns the number of faults in the parts `earlier` and in `front` that have this code, but at
+/// most `MOST + 1`. The search begins at the last fault of `front`.
 pub fn seen_in(earlier: &[Refused], front: &[SpannedError], code: FaultCode) -> usize
     ensures { result ≡ seen_of code (all_faults earlier.now ++ faults_of front.now) }
 {
@@ -83,8 +84,8 @@ pub fn seen_in(earlier: &[Refused], front: &[SpannedError], code: FaultCode) -> 
     count
 }
 
-/// Returns the number of faults of a part and of those around it that have this code, saturating at
-/// the greatest number.
+/// Returns the number of faults with this code in a part and in the parts around it, or
+/// `usize::MAX` if there are more.
 pub fn count_in(listing: FaultListing<'_>, code: FaultCode) -> usize
     ensures { result ≡ min (count_by (has_name (name_of code)) (listed_faults listing.entry))
         (2 ^ 64 - 1) }
@@ -94,8 +95,7 @@ pub fn count_in(listing: FaultListing<'_>, code: FaultCode) -> usize
         .saturating_add(count_parts(listing.later, code))
 }
 
-/// Returns the number of faults of these parts that have this code, saturating at the greatest
-/// number.
+/// Returns the number of faults with this code in these parts, or `usize::MAX` if there are more.
 fn count_parts(parts: &[Refused], code: FaultCode) -> usize
     ensures { result ≡ min (count_by (has_name (name_of code)) (all_faults parts.now)) (2 ^ 64 - 1) }
 {

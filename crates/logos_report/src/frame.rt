@@ -1,4 +1,5 @@
-//! The frame of a span of a file: its lines, and carets under it. Called for faults and warnings.
+//! Appends a span of a file in a frame: its location, its lines, and carets under it. Used by
+//! `faults`, `sets`, `notes` and `warnings`.
 
 ghost use Rattle.std.specs.Prelude.{◌∷◌, []};
 ghost use Rattle.logos_report.specs.Views.{Begins, Continues, shown_text, Gains, Shows, arrow_line, location_line, shown_location, shown_line_column};
@@ -9,13 +10,13 @@ use logos_lines::Location;
 use logos_page::{Page, Style, digits};
 use logos_token::token::Span;
 
-/// A span of a file, and the style in which it is shown.
+/// A span of a file, and the style and the label with which it is shown.
 #[derive(Clone, Copy)]
 struct Frame<'p, 't> {
     source: &'p Source<'t>,
     /// The start of the span.
     first: FileSpot,
-    /// The end of the span.
+    /// The end of the shown part of the span.
     last: FileSpot,
     /// The width of the column of line numbers.
     width: usize,
@@ -25,20 +26,20 @@ struct Frame<'p, 't> {
     label: &'p str,
 }
 
-/// Carets in lines of a file.
+/// A span of a part of a file, with the style and the label of the carets under it.
 #[derive(Clone, Copy)]
 pub(crate) struct Marks<'l> {
-    /// The span under which the carets are.
+    /// The span under which the carets are, in bytes of the part.
     pub(crate) span: Span,
     /// The style of the carets and of the label.
     pub(crate) style: Style,
-    /// The text after the carets, if it is not empty.
+    /// The text after the carets, which may be empty.
     pub(crate) label: &'l str,
 }
 
-/// Appends the location of a span's start, the lines at which the span begins and ends, and carets
-/// of this style under it. Long lines are cut around it. Returns the number of digits of the last
-/// line's number.
+/// Appends the location of the start of `span`, the lines at which the span begins and ends, and
+/// carets of this style under the span. Long lines are cut around the span. `span` is in bytes of
+/// the part. Returns the number of digits of the last line's number.
 pub fn push_frame(page: &mut Page, part: Part<'_, '_>, span: Span, style: Style) -> usize
     ensures { Shows (location_line page.old.is_colored part.entry.source.now part.entry.offset span.from
         ∷ []) page.old page.new }
@@ -51,8 +52,9 @@ pub fn push_frame(page: &mut Page, part: Part<'_, '_>, span: Span, style: Style)
     push_frame_with(page, part, span.from, marks)
 }
 
-/// Appends the location of an offset of a part of a file, the lines at which a span begins and
-/// ends, and carets under the span. Returns the number of digits of the last line's number.
+/// Appends the location of the byte `offset` of a part of a file, the lines at which the span of
+/// `marks` begins and ends, and carets under the span. Returns the number of digits of the last
+/// line's number.
 pub(crate) fn push_frame_with(
     page: &mut Page,
     part: Part<'_, '_>,
@@ -68,7 +70,7 @@ pub(crate) fn push_frame_with(
     frame.width
 }
 
-/// Returns the frame for a span of a part of a file.
+/// Returns the frame for the span of `marks`, which is in bytes of the part.
 fn frame_of<'p, 't>(part: Part<'p, 't>, marks: Marks<'p>) -> Frame<'p, 't> {
     let first = spot_in(part, marks.span.from);
     let last = last_shown(part.source, first, spot_in(part, marks.span.to));
@@ -82,7 +84,7 @@ fn frame_of<'p, 't>(part: Part<'p, 't>, marks: Marks<'p>) -> Frame<'p, 't> {
     }
 }
 
-/// Returns the location in the file of an offset of a part.
+/// Returns the byte `offset` of a part as an offset and a location of the file.
 fn spot_in(part: Part<'_, '_>, offset: usize) -> FileSpot {
     FileSpot {
         offset: offset.saturating_add(part.offset),
@@ -90,8 +92,8 @@ fn spot_in(part: Part<'_, '_>, offset: usize) -> FileSpot {
     }
 }
 
-/// Returns the end of the shown part of a span. If the span ends with a line end, it is the end of
-/// that line.
+/// Returns the end of the shown part of the span from `first` to `end`: `end`, or the byte before
+/// it if the span ends at the beginning of a later line than that of `first`.
 fn last_shown(source: &Source<'_>, first: FileSpot, end: FileSpot) -> FileSpot {
     if (end.location.column > 1) | (lines_after(first, end) == 0) {
         return end;
@@ -103,7 +105,8 @@ fn last_shown(source: &Source<'_>, first: FileSpot, end: FileSpot) -> FileSpot {
     }
 }
 
-/// Appends the line that names the location of an offset of a part of a file, after a margin.
+/// Appends the line that names the location of the byte `offset` of a part of a file, after `width`
+/// spaces.
 pub(crate) fn push_offset(page: &mut Page, part: Part<'_, '_>, offset: usize, width: usize)
     ensures { Shows (location_line page.old.is_colored part.entry.source.now part.entry.offset offset
         ∷ []) page.old page.new }
@@ -112,14 +115,14 @@ pub(crate) fn push_offset(page: &mut Page, part: Part<'_, '_>, offset: usize, wi
     push_arrow(page, part.source, part.location(offset));
 }
 
-/// Appends the location of an offset of a part of a file as `path:line:column`.
+/// Appends the location of the byte `offset` of a part of a file as `path:line:column`.
 pub fn push_location(page: &mut Page, part: Part<'_, '_>, offset: usize)
     ensures { Gains (shown_location part.entry.source.now part.entry.offset offset) page.old page.new }
 {
     push_line_column(page, part.source, part.location(offset));
 }
 
-/// Appends a location as `path:line:column`.
+/// Appends a location in the file `source` as `path:line:column`.
 fn push_line_column(page: &mut Page, source: &Source<'_>, location: Location)
     ensures { Gains (shown_line_column source.now.path location) page.old page.new }
 {
@@ -130,7 +133,8 @@ fn push_line_column(page: &mut Page, source: &Source<'_>, location: Location)
     page.push_number(location.column);
 }
 
-/// Appends the line with the start of a span, without its leading blanks.
+/// Appends the rest of the line that names a location, after its leading spaces: `-->` and the
+/// location.
 fn push_arrow(page: &mut Page, source: &Source<'_>, location: Location)
     ensures { Gains (arrow_line page.old.is_colored source.now.path location) page.old page.new }
 {
@@ -140,7 +144,8 @@ fn push_arrow(page: &mut Page, source: &Source<'_>, location: Location)
     page.push("\n");
 }
 
-/// Appends the lines of a span, with carets.
+/// Appends an empty margin, and the only line of a span, or its first and its last line, with
+/// carets under each.
 fn push_lines(page: &mut Page, frame: Frame<'_, '_>)
     ensures { Shows [] page.old page.new }
 {
@@ -155,7 +160,7 @@ fn push_lines(page: &mut Page, frame: Frame<'_, '_>)
     }
 }
 
-/// Appends the line of a span that begins and ends on it.
+/// Appends the line of a span that begins and ends on one line, with carets under it.
 fn push_only_line(page: &mut Page, frame: Frame<'_, '_>)
     ensures { Shows [] page.old page.new }
 {
@@ -165,7 +170,8 @@ fn push_only_line(page: &mut Page, frame: Frame<'_, '_>)
     push_carets(page, frame, window, column, frame.last.location.column);
 }
 
-/// Appends the first line of a span that ends on a later line.
+/// Appends the first line of a span that ends on a later line, with carets from the start of the
+/// span to the end of the line.
 fn push_first_line(page: &mut Page, frame: Frame<'_, '_>)
     ensures { Shows [] page.old page.new }
 {
@@ -176,7 +182,7 @@ fn push_first_line(page: &mut Page, frame: Frame<'_, '_>)
     push_carets(page, frame, window, column, usize::MAX);
 }
 
-/// Appends dots if there are lines between the first and the last one.
+/// Appends a line of three dots if a span has lines between its first and its last line.
 fn push_dots(page: &mut Page, frame: Frame<'_, '_>)
     ensures { Shows [] page.old page.new }
 {
@@ -186,12 +192,13 @@ fn push_dots(page: &mut Page, frame: Frame<'_, '_>)
     }
 }
 
-/// Returns the number of lines from `first` down to `last`.
+/// Returns the line number of `last` less that of `first`, or 0 if `last` is on an earlier line.
 fn lines_after(first: FileSpot, last: FileSpot) -> usize {
     last.location.line.saturating_sub(first.location.line)
 }
 
-/// Appends the last line of a span that begins on an earlier line.
+/// Appends the last line of a span that begins on an earlier line, with carets up to the end of the
+/// span, and the label.
 fn push_last_line(page: &mut Page, frame: Frame<'_, '_>)
     ensures { Shows [] page.old page.new }
 {
@@ -201,7 +208,7 @@ fn push_last_line(page: &mut Page, frame: Frame<'_, '_>)
     push_carets(page, frame, window, 1, column);
 }
 
-/// Appends the margin of a line without a number.
+/// Appends the margin of a line without a number: one space more than `width`, and `|`.
 fn push_margin(page: &mut Page, width: usize)
     ensures { Begins page.old page.new }
 {
@@ -209,7 +216,7 @@ fn push_margin(page: &mut Page, width: usize)
     page.paint(Style::Frame, "|");
 }
 
-/// Appends the shown part of a line of the file, with its number.
+/// Appends the line of the file with the number `line`, as far as it is shown, after its number.
 fn push_line(page: &mut Page, frame: Frame<'_, '_>, line: usize, window: LineWindow<'_>)
     ensures { Shows [] page.old page.new }
 {
@@ -218,7 +225,7 @@ fn push_line(page: &mut Page, frame: Frame<'_, '_>, line: usize, window: LineWin
     page.push("\n");
 }
 
-/// Appends the shown part of a line after its margin, unless it is empty.
+/// Appends a space and the shown part of a line, unless this part is empty.
 fn push_window(page: &mut Page, window: LineWindow<'_>)
     ensures { Continues page.old page.new }
 {
@@ -228,7 +235,7 @@ fn push_window(page: &mut Page, window: LineWindow<'_>)
     }
 }
 
-/// Appends the number of a line, and the margin after it.
+/// Appends the number of a line in a column of `width` digits, and ` |` after it.
 fn push_line_number(page: &mut Page, line: usize, width: usize)
     ensures { Begins page.old page.new }
 {
@@ -239,7 +246,8 @@ fn push_line_number(page: &mut Page, line: usize, width: usize)
     page.end();
 }
 
-/// Appends carets under the shown part of a line, in the columns `from..to`, but at least one.
+/// Appends a line with carets under the shown part of a line of the file, in its columns
+/// `from..to`, but at least one caret, and the label of `frame`.
 fn push_carets(
     page: &mut Page,
     frame: Frame<'_, '_>,
@@ -260,7 +268,7 @@ fn push_carets(
     page.push("\n");
 }
 
-/// Appends the text after carets.
+/// Appends a space and the text after carets, unless this text is empty.
 fn push_label(page: &mut Page, label: &str)
     ensures { Continues page.old page.new }
 {

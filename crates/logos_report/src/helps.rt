@@ -1,4 +1,5 @@
-//! Helps for faults, as an interface. `logos_help` implements it, and `logos_derive` takes any.
+//! Declares the interface to the helps for faults. `logos_help` implements the interface, and
+//! `logos_derive` takes any implementation.
 
 ghost use Rattle.std.specs.Prelude.{◌≡◌};
 ghost use Rattle.logos_report.specs.Views.{sizes_of};
@@ -9,8 +10,8 @@ use logos_token::error::{Errors, Memory};
 
 /// An interface to the helps for faults.
 pub trait Helps {
-    /// Adds to `clues` the help for each of the faults of a part of a file, in order. Reports show
-    /// it under the fault.
+    /// Adds to `clues` the help for each fault in `errors`, which are the faults of a part of a
+    /// file, in order. Reports show the help under the fault.
     ///
     /// # Errors
     ///

@@ -1,5 +1,5 @@
-//! The lines under a fault: the rest of its message, its second span, and its help. Used by
-//! `logos_messages`.
+//! Appends the lines under a fault: the rest of its message, its second span, and its help. Used by
+//! `faults`, `sets`, `warnings` and `logos_messages`.
 
 ghost use Rattle.std.specs.Prelude.{[]};
 ghost use Rattle.logos_report.specs.Imports.{Begins, Continues, Ends, IsInLine, Shows};
@@ -11,7 +11,7 @@ use crate::source::Part;
 use logos_page::{Page, Style};
 use logos_token::error::SpannedError;
 
-/// A fault whose location was shown. Its notes and its help follow.
+/// A fault whose location is in the report already, and whose notes and help are appended next.
 #[derive(Clone, Copy)]
 pub(crate) struct ShownFault<'f, 'p, 't> {
     pub(crate) part: Part<'p, 't>,
@@ -31,8 +31,8 @@ pub(crate) fn push_notes(page: &mut Page, shown: ShownFault<'_, '_, '_>)
     page.push("\n");
 }
 
-/// Appends the name of the subpattern whose substitution shifts the byte of a fault, if there is
-/// one.
+/// Appends the note about the subpattern whose substitution shifts the byte of a fault, if there is
+/// such a subpattern.
 fn push_put_in_note(page: &mut Page, shown: ShownFault<'_, '_, '_>)
     ensures { Shows [] page.old page.new }
 {
@@ -54,7 +54,7 @@ pub fn push_put_in(page: &mut Page, part: Part<'_, '_>, put: PutIn<'_>)
     push_location(page, part, put.definition);
 }
 
-/// Appends the beginning of a line under a fault.
+/// Appends a line under a fault without its line end: `kind`, such as `help`, and `text`.
 pub(crate) fn push_note(page: &mut Page, width: usize, kind: &str, text: &str)
     requires { IsInLine kind.now }
     ensures { Begins page.old page.new }
@@ -65,7 +65,7 @@ pub(crate) fn push_note(page: &mut Page, width: usize, kind: &str, text: &str)
     page.push_shown(text);
 }
 
-/// Appends the `=` of a line under a fault.
+/// Appends the margin of a line under a fault: one space more than `width`, and `= `.
 fn push_note_mark(page: &mut Page, width: usize)
     ensures { Begins page.old page.new }
 {
@@ -74,7 +74,7 @@ fn push_note_mark(page: &mut Page, width: usize)
     page.push(" ");
 }
 
-/// Appends the location of the second span of a fault, if it has one.
+/// Appends the note with the location of the second span of a fault, if it has one.
 fn push_other_location(page: &mut Page, shown: ShownFault<'_, '_, '_>)
     ensures { Shows [] page.old page.new }
 {
@@ -85,7 +85,7 @@ fn push_other_location(page: &mut Page, shown: ShownFault<'_, '_, '_>)
     }
 }
 
-/// Appends the help for a fault, if there is one.
+/// Appends the line with the help for a fault, if there is one.
 pub(crate) fn push_help(page: &mut Page, shown: ShownFault<'_, '_, '_>)
     ensures { Shows [] page.old page.new }
 {
@@ -95,8 +95,9 @@ pub(crate) fn push_help(page: &mut Page, shown: ShownFault<'_, '_, '_>)
     }
 }
 
-/// Appends the lines of a message after its first one. Those of a set of ambiguous leaves begin
-/// with the names of the other leaves, to which their locations are added.
+/// Appends the lines of a fault's message after the first one, without empty lines. For an
+/// ambiguous leaf the first of these lines name the other leaves of its set, and each gets the
+/// location of that leaf's fault.
 fn push_other_lines(page: &mut Page, shown: ShownFault<'_, '_, '_>)
     ensures { Shows [] page.old page.new }
 {
@@ -107,8 +108,9 @@ fn push_other_lines(page: &mut Page, shown: ShownFault<'_, '_, '_>)
     }
 }
 
-/// Appends the line of a message with this number after its first one. In the message of an
-/// ambiguous leaf it may be the name of another leaf.
+/// Appends a line of a fault's message as a note, unless it is empty. `number` counts the lines
+/// after the first one from 0. If the set of the fault has another fault with this number, its
+/// location is appended.
 fn push_other_line(page: &mut Page, shown: ShownFault<'_, '_, '_>, line: &str, number: usize)
     ensures { Shows [] page.old page.new }
 {

@@ -1,13 +1,12 @@
-//! The characters of a literal at which its pattern is faulty, and the subpattern whose
-//! substitution shifts the byte of such a fault. Reports and the derive macro draw their carets
-//! with it.
+//! Finds the character of a literal at which its pattern is faulty, and the subpattern whose
+//! substitution shifts the byte of such a fault. Used by `faults`, `notes` and other crates.
 
 use crate::source::Part;
 use logos_token::error::{Detail, PatternDetail, SpannedError};
 use logos_token::token::Span;
 
-/// Returns the span for the carets of a fault: the character of a literal at which its pattern is
-/// faulty, or otherwise the span of the fault.
+/// Returns the span for the carets of a fault, in bytes of the part: the character or the escape of
+/// a literal at which its pattern is faulty, or the span of the fault if it has no such character.
 pub fn caret_span(part: Part<'_, '_>, fault: &SpannedError) -> Span {
     match fault.detail {
         Detail::Pattern(detail) => pattern_span(part, fault.span, detail),
@@ -15,8 +14,8 @@ pub fn caret_span(part: Part<'_, '_>, fault: &SpannedError) -> Span {
     }
 }
 
-/// Returns the span of the character at which a pattern is faulty, or that of its literal if the
-/// literal does not spell the byte of the fault.
+/// Returns the span of the character or the escape at which a pattern is faulty, or the span
+/// `literal` if the literal does not spell the byte of the fault.
 fn pattern_span(part: Part<'_, '_>, literal: Span, detail: PatternDetail) -> Span {
     let Some(byte) = detail.origin.own else {
         return literal;
@@ -34,12 +33,12 @@ fn pattern_span(part: Part<'_, '_>, literal: Span, detail: PatternDetail) -> Spa
 #[derive(Clone, Copy)]
 pub struct PutIn<'t> {
     pub name: &'t str,
-    /// The byte offset in the part of the file of the name in the definition of the subpattern.
+    /// The byte offset of the subpattern's name in its definition, in the part of the file.
     pub definition: usize,
 }
 
-/// Returns the first subpattern that was substituted into the pattern of a fault before its byte,
-/// if there is one.
+/// Returns the first subpattern that was substituted into the pattern of a fault before the fault's
+/// byte, or `None` if there is none or the fault is not of a pattern.
 pub fn put_in<'t>(part: Part<'_, 't>, fault: &SpannedError) -> Option<PutIn<'t>> {
     let Detail::Pattern(detail) = fault.detail else {
         return None;
@@ -51,8 +50,8 @@ pub fn put_in<'t>(part: Part<'_, 't>, fault: &SpannedError) -> Option<PutIn<'t>>
     })
 }
 
-/// Returns the piece of a literal that spells the byte at the index `byte` of the literal's value,
-/// if there is one.
+/// Returns the span, in bytes of the literal, of the character or the escape that spells the byte
+/// at the index `byte` of the literal's value, or `None` if there is none.
 fn piece_at(literal: &str, byte: usize) -> Option<Span> {
     let (prefix, rest) = literal.split_once('"')?;
     let (inner, _) = rest.rsplit_once('"')?;
@@ -68,35 +67,36 @@ fn piece_at(literal: &str, byte: usize) -> Option<Span> {
     find(reader, inner, byte)
 }
 
-/// The construct that the next character of a literal continues.
+/// The construct that the next character of a literal continues. A piece is a character or an
+/// escape of the literal.
 #[derive(Clone, Copy)]
 enum LiteralState {
-    /// None: a piece begins.
+    /// None: a piece begins with the next character.
     Plain,
-    /// A backslash.
+    /// An escape, after its backslash.
     Escape,
-    /// `\x`.
+    /// An escape, after `\x`.
     Hex,
-    /// `\x` and a digit. `is_high` is whether the digit is at least 8.
+    /// An escape, after `\x` and a digit. `is_high` is whether the digit is at least 8.
     Digit { is_high: bool },
-    /// `\u{` with digits, whose value is this number so far.
+    /// An escape, after `\u` and perhaps `{` and digits. The number is the digits' value.
     Number(u32),
-    /// A backslash at the end of a line, and blanks.
+    /// A backslash at the end of a line, and the blanks after it.
     Blanks,
 }
 
-/// A reader of the characters of a literal.
+/// A reader of a literal, before one of its characters.
 #[derive(Clone, Copy)]
 struct Reader {
     is_raw: bool,
     is_bytes: bool,
     state: LiteralState,
-    /// The piece that is being read, in bytes of the literal.
+    /// The span of the piece so far, in bytes of the literal.
     piece: Span,
 }
 
-/// Returns the piece that spells the byte at the index `byte`, if there is one. `inner` is the text
-/// between the quotes.
+/// Returns the span of the piece that spells the byte at the index `byte` of a literal's value, or
+/// `None` if there is none. `inner` is the text between the quotes.
 fn find(start: Reader, inner: &str, byte: usize) -> Option<Span> {
     let mut reader = start;
     let mut left = byte;
@@ -157,8 +157,8 @@ impl Reader {
         }
     }
 
-    /// Returns the result of `step` for a character that begins a piece. CR is read only before LF,
-    /// and is dropped.
+    /// Returns the result of `step` for a character that begins a piece. CR occurs only before LF,
+    /// and spells no byte.
     fn begin(self, character: char) -> (LiteralState, usize) {
         if (character == '\\') & !self.is_raw {
             (LiteralState::Escape, 0)
@@ -181,7 +181,7 @@ fn escape(character: char) -> (LiteralState, usize) {
     }
 }
 
-/// Returns the result of `Reader::step` for a character in `\u{..}`, whose digits so far have the
+/// Returns the result of `Reader::step` for a character after `\u`. The digits so far have the
 /// value `number`.
 fn digit(number: u32, character: char) -> (LiteralState, usize) {
     if character == '}' {
@@ -196,7 +196,7 @@ fn digit(number: u32, character: char) -> (LiteralState, usize) {
     }
 }
 
-/// Returns the length in UTF-8 of the character with this number.
+/// Returns the length in UTF-8 of the character with this number, in bytes.
 fn utf8_length(number: u32) -> usize {
     match number {
         0..=0x7F => 1,

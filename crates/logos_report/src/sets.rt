@@ -1,5 +1,5 @@
-//! Faults of a graph: one report for each set of ambiguous leaves, and the patterns that can
-//! examine the bytes before their start. Used by `faults`.
+//! Appends a fault with its clues: one report for each set of ambiguous leaves, and under a fault
+//! the patterns that can examine the bytes before their start. Used by `faults`.
 
 ghost use Rattle.std.specs.Prelude.{◌∷◌, ◌++◌, [], map, nat_lt, if◌then◌else◌};
 ghost use Rattle.logos_report.specs.Views.{fault_of, from_of, fault_texts, listed_texts, Shows, location_line, next_value, offsets_of, starts_in};
@@ -15,7 +15,8 @@ use logos_token::error::SpannedError;
 /// The maximum number of patterns that are shown under a fault.
 const MOST: usize = 50;
 
-/// Appends the next fault of a list.
+/// Appends a fault, which is the next one, with the clues about it: as a member of its set of
+/// ambiguous leaves, or with the patterns that explain it.
 pub(crate) fn push_listed(
     page: &mut Page,
     part: Part<'_, '_>,
@@ -32,7 +33,8 @@ pub(crate) fn push_listed(
     }
 }
 
-/// Appends a fault of a set of ambiguous leaves, and the clue about the set after the last one.
+/// Appends a fault of a set of ambiguous leaves, and after the last fault of the set the clue about
+/// the set.
 fn push_member(page: &mut Page, part: Part<'_, '_>, known: KnownFault<'_>, member: Member<'_>)
     ensures { Shows (if nat_lt 0 member.entry.number
         then location_line page.old.is_colored part.entry.source.now part.entry.offset
@@ -44,8 +46,9 @@ fn push_member(page: &mut Page, part: Part<'_, '_>, known: KnownFault<'_>, membe
     push_end(page, ShownFault { part, known, width }, member);
 }
 
-/// Appends the location of a fault of a set of ambiguous leaves, and before the first one the line
-/// of the report. Returns the width of the column of line numbers.
+/// Appends the location and the lines of a fault of a set of ambiguous leaves, after the code and
+/// the message if the fault is the first of its set. Returns the width of the column of line
+/// numbers.
 fn push_location_of(
     page: &mut Page,
     part: Part<'_, '_>,
@@ -65,8 +68,8 @@ fn push_location_of(
     }
 }
 
-/// Appends the line of a report and the location of its fault, with a label. Returns the width of
-/// the column of line numbers.
+/// Appends the code and the message of a fault, and its location and lines, with `label` after the
+/// carets. Returns the width of the column of line numbers.
 fn push_begin(page: &mut Page, part: Part<'_, '_>, fault: &SpannedError, label: &str) -> usize
     ensures { Shows (fault_texts page.old.is_colored part.entry.source.now part.entry.offset
         (fault_of fault.now)) page.old page.new }
@@ -75,7 +78,7 @@ fn push_begin(page: &mut Page, part: Part<'_, '_>, fault: &SpannedError, label: 
     push_marked(page, part, fault, label)
 }
 
-/// Appends the clue about a set of ambiguous leaves, if this is the last of its faults.
+/// Appends the clue about a set of ambiguous leaves, if `member` is the last fault of the set.
 fn push_end(page: &mut Page, shown: ShownFault<'_, '_, '_>, member: Member<'_>)
     ensures { Shows [] page.old page.new }
 {
@@ -84,7 +87,7 @@ fn push_end(page: &mut Page, shown: ShownFault<'_, '_, '_>, member: Member<'_>)
     }
 }
 
-/// Appends the text on which leaves meet, the help, and an empty line.
+/// Appends the note of a clue, the help for the shown fault if there is one, and an empty line.
 fn push_meeting(page: &mut Page, shown: ShownFault<'_, '_, '_>, meeting: &Meeting)
     ensures { Shows [] page.old page.new }
 {
@@ -94,7 +97,8 @@ fn push_meeting(page: &mut Page, shown: ShownFault<'_, '_, '_>, meeting: &Meetin
     page.push("\n");
 }
 
-/// Appends a fault that is not of a set with a clue, with the patterns that explain it.
+/// Appends a fault that is not of a set with a clue: with the patterns `starts` that explain it, or
+/// with the lines of its span if `starts` is empty.
 fn push_single(page: &mut Page, part: Part<'_, '_>, known: KnownFault<'_>, starts: &[Start])
     ensures { Shows (fault_texts page.old.is_colored part.entry.source.now part.entry.offset
         (fault_of known.entry.fault.now)
@@ -108,8 +112,8 @@ fn push_single(page: &mut Page, part: Part<'_, '_>, known: KnownFault<'_>, start
     }
 }
 
-/// Appends a fault of a whole enum, with the patterns that explain it instead of the lines of the
-/// enum.
+/// Appends a fault of a whole enum, with at most 50 of the patterns `starts` that explain it
+/// instead of the lines of the enum.
 fn push_explained(page: &mut Page, part: Part<'_, '_>, known: KnownFault<'_>, starts: &[Start])
     ensures { Shows (fault_texts page.old.is_colored part.entry.source.now part.entry.offset
         (fault_of known.entry.fault.now)
@@ -123,7 +127,7 @@ fn push_explained(page: &mut Page, part: Part<'_, '_>, known: KnownFault<'_>, st
     push_notes(page, ShownFault { part, known, width });
 }
 
-/// Appends each of these patterns, with its location.
+/// Appends the location and the lines of each of these patterns, with carets and a label.
 fn push_starts(page: &mut Page, part: Part<'_, '_>, starts: &[Start])
     ensures { Shows (map (location_line page.old.is_colored part.entry.source.now part.entry.offset)
         (map from_of starts.now)) page.old page.new }
@@ -133,7 +137,8 @@ fn push_starts(page: &mut Page, part: Part<'_, '_>, starts: &[Start])
     }
 }
 
-/// Appends a pattern that can examine the bytes before its start.
+/// Appends the location and the lines of a pattern that can examine the bytes before its start,
+/// with carets and the name of its leaf.
 fn push_start(page: &mut Page, part: Part<'_, '_>, start: &Start)
     ensures { Shows (location_line page.old.is_colored part.entry.source.now part.entry.offset
         (from_of start.now) ∷ []) page.old page.new }

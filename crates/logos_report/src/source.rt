@@ -1,4 +1,5 @@
-//! Files and their parts, with the locations of their offsets. Used by all reports.
+//! Files and their parts, with the locations of their offsets. Used by all modules that report
+//! faults or warnings.
 
 ghost use Rattle.std.specs.Prelude.{◌≡◌, ◌≤◌, ◌⊎◌, IfOk, MatchOption, length};
 ghost use Rattle.logos_report.specs.Views.{IsLineOf, IsLongLine, IsNoLine, location_at, in_file};
@@ -18,7 +19,7 @@ pub struct Part<'p, 't> {
 }
 
 impl Part<'_, '_> {
-    /// Returns the line and the column in the file of an offset of the part.
+    /// Returns the line and the column in the file of the byte `offset` of the part.
     pub fn location(self, offset: usize) -> Location
         ensures { result ≡ location_at self.entry.source.now.text
             (in_file self.entry.offset offset) }
@@ -28,7 +29,7 @@ impl Part<'_, '_> {
 }
 
 impl<'t> Part<'_, 't> {
-    /// Returns the text of the part at a span in bytes, or an empty one if the file has no such
+    /// Returns the text at a span in bytes of the part, or an empty text if the file has no such
     /// span.
     pub fn text_at(self, span: Span) -> &'t str {
         let from = span.from.saturating_add(self.offset);
@@ -36,8 +37,8 @@ impl<'t> Part<'_, 't> {
         self.source.text().get(from..to).unwrap_or("")
     }
 
-    /// Returns the text of the file from a byte offset of the part to the end of the file, or an
-    /// empty one past that end.
+    /// Returns the text of the file from the byte `offset` of the part to the end of the file, or
+    /// an empty text if the file has no such offset.
     pub fn text_from(self, offset: usize) -> &'t str {
         let from = offset.saturating_add(self.offset);
         self.source.text().get(from..).unwrap_or("")
@@ -91,15 +92,16 @@ impl<'t> Source<'t> {
         self.text
     }
 
-    /// Returns the line and the column of an offset in bytes.
+    /// Returns the line and the column of a byte offset in the file.
     pub fn location(&self, offset: usize) -> Location
         ensures { result ≡ location_at self.now.text offset }
     {
         self.index.line_column(offset)
     }
 
-    /// Returns the text of a line, or `None` if the file has no such line or the line has more than
-    /// `most` bytes. It examines at most `most` bytes and the end of the line.
+    /// Returns the text of the line with the number `line`, or `None` if the file has no such line
+    /// or the line has more than `most` bytes. Examines at most `most` bytes and the end of the
+    /// line.
     pub fn short_line(&self, line: usize, most: usize) -> Option<&'t str>
         ensures { MatchOption result
             (IsNoLine self.now.text line ⊎ IsLongLine self.now.text line most)

@@ -13,7 +13,7 @@ use logos_token::token::Span;
 /// The maximum number of warnings that are shown for a part of a file.
 const MOST: usize = 50;
 
-/// A probable mistake in a part of a file that is not a fault.
+/// A probable mistake, which is not a fault, in a part of a file.
 #[derive(Debug, Drop)]
 pub struct Warning {
     /// The probable mistake, on one line.
@@ -28,8 +28,9 @@ pub struct Warning {
     pub also: Option<Span>,
 }
 
-/// Appends at most 50 warnings of a part of a file, in order, and the number of those that are left
-/// out. For each, the appended text has a line with its message and one with its location.
+/// Appends the first 50 warnings of a part of a file, or all if there are fewer, in order, and the
+/// number of warnings that are left out, unless it is 0. For each warning, the appended text has a
+/// line with its message and a line with its location.
 pub fn push_warnings(page: &mut Page, part: Part<'_, '_>, warnings: &[Warning])
     ensures { Shows (warnings_texts page.old.is_colored part.entry.source.now part.entry.offset
         warnings.now) page.old page.new }
@@ -38,7 +39,7 @@ pub fn push_warnings(page: &mut Page, part: Part<'_, '_>, warnings: &[Warning])
     push_left_out(page, warnings.len().saturating_sub(MOST));
 }
 
-/// Returns the warnings that are shown, which are the first 50.
+/// Returns the warnings that are shown: the first 50, or all if there are fewer.
 pub fn first_of(warnings: &[Warning]) -> &[Warning]
     ensures { result.now ≡ shown_of warnings.now }
 {
@@ -49,7 +50,7 @@ pub fn first_of(warnings: &[Warning]) -> &[Warning]
     }
 }
 
-/// Appends these warnings.
+/// Appends each of these warnings, in order.
 fn push_all(page: &mut Page, part: Part<'_, '_>, warnings: &[Warning])
     ensures { Shows (all_texts page.old.is_colored part.entry.source.now part.entry.offset
         warnings.now) page.old page.new }
@@ -59,7 +60,8 @@ fn push_all(page: &mut Page, part: Part<'_, '_>, warnings: &[Warning])
     }
 }
 
-/// Appends the number of warnings that are left out, and an empty line, if there are any.
+/// Appends a line with the number `count` of warnings that are left out, and an empty line, unless
+/// the number is 0.
 fn push_left_out(page: &mut Page, count: usize)
     ensures { Shows (left_out_texts page.old.is_colored count) page.old page.new }
 {
@@ -69,7 +71,7 @@ fn push_left_out(page: &mut Page, count: usize)
     }
 }
 
-/// Appends the line with the number of warnings that are left out.
+/// Appends the line with the number `count` of warnings that are left out.
 fn push_left_out_line(page: &mut Page, count: usize)
     ensures { Gains (left_out_line page.old.is_colored count) page.old page.new }
 {
@@ -79,7 +81,8 @@ fn push_left_out_line(page: &mut Page, count: usize)
     page.push(" more warnings are not shown\n");
 }
 
-/// Appends a warning: its message, the lines of its span, and its notes.
+/// Appends a warning: its message, its location, the lines of its span, its notes and its help, and
+/// an empty line.
 pub fn push_warning(page: &mut Page, part: Part<'_, '_>, warning: &Warning)
     ensures { Shows (warning_texts page.old.is_colored part.entry.source.now part.entry.offset
         warning.now) page.old page.new }
@@ -109,7 +112,8 @@ fn push_message(page: &mut Page, message: &str)
     page.end();
 }
 
-/// Appends the notes under a warning, and an empty line.
+/// Appends the notes and the help under a warning, and an empty line. `width` is that of the column
+/// of line numbers.
 fn push_notes(page: &mut Page, part: Part<'_, '_>, width: usize, warning: &Warning)
     ensures { Shows [] page.old page.new }
 {
@@ -119,7 +123,7 @@ fn push_notes(page: &mut Page, part: Part<'_, '_>, width: usize, warning: &Warni
     page.push("\n");
 }
 
-/// Appends a further explanation, if there is one.
+/// Appends the line with the further explanation of a warning, if there is one.
 fn push_further(page: &mut Page, width: usize, note: &Option<String>)
     ensures { Shows [] page.old page.new }
 {
@@ -128,7 +132,7 @@ fn push_further(page: &mut Page, width: usize, note: &Option<String>)
     }
 }
 
-/// Appends a help, if there is one.
+/// Appends the line with the help for a warning, if there is one.
 fn push_help(page: &mut Page, width: usize, help: Option<&str>)
     ensures { Shows [] page.old page.new }
 {
@@ -137,7 +141,7 @@ fn push_help(page: &mut Page, width: usize, help: Option<&str>)
     }
 }
 
-/// Appends a note or a help.
+/// Appends the line with a note or a help. `kind` is the word before its text.
 fn push_line(page: &mut Page, width: usize, kind: &str, text: &str)
     requires { IsInLine kind.now }
     ensures { Shows [] page.old page.new }
@@ -146,7 +150,7 @@ fn push_line(page: &mut Page, width: usize, kind: &str, text: &str)
     page.push("\n");
 }
 
-/// Appends the location of a second span, if there is one.
+/// Appends the line with the location of the second span of a warning, if there is one.
 fn push_other(page: &mut Page, part: Part<'_, '_>, width: usize, also: Option<Span>)
     ensures { Shows [] page.old page.new }
 {

@@ -10,12 +10,12 @@ use logos_page::{Page, columns_of};
 
 /// The width of the shown part of a line, in columns.
 const COLUMNS: usize = 140;
-/// The number of columns before the first caret up to which none is left out.
+/// The maximum number of columns before the first caret of which none is left out.
 const NEAR: usize = 100;
-/// The number of columns before the first caret that are shown if others are left out.
+/// The number of columns before the first caret that are shown if earlier columns are left out.
 const FRONT: usize = 60;
-/// The number of bytes that are examined on either side of a location. The shown columns have
-/// fewer, except for characters that take no column.
+/// The number of bytes that are examined on either side of a location. The shown columns have fewer
+/// bytes, unless the line has characters that take no column.
 const FAR: usize = 800;
 
 /// A location in a file: its offset, line and column.
@@ -26,7 +26,7 @@ pub(crate) struct FileSpot {
     pub(crate) location: Location,
 }
 
-/// The text near a location in a line, and the numbers of characters that are left out.
+/// The text near a location in a line, and the number of its leading characters that are left out.
 #[derive(Clone, Copy)]
 pub(crate) struct LineWindow<'t> {
     /// The text near the location.
@@ -39,7 +39,7 @@ pub(crate) struct LineWindow<'t> {
     continues: bool,
 }
 
-/// Returns the shown part of the line at a location of a file.
+/// Returns the shown part of the line at the location `spot` of a file.
 pub(crate) fn window_at<'t>(source: &Source<'t>, spot: FileSpot) -> LineWindow<'t> {
     let text = source.text();
     let bytes = text.as_bytes();
@@ -63,8 +63,8 @@ pub(crate) fn window_at<'t>(source: &Source<'t>, spot: FileSpot) -> LineWindow<'
     }
 }
 
-/// Returns the start of the text near an offset: the start of its line, or the offset less `FAR`
-/// bytes.
+/// Returns the start of the text near an offset: the start of its line, or the offset `FAR` bytes
+/// before it if the line begins earlier.
 fn near_start(bytes: &[u8], offset: usize) -> usize {
     let least = offset.saturating_sub(FAR);
     let mut from = offset.min(bytes.len());
@@ -77,7 +77,8 @@ fn near_start(bytes: &[u8], offset: usize) -> usize {
     from
 }
 
-/// Returns the end of the text near an offset: the end of its line, or the offset `last`.
+/// Returns the end of the text that begins at `from`: the end of its line, or the offset `last` if
+/// the line ends later.
 fn near_end(bytes: &[u8], from: usize, last: usize) -> usize {
     let mut to = from;
     while to < last {
@@ -89,7 +90,7 @@ fn near_end(bytes: &[u8], from: usize, last: usize) -> usize {
     to
 }
 
-/// Returns whether a line ends at an offset.
+/// Returns whether a line ends at the offset `at`: at LF, at CRLF, or at the end of the text.
 fn ends_at(bytes: &[u8], at: usize) -> bool {
     match bytes.get(at) {
         Some(b'\n') => true,
@@ -99,7 +100,8 @@ fn ends_at(bytes: &[u8], at: usize) -> bool {
     }
 }
 
-/// Returns the first offset, at least `offset`, at which a character begins or the text ends.
+/// Returns the first offset, at least `offset`, at which a character begins or the text ends, or
+/// `offset` if it is past the end.
 fn character_at(text: &str, offset: usize) -> usize {
     let mut at = offset;
     while at < text.len() {
@@ -124,8 +126,8 @@ fn skipped_of(window: LineWindow<'_>, before: usize) -> usize {
     }
 }
 
-/// Returns the width in columns of `count` characters of a text, starting with the one at the index
-/// `from`.
+/// Returns the width in columns of `count` characters of a text, or of all there are if fewer, from
+/// the character at the index `from` on.
 fn columns(text: &str, from: usize, count: usize) -> usize {
     let mut total: usize = 0;
     for character in text.chars().skip(from).take(count) {
@@ -149,7 +151,7 @@ fn characters_in(text: &str, columns: usize) -> usize {
     count
 }
 
-/// Appends dots if a line is cut here.
+/// Appends three dots if `is_cut` holds, which means that characters of a line are left out.
 fn push_cut(page: &mut Page, is_cut: bool)
     ensures { Continues page.old page.new }
 {
@@ -159,7 +161,7 @@ fn push_cut(page: &mut Page, is_cut: bool)
 }
 
 impl LineWindow<'_> {
-    /// Returns whether the shown part is empty.
+    /// Returns whether the text near the location is empty.
     pub(crate) fn is_empty(self) -> bool {
         self.text.is_empty()
     }
@@ -178,7 +180,8 @@ impl LineWindow<'_> {
         push_cut(page, continues);
     }
 
-    /// Appends the shown part of the line. Returns whether it is cut at its end.
+    /// Appends the shown part of the line without dots. Returns whether the line continues after
+    /// this part.
     fn push_characters(self, page: &mut Page) -> bool
         ensures { Continues page.old page.new }
     {
@@ -193,19 +196,21 @@ impl LineWindow<'_> {
         self.continues
     }
 
-    /// Returns the number of characters of the window before a column of the line.
+    /// Returns the number of characters of the line between the start of the window's text and
+    /// `column`, a column of the line.
     fn characters_before(self, column: usize) -> usize {
         column.saturating_sub(1).saturating_sub(self.front)
     }
 
-    /// Returns the number of columns that are shown before a column.
+    /// Returns the number of columns that are shown before `column`, a column of the line. The
+    /// columns of the dots count too.
     pub(crate) fn columns_before(self, column: usize) -> usize {
         let dots = if self.is_cut() { 3 } else { 0 };
         let shown = self.characters_before(column).saturating_sub(self.skipped);
         columns(self.text, self.skipped, shown).saturating_add(dots)
     }
 
-    /// Returns the number of shown columns from the column `from` to the column `to`, exclusive.
+    /// Returns the number of shown columns for the columns `from..to` of the line.
     pub(crate) fn columns_between(self, from: usize, to: usize) -> usize {
         let first = self.characters_before(from).max(self.skipped);
         let count = self.characters_before(to).saturating_sub(first);

@@ -5,8 +5,8 @@ use std::env::Env;
 use std::io;
 use std::io::{IsTerminal, Write};
 
-/// An output that reports itself as a terminal if it is one, and the variable `NO_COLOR` allows
-/// colors.
+/// An output that reports itself as a terminal if its writer is a terminal, and the variable
+/// `NO_COLOR` allows colors.
 #[derive(Drop)]
 pub struct ColorOutput<W> {
     writer: W,

@@ -1,4 +1,4 @@
-//! Lines that are cut to the width of a screen. Called by `item_line` and `logos_show`.
+//! Cuts lines to the width of a screen. Used by `item_line` and `logos_show`.
 
 ghost use Rattle.std.specs.Prelude.{◌≡◌, ◌++◌, [], ◌∷◌, None, OnOk};
 ghost use Rattle.logos_screen.specs.Views.{IsCutFront, IsFront};
@@ -16,11 +16,13 @@ pub(crate) struct ShownLine<'l> {
     pub(crate) mark: &'static str,
 }
 
-/// Appends a text. If there is a width, each line is cut to it.
+/// Appends a text to `block`. If there is a width, each line is cut to this number of columns and
+/// ends with LF.
 ///
 /// # Errors
 ///
-/// Returns `AllocError` if memory runs out. Then a part of the text may have been appended.
+/// Returns `AllocError` if memory runs out. Then a part of the text may have been appended to
+/// `block`.
 pub fn push_fitted(block: &mut Vec<u8>, text: &str, width: Option<usize>) -> Result<(), AllocError>
     ensures { width ≡ None → OnOk result (block.new.items ≡ block.old.items ++ text.now) }
 {
@@ -30,7 +32,7 @@ pub fn push_fitted(block: &mut Vec<u8>, text: &str, width: Option<usize>) -> Res
     }
 }
 
-/// Appends the lines of a text, each cut to a width.
+/// Appends the lines of a text to `block`, each cut to `width` columns.
 fn push_lines(block: &mut Vec<u8>, text: &str, width: Option<usize>) -> Result<(), AllocError> {
     for line in text.lines() {
         push_front(block, front_of(line, width))?;
@@ -38,7 +40,7 @@ fn push_lines(block: &mut Vec<u8>, text: &str, width: Option<usize>) -> Result<(
     Ok(())
 }
 
-/// Appends the shown part of a line, its mark, and a line end.
+/// Appends the shown part of a line to `block`, with its mark and a line end.
 fn push_front(block: &mut Vec<u8>, front: ShownLine<'_>) -> Result<(), AllocError>
     ensures { OnOk result (block.new.items ≡ block.old.items
         ++ (front.entry.text.now ++ (front.entry.mark.now ++ 10 ∷ []))) }
@@ -47,7 +49,7 @@ fn push_front(block: &mut Vec<u8>, front: ShownLine<'_>) -> Result<(), AllocErro
     push_end(block, front.mark)
 }
 
-/// Appends a mark and a line end.
+/// Appends a mark and a line end to `block`.
 pub(crate) fn push_end(block: &mut Vec<u8>, mark: &str) -> Result<(), AllocError>
     ensures { OnOk result (block.new.items ≡ block.old.items ++ (mark.now ++ 10 ∷ [])) }
 {
@@ -55,8 +57,8 @@ pub(crate) fn push_end(block: &mut Vec<u8>, mark: &str) -> Result<(), AllocError
     block.extend_from_slice(b"\n")
 }
 
-/// Returns the shown part of a line: the whole line if it fits into the width, or if there is no
-/// width.
+/// Returns the shown part of a line: the whole line if it fits into `width` columns, or if `width`
+/// is `None`, otherwise a prefix with the mark of a cut.
 pub(crate) fn front_of<'l>(line: &'l str, width: Option<usize>) -> ShownLine<'l>
     ensures { IsFront line.now width result.text.now result.mark.now }
 {
@@ -69,7 +71,8 @@ pub(crate) fn front_of<'l>(line: &'l str, width: Option<usize>) -> ShownLine<'l>
     }
 }
 
-/// Returns the first `end` bytes of a line, with the mark of a cut.
+/// Returns the first `end` bytes of a line, with the mark of a cut. Returns no bytes, with the
+/// mark, if the line cannot be split there.
 fn cut_front<'l>(line: &'l str, end: usize) -> ShownLine<'l>
     ensures { IsCutFront line.now result.text.now result.mark.now }
 {
@@ -91,8 +94,8 @@ fn columns_in(line: &str) -> usize {
     columns
 }
 
-/// Returns the length in bytes of the longest prefix of a line that leaves one of `width` columns
-/// free.
+/// Returns the length in bytes of the longest prefix of a line that takes fewer than `width`
+/// columns.
 fn end_of(line: &str, width: usize) -> usize {
     let mut columns: usize = 1;
     let mut end: usize = 0;

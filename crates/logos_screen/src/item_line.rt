@@ -1,4 +1,4 @@
-//! The line of an item on a screen. Called by `logos_items`.
+//! Appends the line of an item with the colors and the width of a screen. Called by `logos_items`.
 
 ghost use Rattle.std.specs.Prelude.{◌≡◌, ◌++◌, OnOk};
 ghost use Rattle.logos_screen.specs.Views.{ShowsItem, item_text, painted, part_sequence};
@@ -25,7 +25,7 @@ struct ItemParts<'l> {
     text: &'l str,
 }
 
-/// The kinds of parts that have a color of their own.
+/// A kind of part of an item's line, with a style of its own.
 #[derive(Clone, Copy, Debug, PartialEq, Eq)]
 pub(crate) enum ItemPart {
     /// The location: bold and blue, like the frame of a report.
@@ -38,7 +38,8 @@ pub(crate) enum ItemPart {
     Error,
 }
 
-/// Appends the line of an item and a line end, with the colors and the width of the screen.
+/// Appends the line of an item and a line end to `block`, with the colors and the width of the
+/// screen.
 ///
 /// # Errors
 ///
@@ -56,7 +57,8 @@ pub fn push_item_line(
     push_end(block, front.mark)
 }
 
-/// Returns the parts of a line: the location ends at the first blank.
+/// Returns the parts of a line: the location up to the first space, the next `variant` bytes as the
+/// variant, and the rest as the text.
 fn parts_of<'l>(line: &'l str, variant: usize) -> ItemParts<'l>
     ensures { result.location.now ++ (result.variant.now ++ result.text.now) ≡ line.now }
 {
@@ -69,7 +71,8 @@ fn parts_of<'l>(line: &'l str, variant: usize) -> ItemParts<'l>
     }
 }
 
-/// Returns the length of the location at the beginning of a line, in bytes.
+/// Returns the length in bytes of the location at the beginning of a line, which ends before the
+/// first space, or at the end of the line.
 fn location_length(line: &str) -> usize {
     match line.find(' ') {
         Some(length) => length,
@@ -77,8 +80,8 @@ fn location_length(line: &str) -> usize {
     }
 }
 
-/// Splits a text at the byte offset `at`. The second part is empty if the text cannot be split
-/// there.
+/// Returns the parts of a text before and after the byte offset `at`. If the text cannot be split
+/// there, the first part is the whole text and the second part is empty.
 fn split<'l>(text: &'l str, at: usize) -> (&'l str, &'l str)
     ensures { result.0.now ++ result.1.now ≡ text.now }
 {
@@ -88,8 +91,8 @@ fn split<'l>(text: &'l str, at: usize) -> (&'l str, &'l str)
     }
 }
 
-/// Appends the parts of a line. Those of an error have the color of errors, except for the
-/// location.
+/// Appends the parts of a line to `block`. The variant and the text of an error have the color of
+/// errors.
 fn push_parts(
     block: &mut Vec<u8>,
     is_colored: bool,
@@ -109,7 +112,7 @@ fn push_parts(
     push_part(block, is_colored, text, parts.text)
 }
 
-/// Appends a part, with or without its color.
+/// Appends the text of a part to `block`, in the style of the part if `is_colored` holds.
 fn push_part(
     block: &mut Vec<u8>,
     is_colored: bool,

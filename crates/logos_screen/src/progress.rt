@@ -1,4 +1,5 @@
-//! A line about the progress of long work, on standard error. Used by `logos_show`.
+//! Shows a line about the progress of a long call of a program on standard error. Used by
+//! `logos_show`.
 //!
 //! The line has the number of bytes that were written. It is shown after a second, if standard
 //! error is a terminal and standard output is not, and is cleared before a message and at the end.
@@ -14,10 +15,11 @@ const PATIENCE: u64 = 1000;
 /// The milliseconds after which the line is shown again with the current number.
 const PAUSE: u64 = 200;
 
-/// The text that overwrites the line with blanks.
+/// The text that overwrites the line with spaces, and then returns to its beginning.
 const CLEAR: &[u8] = b"\r                                \r";
 
-/// The state of the progress line, which the outputs of a program share: whether the line is shown.
+/// The state of the progress line, which the outputs of a program share: whether the line is on the
+/// terminal.
 #[derive(Drop)]
 pub struct ProgressLine {
     is_shown: Cell<bool>,
@@ -31,7 +33,7 @@ impl ProgressLine {
         }
     }
 
-    /// Clears the line on standard error, if it is shown.
+    /// Clears the line on standard error, if it is shown. An error of the writer is ignored.
     pub fn clear<E: Write>(&self, err: &mut E) {
         if self.is_shown.get() {
             self.is_shown.set(false);
@@ -89,20 +91,20 @@ pub struct CountedOutput<'l, S, O, E> {
     progress: Progress<'l, S, E>,
 }
 
-/// The number of bytes, and the times at which it is shown.
+/// The number of bytes that were written, and the time at which this number is shown next.
 #[derive(Drop)]
 struct Progress<'l, S, E> {
     system: &'l S,
     line: &'l ProgressLine,
     err: E,
     written: usize,
-    /// The time from which the number is shown, or `None` if it is never shown.
+    /// The time from which the number is shown next, or `None` if it is not shown again.
     due: Option<Duration>,
 }
 
 impl<'l, S: Clock, O: IsTerminal, E: IsTerminal> CountedOutput<'l, S, O, E> {
-    /// Returns standard output of which no bytes were written. Their number is shown only if `err`
-    /// is a terminal and `writer` is not.
+    /// Returns standard output to which no bytes were written. The number of written bytes is shown
+    /// only if `err` is a terminal, `writer` is not, and the system has a clock.
     pub fn new(
         system: &'l S,
         line: &'l ProgressLine,
@@ -127,7 +129,7 @@ impl<'l, S: Clock, O: IsTerminal, E: IsTerminal> CountedOutput<'l, S, O, E> {
     }
 }
 
-/// Returns the time `milliseconds` from now, if there is a clock.
+/// Returns the time `milliseconds` from now, or `None` if the system has no clock or no such time.
 fn time_in<S: Clock>(system: &S, milliseconds: u64) -> Option<Duration> {
     match system.monotonic() {
         Ok(time) => time.checked_add(Duration::from_millis(milliseconds)),
@@ -136,7 +138,8 @@ fn time_in<S: Clock>(system: &S, milliseconds: u64) -> Option<Duration> {
 }
 
 impl<S: Clock, E: Write> Progress<'_, S, E> {
-    /// Adds `length` to the number of written bytes, and shows that number if it is due.
+    /// Adds `length` to the number of written bytes, and shows this number if that is due. An error
+    /// of standard error is ignored.
     fn count(&mut self, length: usize) {
         self.written = self.written.saturating_add(length);
         if self.is_due() {
@@ -148,7 +151,7 @@ impl<S: Clock, E: Write> Progress<'_, S, E> {
         }
     }
 
-    /// Returns whether the number is to be shown now.
+    /// Returns whether the number of written bytes is to be shown now.
     fn is_due(&self) -> bool {
         let Some(due) = self.due else {
             return false;

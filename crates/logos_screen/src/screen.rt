@@ -1,4 +1,5 @@
-//! The form in which an output is shown. Called by `logos_cli` and `logos_show`.
+//! Determines the form in which an output is shown: its colors and its width. Used by
+//! `color_output`, `item_line`, `logos_items` and `logos_show`.
 
 ghost use Rattle.std.specs.Prelude.{◌≡◌};
 ghost use Rattle.logos_screen.specs.Views.{IsScreenOf, is_plain};
@@ -6,11 +7,11 @@ ghost use Rattle.logos_screen.specs.Views.{IsScreenOf, is_plain};
 use logos_host::Color;
 use std::env::{Env, FillError};
 
-/// The form in which an output is shown.
+/// The form in which an output is shown: whether it has colors, and its width.
 #[derive(Clone, Copy, Debug, PartialEq, Eq)]
 pub struct Screen {
     pub is_colored: bool,
-    /// The width in columns to which lines are cut, if it is known.
+    /// The width in columns to which lines are cut, or `None` if lines are not cut.
     pub width: Option<usize>,
 }
 
@@ -36,8 +37,9 @@ impl Screen {
     }
 }
 
-/// Returns the form of an output that may be a terminal. `color` is the condition under which it
-/// has colors.
+/// Returns the form of an output. `color` is the condition under which the output has colors, and
+/// `is_terminal` is whether it is a terminal. Only a terminal has a width, which is the value of
+/// `COLUMNS`.
 pub fn screen_of<V: Env>(variables: &V, color: Color, is_terminal: bool) -> Screen
     ensures { IsScreenOf color is_terminal result }
 {
@@ -63,10 +65,11 @@ pub fn allows_colors<V: Env>(variables: &V) -> bool {
     }
 }
 
-/// The length in bytes of the longest value of `COLUMNS` that is read.
+/// The maximum length of a value of the variable `COLUMNS` that is read, in bytes.
 const DIGITS: usize = 20;
 
-/// Returns the number of columns in the variable `COLUMNS`, if that is a number above 0.
+/// Returns the number of columns in the variable `COLUMNS`, or `None` if that is not a number above
+/// 0.
 fn width_in<V: Env>(variables: &V) -> Option<usize> {
     let mut value = [0; DIGITS];
     match variables.var("COLUMNS", &mut value) {
@@ -75,7 +78,8 @@ fn width_in<V: Env>(variables: &V) -> Option<usize> {
     }
 }
 
-/// Returns the number that decimal digits spell, if it is above 0 and there are no other bytes.
+/// Returns the number that decimal digits spell, or `None` if there are other bytes, or the number
+/// is 0 or too large.
 fn number_of(digits: &[u8]) -> Option<usize> {
     let mut number: usize = 0;
     for digit in digits {
@@ -84,8 +88,8 @@ fn number_of(digits: &[u8]) -> Option<usize> {
     if number == 0 { None } else { Some(number) }
 }
 
-/// Returns a number with one more decimal digit, unless `digit` is not one or the result is too
-/// large.
+/// Returns a number with one more decimal digit, or `None` if `digit` is not an ASCII digit or the
+/// result is too large.
 fn with_digit(number: usize, digit: u8) -> Option<usize> {
     if !digit.is_ascii_digit() {
         return None;

@@ -1,4 +1,4 @@
-//! Attributes, classified by their names. Used by `mistakes` and `other_attributes`.
+//! Classifies attributes by their names. Used by `mistakes` and `other_attributes`.
 
 ghost use Rattle.std.specs.Prelude.{◌≡◌, ◌↔◌, IsTrue, MatchOption, None, Some, map};
 ghost use Rattle.logos_warnings.specs.Views.{attribute_value, enum_value, variant_value, tokens_of, begins_with_colon, begins_with_helper, is_helper_path, is_helper_segment, is_qualified, name_in, name_of, HasHelper, HasHelpers, IsHelper, VariantsHave};
@@ -8,7 +8,7 @@ use logos_enum::{Attribute, ItemEnum, Variant, split_attribute};
 use logos_token::token::{TokenTree, Tokens};
 use logos_token::util::{after_path_mark, after_word};
 
-/// The site of an attribute.
+/// The site of an attribute: the enum, or a variant of it.
 #[derive(Clone, Copy)]
 pub(crate) enum AttributeSite {
     OnEnum,
@@ -92,7 +92,7 @@ pub(crate) fn is_qualified(attribute: Attribute<'_, '_>) -> bool
     }
 }
 
-/// Returns whether an attribute is a helper attribute.
+/// Returns whether the name of an attribute is the name of a helper attribute.
 fn is_helper(attribute: Attribute<'_, '_>) -> bool
     ensures { IsTrue result ↔ IsHelper (attribute_value attribute.entry) }
 {

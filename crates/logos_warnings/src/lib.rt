@@ -1,4 +1,4 @@
-//! Warnings: probable mistakes in the enums of a file that are not faults. Called by the programs
+//! Finds probable mistakes, which are not faults, in the enums of a file. Called by the programs
 //! and the derive macro.
 
 #![tactic(auto)]

@@ -1,4 +1,4 @@
-//! The warnings for mistakes. Used by `logos_causes`, `logos_derive` and `logos_file_warnings`.
+//! Makes the warnings for mistakes in enums. Used by `logos_causes` and `logos_file_warnings`.
 
 ghost use Rattle.std.specs.Prelude.{◌≡◌, ◌≢◌, ◌++◌, [], IfOk, OnOk, codes, map, string_bytes};
 ghost use Rattle.logos_warnings.specs.Views.{AddsAbout, AreAbout, AreOfEnum, AreOfText, AreOfTokens, IsAbout, enum_value, mistake_text, mistake_value, span_of, tokens_of};
@@ -13,11 +13,11 @@ use logos_token::error::Memory;
 use logos_token::token::{Span, TokenError, Tokens, tokenize};
 use std::alloc::{AllocError, Global};
 
-/// Returns the warnings for the enum that `text` spells: those for its own attributes and for its
-/// variants' attributes, in source order; the warning that it has no pattern or does not derive
-/// `Logos`; and those for attributes that its lexer ignores. A text that does not spell an enum has
-/// none. `derives` is whether the enum derives `Logos`. An active `cfg` is not a mistake in an enum
-/// from the derive macro.
+/// Returns the warnings for the enum that `text` spells, or no warnings if `text` does not spell an
+/// enum. First come the warnings for names of its own attributes and of its variants' attributes,
+/// in source order, then the warning that it has no pattern or does not derive `Logos`, and last
+/// the warnings for attributes that its lexer ignores. `derives` is whether the enum derives
+/// `Logos`. A `cfg` is not a mistake in an enum from the derive macro.
 ///
 /// # Errors
 ///
@@ -36,7 +36,7 @@ pub fn enum_warnings(
     }
 }
 
-/// Returns the warnings for a text that cannot be read into tokens, of which there are none.
+/// Returns no warnings for a text that cannot be read into tokens, or `Memory` if memory ran out.
 fn warnings_of_unread(alloc: Global, error: TokenError) -> Result<Vec<Warning>, Memory>
     ensures nothing { IfOk result (λ warnings. warnings.items ≡ []) }
     ensures fault { IfOk result (λ warnings. error ≢ TokenError.Memory) }
@@ -49,8 +49,8 @@ fn warnings_of_unread(alloc: Global, error: TokenError) -> Result<Vec<Warning>, 
     }
 }
 
-/// Returns the warnings of `enum_warnings` for an enum with these tokens. `derives` is whether the
-/// enum derives `Logos`.
+/// Returns the warnings of `enum_warnings` for an enum with these tokens, or no warnings if the
+/// tokens do not spell an enum. `derives` is whether the enum derives `Logos`.
 ///
 /// # Errors
 ///
@@ -70,7 +70,7 @@ pub fn token_warnings(
     }
 }
 
-/// Returns the warnings for tokens that do not spell an enum, of which there are none.
+/// Returns no warnings for tokens that do not spell an enum, or `Memory` if memory ran out.
 fn warnings_of_misread(alloc: Global, error: ReadError) -> Result<Vec<Warning>, Memory>
     ensures nothing { IfOk result (λ warnings. warnings.items ≡ []) }
     ensures fault { IfOk result (λ warnings. error ≢ ReadError.Memory) }
@@ -108,7 +108,7 @@ pub fn item_warnings(
     Ok(warnings)
 }
 
-/// Returns the warnings for mistakes in the enum with this name.
+/// Returns the warnings for those mistakes in the enum `name` that are warnings for `origin`.
 fn warnings_about(
     alloc: Global,
     name: &str,
@@ -125,8 +125,8 @@ fn warnings_about(
     Ok(warnings)
 }
 
-/// Adds the warning for a mistake in the enum with this name, if the mistake is a warning for
-/// `origin`.
+/// Appends to `warnings` the warning for a mistake in the enum `name`, if the mistake is a warning
+/// for `origin`.
 fn add_about(
     name: &str,
     mistake: Mistake<'_>,
@@ -143,7 +143,7 @@ fn add_about(
     Ok(())
 }
 
-/// Returns the warning for a mistake in the enum with this name.
+/// Returns the warning for a mistake in the enum `name`.
 fn warning_of(alloc: Global, name: &str, mistake: Mistake<'_>) -> Result<Warning, AllocError>
     ensures { IfOk result (IsAbout name.now (mistake_value mistake.entry)) }
 {
@@ -151,7 +151,7 @@ fn warning_of(alloc: Global, name: &str, mistake: Mistake<'_>) -> Result<Warning
     Ok(plain_warning(message, span_of(mistake), help_for(mistake)))
 }
 
-/// Returns the message about a mistake in the enum with this name.
+/// Returns the message about a mistake in the enum `name`.
 fn message_of(alloc: Global, name: &str, mistake: Mistake<'_>) -> Result<String, AllocError>
     ensures { IfOk result (λ message.
         string_bytes message ≡ mistake_text name.now (mistake_value mistake.entry)) }
@@ -166,7 +166,7 @@ fn message_of(alloc: Global, name: &str, mistake: Mistake<'_>) -> Result<String,
     }
 }
 
-/// Returns the message about a misspelled name.
+/// Returns the message about `name`, a misspelling of `intended`.
 fn misspelled_text(alloc: Global, name: &str, intended: &str) -> Result<String, AllocError>
     ensures { IfOk result (λ message. string_bytes message ≡ codes "`" ++ (name.now
         ++ (codes "` looks like a misspelling of `" ++ (intended.now ++ codes "`")))) }
@@ -175,7 +175,7 @@ fn misspelled_text(alloc: Global, name: &str, intended: &str) -> Result<String, 
     Ok(message)
 }
 
-/// Returns the message about an enum without patterns.
+/// Returns the message about the enum `name`, which has no patterns.
 fn no_pattern_text(alloc: Global, name: &str) -> Result<String, AllocError>
     ensures { IfOk result (λ message. string_bytes message
         ≡ codes "no variant of `" ++ (name.now ++ codes "` has a pattern")) }
@@ -184,7 +184,8 @@ fn no_pattern_text(alloc: Global, name: &str) -> Result<String, AllocError>
     Ok(message)
 }
 
-/// Returns the message about an enum with attributes of a lexer that does not derive `Logos`.
+/// Returns the message about the enum `name`, which has attributes of a lexer and does not derive
+/// `Logos`.
 fn no_derive_text(alloc: Global, name: &str) -> Result<String, AllocError>
     ensures { IfOk result (λ message. string_bytes message ≡ codes "`" ++ (name.now
         ++ codes "` has attributes of a lexer and does not derive `Logos`")) }
@@ -209,7 +210,7 @@ fn span_of(mistake: Mistake<'_>) -> Span
     }
 }
 
-/// Returns the help for a mistake, if there is one.
+/// Returns the help for a mistake, or `None` if there is none.
 fn help_for(mistake: Mistake<'_>) -> Option<&'static str> {
     match mistake {
         Mistake::Misspelled { .. } => None,

@@ -1,5 +1,5 @@
-//! Entries of `derive` that name the derive macro and are ignored, since the enum is not found or
-//! the entry is unknown. Used by `logos_file_warnings`.
+//! Warns about entries of `derive` that name the derive macro but are ignored, since their enum is
+//! not found or their path is unknown. Used by `logos_file_warnings`.
 
 ghost use Rattle.std.specs.Prelude.{All, IfOk};
 ghost use Rattle.logos_warnings.specs.Views.{IsPassedOver};
@@ -16,9 +16,9 @@ const MESSAGE: &str = "this derive of `Logos` is passed over";
 const HELP: &str =
     "write `derive(Logos)` or `derive(logos::Logos)` on an enum outside of functions and macros";
 
-/// Returns a warning for each `derive` among the tokens of a file that lists the derive macro, with
-/// any path, outside of the enums that were found to derive it. `found` are the spans of these
-/// enums, in order.
+/// Returns a warning for each list of `derive` among the tokens of a file that names the derive
+/// macro, with any path, and is outside of the spans `found`. These are the spans of the enums that
+/// were found to derive the macro, in order.
 ///
 /// # Errors
 ///
@@ -35,7 +35,8 @@ pub fn passed_over(
     Ok(warnings_of(alloc, &derives, found)?)
 }
 
-/// Returns the warnings for the spans that are outside of the spans `found`. Both are in order.
+/// Returns a warning for each span in `derives` that begins outside of the spans `found`. Both are
+/// in order.
 fn warnings_of(alloc: Global, derives: &[Span], found: &[Span]) -> Result<Vec<Warning>, AllocError>
     ensures { IfOk result (λ warnings. All IsPassedOver warnings.items) }
 {
@@ -50,7 +51,8 @@ fn warnings_of(alloc: Global, derives: &[Span], found: &[Span]) -> Result<Vec<Wa
     Ok(warnings)
 }
 
-/// Returns the spans without the leading ones that end at or before an offset.
+/// Returns the spans in `found` from the first that ends after `offset` on, or no spans if there is
+/// none.
 fn from_offset(found: &[Span], offset: usize) -> &[Span] {
     let mut left = found;
     while let [first, rest @ ..] = left {
@@ -62,7 +64,8 @@ fn from_offset(found: &[Span], offset: usize) -> &[Span] {
     left
 }
 
-/// Returns whether the first of these spans begins at or before an offset.
+/// Returns whether the first span in `found` begins at or before `offset`. Returns `false` if there
+/// are no spans.
 fn begins_before(found: &[Span], offset: usize) -> bool {
     match found.first() {
         Some(span) => span.from <= offset,
@@ -70,7 +73,8 @@ fn begins_before(found: &[Span], offset: usize) -> bool {
     }
 }
 
-/// Appends the spans of all lists of `derive` in a run that contain the derive macro.
+/// Appends to `found` the spans of all lists of `derive` that contain the derive macro, in a run
+/// and in its groups.
 #[cycle(search)]
 fn search_run(run: Tokens<'_, '_>, found: &mut Vec<Span>) -> Result<(), AllocError> {
     let mut rest = run;
@@ -81,8 +85,8 @@ fn search_run(run: Tokens<'_, '_>, found: &mut Vec<Span>) -> Result<(), AllocErr
     Ok(())
 }
 
-/// Appends the span of a list of `derive` at the beginning of a run, like `add_derive`, and the
-/// spans in a group there.
+/// Appends to `found` the span of a list of `derive` at the beginning of a run, as `add_derive`
+/// does, or the spans in a group at the beginning of the run.
 #[cycle(search)]
 fn search_first(run: Tokens<'_, '_>, found: &mut Vec<Span>) -> Result<(), AllocError> {
     add_derive(run, found)?;
@@ -92,8 +96,8 @@ fn search_first(run: Tokens<'_, '_>, found: &mut Vec<Span>) -> Result<(), AllocE
     }
 }
 
-/// Appends the span of a list of `derive` at the beginning of a run, if it contains the derive
-/// macro.
+/// Appends to `found` the span of the word `derive` and its list, if a run begins with them and the
+/// list contains the derive macro.
 fn add_derive(run: Tokens<'_, '_>, found: &mut Vec<Span>) -> Result<(), AllocError> {
     let Some(rest) = after_word("derive", run) else {
         return Ok(());
@@ -119,7 +123,7 @@ fn is_list(tree: TokenTree<'_, '_>) -> bool {
     }
 }
 
-/// Returns whether an entry of a list ends with `Logos`.
+/// Returns whether an entry of the list with these tokens ends with `Logos`.
 fn lists_macro(list: Tokens<'_, '_>) -> bool {
     let mut rest = list;
     while !rest.is_empty() {

@@ -1,4 +1,4 @@
-//! Probable mistakes in an enum that are not faults. Used by `messages` and `origin`.
+//! Finds probable mistakes in an enum, which are not faults. Used by `messages` and `origin`.
 
 ghost use Rattle.std.specs.Prelude.{◌≡◌, IfOk, None, OnOk, Some, [], map};
 ghost use Rattle.logos_warnings.specs.Views.{attribute_value, enum_value, variant_value, tokens_of, mistake_value, is_conditional, is_useless, name_of, AreMistakes, AreOfLexer, AttributeAdds, LacksPatterns, RunAdds, VariantAdds, VariantsAdd, NamesAdd, ForgetsDerive};
@@ -11,7 +11,7 @@ use logos_enum::{Attribute, ItemEnum, Variant, split_attribute};
 use logos_token::token::{Span, Tokens};
 use std::alloc::{AllocError, Global};
 
-/// A probable mistake in an enum that is not a fault. Spans are byte offsets in the text of the
+/// A probable mistake in an enum, which is not a fault. Spans are byte offsets in the text of the
 /// enum.
 #[derive(Clone, Copy, Debug)]
 pub enum Mistake<'s> {
@@ -19,39 +19,40 @@ pub enum Mistake<'s> {
     Misspelled {
         name: &'s str,
         intended: Helper,
-        /// The attribute.
+        /// The span of the attribute.
         span: Span,
     },
     /// The path of an attribute is `logos::` and the name of a helper attribute.
     Qualified {
-        /// The attribute.
+        /// The span of the attribute.
         span: Span,
     },
     /// An attribute has no effect at its site: `logos` on a variant.
     Useless {
-        /// The attribute.
+        /// The span of the attribute.
         span: Span,
     },
     /// A variant with a helper attribute has the attribute `cfg`.
     Conditional {
-        /// The attribute.
+        /// The span of the attribute.
         span: Span,
     },
     /// The enum derives `Logos`, and no variant has a helper attribute.
     NoPattern {
-        /// The name of the enum.
+        /// The span of the name of the enum.
         span: Span,
     },
     /// The enum has helper attributes, and no `derive` entry for `Logos`.
     NoDerive {
-        /// The name of the enum.
+        /// The span of the name of the enum.
         span: Span,
     },
 }
 
-/// Returns the mistakes in an enum: those in its own attributes and then those in its variants'
-/// attributes, in source order, and last `NoPattern` or `NoDerive`, if one applies. `derives` is
-/// whether the enum derives `Logos`. Without that and without helper attributes it has no mistakes.
+/// Returns the mistakes in an enum: first the mistakes in its own attributes and in its variants'
+/// attributes, in source order, and last `NoPattern` or `NoDerive`, if it applies. `derives` is
+/// whether the enum derives `Logos`. Returns no mistakes for an enum that neither derives `Logos`
+/// nor has helper attributes.
 ///
 /// # Errors
 ///
@@ -88,7 +89,7 @@ fn of_lexer<'s>(alloc: Global, item: &ItemEnum<'_, 's>) -> Result<Vec<Mistake<'s
     Ok(all)
 }
 
-/// Returns the mistakes in an enum without patterns that derives `Logos`.
+/// Returns the mistakes in an enum that derives `Logos` and has no patterns.
 fn patternless_of<'s>(
     alloc: Global,
     item: &ItemEnum<'_, 's>,
@@ -123,7 +124,7 @@ fn forgotten_of<'s>(alloc: Global, item: &ItemEnum<'_, 's>) -> Result<Vec<Mistak
     Ok(warnings)
 }
 
-/// Reports the mistakes in the attributes of an enum and of its variants.
+/// Appends to `warnings` the mistakes in the attributes of an enum and of its variants.
 fn report_names<'s>(
     item: &ItemEnum<'_, 's>,
     warnings: &mut Vec<Mistake<'s>>,
@@ -135,7 +136,7 @@ fn report_names<'s>(
     report_variants(item.variants.as_slice(), warnings)
 }
 
-/// Reports the mistakes in the attributes of variants.
+/// Appends to `warnings` the mistakes in the attributes of variants.
 fn report_variants<'s>(
     variants: &[Variant<'_, 's>],
     warnings: &mut Vec<Mistake<'s>>,
@@ -151,7 +152,7 @@ fn report_variants<'s>(
     Ok(())
 }
 
-/// Reports the mistakes in the attributes of a variant.
+/// Appends to `warnings` the mistakes in the attributes of a variant, which are in `run`.
 fn report_variant<'s>(
     run: Tokens<'_, 's>,
     warnings: &mut Vec<Mistake<'s>>,
@@ -167,7 +168,7 @@ fn report_variant<'s>(
     Ok(())
 }
 
-/// Reports the mistakes in the attributes of a run.
+/// Appends to `warnings` the mistakes in the attributes of a run at this site.
 fn report_run<'s>(
     site: AttributeSite,
     run: Tokens<'_, 's>,
@@ -195,7 +196,7 @@ fn is_useless(site: AttributeSite, name: &str) -> bool
     }
 }
 
-/// Returns whether an attribute with this name compiles a pattern conditionally.
+/// Returns whether an attribute with this name at the site puts a pattern under a condition.
 fn is_conditional(site: AttributeSite, name: &str) -> bool
     ensures { result ≡ is_conditional site name.now }
 {
@@ -206,7 +207,7 @@ fn is_conditional(site: AttributeSite, name: &str) -> bool
     }
 }
 
-/// Reports the mistake of an attribute, if it has one.
+/// Appends to `warnings` the mistake of an attribute, if it has one.
 fn report_attribute<'s>(
     site: AttributeSite,
     attribute: Attribute<'_, 's>,
@@ -221,7 +222,8 @@ fn report_attribute<'s>(
     }
 }
 
-/// Reports the mistake of an attribute whose path is not one identifier, if it has one.
+/// Appends to `warnings` the mistake of an attribute whose path is not one identifier, if it has
+/// one.
 fn report_unnamed<'s>(
     site: AttributeSite,
     attribute: Attribute<'_, 's>,
@@ -238,7 +240,7 @@ fn report_unnamed<'s>(
     Ok(())
 }
 
-/// Reports the mistake of an attribute with this name, if it has one.
+/// Appends to `warnings` the mistake of an attribute with this name, if it has one.
 fn report_named<'s>(
     site: AttributeSite,
     attribute: Attribute<'_, 's>,

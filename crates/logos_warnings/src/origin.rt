@@ -1,4 +1,5 @@
-//! The origin of an enum, which determines the mistakes that are warnings. Used by `messages`.
+//! Defines the origin of an enum, which determines the mistakes that are warnings. Used by
+//! `messages` and the crates that report warnings.
 
 ghost use Rattle.std.specs.Prelude.{◌≡◌};
 ghost use Rattle.logos_warnings.specs.Views.{is_warning, mistake_value};

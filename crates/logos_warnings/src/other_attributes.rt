@@ -1,5 +1,5 @@
-//! Attributes of an enum and of its variants that a lexer ignores for reasons other than their
-//! names: those of older lexers, and those under a condition. Used by `messages`.
+//! Warns about attributes of an enum and of its variants that a lexer ignores: `end`, which older
+//! lexers had, and helper attributes under a condition. Used by `messages`.
 
 ghost use Rattle.std.specs.Prelude.{OnOk, map};
 ghost use Rattle.logos_warnings.specs.Views.{AddsEach, IsAboutIgnored, IsAt, IsIgnored, IsIgnoredIn, IsIgnoredOn, attribute_value, enum_value, tokens_of, variant_value};
@@ -20,7 +20,8 @@ const CONDITION: &str = "the attribute in this `cfg_attr` is passed over";
 
 const CONDITION_HELP: &str = "write it alone, or derive the lexer in place";
 
-/// Adds the warnings for attributes that the lexer of an enum ignores, in source order.
+/// Appends to `warnings` the warnings for the attributes `end` and `cfg_attr` that the lexer of an
+/// enum ignores, in source order.
 pub(crate) fn add_others(
     item: &ItemEnum<'_, '_>,
     warnings: &mut Vec<Warning>,
@@ -32,7 +33,7 @@ pub(crate) fn add_others(
     add_variants(item.variants.as_slice(), warnings)
 }
 
-/// Adds the warnings for the attributes of these variants.
+/// Appends to `warnings` the warnings for the attributes of these variants.
 fn add_variants(variants: &[Variant<'_, '_>], warnings: &mut Vec<Warning>) -> Result<(), AllocError>
     ensures { OnOk result (AddsEach (IsIgnoredOn (map variant_value variants.now)) warnings.old.items
         warnings.new.items) }
@@ -43,7 +44,8 @@ fn add_variants(variants: &[Variant<'_, '_>], warnings: &mut Vec<Warning>) -> Re
     Ok(())
 }
 
-/// Adds the warnings for the attributes of a run, which is on the enum or on a variant.
+/// Appends to `warnings` the warnings for the attributes of a run. `is_variant` is whether they are
+/// on a variant, not on the enum.
 fn add_run(
     run: Tokens<'_, '_>,
     is_variant: bool,
@@ -60,7 +62,8 @@ fn add_run(
     Ok(())
 }
 
-/// Adds the warning for an attribute, if it has one.
+/// Appends to `warnings` the warning for an attribute, if there is one. `is_variant` is whether the
+/// attribute is on a variant.
 fn add_attribute(
     attribute: Attribute<'_, '_>,
     is_variant: bool,
@@ -81,7 +84,7 @@ fn add_attribute(
     Ok(())
 }
 
-/// Adds a warning with a help.
+/// Appends to `warnings` a warning with this message, help and span.
 fn add(
     message: &str,
     help: &'static str,
@@ -95,7 +98,7 @@ fn add(
     Ok(())
 }
 
-/// Returns whether the list of an attribute contains a helper attribute.
+/// Returns whether the group after the name of an attribute contains a helper attribute.
 fn hides_helper(attribute: Attribute<'_, '_>) -> bool {
     match attribute.inside {
         Some(tokens) => match tokens.rest().first() {

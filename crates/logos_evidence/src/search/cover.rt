@@ -1,4 +1,4 @@
-//! The search for inputs that together take all steps of a machine. Called for `--inputs`.
+//! Searches for inputs that together take all steps of a machine. Used by `covering_inputs`.
 
 ghost use Rattle.std.specs.Prelude.{◌≡◌, ◌<◌, ◌∷◌, ◌++◌, [], true, IfOk, OnOk, Contains, Some, length, map, slice_get};
 ghost use Rattle.logos_evidence.specs.search.Views.{AreCovering, end_at, pending_goal, GoDown, PendingPoint as At};
@@ -15,7 +15,7 @@ use crate::search::visits::{
 use indexmap::IndexSet;
 use std::alloc::{AllocError, Global};
 
-/// The pending points that a machine can reach.
+/// The pending points that a machine can reach from the point `start`.
 #[derive(Drop)]
 struct Explored {
     alloc: Global,
@@ -24,7 +24,7 @@ struct Explored {
     visits: Visits,
 }
 
-/// Inputs, and the steps that they take.
+/// Inputs, and the steps that a machine takes on them.
 #[derive(Drop)]
 struct Cover {
     steps: IndexSet<InputStep>,
@@ -38,7 +38,7 @@ struct PointByte {
     byte: u8,
 }
 
-/// Returns all pending points that a machine can reach from a point.
+/// Returns all pending points that a machine can reach from the point `start`.
 ///
 /// # Errors
 ///
@@ -67,8 +67,8 @@ fn explore<M: Machine>(
     })
 }
 
-/// Returns the bytes that lead to a pending point, the byte that is read there, and the least bytes
-/// that then complete a character.
+/// Returns an input: the bytes that lead to the pending point of `reading`, the byte of `reading`,
+/// and the least bytes that complete the character with this `rest`.
 ///
 /// # Errors
 ///
@@ -90,7 +90,7 @@ fn way_by(
     Ok(bytes)
 }
 
-/// Adds an input, and the steps that it takes.
+/// Adds to `cover` an input, and the steps that the machine takes on it from the point `start`.
 ///
 /// # Errors
 ///
@@ -111,8 +111,8 @@ fn add_input<M: Machine>(
     Ok(())
 }
 
-/// Covers the step from a pending point by a byte, if there is such a step: adds an input that
-/// takes it, unless another one does.
+/// Adds to `cover` an input that takes the step from a pending point by a byte, unless there is no
+/// such step or an earlier input takes the step.
 ///
 /// # Errors
 ///
@@ -153,7 +153,8 @@ fn cover_byte<M: Machine>(
     Ok(())
 }
 
-/// Covers the end of the input at a pending point, if inputs can end there and the point is a goal.
+/// Adds to `cover` an input that ends at the pending point `number`, unless no input can end there,
+/// the point is not a goal, or an earlier input ends there.
 ///
 /// # Errors
 ///
@@ -193,8 +194,8 @@ fn cover_end<M: Machine>(
     Ok(())
 }
 
-/// Covers all steps from the pending point that has this number in `explored`: those by each byte,
-/// and the end of the input.
+/// Adds to `cover` inputs that take all steps from the pending point `number` of `explored`: the
+/// steps by each byte, and the end of the input.
 ///
 /// # Errors
 ///
@@ -224,12 +225,12 @@ fn cover_pending<M: Machine>(
     Ok(())
 }
 
-/// Returns inputs that together take each step that a machine takes from a point over any input:
-/// from a point to another by a byte, and the end of an input at a goal. Each input takes a step
-/// that no earlier one takes.
+/// Returns inputs that together take each step that a machine takes over any input from the point
+/// `start`: the steps by a byte from a point to the next, and the end of an input at a goal. Each
+/// input takes a step that no earlier input takes.
 ///
-/// If `utf8` is set, inputs are UTF-8, otherwise any bytes. Each point is stored with its
-/// predecessor and byte, and so is each step.
+/// If `utf8` holds, inputs are UTF-8, otherwise any bytes. The search stores each step, and each
+/// visited point with its predecessor and the byte that leads from there.
 ///
 /// # Errors
 ///

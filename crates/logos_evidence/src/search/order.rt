@@ -1,10 +1,11 @@
-//! The order in which bytes are searched, which makes the inputs that are found easy to read. Used
-//! by `cover` and `visits`.
+//! Defines the order in which a search reads bytes, so that the inputs that it finds are easy to
+//! read. Used by `cover` and `visits`.
 
 ghost use Rattle.std.specs.Prelude.{◌<◌};
 ghost use Rattle.logos_evidence.specs.search.inside.Order.{IsByteAt};
 
-/// Returns the byte at an index of the order: letters, digits, punctuation, and then the rest.
+/// Returns the byte at the index `site` of the order: letters, digits, punctuation, and then the
+/// other bytes.
 pub(crate) fn byte_at(site: u8) -> u8
     ensures { IsByteAt site result }
 {

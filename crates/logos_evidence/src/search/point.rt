@@ -1,17 +1,18 @@
-//! Machines that read bytes, and their points. Used by `logos_evidence`.
+//! Defines machines that read bytes, and their points. Used by all modules that search or define
+//! machines.
 
 /// A point that a machine can reach. Each machine defines the meaning of the fields.
 #[derive(Clone, Copy, PartialEq, Eq, Hash)]
 pub struct Point {
-    /// A state.
+    /// The state of the machine.
     pub here: usize,
-    /// A second state, for machines that follow two states.
+    /// The second state of a machine that follows two states.
     pub there: usize,
     /// Whether a byte was read.
     pub begun: bool,
-    /// Whether the goal's first condition was met on the way.
+    /// Whether a condition that a goal requires, such as a match, was met on the way.
     pub met: bool,
-    /// A property of the last match on the way.
+    /// A property of the last match on the way, such as whether it is a match of the searched leaf.
     pub last: bool,
 }
 
@@ -24,11 +25,11 @@ pub trait Machine {
 
     ghost goal: { Self → At → Bool };
 
-    /// Returns the point to which a byte leads, if there is one.
+    /// Returns the point to which `byte` leads from the point `at`, or `None` if it leads to none.
     fn next(&self, at: Point, byte: u8) -> Option<Point>
         ensures { result ≡ leads self.now at byte };
 
-    /// Returns whether a point is a goal: an input that ends there is found.
+    /// Returns whether the point `at` is a goal, at which an input may end that a search finds.
     fn is_goal(&self, at: Point) -> bool
         ensures { result ≡ goal self.now at };
 }

@@ -1,4 +1,4 @@
-//! The steps that a machine takes on its way over an input. Used by `cover`.
+//! Collects the steps that a machine takes over an input. Used by `cover`.
 
 ghost use Rattle.std.specs.Prelude.{◌≡◌, ◌⊎◌, false, IfOk, OnOk, Contains};
 ghost use Rattle.logos_evidence.specs.search.Views.{Adds, InputStep as Taken};
@@ -17,7 +17,7 @@ pub(crate) struct InputStep {
     pub(crate) ends: bool,
 }
 
-/// Adds a step, if the set does not contain it. Returns whether it is new.
+/// Adds a step to `steps`, if the set does not contain it. Returns whether the step is new.
 ///
 /// # Errors
 ///
@@ -34,11 +34,12 @@ pub(crate) fn add_step(steps: &mut IndexSet<InputStep>, step: InputStep) -> Resu
     Ok(is_new)
 }
 
-/// Adds the steps that a machine takes from a point over an input.
+/// Adds to `steps` the steps that a machine takes from the point `start` over an input: up to the
+/// first byte that leads to no point, or to the end of the input, which is a step too.
 ///
 /// # Errors
 ///
-/// Returns `AllocError` if memory runs out.
+/// Returns `AllocError` if memory runs out. Then some of the steps may have been added.
 pub(crate) fn add_steps<M: Machine>(
     machine: &M,
     start: Point,

@@ -1,4 +1,4 @@
-//! UTF-8 byte by byte. Used by `cover` and `visits`.
+//! Reads UTF-8 byte by byte. Used by `cover` and `visits`.
 
 ghost use Rattle.std.specs.Prelude.{◌≡◌, ◌++◌, OnOk};
 ghost use Rattle.logos_evidence.specs.search.Rests as rests;
@@ -6,18 +6,18 @@ ghost use Rattle.simdutf8.specs.Steps as steps;
 
 use std::alloc::AllocError;
 
-/// The bytes that may complete the character that the last bytes begin.
+/// The bytes that may complete the character which the last bytes of an input begin.
 #[derive(Clone, Copy, PartialEq, Eq, Hash)]
 pub struct Rest {
-    /// The least byte that may come next, inside a character.
+    /// The least byte that may come next, if `count` is not 0.
     pub low: u8,
-    /// The greatest byte that may come next, inside a character.
+    /// The greatest byte that may come next, if `count` is not 0.
     pub high: u8,
-    /// The number of bytes until the end of the character.
+    /// The number of bytes that the character lacks, which is 0 between characters.
     pub count: usize,
 }
 
-/// Returns the rest of a character that `count` more bytes complete.
+/// Returns the rest of a character that any `count` continuation bytes complete.
 pub(crate) fn more(count: usize) -> Rest
     ensures { result ≡ rests.more count }
 {
@@ -54,7 +54,7 @@ fn most_after(byte: u8) -> u8
     }
 }
 
-/// Returns the rest of the character that `byte` begins, if it begins one.
+/// Returns the rest of the character that `byte` begins, or `None` if no character begins with it.
 fn begun(byte: u8) -> Option<Rest>
     ensures { result ≡ rests.begun byte }
 {
@@ -86,7 +86,7 @@ fn begun(byte: u8) -> Option<Rest>
     None
 }
 
-/// Returns the rest of the character after one more byte, if the byte is valid.
+/// Returns the rest of the character after `byte`, or `None` if UTF-8 has no such byte there.
 fn rest_after(rest: Rest, byte: u8) -> Option<Rest>
     ensures { result ≡ rests.rest_after rest byte }
 {
@@ -99,7 +99,8 @@ fn rest_after(rest: Rest, byte: u8) -> Option<Rest>
     None
 }
 
-/// Returns the rest of the character after one more byte, if the byte is valid in the mode.
+/// Returns the rest of the character after `byte`, or `None` if UTF-8 has no such byte there.
+/// Returns `rest` unchanged if `utf8` is `false`.
 pub(crate) fn rest_by(utf8: bool, rest: Rest, byte: u8) -> Option<Rest>
     ensures { result ≡ rests.rest_by utf8 rest byte }
 {
@@ -110,7 +111,7 @@ pub(crate) fn rest_by(utf8: bool, rest: Rest, byte: u8) -> Option<Rest>
     }
 }
 
-/// Appends the least bytes that complete a character.
+/// Appends to `bytes` the least bytes that complete a character with this rest.
 ///
 /// # Errors
 ///

@@ -1,4 +1,4 @@
-//! The points that were visited, breadth first, and the step to each from its predecessor. Used by
+//! Visits points breadth first, and stores the step to each point from its predecessor. Used by
 //! `cover` and `search`.
 
 ghost use Rattle.std.specs.Prelude.{◌≡◌, ◌+◌, ◌<◌, ◌∷◌, [], ℕ, IfOk, OnOk, Option, Some, length, slice_get};
@@ -12,7 +12,7 @@ use crate::search::utf8::{Rest, more, rest_by};
 use indexmap::IndexSet;
 use std::alloc::{AllocError, Global};
 
-/// A point, with the rest of the character that the last bytes begin.
+/// A point, with the rest of the character that the last bytes before it begin.
 #[derive(Clone, Copy, PartialEq, Eq, Hash)]
 pub(crate) struct PendingPoint {
     pub(crate) point: Point,
@@ -47,7 +47,8 @@ pub(crate) fn first_pending(point: Point) -> PendingPoint
     }
 }
 
-/// Returns the pending point after one more byte, if the byte is valid.
+/// Returns the pending point to which `byte` leads from `at`, or `None` if the machine has no such
+/// step, or if `utf8` holds and UTF-8 has no such byte there.
 pub(crate) fn advance<M: Machine>(
     machine: &M,
     utf8: bool,
@@ -61,7 +62,7 @@ pub(crate) fn advance<M: Machine>(
     Some(PendingPoint { point, rest })
 }
 
-/// Adds a pending point with the way to it, if it was not visited before.
+/// Adds to `visits` a pending point with the step `way` to it, if it was not visited before.
 ///
 /// # Errors
 ///
@@ -77,7 +78,8 @@ fn meet(visits: &mut Visits, pending: PendingPoint, way: Visit) -> Result<(), Al
     Ok(())
 }
 
-/// Adds the pending point to which a byte leads from another one, with the way to it.
+/// Adds to `visits` the pending point to which the byte of `way` leads from `at`, if there is one
+/// and it was not visited before.
 ///
 /// # Errors
 ///
@@ -113,7 +115,7 @@ fn meet_next<M: Machine>(
     Ok(())
 }
 
-/// Adds the pending points to which bytes lead from the one with the number `number`.
+/// Adds to `visits` the pending points to which bytes lead from the pending point `number`.
 ///
 /// # Errors
 ///
@@ -157,7 +159,7 @@ pub(crate) fn meet_all<M: Machine>(
     Ok(())
 }
 
-/// Returns the pending point with the number `number`.
+/// Returns the visited pending point with the number `number`, which must exist.
 pub(crate) fn pending_of(visits: &Visits, number: usize) -> PendingPoint
     requires { number < length visits.now.points.keys }
     ensures { slice_get visits.now.points.keys number ≡ Some result }
@@ -188,7 +190,7 @@ pub(crate) fn first_visits(alloc: Global, start: PendingPoint) -> Result<Visits,
     Ok(Visits { points, ways })
 }
 
-/// Returns the bytes that lead from the first pending point to the one with the number `number`.
+/// Returns the bytes that lead from the first pending point to the pending point `number`.
 ///
 /// # Errors
 ///
