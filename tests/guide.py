@@ -51,7 +51,7 @@ def main(*programs):
     path = f"{os.getcwd()}:{os.environ['PATH']}"
     kinds = {kind for kind, _ in BLOCK.findall(read(f"{ROOT}/docs/GUIDE.md").decode())}
     checks.need(kinds == {"console"}, f"the guide has blocks of the kinds {kinds}")
-    check_page(checks, "docs/GUIDE.md", path, 33, 59)
+    check_page(checks, "docs/GUIDE.md", path, 34, 60)
     check_page(checks, "README.md", path, 1, 2)
     tokenizer = re.search(rb'^pub const SOURCE[^"]*"(.*?)^"#;$', read(f"{ROOT}/crates/logos_codegen/src/expr.rt"), re.M | re.S)
     checks.need(tokenizer[1] == read(f"{ROOT}/docs/guide/expr.rs"), "another enum than that of the tokenizer")

@@ -285,5 +285,5 @@ group scripted 7 script
 group variables 14 set_variables
 group answers 9 keep_answers
 group linted 6 lint
-group places 10 places
+group places 13 places
 counts
