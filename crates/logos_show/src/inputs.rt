@@ -1,4 +1,5 @@
-//! Inputs that together take all edges of the graph of a lexer. Called for `--inputs`.
+//! Prints inputs that together take all edges of the graph of a lexer. Used by `program` for
+//! `--inputs`.
 
 ghost use Rattle.std.specs.Prelude.{◌≡◌, IfErr, IfOk, OnOk};
 ghost use Rattle.logos_show.specs.Views.{IsNoMisuse, PrintsInputsAs, ShowsInputsOf, order_value};
@@ -15,8 +16,9 @@ use logos_report::Source;
 use std::alloc::Global;
 use std::io::Write;
 
-/// Writes at most `most` inputs that together take all edges of the graph of the requested lexer of
-/// a file. Returns `Same`, since nothing is compared.
+/// Writes at most `most` inputs for the requested lexer of a file, and a note to standard error.
+/// Without the limit, the inputs would together take all edges of the lexer's graph. Returns
+/// `Same`, since nothing is compared.
 pub(crate) fn yield_inputs<'w, O: Write, E: Write>(
     task: Task<'w>,
     source: &Source<'_>,
@@ -34,7 +36,7 @@ pub(crate) fn yield_inputs<'w, O: Write, E: Write>(
     Ok(Agreement::Same)
 }
 
-/// Writes inputs for the requested lexer of a file, and returns the note about them.
+/// Writes at most `most` inputs for the requested lexer of a file, and returns the note about them.
 fn inputs_by_file<'w, O: Write, E: Write>(
     task: Task<'w>,
     source: &Source<'_>,
@@ -55,7 +57,8 @@ fn inputs_by_file<'w, O: Write, E: Write>(
     }
 }
 
-/// Writes inputs for the lexer of a graph, as JSON or as text, and returns the note about them.
+/// Writes at most `most` inputs for the lexer of a graph, as JSON if `is_json` is set and otherwise
+/// as text. Returns the note about them.
 fn inputs_by_graph<O: Write>(
     alloc: Global,
     graph: &Graph<'_>,
