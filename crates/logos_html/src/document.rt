@@ -45,8 +45,7 @@ pub struct PageInput<'p> {
 }
 
 /// Returns the page of a lexer, with the text of `input` if one is given. Of an input of more than
-/// 65,536 bytes the page shows the characters that begin before byte 65,536 and end by it, and
-/// states how many bytes these are.
+/// 65,536 bytes, at most the first 65,536 are shown, and the page states how many.
 ///
 /// # Errors
 ///

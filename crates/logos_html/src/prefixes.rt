@@ -12,7 +12,8 @@ const BYTES: usize = 256;
 
 /// Returns how many first bytes of `rest` decide which matches start at its beginning: the number
 /// of bytes after which the automaton is in its dead state, or the length of `rest` if it never is.
-/// Returns `None` if this number exceeds `most`, or if the automaton has no dead state.
+/// Returns `None` if the automaton has no dead state, or if `rest` is longer than `most` bytes and
+/// fewer than `most` do not suffice.
 pub(crate) fn enough_bytes(dfa: &Dfa, rest: &[u8], most: usize) -> Option<usize>
     ensures { IfSome result (IsEnough (dfa_of dfa.now) rest.now) }
 {

@@ -16,9 +16,8 @@ use logos_report::Source;
 use std::alloc::Global;
 use std::io::Write;
 
-/// Writes at most `most` inputs for the requested lexer of a file, and a note to standard error.
-/// Without the limit, the inputs would together take all edges of the lexer's graph. Returns
-/// `Same`, since nothing is compared.
+/// Writes the first `most` of the inputs that together take all edges of the graph of the requested
+/// lexer of a file, and a note to standard error. Returns `Same`, since nothing is compared.
 pub(crate) fn yield_inputs<'w, O: Write, E: Write>(
     task: Task<'w>,
     source: &Source<'_>,
@@ -36,7 +35,8 @@ pub(crate) fn yield_inputs<'w, O: Write, E: Write>(
     Ok(Agreement::Same)
 }
 
-/// Writes at most `most` inputs for the requested lexer of a file, and returns the note about them.
+/// Writes the first `most` of the inputs for the requested lexer of a file, and returns the note
+/// about them.
 fn inputs_by_file<'w, O: Write, E: Write>(
     task: Task<'w>,
     source: &Source<'_>,
@@ -57,8 +57,8 @@ fn inputs_by_file<'w, O: Write, E: Write>(
     }
 }
 
-/// Writes at most `most` inputs for the lexer of a graph, as JSON if `is_json` is set and otherwise
-/// as text. Returns the note about them.
+/// Writes the first `most` of the inputs for the lexer of a graph, as JSON if `is_json` is set and
+/// otherwise as text. Returns the note about the inputs.
 fn inputs_by_graph<O: Write>(
     alloc: Global,
     graph: &Graph<'_>,
