@@ -1,5 +1,5 @@
-//! Assembles the lines of items, with the names of leaves, and counts the items. Used by `items`
-//! and `streams`.
+//! Assembles the lines of items, with the names of leaves, and counts the items. Used by `items`,
+//! `streams` and `logos_show`.
 
 ghost use Rattle.std.specs.Prelude.{◌≡◌, ◌++◌, OnOk};
 ghost use Rattle.logos_items.specs.Imports.{totals_text};

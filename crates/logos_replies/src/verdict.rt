@@ -31,7 +31,7 @@ pub struct Judgment {
 
 /// Writes the verdict on two lexers, and returns it with the note about their callbacks. If the
 /// lexers differ on an input, writes a shortest input at whose beginning they find a different
-/// match or error, and what each finds.
+/// match or error, and the match or error of each lexer.
 ///
 /// # Errors
 ///

@@ -25,7 +25,7 @@ use logos_warnings::Origin;
 use std::alloc::Global;
 use std::mem;
 
-/// The output for a file: what is printed about its lexers, and its warnings.
+/// The output for a file: the tables, examples or records of its lexers, and its warnings.
 #[derive(Drop)]
 pub(crate) struct Shown {
     /// The tables of the lexers of the file, or their examples. Empty if the form is JSON.
