@@ -39,7 +39,7 @@ pub(crate) struct ExpandOrder<'w> {
     pub(crate) color: Color,
 }
 
-/// Files to expand into a folder.
+/// An order to expand several files into a folder.
 #[derive(Clone, Copy)]
 pub(crate) struct Batch<'w> {
     /// The arguments of the command line, which contain the paths of the files.

@@ -24,7 +24,7 @@ impl Model for Mermaid {
 }
 
 impl Mermaid {
-    /// Returns an empty text.
+    /// Returns Mermaid text without content.
     pub fn new(alloc: Global) -> Mermaid
         ensures { result ≡ record { text = []; is_colored = false; is_whole = true } }
     {

@@ -7,7 +7,7 @@ use logos_answers::name_at;
 use logos_graph::graph::{Graph, StateData, StateType};
 use std::alloc::{AllocError, Global};
 
-/// The maximum number of states of a graph that is drawn.
+/// The maximum number of states of a graph that is drawn. A larger graph is not drawn.
 const DRAWN: usize = 60;
 
 /// The maximum number of byte ranges that are shown beside an edge.
@@ -81,7 +81,7 @@ fn push_too_large(html: &mut Html, count: usize) {
     html.push_markup(" states, which the table lists.</p>\n");
 }
 
-/// Appends the drawing of a graph.
+/// Appends the drawing of a graph, and the sentence that explains it.
 fn push_graph(
     alloc: Global,
     html: &mut Html,
@@ -211,7 +211,7 @@ fn push_loop(html: &mut Html, at: Dot) {
     push_point(html, " ", at.x.saturating_add(10), top);
 }
 
-/// Appends the curve of an edge to another state of the same column.
+/// Appends the curve of an edge to another state of the same column, on the right of both.
 fn push_aside(html: &mut Html, from: Dot, to: Dot) {
     push_point(html, "M", from.x.saturating_add(RADIUS), from.y);
     push_point(html, " C", from.x.saturating_add(DEEP), from.y);

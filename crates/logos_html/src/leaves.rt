@@ -176,7 +176,7 @@ pub(crate) fn push_leaf_link(html: &mut Html, graph: &Graph<'_>, leaf: usize) {
     html.push_markup(")</a>");
 }
 
-/// Appends bytes in quotes, as code.
+/// Appends bytes in quotes as an HTML `code` element.
 fn push_code(alloc: Global, html: &mut Html, bytes: &[u8]) -> Result<(), AllocError> {
     let mut quoted = Page::new(alloc, false);
     push_quoted(&mut quoted, bytes);

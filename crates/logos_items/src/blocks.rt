@@ -10,6 +10,10 @@ use std::io::Write;
 pub(crate) const BLOCK: usize = 65_536;
 
 /// Writes a block and empties it if it has at least `BLOCK` bytes, otherwise changes nothing.
+///
+/// # Errors
+///
+/// Returns `Output` or `Closed` if writing fails. Then a part of the block may have been written.
 #[inline(always)]
 pub(crate) fn write_if_full<O: Write>(
     block: &mut Vec<u8>,

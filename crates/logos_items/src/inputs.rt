@@ -17,7 +17,7 @@ use std::io::Write;
 
 /// A block of text, to which the items of an input are appended in order.
 pub(crate) trait ItemBlock {
-    /// Appends an item, and counts it.
+    /// Appends the text of an item, and counts the item.
     ///
     /// # Errors
     ///
@@ -33,8 +33,8 @@ pub(crate) trait ItemBlock {
 ///
 /// # Errors
 ///
-/// Returns `NotUtf8` if the lexer reads UTF-8 and the input is not UTF-8, `Output` if writing
-/// fails, and `Memory` if memory runs out.
+/// Returns `NotUtf8` if the lexer reads UTF-8 and the input is not UTF-8, `Output` or `Closed` if
+/// writing fails, and `Memory` if memory runs out.
 pub(crate) fn write_all<B: ItemBlock, O: Write>(
     alloc: Global,
     code: &Code<'_>,

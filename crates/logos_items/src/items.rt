@@ -21,8 +21,8 @@ use std::time::Clock;
 ///
 /// # Errors
 ///
-/// Returns `NotUtf8` if the lexer reads UTF-8 and the input is not UTF-8, `Output` if writing
-/// fails, and `Memory` if memory runs out.
+/// Returns `NotUtf8` if the lexer reads UTF-8 and the input is not UTF-8, `Output` or `Closed` if
+/// writing fails, and `Memory` if memory runs out.
 pub fn write_items<O: Write, C: Clock>(
     order: ItemOrder<'_>,
     made: &Generated<'_>,

@@ -45,7 +45,7 @@ pub(crate) struct Lines {
 #[derive(Drop)]
 pub(crate) struct Canvas {
     screen: Screen,
-    /// The buffer for a short line.
+    /// The buffer in which a short line is assembled.
     line: [u8; LINE],
     /// The buffer for a line that is colored or cut before it is appended.
     plain: Vec<u8>,
@@ -53,6 +53,10 @@ pub(crate) struct Canvas {
 
 /// Returns the lines of an input before its first item, with zero counts and the heads of the
 /// leaves of `code`.
+///
+/// # Errors
+///
+/// Returns `AllocError` if memory runs out.
 pub(crate) fn no_lines(order: ItemOrder<'_>, code: &Code<'_>) -> Result<Lines, AllocError> {
     let alloc = order.alloc;
     Ok(Lines {
@@ -113,8 +117,11 @@ fn push_styled(
     }
 }
 
-/// Appends the counts for a whole input to the block of `lines`. If memory runs out, no count has
-/// been appended.
+/// Appends the counts for a whole input to the block of `lines`.
+///
+/// # Errors
+///
+/// Returns `AllocError` if memory runs out. Then nothing was appended.
 pub(crate) fn push_totals(
     order: ItemOrder<'_>,
     made: &Generated<'_>,

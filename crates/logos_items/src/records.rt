@@ -20,8 +20,8 @@ use std::mem;
 ///
 /// # Errors
 ///
-/// Returns `NotUtf8` if the lexer reads UTF-8 and the input is not UTF-8, `Output` if writing
-/// fails, and `Memory` if memory runs out.
+/// Returns `NotUtf8` if the lexer reads UTF-8 and the input is not UTF-8, `Output` or `Closed` if
+/// writing fails, and `Memory` if memory runs out.
 pub fn write_item_records<O: Write>(
     alloc: Global,
     code: &Code<'_>,

@@ -29,8 +29,8 @@ const MOST: usize = 16_777_216;
 /// # Errors
 ///
 /// Returns `NotUtf8` if the lexer reads UTF-8 and the input is not UTF-8, `Refused` if a token is
-/// too long, both after the lines of the items before it; `Read` if reading fails, `Output` if
-/// writing fails, and `Memory` if memory runs out.
+/// too long, both after the lines of the items before it; `Read` if reading fails, `Output` or
+/// `Closed` if writing fails, and `Memory` if memory runs out.
 pub fn write_streamed<S: Clock + Input, O: Write>(
     order: ItemOrder<'_>,
     made: &Generated<'_>,

@@ -15,7 +15,7 @@ use logos_options::{
 #[derive(Clone, Copy)]
 pub struct ShowRequest<'w> {
     pub kind: RequestKind<'w>,
-    /// The given settings. They are not in a variant of the kind, since the borrow checker does not
+    /// The given settings. They are not in a variant of `kind`, since the borrow checker does not
     /// cover a variant that holds their array.
     pub settings: Settings<'w>,
 }
@@ -60,14 +60,15 @@ pub enum Question<'w> {
     Items(&'w str),
     /// The matches that start at a location of the file at this path.
     Matches(&'w str, Location),
-    /// For each leaf an input that it finds, and one that it loses.
+    /// For each leaf an input in which a lexer finds it, and one that it matches but loses to
+    /// another leaf.
     Examples,
     /// The first of the inputs that together take all edges of a lexer's graph, at most this many.
     Inputs(usize),
     /// Whether the lexer is equivalent to that of the file at this path.
     Comparison(&'w str),
-    /// A page about a lexer, written to the file at the first path. It is also about the input at
-    /// the second path, if there is one.
+    /// A page about a lexer, written to the file at the first path. The page also shows the input
+    /// at the second path, if there is one.
     Page(&'w str, Option<&'w str>),
     /// The state diagram of a lexer.
     Diagram,

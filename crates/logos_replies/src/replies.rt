@@ -36,8 +36,8 @@ pub struct InputPoint<'w, 'i> {
 ///
 /// # Errors
 ///
-/// Returns `Refused` if the input does not have the point, `Output` if writing fails, and `Memory`
-/// if memory runs out.
+/// Returns `Refused` if the input does not have the point, `Output` or `Closed` if writing fails,
+/// and `Memory` if memory runs out.
 pub fn write_matches<O: Write>(
     alloc: Global,
     graph: &Graph<'_>,
@@ -67,8 +67,8 @@ pub fn write_matches<O: Write>(
 ///
 /// # Errors
 ///
-/// Returns `Refused` if the input does not have the point, `Output` if writing fails, and `Memory`
-/// if memory runs out.
+/// Returns `Refused` if the input does not have the point, `Output` or `Closed` if writing fails,
+/// and `Memory` if memory runs out.
 pub fn write_match_records<O: Write>(
     alloc: Global,
     graph: &Graph<'_>,
@@ -120,7 +120,7 @@ fn no_location(alloc: Global, path: &str, location: Location) -> Failure<'static
 ///
 /// # Errors
 ///
-/// Returns `Output` if writing fails, and `Memory` if memory runs out.
+/// Returns `Output` or `Closed` if writing fails, and `Memory` if memory runs out.
 pub fn write_inputs<O: Write>(
     alloc: Global,
     graph: &Graph<'_>,
@@ -146,7 +146,7 @@ pub fn write_inputs<O: Write>(
 ///
 /// # Errors
 ///
-/// Returns `Output` if writing fails, and `Memory` if memory runs out.
+/// Returns `Output` or `Closed` if writing fails, and `Memory` if memory runs out.
 pub fn write_input_records<O: Write>(
     alloc: Global,
     graph: &Graph<'_>,
@@ -182,7 +182,7 @@ fn note_of_cut(alloc: Global, most: usize, count: usize) -> Result<String, Alloc
 ///
 /// # Errors
 ///
-/// Returns `Output` if writing fails, and `Memory` if memory runs out.
+/// Returns `Output` or `Closed` if writing fails, and `Memory` if memory runs out.
 pub fn write_agreement<O: Write>(
     alloc: Global,
     path: &str,

@@ -35,7 +35,7 @@ pub struct Judgment {
 ///
 /// # Errors
 ///
-/// Returns `Output` if writing fails, and `Memory` if memory runs out.
+/// Returns `Output` or `Closed` if writing fails, and `Memory` if memory runs out.
 pub fn compare_with<O: Write>(
     alloc: Global,
     pair: Pair<'_, '_, '_>,

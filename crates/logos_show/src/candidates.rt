@@ -19,6 +19,10 @@ struct Candidate {
 /// Selects among the enums of `found` that derive `Logos`, by their paths in the file `text`: the
 /// first one whose path is `name`, or otherwise the first one whose path ends with `name`. If
 /// another path ends with `name`, returns `Several`. Returns `Nothing` if no path ends with `name`.
+///
+/// # Errors
+///
+/// Returns `Memory` if memory runs out.
 pub(crate) fn named_enum(
     alloc: Global,
     text: &str,

@@ -40,6 +40,10 @@ pub(crate) enum Chosen {
 /// Returns the requested enum of a file, which is the first one that derives `Logos` if no name is
 /// given. If no name is given and several enums derive `Logos`, writes a note to standard error.
 /// Refuses a file without the requested enum, and a name that several enums have.
+///
+/// # Errors
+///
+/// Returns `Refused` for a refusal, and `Memory` if memory runs out.
 pub(crate) fn lexer_in<'w, E: Write>(
     alloc: Global,
     task: Task<'w>,
@@ -107,8 +111,12 @@ fn first_text(
     Ok(page.finish()?)
 }
 
-/// Returns the enums of a file that are requested, which is never `Nothing`: a file without a
-/// requested enum is refused.
+/// Returns the enums of a file that are requested, which is never `Nothing`.
+///
+/// # Errors
+///
+/// Returns `Refused` if the file cannot be read into tokens or has no requested enum, and `Memory`
+/// if memory runs out.
 pub(crate) fn found_in<'w>(
     alloc: Global,
     task: Task<'w>,
@@ -343,6 +351,10 @@ fn choice_with(
 
 /// Returns whether `name` selects an enum: whether the path of the enum is `name` or ends with it.
 /// Returns `true` if `name` is `None`.
+///
+/// # Errors
+///
+/// Returns `Memory` if memory runs out.
 pub(crate) fn has_name(
     alloc: Global,
     source: &Source<'_>,

@@ -18,6 +18,12 @@ use std::io::Write;
 
 /// Writes the verdict on the requested lexers of a file and of the file at the path `other`, and a
 /// note to standard error. Returns whether they agree.
+///
+/// # Errors
+///
+/// Returns `Refused` if a file has no requested enum or the enum has no lexer, `Read` or `NotText`
+/// if the other file cannot be read, `Output` or `Closed` if writing fails, and `Memory` if memory
+/// runs out.
 pub(crate) fn compare<'w, F: Files, O: Write, E: Write>(
     task: Task<'w>,
     source: &Source<'_>,

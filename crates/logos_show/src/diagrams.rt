@@ -15,6 +15,11 @@ use std::alloc::Global;
 use std::io::Write;
 
 /// Writes the state diagram of the requested lexer of a file to `out`.
+///
+/// # Errors
+///
+/// Returns `Refused` if the file has no requested enum or the enum has no lexer, `Output` or
+/// `Closed` if writing fails, and `Memory` if memory runs out.
 pub(crate) fn print_diagram<'w, O: Write, E: Write>(
     task: Task<'w>,
     source: &Source<'_>,

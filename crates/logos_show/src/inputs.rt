@@ -18,6 +18,11 @@ use std::io::Write;
 
 /// Writes the first `most` of the inputs that together take all edges of the graph of the requested
 /// lexer of a file, and a note to standard error. Returns `Same`, since nothing is compared.
+///
+/// # Errors
+///
+/// Returns `Refused` if the file has no requested enum or the enum has no lexer, `Output` or
+/// `Closed` if writing fails, and `Memory` if memory runs out.
 pub(crate) fn yield_inputs<'w, O: Write, E: Write>(
     task: Task<'w>,
     source: &Source<'_>,

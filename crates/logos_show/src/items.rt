@@ -17,6 +17,12 @@ use std::time::Clock;
 
 /// Writes the items that the requested lexer of a file finds in the input of the question, and a
 /// note to standard error.
+///
+/// # Errors
+///
+/// Returns `Read` if the input cannot be read, `NotUtf8` if the lexer reads UTF-8 and the input is
+/// not UTF-8, `Refused` if the file has no requested enum or the enum has no lexer, `Output` or
+/// `Closed` if writing fails, and `Memory` if memory runs out.
 pub(crate) fn lex<'w, F: Files, C: Clock, O: Write, E: Write>(
     task: Task<'w>,
     source: &Source<'_>,
@@ -85,6 +91,10 @@ fn items_by_lexer<C: Clock, O: Write>(
 }
 
 /// Writes the note of `lexed` to standard error, or returns its failure.
+///
+/// # Errors
+///
+/// Returns the failure of `lexed`. If writing the note fails, the failure is ignored.
 pub(crate) fn print_note<'w, E: Write>(
     lexed: Result<String, Failure<'w>>,
     err: &mut E,

@@ -24,6 +24,12 @@ pub(crate) struct FilePoint<'w> {
 
 /// Writes the matches that start at a point of an input, for the requested lexer of a file. Returns
 /// `Same`, since nothing is compared.
+///
+/// # Errors
+///
+/// Returns `Read` if the input cannot be read, `Refused` if the input does not have the point, the
+/// file has no requested enum or the enum has no lexer, `Output` or `Closed` if writing fails, and
+/// `Memory` if memory runs out.
 pub(crate) fn show_matches<'w, F: Files, O: Write, E: Write>(
     task: Task<'w>,
     source: &Source<'_>,

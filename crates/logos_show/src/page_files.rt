@@ -25,6 +25,12 @@ pub(crate) struct PageOrder<'w> {
 
 /// Writes the page of the requested lexer of a file to the path of `order`, or to `out` if the path
 /// is `-`. A file at the path is written whole or not at all.
+///
+/// # Errors
+///
+/// Returns `Read` if the input cannot be read, `NotUtf8` if the lexer reads UTF-8 and the input is
+/// not UTF-8, `Refused` if the file has no requested enum or the enum has no lexer, `Write`,
+/// `Output` or `Closed` if writing fails, and `Memory` if memory runs out.
 pub(crate) fn write_page<'w, F: Files, O: Write, E: Write>(
     task: Task<'w>,
     source: &Source<'_>,

@@ -17,6 +17,11 @@ use std::time::Clock;
 
 /// Writes the items that the requested lexer of a file finds in standard input, as they are found,
 /// and a note to standard error.
+///
+/// # Errors
+///
+/// Returns the failures of `write_streamed`, and `Refused` if the file has no requested enum or the
+/// enum has no lexer. Items before the failure may have been written.
 pub(crate) fn lex_stream<'w, C: Clock + Input, O: Write, E: Write>(
     task: Task<'w>,
     source: &Source<'_>,
