@@ -180,8 +180,8 @@ pub(crate) fn now<C: Clock>(clock: &C) -> Option<Duration> {
     }
 }
 
-/// Returns the milliseconds from `start` to `end`, or `None` if a time is unknown or `end` is
-/// earlier.
+/// Returns the milliseconds from `start` to `end`, or `None` if a time is unknown, `end` is earlier
+/// or the number exceeds `usize::MAX`.
 pub(crate) fn milliseconds(start: Option<Duration>, end: Option<Duration>) -> Option<usize> {
     let passed = end?.checked_sub(start?)?;
     match usize::try_from(passed.as_millis()) {

@@ -1,4 +1,5 @@
-//! Answers questions about lexers. Used by the modules `inputs`, `matches` and `program` of
+//! Writes the matches at a point of an input, the inputs that take all edges, and the outcome of a
+//! comparison with a stored answer. Used by the modules `inputs`, `matches` and `program` of
 //! `logos_show`.
 
 ghost use Rattle.std.specs.Prelude.{◌≡◌, IfErr, IfOk, OnOk};

@@ -33,17 +33,19 @@ struct Choice {
 pub(crate) enum Chosen {
     Nothing,
     One(FoundEnum),
-    /// Several enums, of which these two have different paths.
+    /// Several enums, represented by the first one and the first of the others that has another
+    /// path.
     Several(FoundEnum, FoundEnum),
 }
 
 /// Returns the requested enum of a file, which is the first one that derives `Logos` if no name is
-/// given. If no name is given and several enums derive `Logos`, writes a note to standard error.
-/// Refuses a file without the requested enum, and a name that several enums have.
+/// given. If no name is given and enums with different paths derive `Logos`, writes a note to
+/// standard error.
 ///
 /// # Errors
 ///
-/// Returns `Refused` for a refusal, and `Memory` if memory runs out.
+/// Returns `Refused` if the file cannot be read into tokens, has no requested enum, or has several
+/// enums with the requested name. Returns `Memory` if memory runs out.
 pub(crate) fn lexer_in<'w, E: Write>(
     alloc: Global,
     task: Task<'w>,

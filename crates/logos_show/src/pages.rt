@@ -44,7 +44,7 @@ pub(crate) struct PageStyle {
     pub(crate) form: Form,
 }
 
-/// The output for the enums of a file, as far as they were read.
+/// The output for a file while its enums are read one after another.
 #[derive(Drop)]
 struct Pages {
     tables: Page,
