@@ -54,7 +54,8 @@ pub(crate) struct Batch<'w> {
 ///
 /// # Errors
 ///
-/// Returns `Misuse` or `UnknownOption` if they are invalid.
+/// Returns `UnknownOption` if an argument is an unknown option, and `Misuse` if the arguments are
+/// invalid otherwise.
 pub(crate) fn request_of(arguments: &[String]) -> Result<Request<'_>, Failure<'_>>
     ensures requested { IfOk result (λ request.
         requested (map string_bytes arguments.now) ≡ Some (request_value request)) }

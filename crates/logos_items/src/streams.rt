@@ -28,9 +28,9 @@ const MOST: usize = 16_777_216;
 ///
 /// # Errors
 ///
-/// Returns `NotUtf8` if the lexer reads UTF-8 and the input is not UTF-8, `Refused` if a token is
-/// too long, both after the lines of the items before it; `Read` if reading fails, `Output` or
-/// `Closed` if writing fails, and `Memory` if memory runs out.
+/// Returns `NotUtf8` if the lexer reads UTF-8 and the input is not UTF-8, `Refused` if a match is
+/// too long, `Read` if reading fails, `Output` or `Closed` if writing fails, and `Memory` if memory
+/// runs out. With `NotUtf8` and `Refused`, the lines of the items before the error were written.
 pub fn write_streamed<S: Clock + Input, O: Write>(
     order: ItemOrder<'_>,
     made: &Generated<'_>,

@@ -78,7 +78,8 @@ pub enum Question<'w> {
 ///
 /// # Errors
 ///
-/// Returns `Misuse` or `UnknownOption` if they are invalid.
+/// Returns `UnknownOption` if an argument is an unknown option, and `Misuse` if the arguments are
+/// invalid otherwise.
 pub fn request_of(arguments: &[String]) -> Result<ShowRequest<'_>, Failure<'_>>
     ensures requested { IfOk result (λ request.
         requested (map string_bytes arguments.now) ≡ Some (request_value request)) }

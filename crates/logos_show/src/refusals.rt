@@ -93,7 +93,8 @@ pub(crate) fn write_note<E: Write>(err: &mut E, note: &[u8]) {
     let _ = err.flush();
 }
 
-/// Returns the text of faults, as text or as JSON, with the warnings of `known` before them.
+/// Returns the messages about the faults `errors`, as text or as JSON, with the warnings of `known`
+/// before them.
 fn refusal_text(
     part: Part<'_, '_>,
     showing: Showing,
