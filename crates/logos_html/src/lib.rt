@@ -1,5 +1,5 @@
 //! The page of a lexer: an HTML file with its leaves, an input in which its items are marked, its
-//! states, and a drawing of them. On the page, texts of sources and inputs are text, never markup.
+//! states, and a drawing of them. In it, texts of sources and inputs are text, never markup.
 //! Used by `logos_show` for `--html`.
 
 #![tactic(auto)]
